@@ -1,0 +1,46 @@
+-- What a library and a shelf in memory hold and count.
+use Rattle.std.specs.Prelude.{◌≡◌, ℕ, Bool, ◌||◌, List, [], Result, unwrap_or, is_none, is_ok, if◌then◌else◌}
+use Rattle.std.specs.Option.{option_map}
+use Rattle.pd_outside.specs.Faults.{counted}
+use Rattle.pd_outside.specs.Files.{File, file_named}
+use Rattle.pd_outside.specs.Library.{Content}
+use Rattle.pd_outside.specs.Shelf.{Held}
+use Rattle.pd_outside.specs.StatedFails.{NameAndCall, states_call}
+use Rattle.pd_outside.specs.declared.fails.ShelfFail.{ShelfFail}
+
+-- a library in memory: `calls` counts the calls on the started file, its start among them
+pub record Reading : Type 0 where
+  pub content : Content
+  pub calls : ℕ
+  pub fails : List NameAndCall
+  pub asked : List (List ℕ)
+  pub taken : ℕ
+  pub faults : ℕ
+
+-- whether starting this name fails: it is absent, or its call 1 is stated to fail
+abbrev pub start_fails : Reading → List ℕ → Bool
+start_fails library name = states_call library.fails name 1 || is_none (file_named library.content.files name)
+
+-- the name of the started file
+abbrev pub started_name : Content → List ℕ
+started_name content = unwrap_or (option_map (λ (file : File). file.name) content.started) []
+
+-- whether the next read of the started file is stated to fail
+abbrev pub read_fails : Reading → Bool
+read_fails library = states_call library.fails (started_name library.content) (counted library.calls)
+
+-- a shelf in memory: its calls of each kind are counted over its life
+pub record Writing : Type 0 where
+  pub held : Held
+  pub fails : List ShelfFail
+  pub step : ℕ
+  pub begins : ℕ
+  pub writes : ℕ
+  pub ends : ℕ
+  pub faults : ℕ
+
+-- A call of a shelf in memory counts a fault where it fails, and leaves what is stated of its calls.
+pub record IsCounted {T E : Type 0} (result : Result T E) (before now : Writing) : Type 0 where
+  pub faults : now.faults ≡ (if is_ok result then before.faults else counted before.faults)
+  pub fails : now.fails ≡ before.fails
+  pub step : now.step ≡ before.step

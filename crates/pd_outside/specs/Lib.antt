@@ -1,0 +1,11 @@
+pub mod Entry
+pub mod Faults
+pub mod Files
+pub mod InMemory
+pub mod Library
+pub mod MemLibrary
+pub mod MemShelf
+pub mod NamedCall
+pub mod Pages
+pub mod Shelf
+pub mod StatedFails

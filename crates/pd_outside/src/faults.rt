@@ -1,0 +1,52 @@
+// The faults of the outside. Want of memory is a cause of its own everywhere.
+ghost use Rattle.std.specs.Prelude.{◌≡◌};
+ghost use Rattle.pd_outside.specs.declared.faults.ReadFault.TheVariants as fault;
+
+use std::alloc::{AllocError, AllocFailed};
+use thiserror::Error;
+
+/// A call of a `Library` or a `Shelf` failed: its count of faults rose.
+#[derive(Clone, Copy, Debug, PartialEq, Eq)]
+pub struct Failed;
+
+/// A write failed: the shelf's count of faults rose, and a front of the bytes was written.
+#[derive(Clone, Copy, Debug, PartialEq, Eq)]
+pub struct WriteFailed;
+
+/// Memory ran out.
+#[derive(Clone, Copy, Debug, PartialEq, Eq)]
+pub struct Memory;
+
+/// Why a whole file was not read.
+#[derive(Clone, Copy, Debug, PartialEq, Eq, Error)]
+pub enum ReadFault {
+    /// The library's count of faults rose.
+    #[error("read failed")]
+    Failed,
+    /// The file is longer than the limit.
+    #[error("too long")]
+    TooLong,
+    /// Memory ran out.
+    #[error("out of memory")]
+    Memory,
+}
+
+impl From<AllocError> for Memory {
+    fn from(_: AllocError) -> Self {
+        Memory
+    }
+}
+
+impl<T: Drop> From<AllocFailed<T>> for Memory {
+    fn from(_: AllocFailed<T>) -> Self {
+        Memory
+    }
+}
+
+impl From<AllocError> for ReadFault {
+    ghost from_gives = { λ _ e. e ≡ fault.Memory };
+
+    fn from(_: AllocError) -> Self {
+        ReadFault::Memory
+    }
+}

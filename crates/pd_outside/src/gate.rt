@@ -1,0 +1,16 @@
+// The gate that packages pass.
+
+/// A gate that each package of a job enters before it is made. It says nothing and changes nothing that a clause sees.
+/// Tests hold workers with it.
+pub trait Gate {
+    /// The package of this number, counted from 0, is about to be made.
+    fn enter(&self, package: u64);
+}
+
+/// The gate that holds nobody.
+#[derive(Clone, Copy, Debug, Default, PartialEq, Eq)]
+pub struct OpenGate;
+
+impl Gate for OpenGate {
+    fn enter(&self, _package: u64) {}
+}

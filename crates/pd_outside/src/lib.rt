@@ -1,0 +1,27 @@
+//! The outside as the program sees it: files that are read, outputs that are written, a gate that packages pass, and
+//! the buffers that stand between. Each has a trait, whose clauses hold for every implementation, and a form in memory.
+#![tactic(auto)]
+
+mod fails;
+mod faults;
+mod files;
+mod gate;
+mod library;
+mod mem_library;
+mod mem_shelf;
+mod message;
+mod page_buf;
+mod shelf;
+//mod whole;
+
+pub use fails::{LibraryFails, ShelfFail, ShelfFails};
+pub use faults::{Failed, Memory, ReadFault, WriteFailed};
+pub use files::Files;
+pub use gate::{Gate, OpenGate};
+pub use library::Library;
+pub use mem_library::MemLibrary;
+pub use mem_shelf::MemShelf;
+pub use message::Message;
+pub use page_buf::PageBuf;
+pub use shelf::Shelf;
+//pub use whole::{read_whole, write_all};

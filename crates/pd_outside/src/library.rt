@@ -1,0 +1,61 @@
+// The files that are read.
+ghost use Rattle.std.specs.Prelude.{◌≡◌, ◌<◌, ◌≤◌, ◌+◌, ◌^◌, ℕ, List, Bool, Option, length, IsTrue, IfOk, IfSome, OnOk, OnErr, is_ok, is_some};
+ghost use Rattle.std.specs.Option.{option_map};
+ghost use Rattle.std.specs.Result.{result_unwrap_or};
+ghost use Rattle.pd_outside.specs.Faults.{Rose};
+ghost use Rattle.pd_outside.specs.Library.{Content, left, start_file, take_bytes, stop, ReadsFront, ask, AskedAtMost};
+
+use crate::Failed;
+
+/// The files that a program reads, one at a time and each from its start.
+///
+/// `content` and `asked` are optional meanings: an implementation that can't tell them, as one over a real disk, has
+/// `None`, and the clauses that speak of them then say nothing of it.
+pub trait Library {
+    /// The files, and the started one with the bytes that are left of it. No call changes the files.
+    ghost content: { Self → Option Content };
+
+    /// The names that `start` was given so far, in order.
+    ghost asked: { Self → Option (List (List ℕ)) };
+
+    /// Whether a file is started.
+    ghost is_started: { Self → Bool };
+
+    /// The number of bytes that were taken since the last `start`.
+    ghost taken: { Self → ℕ };
+
+    /// How often a call failed: a count of 64 bits that never falls and stops at the end of its type.
+    ghost faults: { Self → ℕ };
+
+    /// Starts the first file of this name, at its first byte. Of a name that no file has, it starts an empty file, or
+    /// fails. At `Failed` no file is started.
+    fn start(&mut self, name: &str) -> Result<(), Failed>
+        ensures started { is_started self.new ≡ is_ok result }
+        ensures content { OnOk result (content self.new ≡ option_map (start_file name.now) (content self.old)) }
+        ensures stopped { OnErr result (content self.new ≡ option_map stop (content self.old)) }
+        ensures asked { OnOk result (asked self.new ≡ ask name.now (asked self.old)) }
+        ensures asked_at_most { AskedAtMost name.now (asked self.old) (asked self.new) }
+        ensures taken { taken self.new ≡ 0 }
+        ensures never_falls { faults self.old ≤ faults self.new }
+        ensures cause { OnErr result (Rose (faults self.old) (faults self.new)) };
+
+    /// Takes bytes of the started file into the front of `into`, and tells how many: at least one, but at the end of the
+    /// file. At `Failed` no file is started.
+    fn read(&mut self, into: &mut [u8]) -> Result<usize, Failed>
+        requires started { IsTrue (is_started self.old) }
+        requires not_empty { 0 < length into.old }
+        requires countable { taken self.old + length into.old < 2 ^ 64 }
+
+        ensures within { IfOk result (λ n. n ≤ length into.old) }
+        ensures front { IfOk result (λ n. IfSome (content self.old) (λ c. ReadsFront (left c) n into.new)) }
+        ensures content { IfOk result (λ n. content self.new ≡ option_map (take_bytes n) (content self.old)) }
+        ensures started { is_started self.new ≡ is_ok result }
+        ensures stopped { OnErr result (content self.new ≡ option_map stop (content self.old)) }
+        ensures taken { taken self.new ≡ taken self.old + result_unwrap_or result 0 }
+        ensures asked { asked self.new ≡ asked self.old }
+        ensures never_falls { faults self.old ≤ faults self.new }
+        ensures cause { OnErr result (Rose (faults self.old) (faults self.new)) };
+
+    /// A file is told as started exactly where one is started.
+    ghost told_alike: { (library : Self) → IfSome (content library) (λ c. is_some c.started ≡ is_started library) };
+}

@@ -1,0 +1,223 @@
+// A shelf in memory.
+ghost use Rattle.std.specs.Prelude.{◌≡◌, ◌<◌, ◌≤◌, ◌+◌, [], None, Some, false, length, min, take, Contains, IsTrue, IsErr, IfOk, OnOk, OnErr, ◌++◌, IsSome, string_bytes, is_ok, is_err, is_some};
+ghost use Rattle.std.proofs.Common.{rules};
+ghost use Rattle.std.specs.Option.{option_map, option_to_list};
+ghost use Rattle.pd_outside.specs.Faults.{Rose, counted};
+ghost use Rattle.pd_outside.specs.Entry.{file_of};
+ghost use Rattle.pd_outside.specs.Files.{File};
+ghost use Rattle.pd_outside.specs.InMemory.{IsCounted};
+ghost use Rattle.pd_outside.specs.Shelf.{begin_file, append_bytes, end_file, bytes_begun};
+ghost use Rattle.pd_outside.specs.declared.fails.ShelfFail.TheVariants as fail;
+
+use crate::files::Entry;
+use crate::{Failed, Files, Memory, Shelf, ShelfFail, ShelfFails};
+use std::alloc::Global;
+use std::marker::Model;
+
+/// A shelf that keeps its files in memory, with stated failures. It tells all its meanings.
+///
+/// A call fails where it is stated to, and where no memory is left for what it keeps. Each call that fails is counted as
+/// a fault, and stays counted as a call of its kind.
+#[derive(Drop)]
+pub struct MemShelf {
+    alloc: Global,
+    fails: ShelfFails,
+    step: usize,
+    finished: Files,
+    begun: Option<Entry>,
+    begins: u64,
+    writes: u64,
+    ends: u64,
+    faults: u64,
+}
+
+impl Model for MemShelf {
+    ghost use Rattle.pd_outside.specs.InMemory.{Writing};
+    ghost use Rattle.pd_outside.specs.MemShelf.{writing_of, TakesSome};
+
+    ghost Value = { Writing };
+
+    ghost view = { writing_of };
+
+    ghost invariant = { TakesSome };
+}
+
+impl MemShelf {
+    /// A shelf with these failures, of which a write takes at most `step` bytes. It holds nothing, and no call was made.
+    pub fn new(alloc: Global, fails: ShelfFails, step: usize) -> Self
+        requires { 0 < step }
+        ensures { result ≡ record {
+          held = record { finished = []; begun = None };
+          fails = fails;
+          step = step;
+          begins = 0;
+          writes = 0;
+          ends = 0;
+          faults = 0;
+        } }
+    {
+        MemShelf {
+            alloc,
+            fails,
+            step,
+            finished: Files::new(alloc),
+            begun: None,
+            begins: 0,
+            writes: 0,
+            ends: 0,
+            faults: 0,
+        }
+    }
+
+    /// The finished files, in order.
+    pub fn finished(&self) -> &Files
+        ensures { result.now ≡ self.now.held.finished }
+    {
+        &self.finished
+    }
+
+    /// The name of the begun file; None exactly where no file is begun.
+    pub fn begun(&self) -> Option<&str>
+        ensures { option_map (λ name. name.now) result ≡ option_map (λ (file : File). file.name) self.now.held.begun }
+    {
+        match &self.begun {
+            Some(entry) => Some(entry.name.as_str()),
+            None => None,
+        }
+    }
+
+    /// The bytes of the begun file so far; none where no file is begun.
+    pub fn begun_bytes(&self) -> &[u8]
+        ensures { result.now ≡ bytes_begun self.now.held }
+    {
+        match &self.begun {
+            Some(entry) => &entry.bytes,
+            None => &[],
+        }
+    }
+}
+
+// An empty file of this name.
+fn empty_file(alloc: Global, name: &str) -> Result<Entry, Memory>
+    ensures { IfOk result (λ entry. file_of entry ≡ record { name = name.now; bytes = [] }) }
+{
+    Ok(Entry {
+        name: String::from_str(alloc, name)?,
+        bytes: Vec::new(alloc),
+    })
+}
+
+// Appends the piece to the begun file. At `Memory` all is as before.
+fn append(begun: &mut Option<Entry>, piece: &[u8]) -> Result<(), Memory>
+    requires { IsSome begun.old }
+    ensures ok { OnOk result (option_map file_of begun.new ≡ option_map (λ entry. record { name = string_bytes entry.name; bytes = entry.bytes.items ++ piece.now }) begun.old) }
+    ensures err { OnErr result (option_map file_of begun.new ≡ option_map file_of begun.old) }
+{
+    if let Some(entry) = begun {
+        entry.bytes.extend_from_slice(piece)?;
+    }
+    Ok(())
+}
+
+// Adds the begun file to the finished ones. At `Memory` all is as before.
+fn finish(begun: &mut Option<Entry>, finished: &mut Files) -> Result<(), Memory>
+    ensures ok { OnOk result (finished.new ≡ finished.old ++ option_to_list (option_map file_of begun.old)) }
+    ensures none { OnOk result (option_map file_of begun.new ≡ None) }
+    ensures err { OnErr result (finished.new ≡ finished.old) }
+    ensures err_begun { OnErr result (option_map file_of begun.new ≡ option_map file_of begun.old) }
+{
+    if let Some(entry) = begun {
+        finished.push(entry.name.as_str(), &entry.bytes)?;
+    }
+    *begun = None;
+    Ok(())
+}
+
+impl Shelf for MemShelf {
+    ghost held = { λ m. Some m.held };
+
+    ghost is_begun = { λ m. is_some m.held.begun };
+
+    ghost faults = { λ m. m.faults };
+
+    ghost told_alike = { λ m. Prim.search rules };
+
+    fn begin(&mut self, name: &str) -> Result<(), Failed>
+        requires { is_some self.old.held.begun ≡ false }
+        ensures begun { is_some self.new.held.begun ≡ is_ok result }
+        ensures held { OnOk result (Some self.new.held ≡ option_map (begin_file name.now) (Some self.old.held)) }
+        ensures unchanged { OnErr result (Some self.new.held ≡ Some self.old.held) }
+        ensures never_falls { self.old.faults ≤ self.new.faults }
+        ensures cause { OnErr result (Rose self.old.faults self.new.faults) }
+
+        // It fails where it is stated to, and else for want of memory alone.
+        ensures stated { Contains self.old.fails (fail.Begin (counted self.old.begins)) → IsErr result }
+        ensures counts { IsCounted result self.old self.new }
+        ensures call { self.new.begins ≡ counted self.old.begins }
+        ensures other_calls { (self.new.writes ≡ self.old.writes) × (self.new.ends ≡ self.old.ends) }
+    {
+        self.begins = self.begins.saturating_add(1);
+        if !self.fails.states(ShelfFail::Begin(self.begins)) {
+            if let Ok(entry) = empty_file(self.alloc, name) {
+                self.begun = Some(entry);
+                return Ok(());
+            }
+        }
+        self.faults = self.faults.saturating_add(1);
+        Err(Failed)
+    }
+
+    fn write(&mut self, piece: &[u8]) -> Result<usize, Failed>
+        requires begun { IsTrue (is_some self.old.held.begun) }
+        requires not_empty { 0 < length piece.now }
+
+        ensures some { IfOk result (λ n. 1 ≤ n) }
+        ensures within { IfOk result (λ n. n ≤ length piece.now) }
+        ensures held { IfOk result (λ n. Some self.new.held ≡ option_map (append_bytes (take n piece.now)) (Some self.old.held)) }
+        ensures unchanged { OnErr result (Some self.new.held ≡ Some self.old.held) }
+        ensures begun { IsTrue (is_some self.new.held.begun) }
+        ensures never_falls { self.old.faults ≤ self.new.faults }
+        ensures cause { OnErr result (Rose self.old.faults self.new.faults) }
+
+        // It takes all that its step lets through. It fails where it is stated to, and else for want of memory alone.
+        ensures most { IfOk result (λ n. n ≡ min self.old.step (length piece.now)) }
+        ensures stated { Contains self.old.fails (fail.Write (counted self.old.writes)) → IsErr result }
+        ensures counts { IsCounted result self.old self.new }
+        ensures call { self.new.writes ≡ counted self.old.writes }
+        ensures other_calls { (self.new.begins ≡ self.old.begins) × (self.new.ends ≡ self.old.ends) }
+    {
+        self.writes = self.writes.saturating_add(1);
+        let n = self.step.min(piece.len());
+        if !self.fails.states(ShelfFail::Write(self.writes))
+            && append(&mut self.begun, &piece[..n]).is_ok()
+        {
+            return Ok(n);
+        }
+        self.faults = self.faults.saturating_add(1);
+        Err(Failed)
+    }
+
+    fn end(&mut self) -> Result<(), Failed>
+        requires { IsTrue (is_some self.old.held.begun) }
+        ensures begun { is_some self.new.held.begun ≡ is_err result }
+        ensures held { OnOk result (Some self.new.held ≡ option_map end_file (Some self.old.held)) }
+        ensures unchanged { OnErr result (Some self.new.held ≡ Some self.old.held) }
+        ensures never_falls { self.old.faults ≤ self.new.faults }
+        ensures cause { OnErr result (Rose self.old.faults self.new.faults) }
+
+        // It fails where it is stated to, and else for want of memory alone.
+        ensures stated { Contains self.old.fails (fail.End (counted self.old.ends)) → IsErr result }
+        ensures counts { IsCounted result self.old self.new }
+        ensures call { self.new.ends ≡ counted self.old.ends }
+        ensures other_calls { (self.new.begins ≡ self.old.begins) × (self.new.writes ≡ self.old.writes) }
+    {
+        self.ends = self.ends.saturating_add(1);
+        if !self.fails.states(ShelfFail::End(self.ends))
+            && finish(&mut self.begun, &mut self.finished).is_ok()
+        {
+            return Ok(());
+        }
+        self.faults = self.faults.saturating_add(1);
+        Err(Failed)
+    }
+}

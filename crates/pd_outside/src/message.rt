@@ -1,0 +1,54 @@
+// A short text in an array.
+ghost use Rattle.std.specs.Prelude.{◌≡◌, ◌≤◌, ◌+◌, [], ◌++◌, length};
+
+use std::marker::Model;
+
+/// Up to 512 bytes that take no memory.
+#[derive(Drop)]
+pub struct Message {
+    bytes: [u8; Message::ROOM],
+    len: usize,
+}
+
+impl Model for Message {
+    ghost use Rattle.std.specs.Prelude.{◌≤◌, ℕ, List, take};
+
+    ghost Value = { List ℕ };
+
+    ghost view = { λ m. take m.len m.bytes };
+
+    ghost invariant = { λ m. m.len ≤ 512 };
+}
+
+impl Message {
+    /// The most bytes that a message holds.
+    pub const ROOM: usize = 512;
+
+    /// No byte.
+    pub fn new() -> Message
+        ensures { result ≡ [] }
+    {
+        Message {
+            bytes: [0; Message::ROOM],
+            len: 0,
+        }
+    }
+
+    /// Appends the bytes. They fit.
+    pub fn put(&mut self, bytes: &[u8])
+        requires { length self.old + length bytes.now ≤ Message.ROOM }
+        ensures { self.new ≡ self.old ++ bytes.now }
+    {
+        let end = self.len + bytes.len();
+        self.bytes[self.len..end].copy_from_slice(bytes);
+        self.len = end;
+    }
+
+    /// The bytes so far.
+    pub fn text(&self) -> &[u8]
+        ensures text { result.now ≡ self.now }
+        ensures within { length result.now ≤ Message.ROOM }
+    {
+        &self.bytes[..self.len]
+    }
+}

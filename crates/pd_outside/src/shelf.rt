@@ -1,0 +1,57 @@
+// The files that are written.
+ghost use Rattle.std.specs.Prelude.{◌≡◌, ◌<◌, ◌≤◌, ℕ, Bool, true, false, Option, length, take, IsTrue, IfOk, IfSome, OnOk, OnErr, is_ok, is_err, is_some};
+ghost use Rattle.std.specs.Option.{option_map};
+ghost use Rattle.pd_outside.specs.Faults.{Rose};
+ghost use Rattle.pd_outside.specs.Shelf.{Held, begin_file, append_bytes, end_file};
+
+use crate::Failed;
+
+/// The files that a program writes, one after the other. The name `-` is the standard output.
+///
+/// `held` is an optional meaning: an implementation that can't tell it, as one over a real disk, has `None`, and the
+/// clauses that speak of it then say nothing of it.
+pub trait Shelf {
+    /// The finished files in order, and the begun one with its bytes so far.
+    ghost held: { Self → Option Held };
+
+    /// Whether a file is begun.
+    ghost is_begun: { Self → Bool };
+
+    /// How often a call failed: a count of 64 bits that never falls and stops at the end of its type.
+    ghost faults: { Self → ℕ };
+
+    /// Begins an empty file of this name. At `Failed` no file is begun.
+    fn begin(&mut self, name: &str) -> Result<(), Failed>
+        requires { is_begun self.old ≡ false }
+        ensures begun { is_begun self.new ≡ is_ok result }
+        ensures held { OnOk result (held self.new ≡ option_map (begin_file name.now) (held self.old)) }
+        ensures unchanged { OnErr result (held self.new ≡ held self.old) }
+        ensures never_falls { faults self.old ≤ faults self.new }
+        ensures cause { OnErr result (Rose (faults self.old) (faults self.new)) };
+
+    /// Appends the first bytes of the piece to the begun file, and tells how many: at least one. At `Failed` the file is
+    /// as before. It stays begun.
+    fn write(&mut self, piece: &[u8]) -> Result<usize, Failed>
+        requires begun { IsTrue (is_begun self.old) }
+        requires not_empty { 0 < length piece.now }
+
+        ensures some { IfOk result (λ n. 1 ≤ n) }
+        ensures within { IfOk result (λ n. n ≤ length piece.now) }
+        ensures held { IfOk result (λ n. held self.new ≡ option_map (append_bytes (take n piece.now)) (held self.old)) }
+        ensures unchanged { OnErr result (held self.new ≡ held self.old) }
+        ensures begun { IsTrue (is_begun self.new) }
+        ensures never_falls { faults self.old ≤ faults self.new }
+        ensures cause { OnErr result (Rose (faults self.old) (faults self.new)) };
+
+    /// Finishes the begun file. At `Failed` it stays begun, as it was.
+    fn end(&mut self) -> Result<(), Failed>
+        requires { IsTrue (is_begun self.old) }
+        ensures begun { is_begun self.new ≡ is_err result }
+        ensures held { OnOk result (held self.new ≡ option_map end_file (held self.old)) }
+        ensures unchanged { OnErr result (held self.new ≡ held self.old) }
+        ensures never_falls { faults self.old ≤ faults self.new }
+        ensures cause { OnErr result (Rose (faults self.old) (faults self.new)) };
+
+    /// A file is told as begun exactly where one is begun.
+    ghost told_alike: { (shelf : Self) → IfSome (held shelf) (λ h. is_some h.begun ≡ is_begun shelf) };
+}
