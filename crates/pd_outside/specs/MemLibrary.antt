@@ -1,5 +1,5 @@
 -- How a library in memory keeps what it holds.
-use Rattle.std.specs.Prelude.{◌<◌, ◌≤◌, List, map, drop, Option, None, Some, unwrap_or, length, string_bytes}
+use Rattle.std.specs.Prelude.{◌<◌, ◌≤◌, List, map, drop, unwrap_or, length, string_bytes}
 use Rattle.std.specs.Option.{option_map, ForSome}
 use Rattle.pd_outside.specs.Files.{File, file_at}
 use Rattle.pd_outside.specs.InMemory.{Reading}

@@ -1,5 +1,5 @@
 // A list of files in memory.
-ghost use Rattle.std.specs.Prelude.{◌≡◌, ◌<◌, ◌↔◌, [], ◌∷◌, ◌++◌, length, IsTrue, OnOk, OnErr};
+ghost use Rattle.std.specs.Prelude.{◌≡◌, ◌<◌, ◌↔◌, [], ◌∷◌, ◌++◌, length, IsTrue, IfErr, OnOk, OnErr};
 ghost use Rattle.pd_outside.specs.Files.{file_at};
 
 use crate::Memory;
@@ -54,13 +54,16 @@ impl Files {
         Ok(())
     }
 
-    /// Adds a file that is kept already. At `Memory` it is lost, and the list is as before.
-    pub(crate) fn push_entry(&mut self, entry: Entry) -> Result<(), Memory>
+    /// Adds a file that is kept already. Where memory runs out it is given back, and the list is as before.
+    pub(crate) fn push_entry(&mut self, entry: Entry) -> Result<(), Entry>
         ensures ok { OnOk result (self.new ≡ self.old ++ file_of entry ∷ []) }
         ensures err { OnErr result (self.new ≡ self.old) }
+        ensures given_back { IfErr result (λ back. back ≡ entry) }
     {
-        self.entries.push(entry)?;
-        Ok(())
+        match self.entries.push(entry) {
+            Ok(()) => Ok(()),
+            Err(failed) => Err(failed.value),
+        }
     }
 
     /// The number of files.

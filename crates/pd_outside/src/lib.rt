@@ -12,7 +12,7 @@ mod mem_shelf;
 mod message;
 mod page_buf;
 mod shelf;
-//mod whole;
+mod whole;
 
 pub use fails::{LibraryFails, ShelfFail, ShelfFails};
 pub use faults::{Failed, Memory, ReadFault, WriteFailed};
@@ -24,4 +24,4 @@ pub use mem_shelf::MemShelf;
 pub use message::Message;
 pub use page_buf::PageBuf;
 pub use shelf::Shelf;
-//pub use whole::{read_whole, write_all};
+pub use whole::{read_whole, write_all};

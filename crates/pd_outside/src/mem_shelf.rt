@@ -126,10 +126,12 @@ fn finish(begun: &mut Option<Entry>, finished: &mut Files) -> Result<(), Memory>
     ensures err { OnErr result (finished.new ≡ finished.old) }
     ensures err_begun { OnErr result (option_map file_of begun.new ≡ option_map file_of begun.old) }
 {
-    if let Some(entry) = begun {
-        finished.push(entry.name.as_str(), &entry.bytes)?;
+    if let Some(entry) = begun.take() {
+        if let Err(entry) = finished.push_entry(entry) {
+            *begun = Some(entry);
+            return Err(Memory);
+        }
     }
-    *begun = None;
     Ok(())
 }
 

@@ -1,0 +1,91 @@
+// Whole files in, whole texts out.
+ghost use Rattle.std.specs.Prelude.{◌≡◌, ◌<◌, ◌≤◌, ◌⊎◌, ◌+◌, ◌^◌, ◌↔◌, false, length, take, IsTrue, IfOk, IfSome, IsErrOf, IsOk, OnOk, OnErr, vec_len};
+ghost use Rattle.std.specs.Option.{option_map};
+ghost use Rattle.pd_outside.specs.Faults.{Rose};
+ghost use Rattle.pd_outside.specs.Files.{bytes_of};
+ghost use Rattle.pd_outside.specs.Library.{Content, read_out, ask, AskedAtMost};
+ghost use Rattle.pd_outside.specs.Shelf.{append_bytes, AppendedFrontOf};
+
+use crate::{Failed, Library, ReadFault, Shelf, WriteFailed};
+use std::alloc::{AllocError, Global};
+
+// The most bytes that one call of `read` is asked for.
+const CHUNK: usize = 65536;
+
+/// Reads the whole file of this name, to its end, where it has at most `limit` bytes.
+///
+/// `Failed` comes only where the library's count of faults rose, and no file is started then. `TooLong` comes exactly
+/// where `limit` + 1 bytes of the file were taken.
+pub fn read_whole<L: Library>(
+    alloc: Global,
+    library: &mut L,
+    name: &str,
+    limit: u64,
+) -> Result<Vec<u8>, ReadFault>
+    requires { limit < 2 ^ 32 }
+
+    ensures whole { IfOk result (λ bytes. IfSome (L.content library.old) (λ c. bytes.items ≡ bytes_of c.files name.now)) }
+    ensures read_out { OnOk result (L.content library.new ≡ option_map (read_out name.now) (L.content library.old)) }
+    ensures taken { IfOk result (λ bytes. L.taken library.new ≡ length bytes.items) }
+    ensures within { OnOk result (L.taken library.new ≤ limit) }
+
+    ensures too_long { IsErrOf result ReadFault.TooLong ↔ (L.taken library.new ≡ limit + 1) }
+    ensures longer { IsErrOf result ReadFault.TooLong → IfSome (L.content library.old) (λ c. limit < length (bytes_of c.files name.now)) }
+    ensures cause { IsErrOf result ReadFault.Failed → Rose (L.faults library.old) (L.faults library.new) }
+    ensures stopped { IsErrOf result ReadFault.Failed → L.is_started library.new ≡ false }
+    ensures started { IsOk result ⊎ IsErrOf result ReadFault.TooLong → IsTrue (L.is_started library.new) }
+
+    ensures asked { IsOk result ⊎ IsErrOf result ReadFault.TooLong → L.asked library.new ≡ ask name.now (L.asked library.old) }
+    ensures asked_at_most { AskedAtMost name.now (L.asked library.old) (L.asked library.new) }
+    ensures files { option_map (λ (c : Content). c.files) (L.content library.new) ≡ option_map (λ (c : Content). c.files) (L.content library.old) }
+    ensures never_falls { L.faults library.old ≤ L.faults library.new }
+{
+    match library.start(name) {
+        Ok(()) => {}
+        Err(Failed) => return Err(ReadFault::Failed),
+    }
+    let mut bytes = Vec::new(alloc);
+    let mut buffer = zeros(alloc, CHUNK)?;
+    let chunk = buffer.as_mut_slice();
+    loop {
+        let wanted = CHUNK.min((limit - bytes.len() as u64) as usize + 1);
+        let n = match library.read(&mut chunk[..wanted]) {
+            Ok(n) => n,
+            Err(Failed) => return Err(ReadFault::Failed),
+        };
+        if n == 0 {
+            return Ok(bytes);
+        }
+        if (limit - bytes.len() as u64) < n as u64 {
+            return Err(ReadFault::TooLong);
+        }
+        bytes.extend_from_slice(&chunk[..n])?;
+    }
+}
+
+// A buffer of n bytes. It is apart from its caller so that no proof there unfolds all its zeros.
+fn zeros(alloc: Global, n: usize) -> Result<Vec<u8>, AllocError>
+    ensures { IfOk result (λ bytes. vec_len bytes ≡ n) }
+{
+    Vec::from_elem(alloc, 0, n)
+}
+
+/// Appends all the bytes to the begun file, which stays begun. `WriteFailed` comes only where the shelf's count of faults
+/// rose; a front of the bytes was appended then.
+pub fn write_all<S: Shelf>(shelf: &mut S, bytes: &[u8]) -> Result<(), WriteFailed>
+    requires { IsTrue (S.is_begun shelf.old) }
+    ensures all { OnOk result (S.held shelf.new ≡ option_map (append_bytes bytes.now) (S.held shelf.old)) }
+    ensures front { OnErr result (AppendedFrontOf bytes.now (S.held shelf.old) (S.held shelf.new)) }
+    ensures cause { OnErr result (Rose (S.faults shelf.old) (S.faults shelf.new)) }
+    ensures begun { IsTrue (S.is_begun shelf.new) }
+    ensures never_falls { S.faults shelf.old ≤ S.faults shelf.new }
+{
+    let mut at = 0;
+    while at < bytes.len() {
+        match shelf.write(&bytes[at..]) {
+            Ok(n) => at += n,
+            Err(Failed) => return Err(WriteFailed),
+        }
+    }
+    Ok(())
+}
