@@ -1,0 +1,92 @@
+//! The columns of a table and their kinds.
+
+use crate::{Leaves, Longs, Parts, Text, Texts};
+
+/// A column of a table.
+#[derive(Debug, PartialEq, Drop)]
+pub struct Column {
+    /// The column's name.
+    pub name: Text,
+    /// What its fields hold.
+    pub kind: Kind,
+    /// Whether its fields are drawn anew where a row changes.
+    pub changes: bool,
+    /// How many of a thousand fields are null.
+    pub null: i64,
+}
+
+/// What the fields of a column hold.
+#[derive(Debug, PartialEq, Drop)]
+pub enum Kind {
+    /// The key of the row: numbers from `base` on, within a unit in a drawn order where `scramble` is set.
+    Key {
+        base: i64,
+        scramble: bool,
+    },
+    /// The unit in which the row was born.
+    Born,
+    /// The unit in which the row last changed.
+    Changed,
+    /// A value that is drawn for the field alone.
+    Leaf(Leaf),
+    /// The parts, one after the other.
+    Template {
+        parts: Parts,
+    },
+    /// The branch whose number is that of the entry that the pick column named `on` selected.
+    Case {
+        on: Text,
+        branches: Leaves,
+    },
+    /// The key of a row of the table of this name, which was born in the window. The spread has a weight for each
+    /// of the groups that the candidates are divided into.
+    Ref {
+        table: Text,
+        window: Window,
+        spread: Longs,
+    },
+    /// The field of a column of the row that the reference column named `via` names.
+    Lookup {
+        via: Text,
+        column: Text,
+    },
+}
+
+/// A value that is drawn for a field alone.
+#[derive(Debug, PartialEq, Drop)]
+pub enum Leaf {
+    /// A whole number from `lo` to `hi`, a multiple of `step` past `lo`.
+    Int { lo: i64, hi: i64, step: i64 },
+    /// A number from `lo` to `hi` whose last `decimals` digits stand after a point.
+    Fixed { lo: i64, hi: i64, decimals: i64 },
+    /// A date. Days are counted from 1970-01-01, which is day 0.
+    Date { lo: i32, hi: i32 },
+    /// One of the entries, each as often as its weight says.
+    Pick { entries: Texts, weights: Longs },
+    /// A number from `lo` to `lo + size - 1`, the first ones more often: the k-th has the weight 1 / k^power.
+    Skew { lo: i64, size: i64, power: i64 },
+    /// An entry of the dictionary of this name.
+    Dict { file: Text },
+    /// From `lo` to `hi` entries of the dictionary of this name, with a space between two.
+    Words { file: Text, lo: i64, hi: i64 },
+    /// From `lo` to `hi` characters of the alphabet.
+    Chars { alphabet: Text, lo: i64, hi: i64 },
+}
+
+/// A part of a template.
+#[derive(Debug, PartialEq, Drop)]
+pub enum Part {
+    /// This text.
+    Literal(Text),
+    /// The field of the column of this name.
+    Cited(Text),
+}
+
+/// The units in which the row that a reference names may have been born.
+#[derive(Clone, Copy, Debug, PartialEq, Eq)]
+pub enum Window {
+    /// From this many units before the row's own birth on.
+    Units(i64),
+    /// All units up to the row's own birth.
+    All,
+}

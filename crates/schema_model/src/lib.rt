@@ -1,0 +1,22 @@
+//! The types of a schema: what a schema's text stands for, as plain data.
+//!
+//! A schema has a seed, a last unit, a delimiter and tables; a table has rows and columns; a column has a kind, which
+//! says what its fields hold. Nothing here says which schemas are accepted: a value of these types may break any rule.
+#![tactic(auto)]
+
+mod column;
+mod sequence;
+mod table;
+mod text;
+
+pub use column::{Column, Kind, Leaf, Part, Window};
+pub use sequence::{Columns, Leaves, Longs, Parts, Sequence, Tables, Texts};
+pub use table::{Delimiter, Life, Schema, Table};
+pub use text::Text;
+
+/// No memory was left for what a call had to keep.
+#[derive(Clone, Copy, Debug, PartialEq, Eq)]
+pub struct Memory;
+
+#[cfg(test)]
+mod tests;

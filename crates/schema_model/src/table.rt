@@ -1,0 +1,51 @@
+//! A schema and its tables.
+
+use crate::{Columns, Tables, Text};
+
+/// The byte between the fields of a line.
+#[derive(Clone, Copy, Debug, PartialEq, Eq)]
+pub enum Delimiter {
+    /// A horizontal tab.
+    Tab,
+    /// A vertical bar.
+    Bar,
+}
+
+/// What a schema's text says as a whole.
+#[derive(Debug, PartialEq, Drop)]
+pub struct Schema {
+    /// The number that all draws begin from.
+    pub seed: i64,
+    /// The last unit of time; unit 0 is the first.
+    pub units: i64,
+    /// The byte between the fields of a line.
+    pub delimiter: Delimiter,
+    /// The tables, in the order of the schema.
+    pub tables: Tables,
+}
+
+/// How many units a row lives: at least `lo` and at most `hi`.
+#[derive(Clone, Copy, Debug, PartialEq, Eq)]
+pub struct Life {
+    /// The shortest life, in units.
+    pub lo: i64,
+    /// The longest life, in units.
+    pub hi: i64,
+}
+
+/// A table: how many rows it gains, how long they live, and what they hold.
+#[derive(Debug, PartialEq, Drop)]
+pub struct Table {
+    /// The table's name.
+    pub name: Text,
+    /// The number of rows that are born at unit 0.
+    pub rows: i64,
+    /// The number of rows that are born at each later unit.
+    pub insert: i64,
+    /// How long rows live; without it they live for ever.
+    pub life: Option<Life>,
+    /// The number of units from one change of a row to its next; without it rows never change.
+    pub update: Option<i64>,
+    /// The columns, in the order of the lines.
+    pub columns: Columns,
+}

@@ -1,0 +1,89 @@
+//! Text that contracts see as its bytes.
+
+use crate::Memory;
+use std::alloc::Global;
+use std::marker::Model;
+
+/// A text. A contract sees it as the list of its bytes in UTF-8, as it sees a `&str`.
+#[derive(Debug, Drop)]
+pub struct Text {
+    text: String,
+}
+
+impl Model for Text {
+    ghost use Rattle.std.specs.Prelude.{ℕ, List, string_bytes};
+
+    ghost Value = { List ℕ };
+
+    ghost view = { λ t. string_bytes t.text };
+}
+
+impl Text {
+    ghost use Rattle.std.specs.Prelude.{◌≡◌, ◌==◌, [], ◌++◌, length, IfOk, OnOk, OnErr, IsUtf8};
+
+    /// The empty text, which takes no memory.
+    pub fn new(alloc: Global) -> Text
+        ensures { result ≡ [] }
+    {
+        Text {
+            text: String::new(alloc),
+        }
+    }
+
+    /// A text of its own with these bytes.
+    pub fn of(alloc: Global, text: &str) -> Result<Text, Memory>
+        ensures { IfOk result (λ made. made ≡ text.now) }
+    {
+        match String::from_str(alloc, text) {
+            Ok(text) => Ok(Text { text }),
+            Err(_) => Err(Memory),
+        }
+    }
+
+    /// The length in bytes.
+    pub fn len(&self) -> usize
+        ensures { result ≡ length self.now }
+    {
+        self.text.len()
+    }
+
+    /// Whether the text has no byte.
+    pub fn is_empty(&self) -> bool
+        ensures { result ≡ (length self.now == 0) }
+    {
+        self.text.is_empty()
+    }
+
+    /// The text itself.
+    pub fn as_str(&self) -> &str
+        ensures value { result.now ≡ self.now }
+        ensures utf8 { IsUtf8 self.now }
+    {
+        self.text.as_str()
+    }
+
+    /// Appends a piece. Where memory is wanting, the text stays as it was.
+    pub fn push(&mut self, piece: &str) -> Result<(), Memory>
+        ensures appended { OnOk result (self.new ≡ self.old ++ piece.now) }
+        ensures unchanged { OnErr result (self.new ≡ self.old) }
+    {
+        match self.text.push_str(piece) {
+            Ok(()) => Ok(()),
+            Err(_) => Err(Memory),
+        }
+    }
+}
+
+impl PartialEq for Text {
+    ghost use Rattle.std.specs.Cmp.{partial_equiv_from_equiv};
+    ghost use Rattle.std.specs.Prelude.{◌==◌};
+    ghost use Rattle.std.specs.Cmp.Lexicographic.{pointwise, nat_list_eq_equiv};
+
+    ghost eq = { pointwise ◌==◌ };
+
+    ghost laws = { partial_equiv_from_equiv nat_list_eq_equiv };
+
+    fn eq(&self, other: &Text) -> bool {
+        self.as_str() == other.as_str()
+    }
+}
