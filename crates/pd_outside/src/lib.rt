@@ -25,3 +25,6 @@ pub use message::Message;
 pub use page_buf::PageBuf;
 pub use shelf::Shelf;
 pub use whole::{read_whole, write_all};
+
+#[cfg(test)]
+mod tests;
