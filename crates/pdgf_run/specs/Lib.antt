@@ -1,0 +1,6 @@
+pub mod Rules
+pub mod Cohorts
+pub mod Rows
+pub mod Simulation
+pub mod Intervals
+pub mod Lines
