@@ -1,9 +1,9 @@
 -- Cohorts: the first ordinal by multiplication, and the birth of an ordinal by division.
-use Rattle.std.proofs.Common.{◌≡◌, ℕ, zero, suc, ◌+◌, ◌-◌, ◌*◌, ◌/◌, ◌<◌, refl, ap, arith, sym, ◌∙◌}
+use Rattle.std.proofs.Common.{◌≡◌, ℕ, zero, suc, ◌+◌, ◌-◌, ◌*◌, ◌/◌, ◌<◌, ap, arith, ◌∙◌}
 use Rattle.std.proofs.lemmas.Bool.Decides.{nat_tests}
 use Rattle.std.proofs.lemmas.Nat.{div-mul-add}
 use Rattle.pdgf_run.specs.Rules.{TableRules}
-use Rattle.pdgf_run.specs.Cohorts.{cohort_size, first_ordinal, born_count}
+use Rattle.pdgf_run.specs.Cohorts.{cohort_size, first_ordinal}
 use Rattle.pdgf_run.specs.Intervals.{birth}
 
 pub first_ordinal-suc : (table : TableRules) (unit : ℕ) → first_ordinal table (suc unit) ≡ table.rows + unit * table.insert

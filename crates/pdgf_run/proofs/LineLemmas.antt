@@ -1,14 +1,13 @@
 -- The text of a table, cohort by cohort and line by line.
-use Rattle.std.proofs.Common.{◌≡◌, ℕ, zero, suc, ◌+◌, ◌-◌, ◌<◌, List, [], ◌∷◌, ◌++◌, map, refl, ap, arith, sym, ◌∙◌}
+use Rattle.std.proofs.Common.{◌≡◌, ℕ, ◌+◌, List, [], ◌∷◌, ◌++◌, Some, decimal, Bool, refl, ap, arith, sym, ◌∙◌}
 use Rattle.std.proofs.lemmas.List.{append-nil}
 use Rattle.std.proofs.lemmas.List.Concat.{flat_map-append}
 use Rattle.std.proofs.lemmas.List.Folds.{flat_map-map}
 use Rattle.std.specs.List.{range_with_len, flat_map}
-use Rattle.pdgf_run.specs.Rules.{TableRules, Rules, table_at}
-use Rattle.pdgf_run.specs.Cohorts.{cohort_size, first_ordinal}
-use Rattle.pdgf_run.specs.Rows.{Row, new_row, cohort, index_in_cohort}
-use Rattle.pdgf_run.specs.Simulation.{rows_at}
-use Rattle.pdgf_run.specs.Lines.{line, table_text, first_lines, cohort_text}
+use Rattle.pdgf_run.specs.Rules.{TableRules, Rules, table_at, key_column}
+use Rattle.pdgf_run.specs.Cohorts.{cohort_size}
+use Rattle.pdgf_run.specs.Rows.{new_row, cohort, index_in_cohort}
+use Rattle.pdgf_run.specs.Lines.{key_number, field, line, table_text, first_lines, cohort_text}
 use Rattle.pdgf_run.proofs.Ranges.{flat_map-range_with_len_more}
 use Rattle.pdgf_run.proofs.SimulationLemmas.{rows_at-cohorts}
 
@@ -40,7 +39,7 @@ table_text-cohorts rules place unit =
     ap (flat_map (line rules place (table_at rules place))) (rows_at-cohorts rules place unit)
     ∙ flat_map-flat_map (line rules place (table_at rules place)) (cohort (table_at rules place)) (range_with_len 0 (unit + 1))
     ∙ flat_map-same (λ u. flat_map (line rules place (table_at rules place)) (cohort (table_at rules place) u)) (cohort_text rules place (table_at rules place))
-        (λ u. flat_map-cohort rules place (table_at rules place) u) (range_with_len 0 (unit + 1))
+    (λ u. flat_map-cohort rules place (table_at rules place) u) (range_with_len 0 (unit + 1))
 
 pub table_text-zero : (rules : Rules) (place : ℕ) → table_text rules place 0 ≡ cohort_text rules place (table_at rules place) 0
 table_text-zero rules place =
@@ -59,3 +58,8 @@ first_lines-add_one rules place table unit count =
 
 pub index_in_cohort-new_row : (table : TableRules) (unit index : ℕ) → index_in_cohort table (new_row table unit index) ≡ index
 index_in_cohort-new_row table unit index = omega arith
+
+pub field-new_row_key : (rules : Rules) (place : ℕ) (table : TableRules) (unit index base : ℕ) (scramble : Bool) → field rules place table (new_row table unit index) (key_column base scramble) ≡ Some (decimal (key_number rules place table base scramble unit index))
+field-new_row_key rules place table unit index base scramble =
+    ap (λ (i : ℕ). Some (decimal (key_number rules place table base scramble unit i)))
+    (index_in_cohort-new_row table unit index)

@@ -1,5 +1,5 @@
 -- Ranges of numbers: one that is two, and two that a map makes the same.
-use Rattle.std.proofs.Common.{◌≡◌, ℕ, zero, suc, ◌+◌, ◌<◌, List, [], ◌∷◌, ◌++◌, map, refl, ap, arith, sym, ◌∙◌}
+use Rattle.std.proofs.Common.{◌≡◌, ℕ, zero, suc, ◌+◌, ◌<◌, List, ◌∷◌, ◌++◌, map, refl, ap, arith, sym, ◌∙◌}
 use Rattle.std.proofs.lemmas.List.{append-nil}
 use Rattle.std.proofs.lemmas.List.Concat.{flat_map-append}
 use Rattle.std.specs.List.{range_with_len, flat_map}
@@ -22,10 +22,10 @@ map-range_with_len_same f g a b (suc n) same =
     let here_b : b + 0 ≡ b = omega arith in
     let head : f a ≡ g b = ap f (sym here_a) ∙ same 0 (omega arith) ∙ ap g here_b in
     let rest : map f (range_with_len (a + 1) n) ≡ map g (range_with_len (b + 1) n) =
-        map-range_with_len_same f g (a + 1) (b + 1) n (λ k below.
-            let next_a : (a + 1) + k ≡ a + (k + 1) = omega arith in
-            let next_b : (b + 1) + k ≡ b + (k + 1) = omega arith in
-            ap f next_a ∙ same (k + 1) (omega arith) ∙ ap g (sym next_b)) in
+    map-range_with_len_same f g (a + 1) (b + 1) n (λ k below.
+    let next_a : (a + 1) + k ≡ a + (k + 1) = omega arith in
+    let next_b : (b + 1) + k ≡ b + (k + 1) = omega arith in
+    ap f next_a ∙ same (k + 1) (omega arith) ∙ ap g (sym next_b)) in
     cc
 
 -- one more number at the end of a range

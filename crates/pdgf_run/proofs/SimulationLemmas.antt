@@ -1,13 +1,12 @@
 -- The simulation, by induction on units.
-use Rattle.std.proofs.Common.{◌≡◌, ℕ, zero, suc, ◌+◌, ◌-◌, ◌<◌, List, [], ◌∷◌, ◌++◌, map, flat_map, zip, get_or, length, refl, ap, arith, sym, ◌∙◌}
+use Rattle.std.proofs.Common.{◌≡◌, ℕ, zero, suc, ◌+◌, List, [], ◌∷◌, ◌++◌, map, flat_map, zip, get_or, refl, ap, arith, sym, ◌∙◌}
 use Rattle.std.proofs.Math.ListN.{get_or-map}
 use Rattle.std.proofs.lemmas.List.{append-nil, map-append}
-use Rattle.std.proofs.lemmas.List.Concat.{flat_map-append}
 use Rattle.std.specs.List.{range_with_len}
 use Rattle.pdgf_run.specs.Rules.{TableRules, Rules, table_at, no_table}
 use Rattle.pdgf_run.specs.Cohorts.{cohort_size, first_ordinal, born_count}
 use Rattle.pdgf_run.specs.Rows.{Row, new_row, cohort}
-use Rattle.pdgf_run.specs.Simulation.{State, in_turn, with_cohort, with_insertions, empty_tables, step, simulation, rows_at}
+use Rattle.pdgf_run.specs.Simulation.{State, in_turn, with_cohort, with_insertions, step, simulation, rows_at}
 use Rattle.pdgf_run.specs.Intervals.{birth, row_of, rows_of, interval_state}
 use Rattle.pdgf_run.proofs.Ranges.{flat_map-range_with_len_more, range_with_len-add, map-range_with_len_same}
 use Rattle.pdgf_run.proofs.CohortLemmas.{birth-first_ordinal, first_ordinal-add_one}
@@ -18,23 +17,23 @@ in_turn-zip f g h same done [] = refl
 in_turn-zip f g h same done (k ∷ ks) =
     let here : f done (k, g k) ≡ h k = same done k in
     let rest : in_turn f (done ++ f done (k, g k) ∷ []) (zip ks (map g ks)) ≡ map h ks =
-        in_turn-zip f g h same (done ++ f done (k, g k) ∷ []) ks in
+    in_turn-zip f g h same (done ++ f done (k, g k) ∷ []) ks in
     cc
 
 -- the insertions of a unit put its cohorts behind the rows of each table
 pub with_insertions-map : (rules : Rules) (unit : ℕ) (rows : TableRules → List Row) → with_insertions rules unit (map rows rules.tables) ≡ map (λ table. rows table ++ cohort table unit) rules.tables
 with_insertions-map rules unit rows =
     in_turn-zip (with_cohort unit) rows (λ table. rows table ++ cohort table unit)
-        (λ done table. refl) [] rules.tables
+    (λ done table. refl) [] rules.tables
 
 -- the rows of a cohort's ordinals are its rows as they are born
 pub row_of-cohort : (table : TableRules) (unit : ℕ) → map (row_of table) (range_with_len (first_ordinal table unit) (cohort_size table unit)) ≡ cohort table unit
 row_of-cohort table unit =
     map-range_with_len_same (row_of table) (new_row table unit) (first_ordinal table unit) 0 (cohort_size table unit)
-        (λ index below.
-            let born : birth table (first_ordinal table unit + index) ≡ unit = birth-first_ordinal table unit index below in
-            let same : 0 + index ≡ index = omega arith in
-            rw (born, same) refl)
+    (λ index below.
+    let born : birth table (first_ordinal table unit + index) ≡ unit = birth-first_ordinal table unit index below in
+    let same : 0 + index ≡ index = omega arith in
+    rw (born, same) refl)
 
 pub rows_of-zero : (table : TableRules) → rows_of table 0 ≡ cohort table 0
 rows_of-zero table =
@@ -46,10 +45,10 @@ rows_of-suc table unit =
     let next : suc unit + 1 ≡ suc (unit + 1) = omega arith in
     let same : unit + 1 ≡ suc unit = omega arith in
     let split : range_with_len 0 (first_ordinal table (suc unit) + cohort_size table (suc unit)) ≡ range_with_len 0 (first_ordinal table (suc unit)) ++ range_with_len (0 + first_ordinal table (suc unit)) (cohort_size table (suc unit)) =
-        range_with_len-add 0 (first_ordinal table (suc unit)) (cohort_size table (suc unit)) in
+    range_with_len-add 0 (first_ordinal table (suc unit)) (cohort_size table (suc unit)) in
     let start : 0 + first_ordinal table (suc unit) ≡ first_ordinal table (suc unit) = omega arith in
     let counted : born_count table (suc unit) ≡ first_ordinal table (suc unit) + cohort_size table (suc unit) =
-        ap (λ (u : ℕ). first_ordinal table u) next ∙ ap (λ (u : ℕ). first_ordinal table u + cohort_size table u) same in
+    ap (λ (u : ℕ). first_ordinal table u) next ∙ ap (λ (u : ℕ). first_ordinal table u + cohort_size table u) same in
     ap (λ (n : ℕ). map (row_of table) (range_with_len 0 n)) counted
     ∙ ap (map (row_of table)) split
     ∙ map-append (row_of table) (range_with_len 0 (first_ordinal table (suc unit))) (range_with_len (0 + first_ordinal table (suc unit)) (cohort_size table (suc unit)))
@@ -74,7 +73,7 @@ simulation-interval_state rules (suc unit) =
     ap (step rules (suc unit)) (simulation-interval_state rules unit)
     ∙ with_insertions-map rules (suc unit) (λ table. rows_of table unit)
     ∙ map-same (λ table. rows_of table unit ++ cohort table (suc unit)) (λ table. rows_of table (suc unit))
-        (λ table. sym (rows_of-suc table unit)) rules.tables
+    (λ table. sym (rows_of-suc table unit)) rules.tables
 
 pub rows_of-no_table : (unit : ℕ) → rows_of no_table unit ≡ []
 rows_of-no_table unit =

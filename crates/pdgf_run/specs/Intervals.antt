@@ -1,5 +1,5 @@
 -- The closed form of the simulation: what an ordinal alone tells of its row.
-use Rattle.std.specs.Prelude.{ℕ, ◌≡◌, ◌+◌, ◌-◌, ◌*◌, ◌/◌, ◌<◌, if◌then◌else◌, nat_lt, List, map}
+use Rattle.std.specs.Prelude.{ℕ, ◌+◌, ◌-◌, ◌/◌, if◌then◌else◌, nat_lt, List, map}
 use Rattle.std.specs.List.{range_with_len}
 use Rattle.pdgf_run.specs.Rules.{TableRules, Rules}
 use Rattle.pdgf_run.specs.Cohorts.{born_count}

@@ -4,3 +4,4 @@ pub mod Rows
 pub mod Simulation
 pub mod Intervals
 pub mod Lines
+pub mod Worked

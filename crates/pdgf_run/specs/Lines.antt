@@ -1,5 +1,5 @@
 -- The text of a table: a line for each row, in COPY text form (PostgreSQL's manual, "COPY").
-use Rattle.std.specs.Prelude.{ℕ, ◌+◌, Bool, if◌then◌else◌, List, [], ◌∷◌, ◌++◌, map, flat_map, Option, Some, None, codes, decimal}
+use Rattle.std.specs.Prelude.{ℕ, ◌+◌, Bool, if◌then◌else◌, List, ◌++◌, map, flat_map, Option, Some, None, codes, decimal}
 use Rattle.std.specs.List.{join_with_byte, range_with_len}
 use Rattle.pdgf_run.specs.Rules.{TableRules, Rules, ColumnRule, key_column, born_column, table_at}
 use Rattle.pdgf_run.specs.Cohorts.{cohort_size, first_ordinal}
@@ -31,7 +31,7 @@ field_text (Some bytes) = bytes
 unfoldable pub line : Rules → ℕ → TableRules → Row → List ℕ
 line rules place table row =
     join_with_byte rules.delimiter
-        (map (λ column. field_text (field rules place table row column)) table.columns)
+    (map (λ column. field_text (field rules place table row column)) table.columns)
     ++ codes "\n"
 
 -- the text of the table at a place of the schema, at a unit: the lines of its rows, in order

@@ -1,6 +1,0 @@
-use Rattle.pdgf_run.proofs.LineLemmas.{index_in_cohort-new_row}
-use Rattle.pdgf_run.proofs.SimulationLemmas.{simulation-interval_state}
-use Rattle.pdgf_run.proofs.model.simulation_is_the_closed_form.Goals as goal
-
-pub returns : goal.returns
-returns c = simulation-interval_state
