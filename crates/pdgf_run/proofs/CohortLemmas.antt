@@ -26,3 +26,8 @@ birth-first_ordinal table (suc unit) index below =
     let age : (first_ordinal table (suc unit) + index) - table.rows ≡ unit * table.insert + index = omega (arith, first) in
     let whole : (unit * table.insert + index) / table.insert ≡ unit = div-mul-add unit table.insert index below in
     grind (arith, nat_tests)
+
+pub first_ordinal-next : (table : TableRules) (unit : ℕ) → first_ordinal table (unit + 1) ≡ first_ordinal table unit + cohort_size table unit
+first_ordinal-next table unit =
+    let next : unit + 1 ≡ suc unit = omega arith in
+    ap (first_ordinal table) next

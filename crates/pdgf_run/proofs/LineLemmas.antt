@@ -1,9 +1,10 @@
 -- The text of a table, cohort by cohort and line by line.
-use Rattle.std.proofs.Common.{◌≡◌, ℕ, ◌+◌, List, [], ◌∷◌, ◌++◌, Some, decimal, Bool, refl, ap, arith, sym, ◌∙◌}
-use Rattle.std.proofs.lemmas.List.{append-nil}
+use Rattle.std.proofs.Common.{◌≡◌, ℕ, ◌+◌, List, [], ◌∷◌, ◌++◌, Some, decimal, Bool, ◌==◌, if◌then◌else◌, length, refl, ap, arith, sym, ◌∙◌}
+use Rattle.std.proofs.lemmas.List.{append-nil, append_assoc}
 use Rattle.std.proofs.lemmas.List.Concat.{flat_map-append}
 use Rattle.std.proofs.lemmas.List.Folds.{flat_map-map}
-use Rattle.std.specs.List.{range_with_len, flat_map}
+use Rattle.std.proofs.lemmas.Bool.Decides.{nat_tests}
+use Rattle.std.specs.List.{range_with_len, flat_map, join_with_byte}
 use Rattle.pdgf_run.specs.Rules.{TableRules, Rules, table_at, key_column}
 use Rattle.pdgf_run.specs.Cohorts.{cohort_size}
 use Rattle.pdgf_run.specs.Rows.{new_row, cohort, index_in_cohort}
@@ -63,3 +64,18 @@ pub field-new_row_key : (rules : Rules) (place : ℕ) (table : TableRules) (unit
 field-new_row_key rules place table unit index base scramble =
     ap (λ (i : ℕ). Some (decimal (key_number rules place table base scramble unit i)))
     (index_in_cohort-new_row table unit index)
+
+-- one more piece behind others: the byte goes before it
+pub join_with_byte-append : (c : ℕ) (first : List ℕ) (pieces : List (List ℕ)) (piece : List ℕ) → join_with_byte c ((first ∷ pieces) ++ piece ∷ []) ≡ join_with_byte c (first ∷ pieces) ++ ((c ∷ []) ++ piece)
+join_with_byte-append c first [] piece = refl
+join_with_byte-append c first (second ∷ pieces) piece =
+    ap (λ (text : List ℕ). first ++ (c ∷ text)) (join_with_byte-append c second pieces piece)
+    ∙ sym (append_assoc first (c ∷ join_with_byte c (second ∷ pieces)) ((c ∷ []) ++ piece))
+
+-- one more piece: the byte goes before it, but before the first
+pub join_with_byte-push : (c : ℕ) (pieces : List (List ℕ)) (piece : List ℕ) (n : ℕ) → length pieces ≡ n → join_with_byte c (pieces ++ piece ∷ []) ≡ join_with_byte c pieces ++ ((if n == 0 then [] else c ∷ []) ++ piece)
+join_with_byte-push c [] piece n count = ap (λ (m : ℕ). (if m == 0 then [] else c ∷ []) ++ piece) count
+join_with_byte-push c (first ∷ pieces) piece n count =
+    let later : (if n == 0 then [] else c ∷ []) ≡ c ∷ [] = grind (arith, nat_tests) in
+    join_with_byte-append c first pieces piece
+    ∙ ap (λ (between : List ℕ). join_with_byte c (first ∷ pieces) ++ (between ++ piece)) (sym later)

@@ -1,7 +1,8 @@
 -- Ranges of numbers: one that is two, and two that a map makes the same.
-use Rattle.std.proofs.Common.{◌≡◌, ℕ, zero, suc, ◌+◌, ◌<◌, List, ◌∷◌, ◌++◌, map, refl, ap, arith, sym, ◌∙◌}
-use Rattle.std.proofs.lemmas.List.{append-nil}
+use Rattle.std.proofs.Common.{◌≡◌, ℕ, zero, suc, ◌+◌, ◌<◌, List, [], ◌∷◌, ◌++◌, map, refl, ap, arith, sym, ◌∙◌}
+use Rattle.std.proofs.lemmas.List.{append-nil, append_assoc, map-append}
 use Rattle.std.proofs.lemmas.List.Concat.{flat_map-append}
+use Rattle.std.proofs.lemmas.List.FromFn.{map-range_with_len_more}
 use Rattle.std.specs.List.{range_with_len, flat_map}
 
 pub range_with_len-add : (a m n : ℕ) → range_with_len a (m + n) ≡ range_with_len a m ++ range_with_len (a + m) n
@@ -35,3 +36,12 @@ flat_map-range_with_len_more f n =
     ap (flat_map f) (range_with_len-add 0 n 1)
     ∙ flat_map-append f (range_with_len 0 n) (range_with_len (0 + n) 1)
     ∙ ap (λ xs. flat_map f (range_with_len 0 n) ++ xs) (append-nil (f (0 + n)) ∙ ap f last)
+
+-- one more item at the end of a list that a map makes of another and a range
+pub map-push_range : {X Y : Type 0} (f : X → Y) (g : ℕ → Y) (xs : List X) (ys : List Y) (x : X) (n : ℕ) → map f xs ≡ ys ++ map g (range_with_len 0 n) → f x ≡ g n → map f (xs ++ x ∷ []) ≡ ys ++ map g (range_with_len 0 (n + 1))
+map-push_range f g xs ys x n same last =
+    map-append f xs (x ∷ [])
+    ∙ ap (λ zs. zs ++ f x ∷ []) same
+    ∙ append_assoc ys (map g (range_with_len 0 n)) (f x ∷ [])
+    ∙ ap (λ z. ys ++ (map g (range_with_len 0 n) ++ z ∷ [])) last
+    ∙ ap (λ zs. ys ++ zs) (sym (map-range_with_len_more g 0 n n (omega arith)))

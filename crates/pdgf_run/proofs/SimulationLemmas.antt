@@ -1,7 +1,7 @@
 -- The simulation, by induction on units.
-use Rattle.std.proofs.Common.{◌≡◌, ℕ, zero, suc, ◌+◌, List, [], ◌∷◌, ◌++◌, map, flat_map, zip, get_or, refl, ap, arith, sym, ◌∙◌}
+use Rattle.std.proofs.Common.{◌≡◌, ℕ, zero, suc, ◌+◌, List, [], ◌∷◌, ◌++◌, map, flat_map, zip, get_or, drop, length, ◌<◌, refl, ap, arith, sym, ◌∙◌}
 use Rattle.std.proofs.Math.ListN.{get_or-map}
-use Rattle.std.proofs.lemmas.List.{append-nil, map-append}
+use Rattle.std.proofs.lemmas.List.{append-nil, append_assoc, map-append, drop_more}
 use Rattle.std.specs.List.{range_with_len}
 use Rattle.pdgf_run.specs.Rules.{TableRules, Rules, table_at, no_table}
 use Rattle.pdgf_run.specs.Cohorts.{cohort_size, first_ordinal, born_count}
@@ -100,3 +100,15 @@ rows_of-cohorts table (suc unit) =
 
 pub rows_at-cohorts : (rules : Rules) (place unit : ℕ) → rows_at rules place unit ≡ flat_map (cohort (table_at rules place)) (range_with_len 0 (unit + 1))
 rows_at-cohorts rules place unit = rows_at-rows_of rules place unit ∙ rows_of-cohorts (table_at rules place) unit
+
+-- what comes of the rest of a list, one item on
+pub in_turn-drop_more : {X Y : Type 0} (f : List Y → X → Y) (done : List Y) (xs : List X) (i : ℕ) (d : X) → i < length xs → done ++ in_turn f done (drop i xs) ≡ (done ++ f done (get_or xs i d) ∷ []) ++ in_turn f (done ++ f done (get_or xs i d) ∷ []) (drop (i + 1) xs)
+in_turn-drop_more f done xs i d below =
+    ap (λ ys. done ++ in_turn f done ys) (drop_more xs i d below)
+    ∙ sym (append_assoc done (f done (get_or xs i d) ∷ []) (in_turn f (done ++ f done (get_or xs i d) ∷ []) (drop (i + 1) xs)))
+
+pub simulation-add_one : (rules : Rules) (unit : ℕ) → simulation rules (unit + 1) ≡ step rules (unit + 1) (simulation rules unit)
+unfolding simulation
+simulation-add_one rules unit =
+    let next : unit + 1 ≡ suc unit = omega arith in
+    rw next refl

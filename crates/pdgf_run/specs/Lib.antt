@@ -5,3 +5,4 @@ pub mod Simulation
 pub mod Intervals
 pub mod Lines
 pub mod Worked
+pub mod Plain
