@@ -1,3 +1,4 @@
+pub mod ListLemmas
 pub mod Ranges
 pub mod CohortLemmas
 pub mod SimulationLemmas

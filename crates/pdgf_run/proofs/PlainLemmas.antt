@@ -1,7 +1,7 @@
 -- The loops of the plain program, one turn on and at their ends.
-use Rattle.std.proofs.Common.{◌≡◌, ℕ, ◌+◌, ◌<◌, ◌≤◌, min, List, [], ◌∷◌, ◌++◌, ◌==◌, if◌then◌else◌, map, zip, get_or, take, drop, length, Vec, ap, arith, sym, ◌∙◌}
+use Rattle.std.proofs.Common.{◌≡◌, ℕ, ◌+◌, ◌<◌, ◌≤◌, min, List, [], ◌∷◌, ◌++◌, map, zip, get_or, take, drop, length, Vec, ap, arith, sym, ◌∙◌}
 use Rattle.std.proofs.Math.ListN.{get_or-map}
-use Rattle.std.proofs.lemmas.List.{append-nil, append_assoc, map-append, length-map, length-take-le, drop_all, take_all, take_more, get_or_default, get_or_past}
+use Rattle.std.proofs.lemmas.List.{append-nil, map-append, length-map, drop_all, take_all, get_or_default, get_or_past}
 use Rattle.std.proofs.lemmas.Simd.{map-map}
 use Rattle.std.proofs.lemmas.Slice.Zip.{get_or-zip, length-zip}
 use Rattle.std.specs.List.{join_with_byte, flat_map}
@@ -15,7 +15,6 @@ use Rattle.pdgf_run.specs.Simulation.{State, in_turn, with_cohort, simulation, r
 use Rattle.pdgf_run.specs.Plain.{column_rule, row_views, state_view, table_rules, rules_view}
 use Rattle.pdgf_run.specs.Lines.{field, field_text, line, table_text}
 use Rattle.pdgf_run.proofs.SimulationLemmas.{in_turn-drop_more}
-use Rattle.pdgf_run.proofs.LineLemmas.{join_with_byte-push}
 
 -- the tables that are done, and what comes of the rest
 abbrev pub insertions_from : ℕ → List PlainTable → List (Vec PlainRow Global) → State → ℕ → State
@@ -54,21 +53,6 @@ insertions_from-all unit tables state done n count =
     omega (arith, length-zip (map table_rules tables) (state_view state), length-map tables table_rules, length-map state (λ (v : Vec PlainRow Global). row_views v.items)) in
     ap (λ (ps : List (TableRules × List Row)). done ++ in_turn (with_cohort unit) done ps) (drop_all n pairs short)
     ∙ append-nil done
-
--- one more field of a line
-pub join_with_byte-take_more : {X : Type 0} (c : ℕ) (f : X → List ℕ) (xs : List X) (n : ℕ) (x : X) (old text : List ℕ) → n < length xs → x ≡ get_or xs n x → text ≡ old ++ join_with_byte c (map f (take n xs)) → (text ++ (if n == 0 then [] else c ∷ [])) ++ f x ≡ old ++ join_with_byte c (map f (take (n + 1) xs))
-join_with_byte-take_more c f xs n x old text below x_is text_is =
-    let between : List ℕ = if n == 0 then [] else c ∷ [] in
-    let pieces : List (List ℕ) = map f (take n xs) in
-    let count : length pieces ≡ n = length-map (take n xs) f ∙ length-take-le n xs (omega arith) in
-    let longer : map f (take (n + 1) xs) ≡ pieces ++ f x ∷ [] =
-    ap (map f) (take_more xs n x below)
-    ∙ map-append f (take n xs) (get_or xs n x ∷ [])
-    ∙ ap (λ y. pieces ++ f y ∷ []) (sym x_is) in
-    ap (λ t. (t ++ between) ++ f x) text_is
-    ∙ append_assoc (old ++ join_with_byte c pieces) between (f x)
-    ∙ append_assoc old (join_with_byte c pieces) (between ++ f x)
-    ∙ ap (λ t. old ++ t) (sym (join_with_byte-push c pieces (f x) n count) ∙ ap (join_with_byte c) (sym longer))
 
 -- the text of a table, from the state that the program made
 pub table_text-state : (rules : PlainRules) (state : List (Vec PlainRow Global)) (place unit : ℕ) (table : PlainTable) (rows : Vec PlainRow Global) → state_view state ≡ simulation (rules_view rules) unit → place < length rules.tables.items → place < length state → table ≡ get_or rules.tables.items place table → rows ≡ get_or state place rows → flat_map (line (rules_view rules) place (table_rules table)) (row_views rows.items) ≡ table_text (rules_view rules) place unit

@@ -2,12 +2,14 @@
 use Rattle.std.proofs.Common.{◌≡◌, ℕ, zero, suc, ◌+◌, List, [], ◌∷◌, ◌++◌, map, flat_map, zip, get_or, drop, length, ◌<◌, refl, ap, arith, sym, ◌∙◌}
 use Rattle.std.proofs.Math.ListN.{get_or-map}
 use Rattle.std.proofs.lemmas.List.{append-nil, append_assoc, map-append, drop_more}
+use Rattle.std.proofs.lemmas.List.FromFn.{length-map-range_with_len}
 use Rattle.std.specs.List.{range_with_len}
 use Rattle.pdgf_run.specs.Rules.{TableRules, Rules, table_at, no_table}
 use Rattle.pdgf_run.specs.Cohorts.{cohort_size, first_ordinal, born_count}
 use Rattle.pdgf_run.specs.Rows.{Row, new_row, cohort}
 use Rattle.pdgf_run.specs.Simulation.{State, in_turn, with_cohort, with_insertions, step, simulation, rows_at}
 use Rattle.pdgf_run.specs.Intervals.{birth, row_of, rows_of, interval_state}
+use Rattle.pdgf_run.proofs.ListLemmas.{map-same}
 use Rattle.pdgf_run.proofs.Ranges.{flat_map-range_with_len_more, range_with_len-add, map-range_with_len_same}
 use Rattle.pdgf_run.proofs.CohortLemmas.{birth-first_ordinal, first_ordinal-add_one}
 
@@ -55,14 +57,6 @@ rows_of-suc table unit =
     ∙ ap (λ (n : ℕ). map (row_of table) (range_with_len 0 (first_ordinal table (suc unit))) ++ map (row_of table) (range_with_len n (cohort_size table (suc unit)))) start
     ∙ ap (λ (rows : List Row). map (row_of table) (range_with_len 0 (first_ordinal table (suc unit))) ++ rows) (row_of-cohort table (suc unit))
     ∙ ap (λ (u : ℕ). map (row_of table) (range_with_len 0 (first_ordinal table u)) ++ cohort table (suc unit)) (sym same)
-
--- two maps of tables that agree at each table
-pub map-same : {X Y : Type 0} (f g : X → Y) → ((x : X) → f x ≡ g x) → (xs : List X) → map f xs ≡ map g xs
-map-same f g same [] = refl
-map-same f g same (x ∷ xs) =
-    let here : f x ≡ g x = same x in
-    let rest : map f xs ≡ map g xs = map-same f g same xs in
-    cc
 
 pub simulation-interval_state : (rules : Rules) (unit : ℕ) → simulation rules unit ≡ interval_state rules unit
 unfolding simulation
@@ -112,3 +106,8 @@ unfolding simulation
 simulation-add_one rules unit =
     let next : unit + 1 ≡ suc unit = omega arith in
     rw next refl
+
+pub length-rows_at : (rules : Rules) (place unit : ℕ) → length (rows_at rules place unit) ≡ born_count (table_at rules place) unit
+length-rows_at rules place unit =
+    ap (λ (rows : List Row). length rows) (rows_at-rows_of rules place unit)
+    ∙ length-map-range_with_len (row_of (table_at rules place)) 0 (born_count (table_at rules place) unit)

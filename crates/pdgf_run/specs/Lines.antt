@@ -46,3 +46,8 @@ first_lines rules place table unit count =
 -- the lines of a unit's cohort
 unfoldable pub cohort_text : Rules → ℕ → TableRules → ℕ → List ℕ
 cohort_text rules place table unit = first_lines rules place table unit (cohort_size table unit)
+
+-- the text of the cohorts before a unit
+unfoldable pub text_before : Rules → ℕ → TableRules → ℕ → List ℕ
+text_before rules place table unit =
+    flat_map (cohort_text rules place table) (range_with_len 0 unit)

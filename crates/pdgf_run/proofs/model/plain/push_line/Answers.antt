@@ -4,7 +4,8 @@ use Rattle.pdgf_run.specs.declared.model.plain.PlainColumn.{PlainColumn}
 use Rattle.pdgf_run.specs.declared.model.plain.PlainColumn.TheVariants.{Key}
 use Rattle.pdgf_run.specs.Lines.{field, field_text}
 use Rattle.pdgf_run.specs.Plain.{column_rule, row_view, table_rules, rules_view}
-use Rattle.pdgf_run.proofs.PlainLemmas.{join_with_byte-take_more, line-fields}
+use Rattle.pdgf_run.proofs.ListLemmas.{join_with_byte-take_more}
+use Rattle.pdgf_run.proofs.PlainLemmas.{line-fields}
 use Rattle.pdgf_run.proofs.model.plain.push_line.Goals as goal
 
 pub loop-number-preserved : goal.loop-number-preserved
