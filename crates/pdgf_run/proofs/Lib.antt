@@ -1,0 +1,6 @@
+pub mod ListLemmas
+pub mod Ranges
+pub mod CohortLemmas
+pub mod SimulationLemmas
+pub mod LineLemmas
+pub mod PlainLemmas
