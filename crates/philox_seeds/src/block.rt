@@ -86,7 +86,7 @@ pub fn block(counter: Words, key: Key) -> Words
 }
 
 /// The block of Philox4x32-10 at `counter` under `key`, words in the order of the paper.
-#[inline]
+#[inline(always)]
 pub fn philox4x32_10(counter: [u32; 4], key: [u32; 2]) -> [u32; 4]
     ensures block { result ≡ word_list (philox4x32_10
         (record {

@@ -44,7 +44,7 @@ fn number_at(seed: u64, counter: Words) -> u64
 }
 
 /// The number of 64 bits that `seed`, as the key of Philox4x32-10, gives at `counter`: word 0 of the block, and word 1 above it.
-#[inline]
+#[inline(always)]
 pub fn keyed_number(seed: u64, counter: [u32; 4]) -> u64
     ensures number { result ≡ keyed_number seed (slice_index counter 0) (slice_index counter 1) (slice_index counter 2) (slice_index counter 3) }
 {
@@ -58,7 +58,7 @@ pub fn keyed_number(seed: u64, counter: [u32; 4]) -> u64
 }
 
 /// The seed below `seed` that stands at `index` of `level`: the number at the counter (low word, high word of the index, level, 0).
-#[inline]
+#[inline(always)]
 #[tactic(auto, unfolding(crate::specs::SeedTree::child))]
 pub fn child(seed: u64, level: u32, index: u64) -> u64
     ensures seed { result ≡ child seed level index }
@@ -97,7 +97,7 @@ pub fn unit_seed(seed: u64, unit: u64) -> u64
 }
 
 /// The seed of the row with this ordinal, its place in the order of birth in its table, below a unit's seed.
-#[inline]
+#[inline(always)]
 pub fn row_seed(seed: u64, ordinal: u64) -> u64
     ensures seed { result ≡ row_seed seed ordinal }
 {
@@ -105,7 +105,7 @@ pub fn row_seed(seed: u64, ordinal: u64) -> u64
 }
 
 /// Draw number `n` of a seed: the number at the counter (n, 0, 5, 0).
-#[inline]
+#[inline(always)]
 #[tactic(auto, unfolding(crate::specs::SeedTree::draw))]
 pub fn draw(seed: u64, n: u32) -> u64
     ensures number { result ≡ draw seed n }
