@@ -1,0 +1,4 @@
+pub mod LeastLaws
+pub mod BijectionLaws
+pub mod WalkLaws
+pub mod WorkedValues
