@@ -150,3 +150,62 @@ first_below-inverses f g size n tries inverse fits room = record {
   undone = λ x h. first_below-undone f g size n tries x inverse fits room h;
   redone = λ y h. first_below-undone g f size n tries y (AreInversesBelow-turned size f g inverse) fits room h;
 }
+
+-- y lies k steps of the walk ahead of z, z itself included, and is the first below n
+pub record IsAhead (f : ℕ → ℕ) (n z k y : ℕ) : Type 0 where
+  pub reached : iterate f k z ≡ y
+  pub below : y < n
+  pub walked_past : (j : ℕ) → j < k → n ≤ iterate f j z
+
+-- a walk from f x has one step fewer than one from x
+pub iterate-next : (f : ℕ → ℕ) (k x : ℕ) → iterate f k (f x) ≡ iterate f (k + 1) x
+iterate-next f zero x = iterate-zero f (f x) ∙ ap f (sym (iterate-zero f x)) ∙ sym (iterate-more f 0 x)
+iterate-next f (suc k) x = iterate-suc f k (f x) ∙ ap f (iterate-next f k x ∙ ap (λ j. iterate f j x) (add-one k)) ∙ sym (iterate-more f (suc k) x)
+
+-- the walk begins one step on
+pub IsAhead-begun : (f : ℕ → ℕ) (n x k y : ℕ) → IsFirstBelow f n x k y → IsAhead f n (f x) k y
+IsAhead-begun f n x k y first = record {
+  reached = iterate-next f k x ∙ first.reached;
+  below = first.below;
+  walked_past = λ j w. subst (λ (z : ℕ). n ≤ z) (sym (iterate-next f j x)) (first.walked_past j w);
+}
+
+-- it ends at the first
+pub IsAhead-ended : (f : ℕ → ℕ) (n z k y : ℕ) → z < n → IsAhead f n z k y → z ≡ y
+IsAhead-ended f n z zero y h ahead = sym (iterate-zero f z) ∙ ahead.reached
+IsAhead-ended f n z (suc k) y h ahead =
+    let past : n ≤ iterate f zero z = ahead.walked_past zero (omega arith) in
+    let start : iterate f zero z ≡ z = iterate-zero f z in
+    absurd (omega arith)
+
+-- until then it goes on
+pub IsAhead-more : (f : ℕ → ℕ) (n z k y : ℕ) → n ≤ z → IsAhead f n z k y → (j : ℕ) × (j + 1 ≡ k) × IsAhead f n (f z) j y
+IsAhead-more f n z zero y h ahead =
+    let start : iterate f zero z ≡ z = iterate-zero f z in
+    let at : iterate f zero z ≡ y = ahead.reached in
+    let low : y < n = ahead.below in
+    absurd (omega arith)
+IsAhead-more f n z (suc k) y h ahead = (k, add-one k, record {
+  reached = iterate-next f k z ∙ ap (λ j. iterate f j z) (add-one k) ∙ ahead.reached;
+  below = ahead.below;
+  walked_past = λ j w. subst (λ (x : ℕ). n ≤ x) (sym (iterate-next f j z)) (ahead.walked_past (j + 1) (omega arith));
+})
+
+-- how many steps are left from z, of at most `tries`
+pub steps_left : (ℕ → ℕ) → ℕ → ℕ → ℕ → ℕ
+steps_left f n tries z = least (λ j. nat_lt (iterate f j z) n) tries
+
+pub steps_left-is : (f : ℕ → ℕ) (n tries z k y : ℕ) → k ≤ tries → IsAhead f n z k y → steps_left f n tries z ≡ k
+unfolding steps_left
+steps_left-is f n tries z k y room ahead =
+    let low : iterate f k z < n = subst (λ (x : ℕ). x < n) (sym ahead.reached) ahead.below in
+    least-is (λ j. nat_lt (iterate f j z) n) tries k room (lt-ltb _ _ low) (λ j w. le-ltb _ _ (ahead.walked_past j w))
+
+-- at a number of the walk that is not below n, fewer are left after it
+pub steps_left-more : (f : ℕ → ℕ) (n tries z k y : ℕ) → k ≤ tries → n ≤ z → IsAhead f n z k y → steps_left f n tries (f z) < steps_left f n tries z
+steps_left-more f n tries z k y room h ahead =
+    let rest = IsAhead-more f n z k y h ahead in
+    let step : rest.0 + 1 ≡ k = rest.1 in
+    let now : steps_left f n tries z ≡ k = steps_left-is f n tries z k y room ahead in
+    let next : steps_left f n tries (f z) ≡ rest.0 = steps_left-is f n tries (f z) rest.0 y (omega arith) rest.2 in
+    omega arith

@@ -1,10 +1,11 @@
 -- The permutation of 0..n-1 that a seed makes: a generalized Feistel network over a rectangle of at least n numbers, and a walk
 -- along its cycles until below n (Black and Rogaway, "Ciphers with Arbitrary Finite Domains", CT-RSA 2002).
-use Rattle.std.specs.Prelude.{ℕ, zero, suc, ◌+◌, ◌-◌, ◌*◌, ◌/◌, ◌%◌, ◌==◌, nat_le, if◌then◌else◌}
+use Rattle.std.specs.Prelude.{ℕ, zero, suc, ◌+◌, ◌-◌, ◌*◌, ◌/◌, ◌%◌, ◌<◌, ◌==◌, nat_le, if◌then◌else◌}
 use Rattle.philox_seeds.specs.Philox.{high_word, low_word}
 use Rattle.philox_seeds.specs.SeedTree.{keyed_number}
 use Rattle.id_permutation.specs.Least.{least}
-use Rattle.id_permutation.specs.Walk.{first_below}
+use Rattle.id_permutation.specs.Walk.{first_below, inverse_below}
+use Rattle.id_permutation.specs.declared.halves.Halves.{Halves}
 
 -- a permutation: of how many numbers, and by which seed
 pub record Permutation : Type 0 where
@@ -12,17 +13,12 @@ pub record Permutation : Type 0 where
   pub seed : ℕ
 
 -- a, the height of the rectangle: the least number whose square is at least n
-unfoldable pub height : ℕ → ℕ
-height n = least (λ a. nat_le n (a * a)) n
+unfoldable pub height_of : ℕ → ℕ
+height_of n = least (λ a. nat_le n (a * a)) n
 
 -- b, the width of the rectangle: n / a, rounded up
-unfoldable pub width : ℕ → ℕ
-width n = (n + (height n - 1)) / height n
-
--- the two halves of a number of the rectangle: left below a, right below b
-pub record Halves : Type 0 where
-  pub left : ℕ
-  pub right : ℕ
+unfoldable pub width_of : ℕ → ℕ
+width_of n = (n + (height_of n - 1)) / height_of n
 
 -- the halves of a number: its row and its place there
 abbrev pub halves_of : ℕ → ℕ → Halves
@@ -31,6 +27,11 @@ halves_of b x = record { left = x / b; right = x % b }
 -- the number of two halves
 abbrev pub number_of : ℕ → Halves → ℕ
 number_of b halves = halves.left * b + halves.right
+
+-- the halves are of a rectangle of height a and width b
+pub record IsWithin (a b : ℕ) (halves : Halves) : Type 0 where
+  pub left_below : halves.left < a
+  pub right_below : halves.right < b
 
 -- how many rounds there are
 abbrev pub round_count : ℕ
@@ -58,12 +59,12 @@ rounds a b seed (suc k) halves = round a b seed k (rounds a b seed k halves)
 -- the map of the rectangle's numbers by all rounds
 unfoldable pub mix : ℕ → ℕ → ℕ → ℕ
 mix n seed x =
-    number_of (width n) (rounds (height n) (width n) seed round_count (halves_of (width n) x))
+    number_of (width_of n) (rounds (height_of n) (width_of n) seed round_count (halves_of (width_of n) x))
 
 -- the place of x in the permutation of n numbers by this seed: the first of mix x, mix (mix x), .. that is below n
 unfoldable pub place : ℕ → ℕ → ℕ → ℕ
-place n seed x = first_below (mix n seed) n (height n * width n) x
+place n seed x = first_below (mix n seed) n (height_of n * width_of n) x
 
 -- the number whose place is y
 unfoldable pub unplace : ℕ → ℕ → ℕ → ℕ
-unplace n seed y = least (λ x. place n seed x == y) n
+unplace n seed y = inverse_below n (place n seed) y

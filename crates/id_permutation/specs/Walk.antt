@@ -1,5 +1,5 @@
 -- Bijections of 0..n-1, and the walk along a cycle: from a number by f, again and again, until below n.
-use Rattle.std.specs.Prelude.{◌≡◌, ℕ, zero, suc, ◌+◌, ◌<◌, ◌≤◌, nat_lt}
+use Rattle.std.specs.Prelude.{◌≡◌, ℕ, zero, suc, ◌+◌, ◌<◌, ◌≤◌, ◌==◌, nat_lt}
 use Rattle.id_permutation.specs.Least.{least}
 
 -- f maps the numbers below n to the numbers below n, each to one of its own, and meets them all
@@ -14,6 +14,10 @@ pub record AreInversesBelow (n : ℕ) (f g : ℕ → ℕ) : Type 0 where
   pub within_back : (y : ℕ) → y < n → g y < n
   pub undone : (x : ℕ) → x < n → g (f x) ≡ x
   pub redone : (y : ℕ) → y < n → f (g y) ≡ y
+
+-- what a bijection f of the numbers below n maps to y
+unfoldable pub inverse_below : ℕ → (ℕ → ℕ) → ℕ → ℕ
+inverse_below n f y = least (λ x. f x == y) n
 
 -- f, k times
 unfoldable pub iterate : (ℕ → ℕ) → ℕ → ℕ → ℕ

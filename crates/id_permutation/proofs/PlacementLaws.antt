@@ -1,0 +1,63 @@
+-- The placement is a bijection of 0..n-1, `unplace` undoes it, and both walks are short.
+use Rattle.std.proofs.Common.{◌≡◌, ℕ, zero, suc, ◌+◌, ◌-◌, ◌*◌, ◌<◌, ◌≤◌, refl, sym, ap, ◌∙◌, subst, arith}
+use Rattle.id_permutation.specs.Walk.{IsBijectionBelow, AreInversesBelow, inverse_below, iterate, IsFirstBelow, first_below}
+use Rattle.id_permutation.specs.Placement.{height_of, width_of, mix, place, unplace}
+use Rattle.id_permutation.proofs.BijectionLaws.{AreInversesBelow-turned, IsBijectionBelow-from_inverse, inverse_below-is, AreInversesBelow-inverse_below}
+use Rattle.id_permutation.proofs.WalkLaws.{returns_below, first_below-is, first_below-inverses, IsFirstBelow-turned}
+use Rattle.id_permutation.proofs.SideLaws.{Covers, Covers-sides}
+use Rattle.id_permutation.proofs.RoundLaws.{IsBijectionBelow-mix}
+
+-- how many numbers the rectangle has
+abbrev pub area_of : ℕ → ℕ
+area_of n = height_of n * width_of n
+
+-- the inverse of the rounds
+abbrev pub unmix : ℕ → ℕ → ℕ → ℕ
+unmix n seed = inverse_below (area_of n) (mix n seed)
+
+pub AreInversesBelow-mix : (n seed : ℕ) → 0 < n → AreInversesBelow (area_of n) (mix n seed) (unmix n seed)
+AreInversesBelow-mix n seed some = AreInversesBelow-inverse_below (area_of n) (mix n seed) (IsBijectionBelow-mix n seed some)
+
+pub AreInversesBelow-place : (n seed : ℕ) → 0 < n → AreInversesBelow n (place n seed) (first_below (unmix n seed) n (area_of n))
+unfolding place
+AreInversesBelow-place n seed some =
+    first_below-inverses (mix n seed) (unmix n seed) (area_of n) n (area_of n) (AreInversesBelow-mix n seed some) (Covers-sides n some).enough (omega arith)
+
+-- the placement is a bijection
+pub IsBijectionBelow-place : (n seed : ℕ) → 0 < n → IsBijectionBelow n (place n seed)
+IsBijectionBelow-place n seed some = IsBijectionBelow-from_inverse n _ _ (AreInversesBelow-place n seed some)
+
+-- `unplace` is its inverse
+pub AreInversesBelow-unplace : (n seed : ℕ) → 0 < n → AreInversesBelow n (place n seed) (unplace n seed)
+unfolding unplace
+AreInversesBelow-unplace n seed some = AreInversesBelow-inverse_below n (place n seed) (IsBijectionBelow-place n seed some)
+
+-- the place is the first of the walk, and fewer than a numbers come before it
+pub place-first : (n seed x : ℕ) → 0 < n → x < n → (k : ℕ) × (k < height_of n) × IsFirstBelow (mix n seed) n x k (place n seed x)
+unfolding place
+place-first n seed x some h =
+    let covers : Covers n (height_of n) (width_of n) = Covers-sides n some in
+    let enough : n ≤ area_of n = covers.enough in
+    let few_more : area_of n < n + height_of n = covers.few_more in
+    let first = returns_below (mix n seed) (unmix n seed) (area_of n) n x (AreInversesBelow-mix n seed some) enough h in
+    let turns : first.0 ≤ area_of n - n = first.1 in
+    let is : first_below (mix n seed) n (area_of n) x ≡ first.2 = first_below-is _ n (area_of n) x first.0 first.2 (omega arith) first.3 in
+    (
+      first.0,
+      (let short : first.0 < height_of n = omega arith in short),
+      subst (λ (y : ℕ). IsFirstBelow (mix n seed) n x first.0 y) (sym is) first.3,
+    )
+
+-- and the number of a place is the first of the walk backwards
+pub unplace-first : (n seed y : ℕ) → 0 < n → y < n → (k : ℕ) × (k < height_of n) × IsFirstBelow (unmix n seed) n y k (unplace n seed y)
+unplace-first n seed y some h =
+    let inverse : AreInversesBelow n (place n seed) (unplace n seed) = AreInversesBelow-unplace n seed some in
+    let x = unplace n seed y in
+    let below : x < n = inverse.within_back y h in
+    let first = place-first n seed x some below in
+    let at : IsFirstBelow (mix n seed) n x first.0 y = subst (λ (z : ℕ). IsFirstBelow (mix n seed) n x first.0 z) (inverse.redone y h) first.2 in
+    (
+      first.0,
+      first.1,
+      IsFirstBelow-turned (mix n seed) (unmix n seed) (area_of n) n x first.0 y (AreInversesBelow-mix n seed some) (Covers-sides n some).enough below at,
+    )
