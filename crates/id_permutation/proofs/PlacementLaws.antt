@@ -3,7 +3,8 @@ use Rattle.std.proofs.Common.{◌≡◌, ℕ, zero, suc, ◌+◌, ◌-◌, ◌*�
 use Rattle.id_permutation.specs.Walk.{IsBijectionBelow, AreInversesBelow, inverse_below, iterate, IsFirstBelow, first_below}
 use Rattle.id_permutation.specs.Placement.{height_of, width_of, mix, place, unplace}
 use Rattle.id_permutation.proofs.BijectionLaws.{AreInversesBelow-turned, IsBijectionBelow-from_inverse, inverse_below-is, AreInversesBelow-inverse_below}
-use Rattle.id_permutation.proofs.WalkLaws.{returns_below, first_below-is, first_below-inverses, IsFirstBelow-turned}
+use Rattle.std.proofs.lemmas.Nat.{mul-le}
+use Rattle.id_permutation.proofs.WalkLaws.{LiesAhead, IsAhead-begun, IsAhead, returns_below, first_below-is, first_below-inverses, IsFirstBelow-turned}
 use Rattle.id_permutation.proofs.SideLaws.{Covers, Covers-sides}
 use Rattle.id_permutation.proofs.RoundLaws.{IsBijectionBelow-mix}
 
@@ -60,4 +61,44 @@ unplace-first n seed y some h =
       first.0,
       first.1,
       IsFirstBelow-turned (mix n seed) (unmix n seed) (area_of n) n x first.0 y (AreInversesBelow-mix n seed some) (Covers-sides n some).enough below at,
+    )
+
+-- a number below n lies in the rectangle
+pub below-area : (n x a b : ℕ) → 0 < n → a ≡ height_of n → b ≡ width_of n → x < n → x < a * b
+below-area n x a b some tall wide h =
+    let enough : n ≤ height_of n * width_of n = (Covers-sides n some).enough in
+    let same : a * b ≡ height_of n * width_of n = ap (λ (k : ℕ). k * b) tall ∙ ap (λ (k : ℕ). height_of n * k) wide in
+    omega arith
+
+-- what the rounds make z of is what their inverse gives
+pub unmix-is : (n seed x z a b : ℕ) → 0 < n → a ≡ height_of n → b ≡ width_of n → x < a * b → mix n seed x ≡ z → x ≡ unmix n seed z
+unmix-is n seed x z a b some tall wide h e =
+    let same : a * b ≡ area_of n = ap (λ (k : ℕ). k * b) tall ∙ ap (λ (k : ℕ). height_of n * k) wide in
+    sym (inverse_below-is (area_of n) (mix n seed) x z (IsBijectionBelow-mix n seed some) (subst (λ (m : ℕ). x < m) same h) e)
+
+-- the rectangle is as large as it is tall
+height-area : (n k : ℕ) → 0 < n → k < height_of n → k ≤ area_of n
+height-area n k some h =
+    let wide : 0 < width_of n = (Covers-sides n some).wide in
+    let row : height_of n * 1 ≤ height_of n * width_of n = mul-le (height_of n) 1 (height_of n) (width_of n) (omega arith) (omega arith) in
+    omega arith
+
+-- after the first mix the place lies ahead
+pub place-ahead : (n seed x z : ℕ) → 0 < n → x < n → z ≡ mix n seed x → LiesAhead (mix n seed) n (area_of n) z (place n seed x)
+place-ahead n seed x z some h e =
+    let first = place-first n seed x some h in
+    (
+      first.0,
+      height-area n first.0 some first.1,
+      subst (λ (w : ℕ). IsAhead (mix n seed) n w first.0 (place n seed x)) (sym e) (IsAhead-begun (mix n seed) n x first.0 _ first.2),
+    )
+
+-- after the first step back the number lies ahead
+pub unplace-ahead : (n seed y z : ℕ) → 0 < n → y < n → z ≡ unmix n seed y → LiesAhead (unmix n seed) n (area_of n) z (unplace n seed y)
+unplace-ahead n seed y z some h e =
+    let first = unplace-first n seed y some h in
+    (
+      first.0,
+      height-area n first.0 some first.1,
+      subst (λ (w : ℕ). IsAhead (unmix n seed) n w first.0 (unplace n seed y)) (sym e) (IsAhead-begun (unmix n seed) n y first.0 _ first.2),
     )

@@ -1,6 +1,6 @@
 -- The rounds: each keeps its halves within the sides and is one-to-one, and so is their whole.
 use Rattle.std.proofs.Common.{◌≡◌, ℕ, zero, suc, ◌+◌, ◌-◌, ◌*◌, ◌/◌, ◌%◌, ◌==◌, ◌<◌, ◌≤◌, Bool, true, false, cond, ◌⊎◌, inl, inr, refl, sym, ap, ◌∙◌, subst, arith}
-use Rattle.std.proofs.lemmas.Bool.{cases_Bool}
+use Rattle.std.proofs.lemmas.Bool.{cases_Bool, eq-eqb, ne_eqb}
 use Rattle.std.proofs.lemmas.Nat.{mul-add-lt, div-mul-add, mod-mul-add, div_below, mod_below, div-add-mod', same_from_place}
 use Rattle.std.proofs.Math.Nat.{mul_comm}
 use Rattle.id_permutation.specs.declared.halves.Halves.{Halves}
@@ -34,12 +34,33 @@ IsWithin-round a b seed i halves within =
       })
     ]
 
-abbrev made : ℕ → ℕ → Halves
+-- the halves made of two numbers
+abbrev pub made : ℕ → ℕ → Halves
 made left right = record { left = left; right = right }
 
 -- halves are one where both their numbers are
 same_halves : (h k : Halves) → h.left ≡ k.left → h.right ≡ k.right → h ≡ k
 same_halves h k e d = ap (λ (l : ℕ). made l h.right) e ∙ ap (λ (r : ℕ). made k.left r) d
+
+-- what an even round makes
+pub made-even : (a b seed i left : ℕ) (halves : Halves) → i % 2 ≡ 0 → left ≡ (halves.left + round_number seed i halves.right) % a → made left halves.right ≡ round a b seed i halves
+made-even a b seed i left halves even e =
+    ap (λ (l : ℕ). made l halves.right) e ∙ sym (round-even a b seed i halves (eq-eqb _ _ even))
+
+-- what an odd round makes
+pub made-odd : (a b seed i right : ℕ) (halves : Halves) → i % 2 ≡ 1 → right ≡ (halves.right + round_number seed i halves.left) % b → made halves.left right ≡ round a b seed i halves
+made-odd a b seed i right halves odd e =
+    ap (λ (r : ℕ). made halves.left r) e ∙ sym (round-odd a b seed i halves (ne_eqb _ _ (λ even. absurd (omega arith))))
+
+-- what an even round makes these halves of
+pub even_round-made : (a b seed i left : ℕ) (halves : Halves) → i % 2 ≡ 0 → (left + round_number seed i halves.right) % a ≡ halves.left → round a b seed i (made left halves.right) ≡ halves
+even_round-made a b seed i left halves even e =
+    round-even a b seed i (made left halves.right) (eq-eqb _ _ even) ∙ ap (λ (l : ℕ). made l halves.right) e
+
+-- what an odd round makes these halves of
+pub odd_round-made : (a b seed i right : ℕ) (halves : Halves) → i % 2 ≡ 1 → (right + round_number seed i halves.left) % b ≡ halves.right → round a b seed i (made halves.left right) ≡ halves
+odd_round-made a b seed i right halves odd e =
+    round-odd a b seed i (made halves.left right) (ne_eqb _ _ (λ even. absurd (omega arith))) ∙ ap (λ (r : ℕ). made halves.left r) e
 
 -- a round is one-to-one
 pub round-one : (a b seed i : ℕ) (h k : Halves) → IsWithin a b h → IsWithin a b k → round a b seed i h ≡ round a b seed i k → h ≡ k
@@ -117,3 +138,36 @@ IsBijectionBelow-mix n seed some =
             let start : halves_of b x ≡ halves_of b y =
                 rounds-one a b seed round_count _ _ (IsWithin-halves_of a b x covers.wide hx) (IsWithin-halves_of a b y covers.wide hy) halves in
             sym (number_of-halves_of b x) ∙ ap (number_of b) start ∙ number_of-halves_of b y)
+
+-- the map, by sides that are those of n
+mix_by : ℕ → ℕ → ℕ → ℕ → ℕ
+mix_by a b seed x = number_of b (rounds a b seed round_count (halves_of b x))
+
+mix-by : (n seed x a b : ℕ) → a ≡ height_of n → b ≡ width_of n → mix_by a b seed x ≡ mix n seed x
+unfolding mix mix_by
+mix-by n seed x a b tall wide =
+    ap (λ (k : ℕ). mix_by k b seed x) tall ∙ ap (λ (k : ℕ). mix_by (height_of n) k seed x) wide
+
+-- what the rounds make of a number
+pub number_of-rounds : (n seed x a b : ℕ) (halves : Halves) → a ≡ height_of n → b ≡ width_of n → halves ≡ rounds a b seed round_count (halves_of b x) → number_of b halves ≡ mix n seed x
+unfolding mix_by
+number_of-rounds n seed x a b halves tall wide e = ap (number_of b) e ∙ mix-by n seed x a b tall wide
+
+-- what the rounds make a number of
+pub mix-number_of : (n seed x a b : ℕ) (halves : Halves) → a ≡ height_of n → b ≡ width_of n → IsWithin a b halves → rounds a b seed round_count halves ≡ halves_of b x → mix n seed (number_of b halves) ≡ x
+unfolding mix_by
+mix-number_of n seed x a b halves tall wide within e =
+    sym (mix-by n seed (number_of b halves) a b tall wide)
+    ∙ ap (λ (h : Halves). number_of b (rounds a b seed round_count h)) (halves_of-number_of b halves within.right_below)
+    ∙ ap (number_of b) e
+    ∙ number_of-halves_of b x
+
+-- two rounds more
+pub rounds-two : (a b seed k : ℕ) (halves : Halves) → rounds a b seed (2 * (k + 1)) halves ≡ round a b seed (2 * k + 1) (round a b seed (2 * k) (rounds a b seed (2 * k) halves))
+rounds-two a b seed k halves =
+    let odd : 2 * (k + 1) ≡ suc (2 * k + 1) = omega arith in
+    let even : 2 * k + 1 ≡ suc (2 * k) = omega arith in
+    ap (λ (j : ℕ). rounds a b seed j halves) odd
+    ∙ rounds-suc a b seed (2 * k + 1) halves
+    ∙ ap (λ (j : ℕ). round a b seed (2 * k + 1) (rounds a b seed j halves)) even
+    ∙ ap (round a b seed (2 * k + 1)) (rounds-suc a b seed (2 * k) halves)

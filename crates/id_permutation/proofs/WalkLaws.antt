@@ -209,3 +209,28 @@ steps_left-more f n tries z k y room h ahead =
     let now : steps_left f n tries z ≡ k = steps_left-is f n tries z k y room ahead in
     let next : steps_left f n tries (f z) ≡ rest.0 = steps_left-is f n tries (f z) rest.0 y (omega arith) rest.2 in
     omega arith
+
+-- y lies at most `tries` steps ahead of z
+abbrev pub LiesAhead : (ℕ → ℕ) → ℕ → ℕ → ℕ → ℕ → Type 0
+LiesAhead f n tries z y = (k : ℕ) × (k ≤ tries) × IsAhead f n z k y
+
+-- the walk goes on by w
+pub LiesAhead-more : (f : ℕ → ℕ) (n tries z w y : ℕ) → w ≡ f z → n ≤ z → LiesAhead f n tries z y → LiesAhead f n tries w y
+LiesAhead-more f n tries z w y e h ahead =
+    let rest = IsAhead-more f n z ahead.0 y h ahead.2 in
+    let step : rest.0 + 1 ≡ ahead.0 = rest.1 in
+    let room : ahead.0 ≤ tries = ahead.1 in
+    (
+      rest.0,
+      (let short : rest.0 ≤ tries = omega arith in short),
+      subst (λ (x : ℕ). IsAhead f n x rest.0 y) (sym e) rest.2,
+    )
+
+-- and w has fewer steps left
+pub steps_left-falls : (f : ℕ → ℕ) (n tries z w y : ℕ) → w ≡ f z → n ≤ z → LiesAhead f n tries z y → steps_left f n tries w < steps_left f n tries z
+steps_left-falls f n tries z w y e h ahead =
+    subst (λ (x : ℕ). steps_left f n tries x < steps_left f n tries z) (sym e) (steps_left-more f n tries z ahead.0 y ahead.1 h ahead.2)
+
+-- it ends at y
+pub LiesAhead-ended : (f : ℕ → ℕ) (n tries z y : ℕ) → z < n → LiesAhead f n tries z y → z ≡ y
+LiesAhead-ended f n tries z y h ahead = IsAhead-ended f n z ahead.0 y h ahead.2
