@@ -1,10 +1,10 @@
 -- Bijections of a finite range: from an inverse, by composition, and the pigeonhole.
-use Rattle.std.proofs.Common.{◌≡◌, ℕ, zero, suc, ◌+◌, ◌-◌, ◌<◌, ◌≤◌, ◌||◌, Bool, true, false, cond, eqb, ltb, List, [], ◌∷◌, length, ◌⊎◌, inl, inr, refl, sym, ap, ◌∙◌, subst, arith}
+use Rattle.std.proofs.Common.{◌≡◌, ℕ, zero, suc, ◌-◌, ◌<◌, ◌≤◌, true, false, cond, eqb, ltb, List, [], ◌∷◌, length, inl, inr, refl, sym, ap, ◌∙◌, subst, arith}
 use Rattle.std.specs.List.{AllByRecursion, IsDistinct, list_any}
 use Rattle.std.proofs.lemmas.Bool.{cases_lt, eqb-true, eqb-false, eq-eqb, ne_eqb, or_cases, lt-ltb, le-ltb}
 use Rattle.std.proofs.lemmas.Map.Steps.{length-le_from_distinct_below}
 use Rattle.id_permutation.specs.Walk.{IsBijectionBelow, AreInversesBelow, inverse_below}
-use Rattle.id_permutation.proofs.LeastLaws.{least-is, first_or_none, PassesFirst}
+use Rattle.id_permutation.proofs.LeastLaws.{least-is, first_or_none}
 
 -- what has an inverse is a bijection
 pub IsBijectionBelow-from_inverse : (n : ℕ) (f g : ℕ → ℕ) → AreInversesBelow n f g → IsBijectionBelow n f
@@ -39,10 +39,10 @@ unfolding values_below
 found_among h zero q e = absurd (cc)
 found_among h (suc m) q e =
     elim (or_cases (eqb q (h m)) (list_any (eqb q) (values_below h m)) e) [
-      inl here ↦ (m, omega arith, eqb-true q (h m) here)
+      | inl here ↦ (m, omega arith, eqb-true q (h m) here)
       | inr there ↦
-        let found = found_among h m q there in
-        (found.0, (let w : found.0 < m = found.1 in omega arith), found.2)
+          let found = found_among h m q there in
+          (found.0, (let w : found.0 < m = found.1 in omega arith), found.2)
     ]
 
 -- each of the values at the numbers below m differs from h i, where h i differs from each
@@ -66,10 +66,10 @@ values_distinct h (suc m) differs = (
 pub pigeonhole : (h : ℕ → ℕ) (m n : ℕ) → ((i : ℕ) → i < m → h i < n) → ((i j : ℕ) → j < i → i < m → h i ≡ h j → ⊥) → m ≤ n
 pigeonhole h m n within differs =
     subst (λ (k : ℕ). k ≤ n) (length-values_below h m)
-        (length-le_from_distinct_below (values_below h m) n (values_distinct h m differs)
-            (λ q e.
-                let found = found_among h m q e in
-                subst (λ (k : ℕ). k < n) (sym found.2) (within found.0 found.1)))
+    (length-le_from_distinct_below (values_below h m) n (values_distinct h m differs)
+    (λ q e.
+    let found = found_among h m q e in
+    subst (λ (k : ℕ). k < n) (sym found.2) (within found.0 found.1)))
 
 -- the place of v among the numbers but y
 skipped : ℕ → ℕ → ℕ
@@ -87,29 +87,29 @@ skipped-above y v h = ap (λ b. cond b v (v - 1)) (le-ltb v y h)
 skipped-one : (y v w : ℕ) → (v ≡ y → ⊥) → (w ≡ y → ⊥) → skipped y v ≡ skipped y w → v ≡ w
 skipped-one y v w hv hw e =
     elim (cases_lt v y) [
-      inl lv ↦ elim (cases_lt w y) [
-        inl lw ↦ sym (skipped-below y v lv) ∙ e ∙ skipped-below y w lw
+      | inl lv ↦ elim (cases_lt w y) [
+        | inl lw ↦ sym (skipped-below y v lv) ∙ e ∙ skipped-below y w lw
         | inr gw ↦
-          let a = skipped-below y v lv in
-          let b = skipped-above y w gw in
-          absurd (omega (arith, hw))
+            let a = skipped-below y v lv in
+            let b = skipped-above y w gw in
+            absurd (omega (arith, hw))
       ]
       | inr gv ↦ elim (cases_lt w y) [
-        inl lw ↦
-          let a = skipped-above y v gv in
-          let b = skipped-below y w lw in
-          absurd (omega (arith, hv))
+        | inl lw ↦
+            let a = skipped-above y v gv in
+            let b = skipped-below y w lw in
+            absurd (omega (arith, hv))
         | inr gw ↦
-          let a = skipped-above y v gv in
-          let b = skipped-above y w gw in
-          omega (arith, hv, hw)
+            let a = skipped-above y v gv in
+            let b = skipped-above y w gw in
+            omega (arith, hv, hw)
       ]
     ]
 
 skipped-within : (y v n : ℕ) → y < n → v < n → (v ≡ y → ⊥) → skipped y v < n - 1
 skipped-within y v n hy hv other =
     elim (cases_lt v y) [
-      inl low ↦ (let a = skipped-below y v low in omega arith)
+      | inl low ↦ (let a = skipped-below y v low in omega arith)
       | inr high ↦ (let a = skipped-above y v high in omega (arith, other))
     ]
 
@@ -117,17 +117,17 @@ skipped-within y v n hy hv other =
 pub onto_from_one_to_one : (n : ℕ) (f : ℕ → ℕ) → ((x : ℕ) → x < n → f x < n) → ((x y : ℕ) → x < n → y < n → f x ≡ f y → x ≡ y) → (y : ℕ) → y < n → (x : ℕ) × (x < n) × (f x ≡ y)
 onto_from_one_to_one n f within one_to_one y h =
     elim (first_or_none (λ x. eqb (f x) y) n) [
-      inl found ↦ (found.0, found.1.within, eqb-true _ _ found.1.passes)
+      | inl found ↦ (found.0, found.1.within, eqb-true _ _ found.1.passes)
       | inr none ↦
-        let missed : (x : ℕ) → x < n → f x ≡ y → ⊥ = λ x w. eqb-false _ _ (none x w) in
-        let few : n ≤ n - 1 =
-            pigeonhole (λ x. skipped y (f x)) n (n - 1)
-                (λ x w. skipped-within y (f x) n h (within x w) (missed x w))
-                (λ i j w v e.
-                    let before : j < n = omega arith in
-                    let same : i ≡ j = one_to_one i j v before (skipped-one y (f i) (f j) (missed i v) (missed j before) e) in
-                    omega arith) in
-        absurd (omega arith)
+          let missed : (x : ℕ) → x < n → f x ≡ y → ⊥ = λ x w. eqb-false _ _ (none x w) in
+          let few : n ≤ n - 1 =
+          pigeonhole (λ x. skipped y (f x)) n (n - 1)
+          (λ x w. skipped-within y (f x) n h (within x w) (missed x w))
+          (λ i j w v e.
+          let before : j < n = omega arith in
+          let same : i ≡ j = one_to_one i j v before (skipped-one y (f i) (f j) (missed i v) (missed j before) e) in
+          omega arith) in
+          absurd (omega arith)
     ]
 
 -- so it is a bijection
@@ -143,9 +143,9 @@ pub inverse_below-is : (n : ℕ) (f : ℕ → ℕ) (x y : ℕ) → IsBijectionBe
 unfolding inverse_below
 inverse_below-is n f x y bijection h e =
     least-is (λ z. eqb (f z) y) n x (omega arith) (eq-eqb _ _ e)
-        (λ j w. ne_eqb _ _ (λ same.
-            let one : j ≡ x = bijection.one_to_one j x (omega arith) h (same ∙ sym e) in
-            omega arith))
+    (λ j w. ne_eqb _ _ (λ same.
+    let one : j ≡ x = bijection.one_to_one j x (omega arith) h (same ∙ sym e) in
+    omega arith))
 
 -- it is the inverse
 pub AreInversesBelow-inverse_below : (n : ℕ) (f : ℕ → ℕ) → IsBijectionBelow n f → AreInversesBelow n f (inverse_below n f)

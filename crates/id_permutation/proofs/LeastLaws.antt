@@ -1,5 +1,5 @@
 -- The least number that passes a test: a search below a bound, and what `least` gives where one knows the answer.
-use Rattle.std.proofs.Common.{◌≡◌, ℕ, zero, suc, ◌+◌, ◌<◌, ◌≤◌, Bool, true, false, ◌⊎◌, inl, inr, refl, sym, ap, ◌∙◌, subst, arith, add-one, below_more}
+use Rattle.std.proofs.Common.{◌≡◌, ℕ, zero, suc, ◌+◌, ◌<◌, ◌≤◌, Bool, true, false, ◌⊎◌, inl, inr, refl, ap, ◌∙◌, arith, add-one, below_more}
 use Rattle.std.proofs.lemmas.Bool.{cases_Bool, cases_eq}
 use Rattle.id_permutation.specs.Least.{least, least_from}
 
@@ -22,13 +22,13 @@ least_from-is : (p : ℕ → Bool) (tries k m : ℕ) → k ≤ m → m ≤ k + t
 least_from-is p zero k m low high passes fails = least_from-zero p k ∙ omega arith
 least_from-is p (suc tries) k m low high passes fails =
     elim (cases_eq k m) [
-      inl same ↦ least_from-true p tries k (ap p same ∙ passes) ∙ same
+      | inl same ↦ least_from-true p tries k (ap p same ∙ passes) ∙ same
       | inr other ↦
-        let before : k < m = omega (arith, other) in
-        let more : k + 1 ≤ m = omega arith in
-        let room : m ≤ k + 1 + tries = omega arith in
-        least_from-false p tries k (fails k (omega arith) before)
-        ∙ least_from-is p tries (k + 1) m more room passes (λ j h. fails j (omega arith))
+          let before : k < m = omega (arith, other) in
+          let more : k + 1 ≤ m = omega arith in
+          let room : m ≤ k + 1 + tries = omega arith in
+          least_from-false p tries k (fails k (omega arith) before)
+          ∙ least_from-is p tries (k + 1) m more room passes (λ j h. fails j (omega arith))
     ]
 
 -- the least number that passes is m, where m passes and none before it does
@@ -47,13 +47,16 @@ pub first_or_none : (p : ℕ → Bool) (bound : ℕ) → ((m : ℕ) × PassesFir
 first_or_none p zero = inr (λ j h. absurd (omega arith))
 first_or_none p (suc bound) =
     elim (first_or_none p bound) [
-      inl found ↦ inl (found.0, record {
-        within = let w : found.0 < bound = found.1.within in omega arith;
-        passes = found.1.passes;
-        fails = found.1.fails;
-      })
+      | inl found ↦ inl (
+        found.0,
+        record {
+          within = let w : found.0 < bound = found.1.within in omega arith;
+          passes = found.1.passes;
+          fails = found.1.fails;
+        },
+      )
       | inr none ↦ elim (cases_Bool (p bound)) [
-        inl pass ↦ inl (bound, record { within = omega arith; passes = pass; fails = none })
+        | inl pass ↦ inl (bound, record { within = omega arith; passes = pass; fails = none })
         | inr fail ↦ inr (rw (← add-one) (below_more (λ j. p j ≡ false) bound none fail))
       ]
     ]

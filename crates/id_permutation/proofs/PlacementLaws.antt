@@ -1,8 +1,8 @@
 -- The placement is a bijection of 0..n-1, `unplace` undoes it, and both walks are short.
-use Rattle.std.proofs.Common.{◌≡◌, ℕ, zero, suc, ◌+◌, ◌-◌, ◌*◌, ◌<◌, ◌≤◌, refl, sym, ap, ◌∙◌, subst, arith}
-use Rattle.id_permutation.specs.Walk.{IsBijectionBelow, AreInversesBelow, inverse_below, iterate, IsFirstBelow, first_below}
+use Rattle.std.proofs.Common.{◌≡◌, ℕ, ◌+◌, ◌-◌, ◌*◌, ◌<◌, ◌≤◌, sym, ap, ◌∙◌, subst, arith}
+use Rattle.id_permutation.specs.Walk.{IsBijectionBelow, AreInversesBelow, inverse_below, IsFirstBelow, first_below}
 use Rattle.id_permutation.specs.Placement.{height_of, width_of, mix, place, unplace}
-use Rattle.id_permutation.proofs.BijectionLaws.{AreInversesBelow-turned, IsBijectionBelow-from_inverse, inverse_below-is, AreInversesBelow-inverse_below}
+use Rattle.id_permutation.proofs.BijectionLaws.{IsBijectionBelow-from_inverse, inverse_below-is, AreInversesBelow-inverse_below}
 use Rattle.std.proofs.lemmas.Nat.{mul-le}
 use Rattle.id_permutation.proofs.WalkLaws.{LiesAhead, IsAhead-begun, IsAhead, returns_below, first_below-is, first_below-inverses, IsFirstBelow-turned}
 use Rattle.id_permutation.proofs.SideLaws.{Covers, Covers-sides}
@@ -42,25 +42,32 @@ place-first n seed x some h =
     let few_more : area_of n < n + height_of n = covers.few_more in
     let first = returns_below (mix n seed) (unmix n seed) (area_of n) n x (AreInversesBelow-mix n seed some) enough h in
     let turns : first.0 ≤ area_of n - n = first.1 in
-    let is : first_below (mix n seed) n (area_of n) x ≡ first.2 = first_below-is _ n (area_of n) x first.0 first.2 (omega arith) first.3 in
-    (
+    let is : first_below (mix n seed) n (area_of n) x ≡ first.2 = first_below-is _ n (area_of n) x first.0 first.2 (omega arith) first.3 in (
       first.0,
       (let short : first.0 < height_of n = omega arith in short),
       subst (λ (y : ℕ). IsFirstBelow (mix n seed) n x first.0 y) (sym is) first.3,
     )
 
--- and the number of a place is the first of the walk backwards
-pub unplace-first : (n seed y : ℕ) → 0 < n → y < n → (k : ℕ) × (k < height_of n) × IsFirstBelow (unmix n seed) n y k (unplace n seed y)
-unplace-first n seed y some h =
+-- from the number of a place the walk leads to that place
+pub number-first : (n seed y : ℕ) → 0 < n → y < n → (k : ℕ) × (k < height_of n) × IsFirstBelow (mix n seed) n (unplace n seed y) k y
+number-first n seed y some h =
     let inverse : AreInversesBelow n (place n seed) (unplace n seed) = AreInversesBelow-unplace n seed some in
     let x = unplace n seed y in
-    let below : x < n = inverse.within_back y h in
-    let first = place-first n seed x some below in
-    let at : IsFirstBelow (mix n seed) n x first.0 y = subst (λ (z : ℕ). IsFirstBelow (mix n seed) n x first.0 z) (inverse.redone y h) first.2 in
-    (
+    let first = place-first n seed x some (inverse.within_back y h) in (
       first.0,
       first.1,
-      IsFirstBelow-turned (mix n seed) (unmix n seed) (area_of n) n x first.0 y (AreInversesBelow-mix n seed some) (Covers-sides n some).enough below at,
+      subst (λ (z : ℕ). IsFirstBelow (mix n seed) n x first.0 z) (inverse.redone y h) first.2,
+    )
+
+-- and the number is the first of the walk backwards
+pub unplace-first : (n seed y : ℕ) → 0 < n → y < n → (k : ℕ) × (k < height_of n) × IsFirstBelow (unmix n seed) n y k (unplace n seed y)
+unplace-first n seed y some h =
+    let x = unplace n seed y in
+    let below : x < n = (AreInversesBelow-unplace n seed some).within_back y h in
+    let first = number-first n seed y some h in (
+      first.0,
+      first.1,
+      IsFirstBelow-turned (mix n seed) (unmix n seed) (area_of n) n x first.0 y (AreInversesBelow-mix n seed some) (Covers-sides n some).enough below first.2,
     )
 
 -- a number below n lies in the rectangle
@@ -86,8 +93,7 @@ height-area n k some h =
 -- after the first mix the place lies ahead
 pub place-ahead : (n seed x z : ℕ) → 0 < n → x < n → z ≡ mix n seed x → LiesAhead (mix n seed) n (area_of n) z (place n seed x)
 place-ahead n seed x z some h e =
-    let first = place-first n seed x some h in
-    (
+    let first = place-first n seed x some h in (
       first.0,
       height-area n first.0 some first.1,
       subst (λ (w : ℕ). IsAhead (mix n seed) n w first.0 (place n seed x)) (sym e) (IsAhead-begun (mix n seed) n x first.0 _ first.2),
@@ -96,8 +102,7 @@ place-ahead n seed x z some h e =
 -- after the first step back the number lies ahead
 pub unplace-ahead : (n seed y z : ℕ) → 0 < n → y < n → z ≡ unmix n seed y → LiesAhead (unmix n seed) n (area_of n) z (unplace n seed y)
 unplace-ahead n seed y z some h e =
-    let first = unplace-first n seed y some h in
-    (
+    let first = unplace-first n seed y some h in (
       first.0,
       height-area n first.0 some first.1,
       subst (λ (w : ℕ). IsAhead (unmix n seed) n w first.0 (unplace n seed y)) (sym e) (IsAhead-begun (unmix n seed) n y first.0 _ first.2),

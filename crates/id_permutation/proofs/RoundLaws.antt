@@ -1,7 +1,7 @@
 -- The rounds: each keeps its halves within the sides and is one-to-one, and so is their whole.
-use Rattle.std.proofs.Common.{◌≡◌, ℕ, zero, suc, ◌+◌, ◌-◌, ◌*◌, ◌/◌, ◌%◌, ◌==◌, ◌<◌, ◌≤◌, Bool, true, false, cond, ◌⊎◌, inl, inr, refl, sym, ap, ◌∙◌, subst, arith}
+use Rattle.std.proofs.Common.{◌≡◌, ℕ, zero, suc, ◌+◌, ◌*◌, ◌%◌, ◌==◌, ◌<◌, Bool, true, false, cond, inl, inr, refl, sym, ap, ◌∙◌, subst, arith}
 use Rattle.std.proofs.lemmas.Bool.{cases_Bool, eq-eqb, ne_eqb}
-use Rattle.std.proofs.lemmas.Nat.{mul-add-lt, div-mul-add, mod-mul-add, div_below, mod_below, div-add-mod', same_from_place}
+use Rattle.std.proofs.lemmas.Nat.{mul-add-lt, div-mul-add, mod-mul-add, div_below, mod_below, div-add-mod'}
 use Rattle.std.proofs.Math.Nat.{mul_comm}
 use Rattle.id_permutation.specs.declared.halves.Halves.{Halves}
 use Rattle.id_permutation.specs.Walk.{IsBijectionBelow}
@@ -24,7 +24,7 @@ round-odd a b seed i halves e = ap (λ (test : Bool). cond test (record { left =
 pub IsWithin-round : (a b seed i : ℕ) (halves : Halves) → IsWithin a b halves → IsWithin a b (round a b seed i halves)
 IsWithin-round a b seed i halves within =
     elim (cases_Bool (i % 2 == 0)) [
-      inl even ↦ subst (IsWithin a b) (sym (round-even a b seed i halves even)) (record {
+      | inl even ↦ subst (IsWithin a b) (sym (round-even a b seed i halves even)) (record {
         left_below = mod_below _ a (let h : halves.left < a = within.left_below in omega arith);
         right_below = within.right_below;
       })
@@ -66,20 +66,20 @@ odd_round-made a b seed i right halves odd e =
 pub round-one : (a b seed i : ℕ) (h k : Halves) → IsWithin a b h → IsWithin a b k → round a b seed i h ≡ round a b seed i k → h ≡ k
 round-one a b seed i h k within_h within_k e =
     elim (cases_Bool (i % 2 == 0)) [
-      inl even ↦
-        let both : record { left = (h.left + round_number seed i h.right) % a; right = h.right } ≡ record { left = (k.left + round_number seed i k.right) % a; right = k.right } =
-            sym (round-even a b seed i h even) ∙ e ∙ round-even a b seed i k even in
-        let right : h.right ≡ k.right = ap (λ (x : Halves). x.right) both in
-        let left : (h.left + round_number seed i h.right) % a ≡ (k.left + round_number seed i h.right) % a =
-            ap (λ (x : Halves). x.left) both ∙ ap (λ (r : ℕ). (k.left + round_number seed i r) % a) (sym right) in
-        same_halves h k (add_modulo-one _ _ _ a within_h.left_below within_k.left_below left) right
+      | inl even ↦
+          let both : record { left = (h.left + round_number seed i h.right) % a; right = h.right } ≡ record { left = (k.left + round_number seed i k.right) % a; right = k.right } =
+          sym (round-even a b seed i h even) ∙ e ∙ round-even a b seed i k even in
+          let right : h.right ≡ k.right = ap (λ (x : Halves). x.right) both in
+          let left : (h.left + round_number seed i h.right) % a ≡ (k.left + round_number seed i h.right) % a =
+          ap (λ (x : Halves). x.left) both ∙ ap (λ (r : ℕ). (k.left + round_number seed i r) % a) (sym right) in
+          same_halves h k (add_modulo-one _ _ _ a within_h.left_below within_k.left_below left) right
       | inr odd ↦
-        let both : record { left = h.left; right = (h.right + round_number seed i h.left) % b } ≡ record { left = k.left; right = (k.right + round_number seed i k.left) % b } =
-            sym (round-odd a b seed i h odd) ∙ e ∙ round-odd a b seed i k odd in
-        let left : h.left ≡ k.left = ap (λ (x : Halves). x.left) both in
-        let right : (h.right + round_number seed i h.left) % b ≡ (k.right + round_number seed i h.left) % b =
-            ap (λ (x : Halves). x.right) both ∙ ap (λ (l : ℕ). (k.right + round_number seed i l) % b) (sym left) in
-        same_halves h k left (add_modulo-one _ _ _ b within_h.right_below within_k.right_below right)
+          let both : record { left = h.left; right = (h.right + round_number seed i h.left) % b } ≡ record { left = k.left; right = (k.right + round_number seed i k.left) % b } =
+          sym (round-odd a b seed i h odd) ∙ e ∙ round-odd a b seed i k odd in
+          let left : h.left ≡ k.left = ap (λ (x : Halves). x.left) both in
+          let right : (h.right + round_number seed i h.left) % b ≡ (k.right + round_number seed i h.left) % b =
+          ap (λ (x : Halves). x.right) both ∙ ap (λ (l : ℕ). (k.right + round_number seed i l) % b) (sym left) in
+          same_halves h k left (add_modulo-one _ _ _ b within_h.right_below within_k.right_below right)
     ]
 
 pub rounds-zero : (a b seed : ℕ) (halves : Halves) → rounds a b seed zero halves ≡ halves
@@ -100,7 +100,7 @@ unfolding rounds
 rounds-one a b seed zero g h within_g within_h e = e
 rounds-one a b seed (suc k) g h within_g within_h e =
     rounds-one a b seed k g h within_g within_h
-        (round-one a b seed k _ _ (IsWithin-rounds a b seed k g within_g) (IsWithin-rounds a b seed k h within_h) e)
+    (round-one a b seed k _ _ (IsWithin-rounds a b seed k g within_g) (IsWithin-rounds a b seed k h within_h) e)
 
 -- the halves of a number of the rectangle
 pub IsWithin-halves_of : (a b x : ℕ) → 0 < b → x < a * b → IsWithin a b (halves_of b x)
@@ -129,15 +129,15 @@ IsBijectionBelow-mix n seed some =
     let b = width_of n in
     let covers : Covers n a b = Covers-sides n some in
     let after : (x : ℕ) → x < a * b → IsWithin a b (rounds a b seed round_count (halves_of b x)) =
-        λ x h. IsWithin-rounds a b seed round_count _ (IsWithin-halves_of a b x covers.wide h) in
+    λ x h. IsWithin-rounds a b seed round_count _ (IsWithin-halves_of a b x covers.wide h) in
     IsBijectionBelow-from_one_to_one (a * b) (mix n seed)
-        (λ x h. number_of-within a b _ (after x h))
-        (λ x y hx hy e.
-            let halves : rounds a b seed round_count (halves_of b x) ≡ rounds a b seed round_count (halves_of b y) =
-                sym (halves_of-number_of b _ (after x hx).right_below) ∙ ap (halves_of b) e ∙ halves_of-number_of b _ (after y hy).right_below in
-            let start : halves_of b x ≡ halves_of b y =
-                rounds-one a b seed round_count _ _ (IsWithin-halves_of a b x covers.wide hx) (IsWithin-halves_of a b y covers.wide hy) halves in
-            sym (number_of-halves_of b x) ∙ ap (number_of b) start ∙ number_of-halves_of b y)
+    (λ x h. number_of-within a b _ (after x h))
+    (λ x y hx hy e.
+    let halves : rounds a b seed round_count (halves_of b x) ≡ rounds a b seed round_count (halves_of b y) =
+    sym (halves_of-number_of b _ (after x hx).right_below) ∙ ap (halves_of b) e ∙ halves_of-number_of b _ (after y hy).right_below in
+    let start : halves_of b x ≡ halves_of b y =
+    rounds-one a b seed round_count _ _ (IsWithin-halves_of a b x covers.wide hx) (IsWithin-halves_of a b y covers.wide hy) halves in
+    sym (number_of-halves_of b x) ∙ ap (number_of b) start ∙ number_of-halves_of b y)
 
 -- the map, by sides that are those of n
 mix_by : ℕ → ℕ → ℕ → ℕ → ℕ

@@ -1,11 +1,11 @@
 -- Walking a cycle of a bijection: the first return below n exists, is one, and the inverse walk finds it back.
-use Rattle.std.proofs.Common.{◌≡◌, ℕ, zero, suc, ◌+◌, ◌-◌, ◌<◌, ◌≤◌, Bool, true, false, ◌⊎◌, inl, inr, refl, sym, ap, ◌∙◌, subst, arith, add-one}
+use Rattle.std.proofs.Common.{◌≡◌, ℕ, zero, suc, ◌+◌, ◌-◌, ◌<◌, ◌≤◌, inl, inr, refl, sym, ap, ◌∙◌, subst, arith, add-one}
 use Rattle.std.proofs.lemmas.Bool.{cases_order, ltb-true, ltb-false, lt-ltb, le-ltb}
 use Rattle.std.specs.Prelude.{nat_lt}
 use Rattle.id_permutation.specs.Least.{least}
-use Rattle.id_permutation.specs.Walk.{IsBijectionBelow, AreInversesBelow, iterate, IsFirstBelow, first_below}
-use Rattle.id_permutation.proofs.LeastLaws.{least-is, first_or_none, PassesFirst}
-use Rattle.id_permutation.proofs.BijectionLaws.{AreInversesBelow-turned, IsBijectionBelow-from_inverse, pigeonhole}
+use Rattle.id_permutation.specs.Walk.{AreInversesBelow, iterate, IsFirstBelow, first_below}
+use Rattle.id_permutation.proofs.LeastLaws.{least-is, first_or_none}
+use Rattle.id_permutation.proofs.BijectionLaws.{AreInversesBelow-turned, pigeonhole}
 
 pub iterate-zero : (f : ℕ → ℕ) (x : ℕ) → iterate f zero x ≡ x
 unfolding iterate
@@ -49,7 +49,7 @@ came_back f g n i j x inverse h w e =
 pub returns_below : (f g : ℕ → ℕ) (size n x : ℕ) → AreInversesBelow size f g → n ≤ size → x < n → (k : ℕ) × (k ≤ size - n) × (y : ℕ) × IsFirstBelow f n x k y
 returns_below f g size n x inverse fits h =
     elim (first_or_none (λ k. nat_lt (iterate f (k + 1) x) n) (size - n + 1)) [
-      inl found ↦ (
+      | inl found ↦ (
         found.0,
         (let w : found.0 < size - n + 1 = found.1.within in omega arith),
         iterate f (found.0 + 1) x,
@@ -60,45 +60,45 @@ returns_below f g size n x inverse fits h =
         },
       )
       | inr none ↦
-        let past : (j : ℕ) → j < size - n + 1 → n ≤ iterate f (j + 1) x = λ j w. ltb-false _ _ (none j w) in
-        let inside : x < size = omega arith in
-        let few : size - n + 1 ≤ size - n =
-            pigeonhole (λ j. iterate f (j + 1) x - n) (size - n + 1) (size - n)
-                (λ i w.
-                    let low : n ≤ iterate f (i + 1) x = past i w in
-                    let high : iterate f (i + 1) x < size = iterate-within f size (i + 1) x inverse.within inside in
-                    omega arith)
-                (λ i j w v e.
-                    let low_i : n ≤ iterate f (i + 1) x = past i v in
-                    let low_j : n ≤ iterate f (j + 1) x = past j (omega arith) in
-                    let same : iterate f (i + 1) x ≡ iterate f (j + 1) x = omega arith in
-                    let back : iterate f (i + 1 - (j + 1)) x ≡ x = came_back f g size (i + 1) (j + 1) x inverse inside (omega arith) same in
-                    let turns : i + 1 - (j + 1) ≡ i - j - 1 + 1 = omega arith in
-                    let there : n ≤ iterate f (i - j - 1 + 1) x = past (i - j - 1) (omega arith) in
-                    let here : iterate f (i - j - 1 + 1) x ≡ x = ap (λ k. iterate f k x) (sym turns) ∙ back in
-                    omega arith) in
-        absurd (omega arith)
+          let past : (j : ℕ) → j < size - n + 1 → n ≤ iterate f (j + 1) x = λ j w. ltb-false _ _ (none j w) in
+          let inside : x < size = omega arith in
+          let few : size - n + 1 ≤ size - n =
+          pigeonhole (λ j. iterate f (j + 1) x - n) (size - n + 1) (size - n)
+          (λ i w.
+          let low : n ≤ iterate f (i + 1) x = past i w in
+          let high : iterate f (i + 1) x < size = iterate-within f size (i + 1) x inverse.within inside in
+          omega arith)
+          (λ i j w v e.
+          let low_i : n ≤ iterate f (i + 1) x = past i v in
+          let low_j : n ≤ iterate f (j + 1) x = past j (omega arith) in
+          let same : iterate f (i + 1) x ≡ iterate f (j + 1) x = omega arith in
+          let back : iterate f (i + 1 - (j + 1)) x ≡ x = came_back f g size (i + 1) (j + 1) x inverse inside (omega arith) same in
+          let turns : i + 1 - (j + 1) ≡ i - j - 1 + 1 = omega arith in
+          let there : n ≤ iterate f (i - j - 1 + 1) x = past (i - j - 1) (omega arith) in
+          let here : iterate f (i - j - 1 + 1) x ≡ x = ap (λ k. iterate f k x) (sym turns) ∙ back in
+          omega arith) in
+          absurd (omega arith)
     ]
 
 -- the first is one
 pub IsFirstBelow-one : (f : ℕ → ℕ) (n x k y j z : ℕ) → IsFirstBelow f n x k y → IsFirstBelow f n x j z → (k ≡ j) × (y ≡ z)
 IsFirstBelow-one f n x k y j z one other =
     let same : k ≡ j =
-        elim (cases_order k j) [
-          inl e ↦ e
-          | inr apart ↦ elim apart [
-            inl less ↦
-              let past : n ≤ iterate f (k + 1) x = other.walked_past k less in
-              let at : iterate f (k + 1) x ≡ y = one.reached in
-              let low : y < n = one.below in
-              absurd (omega arith)
-            | inr more ↦
-              let past : n ≤ iterate f (j + 1) x = one.walked_past j more in
-              let at : iterate f (j + 1) x ≡ z = other.reached in
-              let low : z < n = other.below in
-              absurd (omega arith)
-          ]
-        ] in
+    elim (cases_order k j) [
+      | inl e ↦ e
+      | inr apart ↦ elim apart [
+        | inl less ↦
+            let past : n ≤ iterate f (k + 1) x = other.walked_past k less in
+            let at : iterate f (k + 1) x ≡ y = one.reached in
+            let low : y < n = one.below in
+            absurd (omega arith)
+        | inr more ↦
+            let past : n ≤ iterate f (j + 1) x = one.walked_past j more in
+            let at : iterate f (j + 1) x ≡ z = other.reached in
+            let low : z < n = other.below in
+            absurd (omega arith)
+      ]
+    ] in
     (same, sym one.reached ∙ ap (λ i. iterate f (i + 1) x) same ∙ other.reached)
 
 -- the inverse walk from the first finds the start, past the same numbers
@@ -106,7 +106,7 @@ pub IsFirstBelow-turned : (f g : ℕ → ℕ) (size n x k y : ℕ) → AreInvers
 IsFirstBelow-turned f g size n x k y inverse fits h first =
     let inside : x < size = omega arith in
     let back : (i : ℕ) → i ≤ k + 1 → iterate g i y ≡ iterate f (k + 1 - i) x =
-        λ i w. ap (iterate g i) (sym first.reached) ∙ iterate-back f g size (k + 1) i x inverse inside w in
+    λ i w. ap (iterate g i) (sym first.reached) ∙ iterate-back f g size (k + 1) i x inverse inside w in
     record {
       reached = back (k + 1) (omega arith) ∙ ap (λ i. iterate f i x) (let none : k + 1 - (k + 1) ≡ 0 = omega arith in none) ∙ iterate-zero f x;
       below = h;
@@ -114,7 +114,7 @@ IsFirstBelow-turned f g size n x k y inverse fits h first =
           let step : k + 1 - (j + 1) ≡ k - j - 1 + 1 = omega arith in
           let past : n ≤ iterate f (k - j - 1 + 1) x = first.walked_past (k - j - 1) (omega arith) in
           let there : iterate g (j + 1) y ≡ iterate f (k - j - 1 + 1) x =
-              back (j + 1) (omega arith) ∙ ap (λ i. iterate f i x) step in
+          back (j + 1) (omega arith) ∙ ap (λ i. iterate f i x) step in
           omega arith;
     }
 
@@ -124,7 +124,7 @@ unfolding first_below
 first_below-is f n tries x k y room first =
     let low : iterate f (k + 1) x < n = subst (λ (z : ℕ). z < n) (sym first.reached) first.below in
     ap (λ j. iterate f (j + 1) x)
-        (least-is (λ j. nat_lt (iterate f (j + 1) x) n) tries k room (lt-ltb _ _ low) (λ j w. le-ltb _ _ (first.walked_past j w)))
+    (least-is (λ j. nat_lt (iterate f (j + 1) x) n) tries k room (lt-ltb _ _ low) (λ j w. le-ltb _ _ (first.walked_past j w)))
     ∙ first.reached
 
 -- the walk of a bijection ends below n
@@ -185,11 +185,15 @@ IsAhead-more f n z zero y h ahead =
     let at : iterate f zero z ≡ y = ahead.reached in
     let low : y < n = ahead.below in
     absurd (omega arith)
-IsAhead-more f n z (suc k) y h ahead = (k, add-one k, record {
-  reached = iterate-next f k z ∙ ap (λ j. iterate f j z) (add-one k) ∙ ahead.reached;
-  below = ahead.below;
-  walked_past = λ j w. subst (λ (x : ℕ). n ≤ x) (sym (iterate-next f j z)) (ahead.walked_past (j + 1) (omega arith));
-})
+IsAhead-more f n z (suc k) y h ahead = (
+  k,
+  add-one k,
+  record {
+    reached = iterate-next f k z ∙ ap (λ j. iterate f j z) (add-one k) ∙ ahead.reached;
+    below = ahead.below;
+    walked_past = λ j w. subst (λ (x : ℕ). n ≤ x) (sym (iterate-next f j z)) (ahead.walked_past (j + 1) (omega arith));
+  },
+)
 
 -- how many steps are left from z, of at most `tries`
 pub steps_left : (ℕ → ℕ) → ℕ → ℕ → ℕ → ℕ
@@ -219,8 +223,7 @@ pub LiesAhead-more : (f : ℕ → ℕ) (n tries z w y : ℕ) → w ≡ f z → n
 LiesAhead-more f n tries z w y e h ahead =
     let rest = IsAhead-more f n z ahead.0 y h ahead.2 in
     let step : rest.0 + 1 ≡ ahead.0 = rest.1 in
-    let room : ahead.0 ≤ tries = ahead.1 in
-    (
+    let room : ahead.0 ≤ tries = ahead.1 in (
       rest.0,
       (let short : rest.0 ≤ tries = omega arith in short),
       subst (λ (x : ℕ). IsAhead f n x rest.0 y) (sym e) rest.2,

@@ -1,4 +1,4 @@
-use Rattle.std.proofs.Common.{◌≡◌, ℕ, List, [], ◌∷◌, refl}
+use Rattle.std.proofs.Common.{◌≡◌, [], ◌∷◌, refl}
 use Rattle.philox_seeds.specs.Philox.{philox4x32_10, next_key, round_key, round as philox_round, rounds as philox_rounds}
 use Rattle.philox_seeds.specs.SeedTree.{keyed_number}
 use Rattle.id_permutation.specs.Least.{least, least_from}

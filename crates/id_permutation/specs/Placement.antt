@@ -4,7 +4,7 @@ use Rattle.std.specs.Prelude.{ℕ, zero, suc, ◌+◌, ◌-◌, ◌*◌, ◌/◌
 use Rattle.philox_seeds.specs.Philox.{high_word, low_word}
 use Rattle.philox_seeds.specs.SeedTree.{keyed_number}
 use Rattle.id_permutation.specs.Least.{least}
-use Rattle.id_permutation.specs.Walk.{first_below, inverse_below}
+use Rattle.id_permutation.specs.Walk.{inverse_below, IsFirstBelow, first_below}
 use Rattle.id_permutation.specs.declared.halves.Halves.{Halves}
 
 -- a permutation: of how many numbers, and by which seed
@@ -68,3 +68,7 @@ place n seed x = first_below (mix n seed) n (height_of n * width_of n) x
 -- the number whose place is y
 unfoldable pub unplace : ℕ → ℕ → ℕ → ℕ
 unplace n seed y = inverse_below n (place n seed) y
+
+-- y is the first of mix x, mix (mix x), .. that is below n, and is found by at most a evaluations of mix
+abbrev pub IsFoundWithinHeight : ℕ → ℕ → ℕ → ℕ → Type 0
+IsFoundWithinHeight n seed x y = (k : ℕ) × (k < height_of n) × IsFirstBelow (mix n seed) n x k y

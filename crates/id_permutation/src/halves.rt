@@ -29,5 +29,9 @@ pub fn subtract_modulo(x: u64, subtrahend: u64, modulus: u64) -> u64
     ensures undone { (result + subtrahend) % modulus ≡ x }
 {
     let taken = subtrahend % modulus;
-    if taken <= x { x - taken } else { x + (modulus - taken) }
+    if taken <= x {
+        x - taken
+    } else {
+        x + (modulus - taken)
+    }
 }

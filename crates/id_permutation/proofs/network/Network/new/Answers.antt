@@ -1,6 +1,6 @@
 use Rattle.std.proofs.Common.{◌≡◌, ℕ, ◌+◌, ◌-◌, ◌/◌, ◌≤◌, ◌^◌, sym, ap, subst, arith}
 use Rattle.id_permutation.specs.Placement.{height_of, width_of}
-use Rattle.id_permutation.proofs.SideLaws.{Covers, Covers-sides, height_of-root, height_of-small}
+use Rattle.id_permutation.proofs.SideLaws.{Covers-sides, height_of-root, height_of-small}
 use Rattle.id_permutation.proofs.network.Network.new.Goals as goal
 
 pub invariant_of-result : goal.invariant_of-result

@@ -12,7 +12,7 @@ pub loop-number-init : goal.loop-number-init
 loop-number-init c =
     let network = c.args.self.now in
     let back : c.unmix-number.result ≡ unmix network.size network.seed c.args.place =
-        unmix-is _ _ _ _ _ _ network.some network.tall network.wide c.unmix-number.ensures.within c.unmix-number.ensures.undone in
+    unmix-is _ _ _ _ _ _ network.some network.tall network.wide c.unmix-number.ensures.within c.unmix-number.ensures.undone in
     record {
       within = c.unmix-number.ensures.within;
       ahead = unplace-ahead network.size network.seed c.args.place _ network.some c.requires.below back;
@@ -23,7 +23,7 @@ loop-number-smaller c =
     let network = c.args.self.now in
     let next = c.unmix-number-in-loop-number in
     let back : next.result ≡ unmix network.size network.seed c.loop-number.number =
-        unmix-is _ _ _ _ _ _ network.some network.tall network.wide next.ensures.within next.ensures.undone in
+    unmix-is _ _ _ _ _ _ network.some network.tall network.wide next.ensures.within next.ensures.undone in
     steps_left-falls _ _ _ _ _ _ back c.loop-number-test.true c.loop-number.invariant.ahead
 
 pub loop-number-preserved : goal.loop-number-preserved
@@ -31,7 +31,7 @@ loop-number-preserved c =
     let network = c.args.self.now in
     let next = c.unmix-number-in-loop-number in
     let back : next.result ≡ unmix network.size network.seed c.loop-number.number =
-        unmix-is _ _ _ _ _ _ network.some network.tall network.wide next.ensures.within next.ensures.undone in
+    unmix-is _ _ _ _ _ _ network.some network.tall network.wide next.ensures.within next.ensures.undone in
     record {
       within = next.ensures.within;
       ahead = LiesAhead-more _ _ _ _ _ _ back c.loop-number-test.true c.loop-number.invariant.ahead;
