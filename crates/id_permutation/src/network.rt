@@ -1,0 +1,180 @@
+//! The network of rounds over a rectangle of numbers, and the walks along its cycles.
+
+ghost use Rattle.std.specs.Prelude.{◌≡◌, ℕ, ◌+◌, ◌*◌, ◌%◌, ◌<◌, ◌≤◌, ◌^◌};
+ghost use Rattle.id_permutation.specs.Placement.{height_of, width_of, IsWithin, halves_of, number_of, round_number, round, mix, place, unplace};
+
+use crate::halves::{Halves, add_modulo, subtract_modulo};
+use philox_seeds::keyed_number;
+
+const ROUND_LEVEL: u32 = 6;
+
+/// The permutation of `size` numbers by `seed`, with the sides of its rectangle.
+#[derive(Clone, Copy)]
+pub struct Network {
+    pub size: u64,
+    pub seed: u64,
+    pub height: u64,
+    pub width: u64,
+    ghost some: { 0 < size },
+    ghost small: { size ≤ 2 ^ 40 },
+    ghost tall: { height ≡ height_of size },
+    ghost wide: { width ≡ width_of size },
+    ghost low: { height ≤ 2 ^ 20 },
+    ghost narrow: { width ≤ 2 ^ 20 },
+}
+
+#[inline(always)]
+fn round_number(seed: u64, index: u32, half: u64) -> u64
+    requires { half < 2 ^ 32 }
+    ensures { result ≡ round_number seed index half }
+{
+    keyed_number(seed, [half as u32, 0, index, ROUND_LEVEL])
+}
+
+impl Network {
+    /// The network of `size` numbers, over the rectangle with the least height whose square is at least `size`.
+    pub fn new(size: u64, seed: u64) -> Network
+        requires some { 0 < size }
+        requires small { size ≤ 2 ^ 40 }
+        ensures size { result.size ≡ size }
+        ensures seed { result.seed ≡ seed }
+    {
+        let height = (size - 1).isqrt() + 1;
+        let width = (size + (height - 1)) / height;
+        Network {
+            size,
+            seed,
+            height,
+            width,
+        }
+    }
+
+    /// The first of the numbers after `number`, by the rounds, that is below `size`.
+    pub fn place(&self, number: u64) -> u64
+        requires below { number < self.now.size }
+        ensures exact { result ≡ place self.now.size self.now.seed number }
+    {
+        let mut place = self.mix(number);
+        while place >= self.size {
+            place = self.mix(place);
+        }
+        place
+    }
+
+    /// The number whose place is `place`: the first one before it, by the rounds, that is below `size`.
+    pub fn unplace(&self, place: u64) -> u64
+        requires below { place < self.now.size }
+        ensures exact { result ≡ unplace self.now.size self.now.seed place }
+    {
+        let mut number = self.unmix(place);
+        while number >= self.size {
+            number = self.unmix(number);
+        }
+        number
+    }
+
+    #[inline(always)]
+    fn mix(&self, number: u64) -> u64
+        requires within { number < self.now.height * self.now.width }
+        ensures exact { result ≡ mix self.now.size self.now.seed number }
+        ensures within { result < self.now.height * self.now.width }
+    {
+        let mut halves = self.split(number);
+        for pair in 0..3 {
+            halves = self.even_round(2 * pair, halves);
+            halves = self.odd_round(2 * pair + 1, halves);
+        }
+        self.join(halves)
+    }
+
+    #[inline(always)]
+    fn unmix(&self, number: u64) -> u64
+        requires within { number < self.now.height * self.now.width }
+        ensures undone { mix self.now.size self.now.seed result ≡ number }
+        ensures within { result < self.now.height * self.now.width }
+    {
+        let mut halves = self.split(number);
+        for pair in (0..3).rev() {
+            halves = self.undo_odd_round(2 * pair + 1, halves);
+            halves = self.undo_even_round(2 * pair, halves);
+        }
+        self.join(halves)
+    }
+
+    #[inline(always)]
+    fn split(&self, number: u64) -> Halves
+        requires { number < self.now.height * self.now.width }
+        ensures exact { result ≡ halves_of self.now.width number }
+        ensures within { IsWithin self.now.height self.now.width result }
+    {
+        Halves {
+            left: number / self.width,
+            right: number % self.width,
+        }
+    }
+
+    #[inline(always)]
+    fn join(&self, halves: Halves) -> u64
+        requires { IsWithin self.now.height self.now.width halves }
+        ensures exact { result ≡ number_of self.now.width halves }
+        ensures within { result < self.now.height * self.now.width }
+    {
+        halves.left * self.width + halves.right
+    }
+
+    #[inline(always)]
+    fn even_round(&self, index: u32, halves: Halves) -> Halves
+        requires even { index % 2 ≡ 0 }
+        requires within { IsWithin self.now.height self.now.width halves }
+        ensures exact { result ≡ round self.now.height self.now.width self.now.seed index halves }
+        ensures within { IsWithin self.now.height self.now.width result }
+    {
+        let number = round_number(self.seed, index, halves.right);
+        Halves {
+            left: add_modulo(halves.left, number, self.height),
+            right: halves.right,
+        }
+    }
+
+    #[inline(always)]
+    fn odd_round(&self, index: u32, halves: Halves) -> Halves
+        requires odd { index % 2 ≡ 1 }
+        requires within { IsWithin self.now.height self.now.width halves }
+        ensures exact { result ≡ round self.now.height self.now.width self.now.seed index halves }
+        ensures within { IsWithin self.now.height self.now.width result }
+    {
+        let number = round_number(self.seed, index, halves.left);
+        Halves {
+            left: halves.left,
+            right: add_modulo(halves.right, number, self.width),
+        }
+    }
+
+    #[inline(always)]
+    fn undo_even_round(&self, index: u32, halves: Halves) -> Halves
+        requires even { index % 2 ≡ 0 }
+        requires within { IsWithin self.now.height self.now.width halves }
+        ensures undone { round self.now.height self.now.width self.now.seed index result ≡ halves }
+        ensures within { IsWithin self.now.height self.now.width result }
+    {
+        let number = round_number(self.seed, index, halves.right);
+        Halves {
+            left: subtract_modulo(halves.left, number, self.height),
+            right: halves.right,
+        }
+    }
+
+    #[inline(always)]
+    fn undo_odd_round(&self, index: u32, halves: Halves) -> Halves
+        requires odd { index % 2 ≡ 1 }
+        requires within { IsWithin self.now.height self.now.width halves }
+        ensures undone { round self.now.height self.now.width self.now.seed index result ≡ halves }
+        ensures within { IsWithin self.now.height self.now.width result }
+    {
+        let number = round_number(self.seed, index, halves.left);
+        Halves {
+            left: halves.left,
+            right: subtract_modulo(halves.right, number, self.width),
+        }
+    }
+}

@@ -1,0 +1,2 @@
+pub mod Philox
+pub mod SeedTree

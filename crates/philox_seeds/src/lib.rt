@@ -1,0 +1,17 @@
+//! Philox4x32-10 and the tree of seeds that it makes: from a project's seed to a table, a column, a time unit and a row.
+//!
+//! The generator is the one of Salmon, Moraes, Dror and Shaw, "Parallel Random Numbers: As Easy as 1, 2, 3" (SC 2011).
+//! Every call is a pure function of its arguments: it is total, keeps no state and takes no memory.
+#![tactic(auto)]
+
+mod block;
+mod tree;
+
+pub use block::philox4x32_10;
+pub use tree::{
+    KEY_COLUMN, LIFE_COLUMN, UPDATE_COLUMN, child, column_seed, draw, keyed_number,
+    permutation_seed, row_seed, table_seed, unit_seed,
+};
+
+#[cfg(test)]
+mod tests;
