@@ -11,7 +11,7 @@
 --     column   name    TextValue  required
 --              kind    KindName   required
 --     key      base    Whole      required
-use Rattle.std.specs.Prelude.{ℕ, ℤ, pos, List, [], ◌∷◌, ◌++◌, map, Bool, false, Option, None}
+use Rattle.std.specs.Prelude.{ℕ, pos, List, [], ◌∷◌, map, false, Option, None}
 use Rattle.std.specs.Option.{option_or}
 use Rattle.toml.specs.Data.{Data, Members}
 use Rattle.schema_model.specs.declared.table.Schema.{Schema}

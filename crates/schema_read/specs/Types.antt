@@ -1,5 +1,5 @@
 -- Which values are of a type.
-use Rattle.std.specs.Prelude.{ℕ, List, Bool, false, Option, is_some, option_and_then}
+use Rattle.std.specs.Prelude.{Bool, false, Option, is_some, option_and_then}
 use Rattle.std.specs.Option.{option_map_or}
 use Rattle.std.specs.List.{list_all}
 use Rattle.toml.specs.Data.{Data, as_integer, as_str, as_array, as_table}

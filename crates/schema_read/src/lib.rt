@@ -10,3 +10,6 @@ mod read;
 mod rules;
 
 pub use read::{ReadSchemaFault, read_schema};
+
+#[cfg(test)]
+mod tests;

@@ -1,6 +1,6 @@
 //! The rules V1 to V6 of a schema.
 
-ghost use Rattle.std.specs.Prelude.{◌≡◌, ◌+◌, ◌*◌, ◌^◌, ℕ, pos, List, map, nat_le};
+ghost use Rattle.std.specs.Prelude.{◌≡◌, ◌+◌, ◌*◌, ◌^◌, ℕ, pos, List, map, not, ◌&&◌, nat_le};
 ghost use Rattle.std.specs.List.{list_all, list_any};
 ghost use Rattle.schema_read.specs.Document.{same_text};
 ghost use Rattle.schema_read.specs.Rules.{is_letter, is_name_byte, is_name, are_names, is_one_to_64, is_key, is_key_in_range, keeps_v1, keeps_v4, keeps_v5, keeps_v6, keeps_rules};
@@ -49,16 +49,20 @@ fn is_byte_of_name(byte: u8) -> bool
     is_letter_byte(byte) || byte.is_ascii_digit() || byte == b'_'
 }
 
+fn are_bytes_of_name(bytes: &[u8]) -> bool
+    ensures { result ≡ list_all is_name_byte bytes.now }
+{
+    bytes.iter().all(|byte| is_byte_of_name(*byte))
+}
+
 /// Whether a text is a name: a letter, and then letters, digits and `_`, at most 32 bytes together.
 fn is_table_name(name: &str) -> bool
     ensures { result ≡ is_name name.now }
 {
-    match name.as_bytes() {
-        [] => false,
-        [first, others @ ..] => {
-            is_letter_byte(*first)
-                && others.iter().all(|byte| is_byte_of_name(*byte))
-                && others.len() <= 31
+    match name.as_bytes().split_first() {
+        None => false,
+        Some((first, others)) => {
+            is_letter_byte(*first) && are_bytes_of_name(others) && others.len() <= 31
         }
     }
 }
@@ -70,13 +74,20 @@ fn has_named<T: Named>(items: &[T], name: &str) -> bool
     items.iter().any(|item| item.name() == name)
 }
 
+/// Whether an item has a name that none of the others has.
+fn is_named_apart<T: Named>(item: &T, others: &[T]) -> bool
+    ensures { result ≡ (is_name (T.name_of item.now) && not (list_any (λ t. same_text (T.name_of t) (T.name_of item.now)) others.now)) }
+{
+    is_table_name(item.name()) && !has_named(others, item.name())
+}
+
 /// Whether the items have names, and no two the same.
 fn have_names<T: Named>(items: &[T]) -> bool
     ensures { result ≡ are_names (map T.name_of items.now) }
 {
     let mut rest = items;
     while let Some((first, others)) = rest.split_first() {
-        if !is_table_name(first.name()) || has_named(others, first.name()) {
+        if !is_named_apart(first, others) {
             return false;
         }
         rest = others;
@@ -122,15 +133,19 @@ fn is_key_with_base(kind: &Kind) -> bool
     }
 }
 
+fn have_no_key(columns: &[Column]) -> bool
+    ensures { result ≡ list_all (λ c. not (is_key c.kind)) columns.now }
+{
+    columns.iter().all(|column| !is_key_kind(&column.kind))
+}
+
 /// Rule V5.
 fn has_key_first(table: &Table) -> bool
     ensures { result ≡ keeps_v5 table.now }
 {
-    match table.columns.as_slice() {
-        [] => true,
-        [first, others @ ..] => {
-            is_key_with_base(&first.kind) && others.iter().all(|column| !is_key_kind(&column.kind))
-        }
+    match table.columns.as_slice().split_first() {
+        None => true,
+        Some((first, others)) => { is_key_with_base(&first.kind) && have_no_key(others) }
     }
 }
 
@@ -157,6 +172,24 @@ fn gains_rows_in_range(units: u64, table: &Table) -> bool
         && has_total_in_range(table.rows as u64, table.insert as u64, units)
 }
 
+fn all_have_named_columns(tables: &[Table]) -> bool
+    ensures { result ≡ list_all keeps_v4 tables.now }
+{
+    tables.iter().all(|table| has_named_columns(table))
+}
+
+fn all_have_key_first(tables: &[Table]) -> bool
+    ensures { result ≡ list_all keeps_v5 tables.now }
+{
+    tables.iter().all(|table| has_key_first(table))
+}
+
+fn all_gain_rows_in_range(units: u64, tables: &[Table]) -> bool
+    ensures { result ≡ list_all (keeps_v6 (pos units)) tables.now }
+{
+    tables.iter().all(|table| gains_rows_in_range(units, table))
+}
+
 /// Whether a schema keeps the rules V1 to V6.
 pub fn keeps_all_rules(schema: &Schema) -> bool
     ensures { result ≡ keeps_rules schema.now }
@@ -169,7 +202,7 @@ pub fn keeps_all_rules(schema: &Schema) -> bool
     has_seed_and_units(schema)
         && is_from_one_to_64(tables.len())
         && have_names(tables)
-        && tables.iter().all(|table| has_named_columns(table))
-        && tables.iter().all(|table| has_key_first(table))
-        && tables.iter().all(|table| gains_rows_in_range(units, table))
+        && all_have_named_columns(tables)
+        && all_have_key_first(tables)
+        && all_gain_rows_in_range(units, tables)
 }

@@ -1,5 +1,4 @@
 -- What the map finds at a name is what the members hold under it.
-use Rattle.std.proofs.Common.{subst}
 use Rattle.toml.proofs.Views.{table_get}
 use Rattle.schema_read.proofs.members.member.Goals as goal
 
