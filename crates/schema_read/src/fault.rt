@@ -1,0 +1,80 @@
+//! What may be wrong with a schema's document.
+
+ghost use Rattle.std.specs.Prelude.{◌≡◌, Err};
+ghost use Rattle.schema_read.specs.declared.fault.ReadFault.TheVariants.{Memory};
+
+use crate::key::SchemaKey;
+use schema_model::Memory;
+use std::alloc::AllocError;
+
+/// A place of a schema's document. Tables, columns and branches count from 1; a part is 0 where the place isn't
+/// inside one.
+#[derive(Clone, Copy, Debug, PartialEq, Eq)]
+pub struct Place {
+    /// The table, from 1.
+    pub table: u64,
+    /// The column of the table, from 1.
+    pub column: u64,
+    /// The branch of the column, from 1.
+    pub branch: u64,
+}
+
+impl Place {
+    /// The document as a whole.
+    pub const TOP: Place = Place {
+        table: 0,
+        column: 0,
+        branch: 0,
+    };
+}
+
+/// What a key wants.
+#[derive(Clone, Copy, Debug, PartialEq, Eq)]
+pub enum Expected {
+    /// A whole number.
+    Whole,
+    /// A text.
+    TextValue,
+    /// An array whose elements are all tables.
+    TableList,
+    /// The name of a kind.
+    KindName,
+    /// Nothing: the key has no place here.
+    NoSuchKey,
+}
+
+/// A wrong key: where it is, which it is and what it wants.
+#[derive(Clone, Copy, Debug, PartialEq, Eq)]
+pub struct Wrong {
+    pub place: Place,
+    pub key: SchemaKey,
+    pub expected: Expected,
+}
+
+/// Why a part of a document wasn't read.
+#[derive(Clone, Copy, Debug, PartialEq, Eq)]
+pub enum ReadFault {
+    /// No memory was left.
+    Memory,
+    /// A key is wrong.
+    Wrong(Wrong),
+}
+
+impl From<Memory> for ReadFault {
+    ghost from_gives = { λ _ e. e ≡ Memory };
+
+    fn from(_e: Memory) -> ReadFault {
+        ReadFault::Memory
+    }
+}
+
+/// The answer that a key is wrong.
+pub fn refuse<T>(place: Place, key: SchemaKey, expected: Expected) -> Result<T, ReadFault>
+    ensures { result ≡ Err (ReadFault.Wrong (record { place = place; key = key; expected = expected })) }
+{
+    Err(ReadFault::Wrong(Wrong {
+        place,
+        key,
+        expected,
+    }))
+}
