@@ -43,9 +43,10 @@ IsFrontOfNext (next ∷ due) (Some file) = (file.name ≡ next.name) × ((rest :
 
 -- The shelf holds a prefix of the due files: those finished meanwhile are the first of them, in order, and what is
 -- begun is a front of the next.
-pub record HoldsPrefixOf (due : List File) (before now : Held) : Type 0 where
+pub record HoldsPrefixOf (due : List File) (before now : Option Held) : Type 0 where
   pub done : List File
   pub rest : List File
+  pub begun : Option File
   pub parts : due ≡ done ++ rest
-  pub finished : now.finished ≡ before.finished ++ done
-  pub begun : IsFrontOfNext rest now.begun
+  pub front : IsFrontOfNext rest begun
+  pub held : now ≡ option_map (λ (h : Held). record { finished = h.finished ++ done; begun = begun }) before

@@ -1,8 +1,13 @@
-pub mod Rules
 pub mod Cohorts
-pub mod Rows
-pub mod Simulation
+pub mod DueFiles
 pub mod Intervals
 pub mod Lines
-pub mod Worked
 pub mod Plain
+pub mod Rows
+pub mod Rules
+pub mod SchemaRules
+pub mod Simulation
+pub mod Statuses
+pub mod Verdict
+pub mod Words
+pub mod Worked

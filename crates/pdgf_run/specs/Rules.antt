@@ -30,6 +30,10 @@ pub record Rules : Type 0 where
 abbrev pub no_table : TableRules
 no_table = record { rows = 0; insert = 0; columns = [] }
 
+-- the table at a place, counted from 0
+abbrev pub table_of : List TableRules → ℕ → TableRules
+table_of tables place = slice_index_or tables place no_table
+
 -- the table at a place of the schema, counted from 0
 abbrev pub table_at : Rules → ℕ → TableRules
-table_at rules place = slice_index_or rules.tables place no_table
+table_at rules place = table_of rules.tables place

@@ -1,4 +1,9 @@
-//! Generates the tables of a schema as text.
+//! From the words of a command line to the files that they are due.
 #![tactic(auto)]
 
 pub mod model;
+mod refusal;
+mod words;
+
+pub use refusal::Refusal;
+pub use words::{Request, UsageFault, read_words};
