@@ -1,3 +1,5 @@
+pub mod Appending
+pub mod Counts
 pub mod Entry
 pub mod Faults
 pub mod Files

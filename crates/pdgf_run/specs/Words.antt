@@ -1,23 +1,24 @@
 -- The words of a command line, and the request that they give.
-use Rattle.std.specs.Prelude.{ℕ, ◌+◌, ◌-◌, ◌*◌, ◌^◌, Bool, false, not, ◌&&◌, ◌==◌, nat_lt, nat_le, List, [], ◌∷◌, length, fold, Option, Some, None, Result, Ok, Err, codes, is_ascii_digit, if◌then◌else◌}
+use Rattle.std.specs.Prelude.{ℕ, ◌^◌, Bool, false, not, ◌&&◌, ◌==◌, nat_lt, nat_le, List, [], ◌∷◌, length, Option, Some, None, Result, Ok, Err, codes, if◌then◌else◌}
+use Rattle.std.specs.Char.{is_ascii_digit}
 use Rattle.std.specs.List.{list_all}
 use Rattle.std.specs.Str.{bytes_eq}
+use Rattle.std.specs.Str.Parse.{digits_value}
 use Rattle.pdgf_run.specs.declared.words.Request.{Request}
 use Rattle.pdgf_run.specs.declared.words.UsageFault.{UsageFault}
 use Rattle.pdgf_run.specs.declared.words.UsageFault.TheVariants.{Words}
 
--- what decimal digits stand for, the highest first
-abbrev pub decimal_value : List ℕ → ℕ
-decimal_value digits = fold (λ value digit. 10 * value + (digit - 48)) 0 digits
-
 -- whether these are one to twenty decimal digits that stand for a number of 64 bits
 abbrev pub is_number : List ℕ → Bool
 is_number digits =
-    nat_le 1 (length digits) && nat_le (length digits) 20 && list_all is_ascii_digit digits && nat_lt (decimal_value digits) (2 ^ 64)
+    nat_le 1 (length digits)
+    && nat_le (length digits) 20
+    && list_all is_ascii_digit digits
+    && nat_lt (digits_value 10 digits) (2 ^ 64)
 
 -- the number that a word is
 abbrev pub number : List ℕ → Option ℕ
-number word = if is_number word then Some (decimal_value word) else None
+number word = if is_number word then Some (digits_value 10 word) else None
 
 -- whether a word begins with a hyphen
 abbrev pub is_option : List ℕ → Bool

@@ -1,6 +1,8 @@
 // The words of a command line.
-ghost use Rattle.std.specs.Prelude.{◌≡◌, ◌↔◌, ℕ, IsTrue, Ok, Err, List, map, string_bytes, IsErrOf, IfOk};
-ghost use Rattle.pdgf_run.specs.Words.{decimal_value, is_number, is_option, number, request};
+ghost use Rattle.std.specs.Prelude.{◌≡◌, ◌↔◌, Ok, Err, map, string_bytes, IsErrOf, IfOk};
+ghost use Rattle.std.specs.Char.{is_ascii_digit};
+ghost use Rattle.std.specs.List.{list_all};
+ghost use Rattle.pdgf_run.specs.Words.{is_option, number, request};
 
 use schema_model::Text;
 use std::alloc::Global;
@@ -62,18 +64,14 @@ fn begins_with_hyphen(word: &str) -> bool
 fn read_number(word: &str) -> Option<u64>
     ensures { result ≡ number word.now }
 {
-    let digits = word.as_bytes();
-    if digits.is_empty() || digits.len() > 20 {
+    if word.is_empty() || word.len() > 20 || !are_digits(word.as_bytes()) {
         return None;
     }
-    let mut value = 0u64;
-    for digit in digits {
-        if !digit.is_ascii_digit() {
-            return None;
-        }
-        value = value
-            .checked_mul(10)?
-            .checked_add(u64::from(*digit - b'0'))?;
-    }
-    Some(value)
+    word.parse::<u64>().ok()
+}
+
+fn are_digits(word: &[u8]) -> bool
+    ensures { result ≡ list_all is_ascii_digit word.now }
+{
+    word.iter().all(|byte| byte.is_ascii_digit())
 }

@@ -1,0 +1,135 @@
+-- Appending to the begun file, piece after piece.
+use Rattle.std.proofs.Common.{◌≡◌, ◌≤◌, ℕ, ◌+◌, List, [], ◌∷◌, ◌++◌, length, take, drop, Bool, false, Option, None, Some, refl, ap, sym, ◌∙◌, append_assoc, length-append, arith}
+use Rattle.std.specs.Prelude.{IfSome, is_some}
+use Rattle.std.specs.Option.{option_map}
+use Rattle.std.proofs.lemmas.List.{append-nil, take-append-drop, take-append-le}
+use Rattle.std.proofs.Math.Seq.{take-add, take-append-add}
+use Rattle.pd_outside.specs.Files.{File}
+use Rattle.pd_outside.specs.Shelf.{Held, begin_file, append_bytes, end_file, finish_files, AppendedFrontOf, HoldsPrefixOf}
+
+begun_nothing : (begun : Option File) → begun ≡ option_map (λ (file : File). record file { bytes = file.bytes ++ [] }) begun
+begun_nothing None = refl
+begun_nothing (Some file) = ap (λ (bytes : List ℕ). Some (record file { bytes = bytes })) (sym (append-nil file.bytes))
+
+begun_both : (front back : List ℕ) (begun : Option File) →
+    option_map (λ (file : File). record file { bytes = file.bytes ++ back }) (option_map (λ (file : File). record file { bytes = file.bytes ++ front }) begun)
+    ≡ option_map (λ (file : File). record file { bytes = file.bytes ++ (front ++ back) }) begun
+begun_both front back None = refl
+begun_both front back (Some file) = ap (λ (bytes : List ℕ). Some (record file { bytes = bytes })) (append_assoc file.bytes front back)
+
+-- no byte changes nothing
+pub append_nothing : (held : Option Held) → held ≡ option_map (append_bytes []) held
+append_nothing None = refl
+append_nothing (Some held) = ap (λ (begun : Option File). Some (record held { begun = begun })) (begun_nothing held.begun)
+
+-- a piece and then another are both at once
+pub append_both : (front back : List ℕ) (held : Option Held) → option_map (append_bytes back) (option_map (append_bytes front) held) ≡ option_map (append_bytes (front ++ back)) held
+append_both front back None = refl
+append_both front back (Some held) =
+    ap (λ (begun : Option File). Some (record held { begun = begun })) (begun_both front back held.begun)
+
+-- after a front of the bytes, the next n of them
+pub append_more : (bytes : List ℕ) (at n : ℕ) (before now next : Option Held) → now ≡ option_map (append_bytes (take at bytes)) before →
+    next ≡ option_map (append_bytes (take n (drop at bytes))) now → next ≡ option_map (append_bytes (take (at + n) bytes)) before
+append_more bytes at n before now next sofar step =
+    step ∙ ap (option_map (append_bytes (take n (drop at bytes)))) sofar
+    ∙ append_both (take at bytes) (take n (drop at bytes)) before
+    ∙ ap (λ (piece : List ℕ). option_map (append_bytes piece) before) (sym (take-add at n bytes))
+
+-- a front of the second part, after all of the first
+pub front_after : (whole first second rest : List ℕ) (before mid now : Option Held) → whole ≡ first ++ (second ++ rest) →
+    mid ≡ option_map (append_bytes first) before → AppendedFrontOf second mid now → AppendedFrontOf whole before now
+front_after whole first second rest before mid now parts appended front =
+    let within : length first + front.count ≤ length whole =
+        omega (arith, ap length parts, length-append first (second ++ rest), length-append second rest, front.within)
+    in
+    let taken : take (length first + front.count) whole ≡ first ++ take front.count second =
+        ap (take (length first + front.count)) parts
+        ∙ take-append-add first (second ++ rest) front.count
+        ∙ ap (λ (piece : List ℕ). first ++ piece) (take-append-le front.count second rest front.within)
+    in
+    record {
+      count = length first + front.count;
+      within = within;
+      appended =
+          front.appended ∙ ap (option_map (append_bytes (take front.count second))) appended
+          ∙ append_both first (take front.count second) before
+          ∙ ap (λ (piece : List ℕ). option_map (append_bytes piece) before) (sym taken)
+    }
+
+begun_in_part : (name piece : List ℕ) (before : Option Held) → option_map (append_bytes piece) (option_map (begin_file name) before)
+    ≡ option_map (λ (h : Held). record { finished = h.finished ++ []; begun = Some (record { name = name; bytes = piece }) }) before
+begun_in_part name piece None = refl
+begun_in_part name piece (Some h) =
+    ap (λ (files : List File). Some (record { finished = files; begun = Some (record { name = name; bytes = piece }) })) (sym (append-nil h.finished))
+
+-- a file that was begun, where none was, and appended to in part
+pub file_in_part : (file : File) (before begun now : Option Held) → begun ≡ option_map (begin_file file.name) before →
+    AppendedFrontOf file.bytes begun now → HoldsPrefixOf (file ∷ []) before now
+file_in_part file before begun now began front = record {
+  done = [];
+  rest = file ∷ [];
+  begun = Some (record { name = file.name; bytes = take front.count file.bytes });
+  parts = refl;
+  front = (refl, (drop front.count file.bytes, sym (take-append-drop front.count file.bytes)));
+  held =
+      front.appended ∙ ap (option_map (append_bytes (take front.count file.bytes))) began
+      ∙ begun_in_part file.name (take front.count file.bytes) before
+}
+
+-- a file that was begun and appended to as a whole
+pub file_as_a_whole : (file : File) (before begun now : Option Held) → begun ≡ option_map (begin_file file.name) before →
+    now ≡ option_map (append_bytes file.bytes) begun → HoldsPrefixOf (file ∷ []) before now
+file_as_a_whole file before begun now began all = record {
+  done = [];
+  rest = file ∷ [];
+  begun = Some file;
+  parts = refl;
+  front = (refl, ([], sym (append-nil file.bytes)));
+  held = all ∙ ap (option_map (append_bytes file.bytes)) began ∙ begun_in_part file.name file.bytes before
+}
+
+ended_whole : (file : File) (before : Option Held) →
+    option_map end_file (option_map (append_bytes file.bytes) (option_map (begin_file file.name) before)) ≡ option_map (finish_files (file ∷ [])) before
+ended_whole file None = refl
+ended_whole file (Some h) = refl
+
+-- a file that was begun, appended to as a whole and ended
+pub file_finished : (file : File) (before begun all now : Option Held) → begun ≡ option_map (begin_file file.name) before →
+    all ≡ option_map (append_bytes file.bytes) begun → now ≡ option_map end_file all → now ≡ option_map (finish_files (file ∷ [])) before
+file_finished file before begun all now began appended ended =
+    ended ∙ ap (option_map end_file) (appended ∙ ap (option_map (append_bytes file.bytes)) began) ∙ ended_whole file before
+
+nothing_begun : (begun : Option File) → is_some begun ≡ false → begun ≡ None
+nothing_begun None is = refl
+nothing_begun (Some file) is = absurd (cc)
+
+as_it_is : (before : Option Held) → IfSome before (λ h. is_some h.begun ≡ false) →
+    before ≡ option_map (λ (h : Held). record { finished = h.finished ++ []; begun = None }) before
+as_it_is None none = refl
+as_it_is (Some h) none =
+    ap (λ (begun : Option File). Some (record h { begun = begun })) (nothing_begun h.begun none)
+    ∙ ap (λ (files : List File). Some (record { finished = files; begun = None })) (sym (append-nil h.finished))
+
+-- nothing was done, and nothing is begun
+pub nothing_done : (due : List File) (before : Option Held) → IfSome before (λ h. is_some h.begun ≡ false) → HoldsPrefixOf due before before
+nothing_done due before none = record { done = []; rest = due; begun = None; parts = refl; front = tt; held = as_it_is before none }
+
+finished_twice : (done more : List File) (begun : Option File) (before : Option Held) →
+    option_map {U = Held} (λ (h : Held). record { finished = h.finished ++ more; begun = begun }) (option_map (finish_files done) before)
+    ≡ option_map {U = Held} (λ (h : Held). record { finished = h.finished ++ (done ++ more); begun = begun }) before
+finished_twice done more begun None = refl
+finished_twice done more begun (Some h) =
+    ap (λ (files : List File). Some (record { finished = files; begun = begun })) (append_assoc h.finished done more)
+
+-- these files are finished, and then a prefix of the rest
+pub files_then_prefix : (done rest : List File) (before mid now : Option Held) → mid ≡ option_map (finish_files done) before →
+    HoldsPrefixOf rest mid now → HoldsPrefixOf (done ++ rest) before now
+files_then_prefix done rest before mid now finished prefix = record {
+  done = done ++ prefix.done;
+  rest = prefix.rest;
+  begun = prefix.begun;
+  parts = ap (λ (files : List File). done ++ files) prefix.parts ∙ sym (append_assoc done prefix.done prefix.rest);
+  front = prefix.front;
+  held = prefix.held ∙ ap (option_map (λ (h : Held). record { finished = h.finished ++ prefix.done; begun = prefix.begun })) finished ∙ finished_twice done prefix.done prefix.begun before
+}
