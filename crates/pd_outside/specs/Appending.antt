@@ -1,5 +1,5 @@
 -- Appending to the begun file, piece after piece.
-use Rattle.std.proofs.Common.{◌≡◌, ◌≤◌, ℕ, ◌+◌, List, [], ◌∷◌, ◌++◌, length, take, drop, Bool, false, Option, None, Some, refl, ap, sym, ◌∙◌, append_assoc, length-append, arith}
+use Rattle.std.proofs.Common.{◌≡◌, ◌≤◌, ℕ, ◌+◌, List, [], ◌∷◌, ◌++◌, length, take, drop, false, Option, None, Some, refl, ap, sym, ◌∙◌, append_assoc, length-append, arith}
 use Rattle.std.specs.Prelude.{IfSome, is_some}
 use Rattle.std.specs.Option.{option_map}
 use Rattle.std.proofs.lemmas.List.{append-nil, take-append-drop, take-append-le}
@@ -41,12 +41,12 @@ pub front_after : (whole first second rest : List ℕ) (before mid now : Option 
     mid ≡ option_map (append_bytes first) before → AppendedFrontOf second mid now → AppendedFrontOf whole before now
 front_after whole first second rest before mid now parts appended front =
     let within : length first + front.count ≤ length whole =
-        omega (arith, ap length parts, length-append first (second ++ rest), length-append second rest, front.within)
+    omega (arith, ap length parts, length-append first (second ++ rest), length-append second rest, front.within)
     in
     let taken : take (length first + front.count) whole ≡ first ++ take front.count second =
-        ap (take (length first + front.count)) parts
-        ∙ take-append-add first (second ++ rest) front.count
-        ∙ ap (λ (piece : List ℕ). first ++ piece) (take-append-le front.count second rest front.within)
+    ap (take (length first + front.count)) parts
+    ∙ take-append-add first (second ++ rest) front.count
+    ∙ ap (λ (piece : List ℕ). first ++ piece) (take-append-le front.count second rest front.within)
     in
     record {
       count = length first + front.count;
@@ -54,7 +54,7 @@ front_after whole first second rest before mid now parts appended front =
       appended =
           front.appended ∙ ap (option_map (append_bytes (take front.count second))) appended
           ∙ append_both first (take front.count second) before
-          ∙ ap (λ (piece : List ℕ). option_map (append_bytes piece) before) (sym taken)
+          ∙ ap (λ (piece : List ℕ). option_map (append_bytes piece) before) (sym taken);
     }
 
 begun_in_part : (name piece : List ℕ) (before : Option Held) → option_map (append_bytes piece) (option_map (begin_file name) before)
@@ -74,7 +74,7 @@ file_in_part file before begun now began front = record {
   front = (refl, (drop front.count file.bytes, sym (take-append-drop front.count file.bytes)));
   held =
       front.appended ∙ ap (option_map (append_bytes (take front.count file.bytes))) began
-      ∙ begun_in_part file.name (take front.count file.bytes) before
+      ∙ begun_in_part file.name (take front.count file.bytes) before;
 }
 
 -- a file that was begun and appended to as a whole
@@ -86,7 +86,7 @@ file_as_a_whole file before begun now began all = record {
   begun = Some file;
   parts = refl;
   front = (refl, ([], sym (append-nil file.bytes)));
-  held = all ∙ ap (option_map (append_bytes file.bytes)) began ∙ begun_in_part file.name file.bytes before
+  held = all ∙ ap (option_map (append_bytes file.bytes)) began ∙ begun_in_part file.name file.bytes before;
 }
 
 ended_whole : (file : File) (before : Option Held) →
@@ -131,5 +131,5 @@ files_then_prefix done rest before mid now finished prefix = record {
   begun = prefix.begun;
   parts = ap (λ (files : List File). done ++ files) prefix.parts ∙ sym (append_assoc done prefix.done prefix.rest);
   front = prefix.front;
-  held = prefix.held ∙ ap (option_map (λ (h : Held). record { finished = h.finished ++ prefix.done; begun = prefix.begun })) finished ∙ finished_twice done prefix.done prefix.begun before
+  held = prefix.held ∙ ap (option_map (λ (h : Held). record { finished = h.finished ++ prefix.done; begun = prefix.begun })) finished ∙ finished_twice done prefix.done prefix.begun before;
 }

@@ -1,6 +1,7 @@
 pub mod Cohorts
 pub mod DueFiles
 pub mod Intervals
+pub mod Layout
 pub mod Lines
 pub mod Plain
 pub mod Rows
