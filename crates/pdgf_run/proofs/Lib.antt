@@ -1,6 +1,7 @@
-pub mod ListLemmas
-pub mod Ranges
 pub mod CohortLemmas
-pub mod SimulationLemmas
+pub mod FillLemmas
 pub mod LineLemmas
+pub mod ListLemmas
 pub mod PlainLemmas
+pub mod Ranges
+pub mod SimulationLemmas

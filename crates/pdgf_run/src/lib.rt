@@ -1,6 +1,7 @@
 //! From the words of a command line to the files that they are due.
 #![tactic(auto)]
 
+mod fill;
 mod layout;
 pub mod model;
 mod refusal;

@@ -12,7 +12,7 @@ unfolding fields_text
 loop-number-init c = record {
   text = ap (λ (page : Page). page.text) c.clear.ensures;
   room = ap (λ (page : Page). page.room) c.clear.ensures;
-  short = omega (arith, ap (λ (page : Page). length page.text) c.clear.ensures)
+  short = omega (arith, ap (λ (page : Page). length page.text) c.clear.ensures);
 }
 
 pub loop-number-preserved : goal.loop-number-preserved
@@ -28,10 +28,10 @@ loop-number-preserved c =
           ∙ ap (λ (page : Page). page.text ++ decimal c.number_of.result) c.put_delimiter.ensures.text
           ∙ ap (λ (k : ℕ). (c.loop-number.page.text ++ (if n == 0 then [] else c.args.delimiter ∷ [])) ++ decimal k) c.number_of.ensures
           ∙ join_with_byte-take_more c.args.delimiter text_of columns n (get_or columns n (Key 0)) [] c.loop-number.page.text below
-              (get_or_default columns n (Key 0) (get_or columns n (Key 0)) below) c.loop-number.invariant.text;
+          (get_or_default columns n (Key 0) (get_or columns n (Key 0)) below) c.loop-number.invariant.text;
       room =
           ap (λ (page : Page). page.room) c.put_number.ensures.text
           ∙ ap (λ (page : Page). page.room) c.put_delimiter.ensures.text
           ∙ c.loop-number.invariant.room;
-      short = omega (arith, c.put_number.ensures.short, c.put_delimiter.ensures.short, c.loop-number.invariant.short)
+      short = omega (arith, c.put_number.ensures.short, c.put_delimiter.ensures.short, c.loop-number.invariant.short);
     }
