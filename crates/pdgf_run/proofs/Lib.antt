@@ -1,3 +1,4 @@
+pub mod BuiltLemmas
 pub mod CohortLemmas
 pub mod FillLemmas
 pub mod LineLemmas

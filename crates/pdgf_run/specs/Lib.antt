@@ -1,6 +1,8 @@
 pub mod Cohorts
 pub mod DueFiles
 pub mod Intervals
+pub mod Job
+pub mod Kinds
 pub mod Layout
 pub mod Lines
 pub mod Plain

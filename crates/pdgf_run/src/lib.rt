@@ -2,10 +2,13 @@
 #![tactic(auto)]
 
 mod fill;
+mod job;
 mod layout;
 pub mod model;
 mod refusal;
+mod report;
 mod words;
 
 pub use refusal::Refusal;
+pub use report::Report;
 pub use words::{Request, UsageFault, read_words};

@@ -17,7 +17,7 @@ loop-index-init g c = record {
       ∙ ap (λ (text : List ℕ). option_map (append_bytes text) (g.S.Shelf.held c.args.shelf.now)) (sym (first_lines-zero rules place (line_table_rules c.args.table.now) c.args.unit));
   begun = c.requires.begun;
   never_falls = omega arith;
-  room = refl
+  room = refl;
 }
 
 pub loop-index-preserved : goal.loop-index-preserved
@@ -26,11 +26,11 @@ loop-index-preserved g c =
     record {
       lines = λ rules place same.
           let ordinal : c.first_ordinal_of-first.result + c.loop-index.index ≡ first_ordinal table c.args.unit + c.loop-index.index =
-              ap (λ (first : ℕ). first + c.loop-index.index) c.first_ordinal_of-first.ensures.first
+          ap (λ (first : ℕ). first + c.loop-index.index) c.first_ordinal_of-first.ensures.first
           in
           let text : fields_text c.args.delimiter (c.first_ordinal_of-first.result + c.loop-index.index) c.args.unit c.args.table.now.columns.items ++ codes "\n" ≡ line rules place table (new_row table c.args.unit c.loop-index.index) =
-              ap (λ (n : ℕ). fields_text c.args.delimiter n c.args.unit c.args.table.now.columns.items ++ codes "\n") ordinal
-              ∙ line-new_row rules place c.args.table.now c.args.delimiter c.args.unit c.loop-index.index same
+          ap (λ (n : ℕ). fields_text c.args.delimiter n c.args.unit c.args.table.now.columns.items ++ codes "\n") ordinal
+          ∙ line-new_row rules place c.args.table.now c.args.delimiter c.args.unit c.loop-index.index same
           in
           c.in-Ok.ensures.line
           ∙ ap (λ (piece : List ℕ). option_map (append_bytes piece) (g.S.Shelf.held c.loop-index.shelf)) text
@@ -39,18 +39,18 @@ loop-index-preserved g c =
           ∙ ap (λ (piece : List ℕ). option_map (append_bytes piece) (g.S.Shelf.held c.args.shelf.now)) (sym (first_lines-add_one rules place table c.args.unit c.loop-index.index));
       begun = c.in-Ok.ensures.begun;
       never_falls = omega (arith, c.loop-index.invariant.never_falls, c.in-Ok.ensures.never_falls);
-      room = c.in-Ok.ensures.room ∙ c.loop-index.invariant.room
+      room = c.in-Ok.ensures.room ∙ c.loop-index.invariant.room;
     }
 
 pub returns-in-Err-clause-lines : goal.returns-in-Err-clause-lines
 returns-in-Err-clause-lines g c = λ rules place same.
     let table = line_table_rules c.args.table.now in
     let ordinal : c.first_ordinal_of-first.result + c.loop-index.index ≡ first_ordinal table c.args.unit + c.loop-index.index =
-        ap (λ (first : ℕ). first + c.loop-index.index) c.first_ordinal_of-first.ensures.first
+    ap (λ (first : ℕ). first + c.loop-index.index) c.first_ordinal_of-first.ensures.first
     in
     let text : fields_text c.args.delimiter (c.first_ordinal_of-first.result + c.loop-index.index) c.args.unit c.args.table.now.columns.items ++ codes "\n" ≡ line rules place table (new_row table c.args.unit c.loop-index.index) =
-        ap (λ (n : ℕ). fields_text c.args.delimiter n c.args.unit c.args.table.now.columns.items ++ codes "\n") ordinal
-        ∙ line-new_row rules place c.args.table.now c.args.delimiter c.args.unit c.loop-index.index same
+    ap (λ (n : ℕ). fields_text c.args.delimiter n c.args.unit c.args.table.now.columns.items ++ codes "\n") ordinal
+    ∙ line-new_row rules place c.args.table.now c.args.delimiter c.args.unit c.loop-index.index same
     in
     let below : c.loop-index.index < cohort_size table c.args.unit = omega (arith, c.cohort_size_of-index-end.ensures) in
     front_after _ _ _ _ _ _ _ (cohort_text-at rules place table c.args.unit c.loop-index.index below) (c.loop-index.invariant.lines rules place same)

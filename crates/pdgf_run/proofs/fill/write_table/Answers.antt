@@ -15,7 +15,7 @@ loop-unit-init g c = record {
       ∙ ap (λ (text : List ℕ). option_map (append_bytes text) (g.S.Shelf.held c.args.shelf.now)) (sym (text_before-zero rules place (line_table_rules c.args.table.now)));
   begun = c.requires.begun;
   never_falls = omega arith;
-  room = refl
+  room = refl;
 }
 
 pub loop-unit-preserved : goal.loop-unit-preserved
@@ -29,7 +29,7 @@ loop-unit-preserved g c =
           ∙ ap (λ (piece : List ℕ). option_map (append_bytes piece) (g.S.Shelf.held c.args.shelf.now)) (sym (text_before-add_one rules place table c.loop-unit.unit));
       begun = c.in-Ok.ensures.begun;
       never_falls = omega (arith, c.loop-unit.invariant.never_falls, c.in-Ok.ensures.never_falls);
-      room = c.in-Ok.ensures.room ∙ c.loop-unit.invariant.room
+      room = c.in-Ok.ensures.room ∙ c.loop-unit.invariant.room;
     }
 
 pub returns-in-Err-clause-text : goal.returns-in-Err-clause-text

@@ -1,0 +1,74 @@
+// What a call of the program came to.
+ghost use Rattle.std.specs.Prelude.{◌≡◌, ◌≤◌, [], length};
+ghost use Rattle.pdgf_run.specs.Statuses as status;
+
+use crate::Refusal;
+use pd_outside::Message;
+
+/// What a call came to: an exit status and a message for the standard error, empty or ended by a line feed.
+#[derive(Drop)]
+pub struct Report {
+    /// The exit status.
+    pub status: u8,
+    /// The message.
+    pub message: Message,
+}
+
+fn message_of(text: &[u8]) -> Message
+    requires { length text.now ≤ Message.ROOM }
+    ensures { result ≡ text.now }
+{
+    let mut message = Message::new();
+    message.put(text);
+    message
+}
+
+/// All is done.
+pub(crate) fn done() -> Report
+    ensures { result ≡ record { status = status.done_status; message = [] } }
+{
+    Report {
+        status: 0,
+        message: Message::new(),
+    }
+}
+
+/// A read failed.
+pub(crate) fn read_failed() -> Report
+    ensures { result ≡ record { status = status.read_failed_status; message = status.read_failed_text } }
+{
+    Report {
+        status: 5,
+        message: message_of(b"pdgf: read failed\n"),
+    }
+}
+
+/// A write failed.
+pub(crate) fn write_failed() -> Report
+    ensures { result ≡ record { status = status.write_failed_status; message = status.write_failed_text } }
+{
+    Report {
+        status: 6,
+        message: message_of(b"pdgf: write failed\n"),
+    }
+}
+
+/// Memory ran out.
+pub(crate) fn out_of_memory() -> Report
+    ensures { result ≡ record { status = status.memory_status; message = status.memory_text } }
+{
+    Report {
+        status: 7,
+        message: message_of(b"pdgf: out of memory\n"),
+    }
+}
+
+/// The request is refused.
+pub(crate) fn refused(refusal: Refusal) -> Report
+    ensures { result ≡ record { status = status.status_of refusal; message = status.text_of refusal } }
+{
+    Report {
+        status: refusal.status(),
+        message: message_of(refusal.text()),
+    }
+}
