@@ -1,16 +1,18 @@
 -- The lines of a table, as they are written one after the other.
-use Rattle.std.proofs.Common.{◌≡◌, ◌<◌, ◌≤◌, ℕ, suc, ◌+◌, ◌-◌, List, [], ◌∷◌, ◌++◌, map, codes, decimal, refl, ap, sym, ◌∙◌, arith, append_assoc, add_assoc}
+use Rattle.std.proofs.Common.{◌≡◌, ◌<◌, ◌≤◌, ℕ, suc, ◌+◌, ◌-◌, List, [], ◌∷◌, ◌++◌, map, length, get_or, codes, decimal, refl, ap, sym, ◌∙◌, arith, append_assoc, add_assoc}
 use Rattle.std.specs.List.{join_with_byte, range_with_len, flat_map}
+use Rattle.std.proofs.lemmas.List.{get_or-map}
 use Rattle.pdgf_run.specs.Cohorts.{cohort_size, first_ordinal}
+use Rattle.pdgf_run.specs.DueFiles.{texts_before}
 use Rattle.pdgf_run.specs.Layout.{fields_text, line_column_rule, line_table_rules, number_in}
-use Rattle.pdgf_run.specs.Lines.{field, field_text, line, first_lines, cohort_text, text_before}
+use Rattle.pdgf_run.specs.Lines.{field, field_text, line, first_lines, cohort_text, table_text, text_before}
 use Rattle.pdgf_run.specs.Rows.{Row, new_row}
-use Rattle.pdgf_run.specs.Rules.{ColumnRule, TableRules, Rules}
+use Rattle.pdgf_run.specs.Rules.{ColumnRule, TableRules, Rules, no_table, table_at}
 use Rattle.pdgf_run.specs.declared.layout.LineColumn.{LineColumn}
 use Rattle.pdgf_run.specs.declared.layout.LineColumn.TheVariants.{Key, Born}
 use Rattle.pdgf_run.specs.declared.layout.LineTable.{LineTable}
-use Rattle.pdgf_run.proofs.LineLemmas.{cohort_text-split, first_lines-add_one, index_in_cohort-new_row, text_before-add_one, lines_after}
-use Rattle.pdgf_run.proofs.Ranges.{flat_map-range_with_len_front}
+use Rattle.pdgf_run.proofs.LineLemmas.{cohort_text-split, first_lines-add_one, index_in_cohort-new_row, text_before-add_one, table_text-text_before, lines_after}
+use Rattle.pdgf_run.proofs.Ranges.{flat_map-range_with_len_front, flat_map-range_with_len_more}
 
 -- what a row of a cohort holds in a column, as it is written
 abbrev text_in : Rules → ℕ → TableRules → Row → ColumnRule → List ℕ
@@ -83,3 +85,39 @@ text_before-at rules place table unit last within =
 pub text_before-zero : (rules : Rules) (place : ℕ) (table : TableRules) → text_before rules place table 0 ≡ []
 unfolding text_before
 text_before-zero rules place table = refl
+
+-- the texts of tables: none, one more, and those before a table, its own and the rest
+pub texts_before-zero : (rules : Rules) (unit : ℕ) → texts_before rules unit 0 ≡ []
+unfolding texts_before
+texts_before-zero rules unit = refl
+
+pub texts_before-add_one : (rules : Rules) (unit place : ℕ) → texts_before rules unit (place + 1) ≡ texts_before rules unit place ++ table_text rules place unit
+unfolding texts_before
+texts_before-add_one rules unit place = flat_map-range_with_len_more (λ p. table_text rules p unit) place
+
+abbrev pub texts_after : Rules → ℕ → ℕ → List ℕ
+texts_after rules unit place = flat_map (λ p. table_text rules p unit) (range_with_len (place + 1) (length rules.tables - (place + 1)))
+
+texts_before-front : (rules : Rules) (unit place : ℕ) → place < length rules.tables →
+    texts_before rules unit (length rules.tables) ≡ texts_before rules unit (place + 1) ++ texts_after rules unit place
+unfolding texts_before
+texts_before-front rules unit place below =
+    flat_map-range_with_len_front (λ p. table_text rules p unit) (place + 1) (length rules.tables) (omega arith)
+
+pub texts_before-at : (rules : Rules) (unit place : ℕ) → place < length rules.tables →
+    texts_before rules unit (length rules.tables) ≡ texts_before rules unit place ++ (table_text rules place unit ++ texts_after rules unit place)
+texts_before-at rules unit place below =
+    texts_before-front rules unit place below
+    ∙ ap (λ (text : List ℕ). text ++ texts_after rules unit place) (texts_before-add_one rules unit place)
+    ∙ append_assoc (texts_before rules unit place) (table_text rules place unit) (texts_after rules unit place)
+
+-- a table's text is that of its layout
+pub table_text-layout : (rules : Rules) (tables : List LineTable) (place unit : ℕ) (table : LineTable) → rules.tables ≡ map line_table_rules tables →
+    place < length tables → table ≡ get_or tables place table → text_before rules place (line_table_rules table) (unit + 1) ≡ table_text rules place unit
+table_text-layout rules tables place unit table same below is =
+    let here : table_at rules place ≡ line_table_rules table =
+    ap (λ (all : List TableRules). get_or all place no_table) same
+    ∙ get_or-map line_table_rules tables place table no_table below
+    ∙ ap line_table_rules (sym is)
+    in
+    ap (λ (t : TableRules). text_before rules place t (unit + 1)) (sym here) ∙ sym (table_text-text_before rules place unit)

@@ -5,7 +5,7 @@ use Rattle.pd_outside.specs.Library.{Content}
 use Rattle.schema_model.specs.declared.table.Schema.{Schema}
 use Rattle.schema_read.specs.Schema.{schema_of}
 use Rattle.pdgf_run.specs.DueFiles.{snapshot_files}
-use Rattle.pdgf_run.specs.SchemaRules.{count}
+use Rattle.pdgf_run.specs.SchemaRules.{count, schema_rules}
 use Rattle.pdgf_run.specs.Words.{request}
 use Rattle.pdgf_run.specs.declared.refusal.Refusal.{Refusal}
 use Rattle.pdgf_run.specs.declared.refusal.Refusal.TheVariants.{Usage, NotBuilt}
@@ -19,7 +19,7 @@ schema_limit = 1048576
 -- the due files at a unit of a schema, which is past its last unit or not
 abbrev pub at_unit : ℕ → Option Schema → Result (List File) Refusal
 at_unit unit None = Err NotBuilt
-at_unit unit (Some schema) = if nat_lt (count schema.units) unit then Err NotBuilt else Ok (snapshot_files schema unit)
+at_unit unit (Some schema) = if nat_lt (count schema.units) unit then Err NotBuilt else Ok (snapshot_files (schema_rules schema) unit)
 
 -- the due files at a unit of the schema that these bytes stand for
 abbrev pub of_schema_bytes : ℕ → List ℕ → Result (List File) Refusal

@@ -1,13 +1,18 @@
 // The texts of tables, line by line onto a shelf.
-ghost use Rattle.std.specs.Prelude.{◌≡◌, ℕ, ◌+◌, ◌*◌, ◌^◌, ◌<◌, ◌≤◌, ◌++◌, codes, All, IsTrue, OnErr, length};
+ghost use Rattle.std.specs.Prelude.{◌≡◌, ℕ, ◌+◌, ◌*◌, ◌^◌, ◌<◌, ◌≤◌, ◌++◌, codes, false, map, All, IsTrue, OnOk, OnErr, length};
+ghost use Rattle.std.specs.Option.{option_map};
 ghost use Rattle.pd_outside.specs.Faults.{Rose};
+ghost use Rattle.pd_outside.specs.Shelf.{finish_files, HoldsPrefixOf};
 ghost use Rattle.pdgf_run.specs.Cohorts.{cohort_size, first_ordinal};
+ghost use Rattle.pdgf_run.specs.DueFiles.{snapshot_files, snapshot_text};
+ghost use Rattle.pdgf_run.specs.Job.{AreRulesOf};
 ghost use Rattle.pdgf_run.specs.Layout.{base_of, fields_text, line_table_rules, Appends, CanWrite};
 ghost use Rattle.pdgf_run.specs.Lines.{cohort_text, text_before};
 ghost use Rattle.pdgf_run.specs.Rules.{Rules};
 
+use crate::job::Job;
 use crate::layout::{FIELD_ROOM, LineTable, put_line};
-use pd_outside::{PageBuf, Shelf, WriteFailed, write_all};
+use pd_outside::{Failed, PageBuf, Shelf, WriteFailed, write_all};
 
 // The first ordinal of the cohort of a unit.
 fn first_ordinal_of(table: &LineTable, unit: u64) -> u64
@@ -101,6 +106,66 @@ pub(crate) fn write_table<S: Shelf>(
             Ok(()) => {}
             Err(WriteFailed) => return Err(WriteFailed),
         }
+    }
+    Ok(())
+}
+
+// Writes the texts of tables at a unit, one after the other.
+fn write_tables<S: Shelf>(
+    shelf: &mut S,
+    page: &mut PageBuf,
+    tables: &[LineTable],
+    delimiter: u8,
+    last: u64,
+) -> Result<(), WriteFailed>
+    requires begun { IsTrue (S.is_begun shelf.old) }
+    requires fits { All (λ table. CanWrite table last page.old.room) tables.now }
+    requires small { last < 2 ^ 32 }
+    ensures text { (rules : Rules) → rules.tables ≡ map line_table_rules tables.now → rules.delimiter ≡ delimiter →
+        Appends result (snapshot_text rules last) (S.held shelf.old) (S.held shelf.new) }
+    ensures cause { OnErr result (Rose (S.faults shelf.old) (S.faults shelf.new)) }
+    ensures begun { IsTrue (S.is_begun shelf.new) }
+    ensures never_falls { S.faults shelf.old ≤ S.faults shelf.new }
+{
+    for table in tables {
+        match write_table(shelf, page, table, delimiter, last) {
+            Ok(()) => {}
+            Err(WriteFailed) => return Err(WriteFailed),
+        }
+    }
+    Ok(())
+}
+
+/// Writes the files that a job is due. At `WriteFailed` a prefix of them stands, and nothing further was begun.
+pub(crate) fn fill<S: Shelf>(shelf: &mut S, job: Job) -> Result<(), WriteFailed>
+    requires none_begun { S.is_begun shelf.old ≡ false }
+    requires fits { All (λ table. CanWrite table job.unit job.page.room) job.tables.items }
+    requires small { job.unit < 2 ^ 32 }
+    ensures all { (rules : Rules) → AreRulesOf job rules →
+        OnOk result (S.held shelf.new ≡ option_map (finish_files (snapshot_files rules job.unit)) (S.held shelf.old)) }
+    ensures prefix { (rules : Rules) → AreRulesOf job rules →
+        OnErr result (HoldsPrefixOf (snapshot_files rules job.unit) (S.held shelf.old) (S.held shelf.new)) }
+    ensures none_begun { OnOk result (S.is_begun shelf.new ≡ false) }
+    ensures cause { OnErr result (Rose (S.faults shelf.old) (S.faults shelf.new)) }
+    ensures never_falls { S.faults shelf.old ≤ S.faults shelf.new }
+{
+    let Job {
+        tables,
+        delimiter,
+        unit,
+        mut page,
+    } = job;
+    match shelf.begin("-") {
+        Ok(()) => {}
+        Err(Failed) => return Err(WriteFailed),
+    }
+    match write_tables(shelf, &mut page, &tables, delimiter, unit) {
+        Ok(()) => {}
+        Err(WriteFailed) => return Err(WriteFailed),
+    }
+    match shelf.end() {
+        Ok(()) => {}
+        Err(Failed) => return Err(WriteFailed),
     }
     Ok(())
 }
