@@ -1,5 +1,5 @@
-//! Values from outside: worked rows of the specification, and values that an independent program gave, written in Python from
-//! the rules of the placement and of Philox4x32-10, with unbounded integers and no shared code.
+//! Values from outside: the sides of rectangles, worked out by hand, and what an independent program gave, written in Python from
+//! the rules of the placement and of Philox4x32-10, with unbounded integers and no shared code (docs/SECOND_PROGRAM.md).
 
 ghost use Rattle.std.specs.Prelude.{◌≡◌, ℕ, ◌<◌, ◌≤◌, ◌^◌, length};
 
