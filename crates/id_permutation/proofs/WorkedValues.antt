@@ -1,3 +1,5 @@
+-- The definitions at small numbers. The values are those of an independent program, written in Python from the rules of the
+-- placement and of Philox4x32-10.
 use Rattle.std.proofs.Common.{◌≡◌, [], ◌∷◌, refl}
 use Rattle.philox_seeds.specs.Philox.{philox4x32_10, next_key, round_key, round as philox_round, rounds as philox_rounds}
 use Rattle.philox_seeds.specs.SeedTree.{keyed_number}

@@ -10,3 +10,6 @@ mod network;
 mod shuffle;
 
 pub use shuffle::Shuffle;
+
+#[cfg(test)]
+mod tests;

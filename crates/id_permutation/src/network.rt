@@ -88,12 +88,12 @@ impl Network {
     }
 
     #[inline(always)]
-    fn unmix(&self, number: u64) -> u64
-        requires within { number < self.now.height * self.now.width }
-        ensures undone { mix self.now.size self.now.seed result ≡ number }
+    fn unmix(&self, mixed: u64) -> u64
+        requires within { mixed < self.now.height * self.now.width }
+        ensures undone { mix self.now.size self.now.seed result ≡ mixed }
         ensures within { result < self.now.height * self.now.width }
     {
-        let mut halves = self.split(number);
+        let mut halves = self.split(mixed);
         for pair in (0..3).rev() {
             halves = self.undo_odd_round(2 * pair + 1, halves);
             halves = self.undo_even_round(2 * pair, halves);

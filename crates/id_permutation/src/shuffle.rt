@@ -45,7 +45,7 @@ impl Shuffle {
         ensures walk { IsFoundWithinHeight self.now.size self.now.seed x result }
         ensures one_step { steps.new ≡ steps.old + 1 }
     {
-        steps.tick();
+        steps.tick(); // the one step of a place
         self.network.place(x)
     }
 
@@ -58,7 +58,7 @@ impl Shuffle {
         ensures walk { IsFoundWithinHeight self.now.size self.now.seed result y }
         ensures one_step { steps.new ≡ steps.old + 1 }
     {
-        steps.tick();
+        steps.tick(); // the one step of an inverse
         self.network.unplace(y)
     }
 }

@@ -30,6 +30,6 @@ returns-clause-undone c =
     let seed = c.args.self.now.seed in
     let none : 2 * c.loop-pair.pair ≡ 0 = omega arith in
     ap (mix n seed) c.join.ensures.exact
-    ∙ mix-number_of n seed c.args.number a b c.loop-pair.halves c.args.self.now.tall c.args.self.now.wide c.loop-pair.invariant.within
+    ∙ mix-number_of n seed c.args.mixed a b c.loop-pair.halves c.args.self.now.tall c.args.self.now.wide c.loop-pair.invariant.within
     (c.loop-pair.invariant.undone c.loop-pair.halves
     (ap (λ (k : ℕ). rounds a b seed k c.loop-pair.halves) none ∙ rounds-zero a b seed c.loop-pair.halves))
