@@ -3,6 +3,7 @@ use Rattle.std.specs.Prelude.{◌≡◌, ◌≤◌, ℕ, pos, ◌+◌, ◌*◌, 
 use Rattle.schema_model.specs.declared.column.Column.{Column}
 use Rattle.schema_model.specs.declared.column.Kind.{Kind}
 use Rattle.schema_model.specs.declared.column.Kind.TheVariants as kind
+use Rattle.schema_model.specs.declared.table.Schema.{Schema}
 use Rattle.schema_model.specs.declared.table.Table.{Table}
 use Rattle.pdgf_run.specs.SchemaRules.{count}
 
@@ -19,3 +20,9 @@ pub record IsPlainTable (units : ℕ) (table : Table) : Type 0 where
   pub together : count table.rows + count table.insert * units ≤ 2 ^ 40
   pub few : length table.columns ≤ 64
   pub kinds : All (λ (column : Column). IsPlainKind column.kind) table.columns
+
+-- What a schema that bytes stand for keeps: units up to 10,000, and tables whose lines can be made.
+pub record IsReadable (schema : Schema) : Type 0 where
+  pub units : schema.units ≡ pos (count schema.units)
+  pub few_units : count schema.units ≤ 10000
+  pub tables : All (IsPlainTable (count schema.units)) schema.tables
