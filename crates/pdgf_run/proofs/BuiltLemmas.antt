@@ -74,15 +74,17 @@ plain_other _ order other = absurd order
 
 plain_others : (ds : List Data) → list_all (λ (c : Column). not (is_key c.kind)) (map column ds) ≡ true → AllByRecursion (λ (c : Column). IsPlainKind c.kind) (map column ds)
 plain_others [] others = tt
-plain_others (d ∷ ds) others =
-    (plain_other (column d).kind (in_order-column_kind (kind key.Kind (members_of d)) (members_of d)) (and-left (not (is_key (column d).kind)) (list_all (λ (c : Column). not (is_key c.kind)) (map column ds)) others),
-        plain_others ds (and-right (not (is_key (column d).kind)) (list_all (λ (c : Column). not (is_key c.kind)) (map column ds)) others))
+plain_others (d ∷ ds) others = (
+  plain_other (column d).kind (in_order-column_kind (kind key.Kind (members_of d)) (members_of d)) (and-left (not (is_key (column d).kind)) (list_all (λ (c : Column). not (is_key c.kind)) (map column ds)) others),
+  plain_others ds (and-right (not (is_key (column d).kind)) (list_all (λ (c : Column). not (is_key c.kind)) (map column ds)) others),
+)
 
 plain_columns : (ds : List Data) → begins_with_key (map column ds) ≡ true → AllByRecursion (λ (c : Column). IsPlainKind c.kind) (map column ds)
 plain_columns [] begins = tt
-plain_columns (d ∷ ds) begins =
-    (plain_key (column d).kind (in_order-column_kind (kind key.Kind (members_of d)) (members_of d)) (and-left (is_key_in_range (column d).kind) (list_all (λ (c : Column). not (is_key c.kind)) (map column ds)) begins),
-        plain_others ds (and-right (is_key_in_range (column d).kind) (list_all (λ (c : Column). not (is_key c.kind)) (map column ds)) begins))
+plain_columns (d ∷ ds) begins = (
+  plain_key (column d).kind (in_order-column_kind (kind key.Kind (members_of d)) (members_of d)) (and-left (is_key_in_range (column d).kind) (list_all (λ (c : Column). not (is_key c.kind)) (map column ds)) begins),
+  plain_others ds (and-right (is_key_in_range (column d).kind) (list_all (λ (c : Column). not (is_key c.kind)) (map column ds)) begins),
+)
 
 plain_table : (units : ℤ) (d : Data) → int_le (pos 0) units ≡ true → keeps_v4 (table d) ≡ true → keeps_v5 (table d) ≡ true → keeps_v6 units (table d) ≡ true → IsPlainTable (count units) (table d)
 plain_table units d least v4 v5 v6 =
@@ -96,14 +98,15 @@ plain_table units d least v4 v5 v6 =
       insert = count-is t.insert insert;
       together = rows-bounded t.rows t.insert units rows insert least (and-right (int_le (pos 0) t.rows && int_le (pos 0) t.insert) (int_le (t.rows +ℤ t.insert *ℤ units) (pos (2 ^ 40))) v6);
       few = (grind (arith, nat_tests));
-      kinds = All-from_recursion (λ (c : Column). IsPlainKind c.kind) t.columns (plain_columns (list key.Column (members_of d)) v5)
+      kinds = All-from_recursion (λ (c : Column). IsPlainKind c.kind) t.columns (plain_columns (list key.Column (members_of d)) v5);
     }
 
 plain_tables : (units : ℤ) (ds : List Data) → int_le (pos 0) units ≡ true → list_all keeps_v4 (map table ds) ≡ true → list_all keeps_v5 (map table ds) ≡ true → list_all (keeps_v6 units) (map table ds) ≡ true → AllByRecursion (IsPlainTable (count units)) (map table ds)
 plain_tables units [] least v4 v5 v6 = tt
-plain_tables units (d ∷ ds) least v4 v5 v6 =
-    (plain_table units d least (and-left (keeps_v4 (table d)) (list_all keeps_v4 (map table ds)) v4) (and-left (keeps_v5 (table d)) (list_all keeps_v5 (map table ds)) v5) (and-left (keeps_v6 units (table d)) (list_all (keeps_v6 units) (map table ds)) v6),
-        plain_tables units ds least (and-right (keeps_v4 (table d)) (list_all keeps_v4 (map table ds)) v4) (and-right (keeps_v5 (table d)) (list_all keeps_v5 (map table ds)) v5) (and-right (keeps_v6 units (table d)) (list_all (keeps_v6 units) (map table ds)) v6))
+plain_tables units (d ∷ ds) least v4 v5 v6 = (
+  plain_table units d least (and-left (keeps_v4 (table d)) (list_all keeps_v4 (map table ds)) v4) (and-left (keeps_v5 (table d)) (list_all keeps_v5 (map table ds)) v5) (and-left (keeps_v6 units (table d)) (list_all (keeps_v6 units) (map table ds)) v6),
+  plain_tables units ds least (and-right (keeps_v4 (table d)) (list_all keeps_v4 (map table ds)) v4) (and-right (keeps_v5 (table d)) (list_all keeps_v5 (map table ds)) v5) (and-right (keeps_v6 units (table d)) (list_all (keeps_v6 units) (map table ds)) v6),
+)
 
 readable_document : (ms : Members) → is_built (schema ms) ≡ true → IsReadable (schema ms)
 readable_document ms built =
@@ -125,7 +128,7 @@ readable_document ms built =
       units = count-is s.units least;
       few_units = count-le s.units 10000 least (and-right (int_le (pos 0) s.units) (int_le s.units (pos 10000)) range);
       tables = All-from_recursion (IsPlainTable (count s.units)) s.tables
-          (plain_tables s.units (list key.Table ms) least (and-right r123 r4 up_to_4) (and-right (r123 && r4) r5 up_to_5) (and-right ((r123 && r4) && r5) r6 all))
+          (plain_tables s.units (list key.Table ms) least (and-right r123 r4 up_to_4) (and-right (r123 && r4) r5 up_to_5) (and-right ((r123 && r4) && r5) r6 all));
     }
 
 readable_from : (ms : Members) (s : Schema) → schema_of_document ms ≡ Some s → IsReadable s

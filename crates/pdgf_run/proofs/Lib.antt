@@ -1,5 +1,6 @@
 pub mod BuiltLemmas
 pub mod CohortLemmas
+pub mod DecideLemmas
 pub mod FillLemmas
 pub mod LineLemmas
 pub mod ListLemmas

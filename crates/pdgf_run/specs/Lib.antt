@@ -1,4 +1,5 @@
 pub mod Cohorts
+pub mod Decided
 pub mod DueFiles
 pub mod Intervals
 pub mod Job

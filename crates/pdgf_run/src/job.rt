@@ -11,7 +11,7 @@ use schema_model::{Column, Kind, Table};
 use std::alloc::Global;
 
 /// The room for a line: a table has at most 64 columns.
-const PAGE_ROOM: usize = 64 * FIELD_ROOM + 1;
+pub(crate) const PAGE_ROOM: usize = 64 * FIELD_ROOM + 1;
 
 /// A snapshot of tables at a unit, with the buffer that its lines are made in.
 #[derive(Drop)]
@@ -57,7 +57,11 @@ fn line_table(alloc: Global, table: &Table, units: u64) -> Result<LineTable, Mem
     })
 }
 
-fn line_tables(alloc: Global, tables: &[Table], units: u64) -> Result<Vec<LineTable>, Memory>
+pub(crate) fn line_tables(
+    alloc: Global,
+    tables: &[Table],
+    units: u64,
+) -> Result<Vec<LineTable>, Memory>
     requires { All (IsPlainTable units) tables.now }
     ensures rules { IfOk result (λ made. map line_table_rules made.items ≡ map table_rules tables.now) }
     ensures room { IfOk result (λ made. All (λ table. CanWrite table units PAGE_ROOM) made.items) }

@@ -1,6 +1,7 @@
 //! From the words of a command line to the files that they are due.
 #![tactic(auto)]
 
+mod decide;
 mod fill;
 mod job;
 mod layout;

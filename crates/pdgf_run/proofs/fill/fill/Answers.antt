@@ -10,7 +10,7 @@ use Rattle.pdgf_run.proofs.fill.fill.Goals as goal
 pub returns-in-Err-clause-prefix : goal.returns-in-Err-clause-prefix
 returns-in-Err-clause-prefix g c = λ rules are.
     let none : IfSome (g.S.Shelf.held c.args.shelf.now) (λ (h : Held). is_some h.begun ≡ false) =
-        IfSome_then (g.S.Shelf.held c.args.shelf.now) (g.met.S.Shelf.told_alike c.args.shelf.now) (λ h same. same ∙ c.requires.none_begun)
+    IfSome_then (g.S.Shelf.held c.args.shelf.now) (g.met.S.Shelf.told_alike c.args.shelf.now) (λ h same. same ∙ c.requires.none_begun)
     in
     subst (λ (now : Option Held). HoldsPrefixOf (snapshot_files rules c.args.job.unit) (g.S.Shelf.held c.args.shelf.now) now) (sym c.in-Err.ensures.unchanged)
     (nothing_done (snapshot_files rules c.args.job.unit) (g.S.Shelf.held c.args.shelf.now) none)

@@ -26,13 +26,13 @@ loop-table-preserved g c = record {
       let place : ℕ = c.loop-table.table-index in
       c.in-Ok.ensures.text rules place same
       ∙ ap (λ (piece : List ℕ). option_map (append_bytes piece) (g.S.Shelf.held c.loop-table.shelf))
-          (table_text-layout rules c.args.tables.now place c.args.last c.table-item.result tables c.loop-table-test.true c.table-item.is)
+      (table_text-layout rules c.args.tables.now place c.args.last c.table-item.result tables c.loop-table-test.true c.table-item.is)
       ∙ ap (option_map (append_bytes (table_text rules place c.args.last))) (c.loop-table.invariant.text rules tables same)
       ∙ append_both (texts_before rules c.args.last place) (table_text rules place c.args.last) (g.S.Shelf.held c.args.shelf.now)
       ∙ ap (λ (piece : List ℕ). option_map (append_bytes piece) (g.S.Shelf.held c.args.shelf.now)) (sym (texts_before-add_one rules c.args.last place));
   begun = c.in-Ok.ensures.begun;
   never_falls = omega (arith, c.loop-table.invariant.never_falls, c.in-Ok.ensures.never_falls);
-  room = c.in-Ok.ensures.room ∙ c.loop-table.invariant.room
+  room = c.in-Ok.ensures.room ∙ c.loop-table.invariant.room;
 }
 
 pub returns-in-Err-clause-text : goal.returns-in-Err-clause-text
@@ -41,13 +41,13 @@ returns-in-Err-clause-text g c = λ rules tables same.
     let below : place < length rules.tables = omega (arith, ap length tables, length-map c.args.tables.now line_table_rules) in
     front_after _ _ _ _ _ _ _ (texts_before-at rules c.args.last place below) (c.loop-table.invariant.text rules tables same)
     (subst (λ (piece : List ℕ). AppendedFrontOf piece (g.S.Shelf.held c.loop-table.shelf) (g.S.Shelf.held c.write_table.new.shelf))
-        (table_text-layout rules c.args.tables.now place c.args.last c.table-item.result tables c.loop-table-test.true c.table-item.is)
-        (c.in-Err.ensures.text rules place same))
+    (table_text-layout rules c.args.tables.now place c.args.last c.table-item.result tables c.loop-table-test.true c.table-item.is)
+    (c.in-Err.ensures.text rules place same))
 
 pub returns-clause-text : goal.returns-clause-text
 returns-clause-text g c = λ rules tables same.
     let all : c.loop-table.table-index ≡ length rules.tables =
-        omega (arith, ap length tables, length-map c.args.tables.now line_table_rules, c.loop-table.auto.table-index-end)
+    omega (arith, ap length tables, length-map c.args.tables.now line_table_rules, c.loop-table.auto.table-index-end)
     in
     c.loop-table.invariant.text rules tables same
     ∙ ap (λ (count : ℕ). option_map (append_bytes (texts_before rules c.args.last count)) (g.S.Shelf.held c.args.shelf.now)) all
