@@ -61,7 +61,7 @@ job_is_due words None unit schema (Ok job) tried are units within = tt
 job_is_due words (Some c) unit schema (Ok job) tried are units within = record {
   rules = schema_rules schema;
   are = are;
-  due = tried ∙ at_unit-within unit schema within ∙ ap (λ (u : ℕ). Ok (snapshot_files (schema_rules schema) u)) (sym units)
+  due = tried ∙ at_unit-within unit schema within ∙ ap (λ (u : ℕ). Ok (snapshot_files (schema_rules schema) u)) (sym units);
 }
 
 where_past : (words : List (List ℕ)) (content : Option Content) (unit : ℕ) (schema : Schema) (refusal : Refusal) →
@@ -110,9 +110,9 @@ pub asked_one : (words : List (List ℕ)) (r : Request) (name : List ℕ) (befor
     AskedAtMost name before now → AskedFrontOf (reading_list words) before now
 asked_one words r name before now is named (inl once) = record {
   count = 1;
-  asked = once ∙ ap (λ (list : List (List ℕ)). option_map (λ names. names ++ take 1 list) before) (ap (λ (n : List ℕ). n ∷ []) named ∙ sym (ap asked_by is))
+  asked = once ∙ ap (λ (list : List (List ℕ)). option_map (λ names. names ++ take 1 list) before) (ap (λ (n : List ℕ). n ∷ []) named ∙ sym (ap asked_by is));
 }
 asked_one words r name before now is named (inr never) = record {
   count = 0;
-  asked = never ∙ asked_nothing before
+  asked = never ∙ asked_nothing before;
 }

@@ -12,6 +12,7 @@ pub mod Rules
 pub mod SchemaRules
 pub mod Simulation
 pub mod Statuses
+pub mod TopCall
 pub mod Verdict
 pub mod Words
 pub mod Worked

@@ -1,5 +1,5 @@
 -- The program's exit statuses and messages.
-use Rattle.std.specs.Prelude.{ℕ, Bool, ◌==◌, List, [], ◌∷◌, codes}
+use Rattle.std.specs.Prelude.{ℕ, Bool, ◌==◌, List, [], ◌∷◌, codes, if◌then◌else◌}
 use Rattle.std.specs.List.{list_any}
 use Rattle.pdgf_run.specs.declared.refusal.Refusal.{Refusal}
 use Rattle.pdgf_run.specs.declared.refusal.Refusal.TheVariants.{Usage, NotBuilt}
@@ -42,3 +42,12 @@ memory_text = codes "pdgf: out of memory\n"
 -- whether a number is a status of the program
 abbrev pub is_status : ℕ → Bool
 is_status status = list_any (λ known. status == known) (0 ∷ 2 ∷ 5 ∷ 6 ∷ 7 ∷ 11 ∷ [])
+
+-- the message that goes with a status
+abbrev pub message_of : ℕ → List ℕ
+message_of status =
+    if status == 2 then codes "pdgf: usage: bad words\n"
+    else (if status == 5 then read_failed_text
+    else (if status == 6 then write_failed_text
+    else (if status == 7 then memory_text
+    else (if status == 11 then codes "pdgf: not built\n" else []))))

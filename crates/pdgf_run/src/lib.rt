@@ -8,8 +8,10 @@ mod layout;
 pub mod model;
 mod refusal;
 mod report;
+mod run;
 mod words;
 
 pub use refusal::Refusal;
 pub use report::Report;
+pub use run::pdgf;
 pub use words::{Request, UsageFault, read_words};

@@ -1,0 +1,77 @@
+// The top call.
+ghost use Rattle.std.specs.Prelude.{◌≡◌, ◌≢◌, ◌≤◌, ◌↔◌, [], false, map, string_bytes, IsErr, IsOkAnd, IsTrue};
+ghost use Rattle.std.specs.Option.{option_map};
+ghost use Rattle.pd_outside.specs.Faults.{Rose};
+ghost use Rattle.pd_outside.specs.Library.{Content, left, AskedFrontOf};
+ghost use Rattle.pd_outside.specs.Shelf.{HoldsPrefixOf};
+ghost use Rattle.pdgf_run.specs.Statuses.{is_status, message_of};
+ghost use Rattle.pdgf_run.specs.TopCall.{Carries};
+ghost use Rattle.pdgf_run.specs.Verdict.{reading_list, WhereTold};
+ghost use Rattle.pdgf_run.specs.Words.{request};
+
+use crate::Report;
+use crate::decide::{Stop, decide};
+use crate::fill::fill;
+use crate::report::{done, out_of_memory, read_failed, refused, write_failed};
+use pd_outside::{Gate, Library, Shelf, WriteFailed};
+use std::alloc::Global;
+use std::thread::Threads;
+
+/// Does all that the program does: reads the words, the program's name first, reads the files that they ask for, and
+/// writes the files that they are due.
+///
+/// What words and files come to is the definition `verdict`: due files by a plain simulation that steps from unit to unit,
+/// or a refusal. The statuses are 0 (all is done), 2 (the words give no request), 5 (a read failed), 6 (a write failed), 7
+/// (memory ran out) and 11 (what is asked for isn't built). Where a library or a shelf doesn't tell its files, the clauses
+/// say only what can be said.
+pub fn pdgf<R: Threads + Sync, L: Library, S: Shelf, G: Gate + Sync>(
+    _rt: &R,
+    alloc: Global,
+    words: &[String],
+    library: &mut L,
+    shelf: &mut S,
+    _gate: &G,
+) -> Report
+    requires { S.is_begun shelf.old ≡ false }
+
+    // The headline: unless a read, a write or an allocation failed, the report and the finished files are the verdict's.
+    ensures verdict { result.status ≢ 5 → result.status ≢ 6 → result.status ≢ 7 →
+        WhereTold (map string_bytes words.now) (L.content library.old)
+        (λ verdict. Carries verdict result (S.held shelf.old) (S.held shelf.new)) }
+
+    // Each status has its cause.
+    ensures known { IsTrue (is_status result.status) }
+    ensures message { result.message ≡ message_of result.status }
+    ensures usage { (result.status ≡ 2) ↔ IsErr (request (map string_bytes words.now)) }
+    ensures read_failed { result.status ≡ 5 → Rose (L.faults library.old) (L.faults library.new) }
+    ensures stopped { result.status ≡ 5 → L.is_started library.new ≡ false }
+    ensures write_failed { result.status ≡ 6 → Rose (S.faults shelf.old) (S.faults shelf.new) }
+
+    // After a failed write a prefix of the due files stands, and they were due.
+    ensures prefix { result.status ≡ 6 → WhereTold (map string_bytes words.now) (L.content library.old)
+        (λ verdict. IsOkAnd verdict (λ due. HoldsPrefixOf due (S.held shelf.old) (S.held shelf.new))) }
+
+    // Any other status but 0 leaves the shelf as it was.
+    ensures held { result.status ≢ 0 → result.status ≢ 6 → S.held shelf.new ≡ S.held shelf.old }
+    ensures shelf_faults { result.status ≢ 0 → result.status ≢ 6 → S.faults shelf.new ≡ S.faults shelf.old }
+    ensures none_begun { result.status ≢ 6 → S.is_begun shelf.new ≡ false }
+
+    // No other name is started than those of the reading list, in its order, and at a clean end the last is read to its end.
+    ensures asked { AskedFrontOf (reading_list (map string_bytes words.now)) (L.asked library.old) (L.asked library.new) }
+    ensures read_out { result.status ≡ 0 →
+        option_map left (L.content library.new) ≡ option_map (λ (c : Content). []) (L.content library.old) }
+    ensures files { option_map (λ (c : Content). c.files) (L.content library.new) ≡ option_map (λ (c : Content). c.files) (L.content library.old) }
+    ensures library_never_falls { L.faults library.old ≤ L.faults library.new }
+    ensures shelf_never_falls { S.faults shelf.old ≤ S.faults shelf.new }
+{
+    let job = match decide(alloc, words, library) {
+        Ok(job) => job,
+        Err(Stop::Refused(refusal)) => return refused(refusal),
+        Err(Stop::ReadFailed) => return read_failed(),
+        Err(Stop::Memory) => return out_of_memory(),
+    };
+    match fill(shelf, job) {
+        Ok(()) => done(),
+        Err(WriteFailed) => write_failed(),
+    }
+}
