@@ -1,11 +1,11 @@
 -- The verdict, step by step as it is found.
-use Rattle.std.proofs.Common.{◌≡◌, ◌<◌, ◌⊎◌, ℕ, Bool, true, false, List, [], ◌∷◌, ◌++◌, length, take, Option, None, Some, Result, Ok, Err, nat_lt, inl, inr, refl, ap, sym, subst, ◌∙◌, arith}
+use Rattle.std.proofs.Common.{◌≡◌, ℕ, true, false, List, [], ◌∷◌, ◌++◌, length, take, Option, None, Some, Result, Ok, Err, nat_lt, inl, inr, refl, ap, sym, ◌∙◌, arith}
 use Rattle.std.specs.Prelude.{IfErr, IfOk, IfSome, OnOk}
 use Rattle.std.specs.Option.{option_map}
 use Rattle.std.proofs.lemmas.Bool.Decides.{nat_tests}
 use Rattle.std.proofs.lemmas.List.{append-nil}
 use Rattle.pd_outside.specs.Files.{File, bytes_of}
-use Rattle.pd_outside.specs.Library.{Content, ask, AskedAtMost, AskedFrontOf}
+use Rattle.pd_outside.specs.Library.{Content, AskedAtMost, AskedFrontOf}
 use Rattle.schema_model.specs.declared.table.Schema.{Schema}
 use Rattle.schema_read.specs.Schema.{schema_of}
 use Rattle.pdgf_run.specs.Decided.{IsDue, IsNotBuilt, WhenRefused}

@@ -1,5 +1,5 @@
 -- The lines of a table, as they are written one after the other.
-use Rattle.std.proofs.Common.{◌≡◌, ◌<◌, ◌≤◌, ℕ, suc, ◌+◌, ◌-◌, List, [], ◌∷◌, ◌++◌, map, length, get_or, codes, decimal, refl, ap, sym, ◌∙◌, arith, append_assoc, add_assoc}
+use Rattle.std.proofs.Common.{◌≡◌, ◌<◌, ◌≤◌, ℕ, ◌+◌, ◌-◌, List, [], ◌∷◌, ◌++◌, map, length, get_or, codes, decimal, refl, ap, sym, ◌∙◌, arith, append_assoc, add_assoc}
 use Rattle.std.specs.List.{join_with_byte, range_with_len, flat_map}
 use Rattle.std.proofs.lemmas.List.{get_or-map}
 use Rattle.pdgf_run.specs.Cohorts.{cohort_size, first_ordinal}

@@ -1,5 +1,5 @@
 -- What is decided of a request before anything is written.
-use Rattle.std.specs.Prelude.{◌≡◌, ◌<◌, ◌≤◌, ◌⊎◌, ◌^◌, ℕ, List, length, All, Option, None, Result, Ok, Err, ⊤}
+use Rattle.std.specs.Prelude.{◌≡◌, ◌<◌, ◌⊎◌, ◌^◌, ℕ, List, length, All, None, Result, Ok, Err, ⊤}
 use Rattle.pd_outside.specs.Files.{File}
 use Rattle.schema_read.specs.Schema.{schema_of}
 use Rattle.pdgf_run.specs.DueFiles.{snapshot_files}
@@ -11,8 +11,7 @@ use Rattle.pdgf_run.specs.declared.decide.Stop.{Stop}
 use Rattle.pdgf_run.specs.declared.decide.Stop.TheVariants as stop
 use Rattle.pdgf_run.specs.declared.job.Job.{Job}
 use Rattle.pdgf_run.specs.declared.refusal.Refusal.{Refusal}
-use Rattle.pdgf_run.specs.declared.refusal.Refusal.TheVariants.{Usage, NotBuilt}
-use Rattle.pdgf_run.specs.declared.words.UsageFault.{UsageFault}
+use Rattle.pdgf_run.specs.declared.refusal.Refusal.TheVariants.{Usage}
 
 -- a job's lines have numbers of 64 bits and fit in its buffer
 pub record CanFill (job : Job) : Type 0 where

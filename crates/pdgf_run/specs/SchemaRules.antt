@@ -1,6 +1,5 @@
 -- The rules that generated data follow under a schema.
-use Rattle.std.specs.Prelude.{ℕ, ℤ, pos, negsuc, Bool, false, not, ◌&&◌, List, [], map, codes}
-use Rattle.std.specs.List.{list_all}
+use Rattle.std.specs.Prelude.{ℕ, ℤ, pos, negsuc, List, map}
 use Rattle.philox_seeds.specs.SeedTree.{permutation_seed}
 use Rattle.id_permutation.specs.Placement as placement
 use Rattle.schema_model.specs.declared.table.Delimiter.{Delimiter}

@@ -1,5 +1,5 @@
 -- What the top call promises of its report and of the shelf.
-use Rattle.std.specs.Prelude.{◌≡◌, ℕ, List, [], Option, Result, Ok, Err, codes, ◌==◌, if◌then◌else◌}
+use Rattle.std.specs.Prelude.{◌≡◌, List, [], Option, Result, Ok, Err}
 use Rattle.std.specs.Option.{option_map}
 use Rattle.pd_outside.specs.Files.{File}
 use Rattle.pd_outside.specs.Shelf.{Held, finish_files}

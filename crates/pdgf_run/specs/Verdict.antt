@@ -1,5 +1,5 @@
 -- What words and files come to: the due files, or a refusal with its status and its message.
-use Rattle.std.specs.Prelude.{ℕ, ◌+◌, ◌^◌, Bool, nat_lt, List, [], ◌∷◌, length, Option, Some, None, Result, Ok, Err, IfSome, codes, if◌then◌else◌}
+use Rattle.std.specs.Prelude.{ℕ, nat_lt, List, [], ◌∷◌, length, Option, Some, None, Result, Ok, Err, IfSome, if◌then◌else◌}
 use Rattle.pd_outside.specs.Files.{File, bytes_of}
 use Rattle.pd_outside.specs.Library.{Content}
 use Rattle.schema_model.specs.declared.table.Schema.{Schema}

@@ -15,3 +15,6 @@ pub use refusal::Refusal;
 pub use report::Report;
 pub use run::pdgf;
 pub use words::{Request, UsageFault, read_words};
+
+#[cfg(test)]
+mod tests;

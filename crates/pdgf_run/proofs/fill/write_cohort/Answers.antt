@@ -1,10 +1,10 @@
-use Rattle.std.proofs.Common.{◌≡◌, ◌<◌, ◌≤◌, ◌+◌, ◌++◌, ℕ, List, codes, refl, ap, sym, subst, ◌∙◌, arith}
+use Rattle.std.proofs.Common.{◌≡◌, ◌<◌, ◌+◌, ◌++◌, ℕ, List, codes, refl, ap, sym, subst, ◌∙◌, arith}
 use Rattle.std.specs.Option.{option_map}
 use Rattle.pd_outside.specs.Appending.{append_nothing, append_both, front_after}
 use Rattle.pd_outside.specs.Shelf.{append_bytes, AppendedFrontOf}
 use Rattle.pdgf_run.specs.Cohorts.{cohort_size, first_ordinal}
 use Rattle.pdgf_run.specs.Layout.{fields_text, line_table_rules}
-use Rattle.pdgf_run.specs.Lines.{first_lines, cohort_text, line}
+use Rattle.pdgf_run.specs.Lines.{first_lines, line}
 use Rattle.pdgf_run.specs.Rows.{new_row}
 use Rattle.pdgf_run.proofs.FillLemmas.{cohort_text-at, first_lines-all, first_lines-zero, line-new_row}
 use Rattle.pdgf_run.proofs.LineLemmas.{first_lines-add_one}

@@ -1,4 +1,4 @@
-use Rattle.std.proofs.Common.{◌≡◌, ◌≤◌, ◌+◌, ℕ, List, refl, ap, sym, ◌∙◌, arith}
+use Rattle.std.proofs.Common.{◌≤◌, ℕ, List, refl, ap, sym, ◌∙◌, arith}
 use Rattle.std.specs.Option.{option_map}
 use Rattle.pd_outside.specs.Appending.{append_nothing, append_both, front_after}
 use Rattle.pd_outside.specs.Shelf.{append_bytes}

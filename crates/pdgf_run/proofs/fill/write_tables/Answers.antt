@@ -1,12 +1,11 @@
-use Rattle.std.proofs.Common.{◌≡◌, ◌<◌, ◌+◌, ℕ, List, map, length, get_or, refl, ap, sym, subst, ◌∙◌, arith}
+use Rattle.std.proofs.Common.{◌≡◌, ◌<◌, ℕ, List, length, refl, ap, sym, subst, ◌∙◌, arith}
 use Rattle.std.specs.Option.{option_map}
 use Rattle.std.proofs.lemmas.List.{length-map}
 use Rattle.pd_outside.specs.Appending.{append_nothing, append_both, front_after}
 use Rattle.pd_outside.specs.Shelf.{append_bytes, AppendedFrontOf}
 use Rattle.pdgf_run.specs.DueFiles.{texts_before}
 use Rattle.pdgf_run.specs.Layout.{line_table_rules}
-use Rattle.pdgf_run.specs.Lines.{table_text, text_before}
-use Rattle.pdgf_run.specs.Rules.{TableRules}
+use Rattle.pdgf_run.specs.Lines.{table_text}
 use Rattle.pdgf_run.proofs.FillLemmas.{table_text-layout, texts_before-add_one, texts_before-at, texts_before-zero}
 use Rattle.pdgf_run.proofs.fill.write_tables.Goals as goal
 

@@ -1,4 +1,4 @@
-use Rattle.std.proofs.Common.{◌≡◌, ◌<◌, ◌++◌, ◌==◌, if◌then◌else◌, [], ◌∷◌, ℕ, List, ap, ◌∙◌, length, get_or, decimal, arith}
+use Rattle.std.proofs.Common.{◌<◌, ◌++◌, ◌==◌, if◌then◌else◌, [], ◌∷◌, ℕ, List, ap, ◌∙◌, length, get_or, decimal, arith}
 use Rattle.std.proofs.lemmas.List.{get_or_default}
 use Rattle.pd_outside.specs.Pages.{Page}
 use Rattle.pdgf_run.specs.declared.layout.LineColumn.TheVariants.{Key}
