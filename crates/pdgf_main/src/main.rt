@@ -2,6 +2,10 @@
 //! call.
 #![tactic(auto)]
 
+ghost use Rattle.std.specs.Prelude.{◌≡◌, ◌↔◌, map, string_bytes, IsErr, IsTrue};
+ghost use Rattle.pdgf_run.specs.Statuses.{is_status};
+ghost use Rattle.pdgf_run.specs.Words.{request};
+
 mod faults;
 mod file_library;
 mod file_shelf;
@@ -39,11 +43,10 @@ fn words_of<R: Env + AllocGlobal>(rt: &R) -> io::Result<Vec<String>> {
     Ok(env::args(rt)?.collect(rt.alloc())?)
 }
 
-fn run<R: Files + AllocGlobal + Threads + Sync>(
-    rt: &R,
-    stdout: Stdout,
-    words: &[String],
-) -> Report {
+fn run<R: Files + AllocGlobal + Threads + Sync>(rt: &R, stdout: Stdout, words: &[String]) -> Report
+    ensures known { IsTrue (is_status result.status) }
+    ensures usage { (result.status ≡ 2) ↔ IsErr (request (map string_bytes words.now)) }
+{
     let mut library = FileLibrary::new(rt);
     let mut shelf = FileShelf::new(rt, rt.alloc(), stdout);
     pdgf(rt, rt.alloc(), words, &mut library, &mut shelf, &OpenGate)
