@@ -1,3 +1,5 @@
 pub mod Documents
-pub mod Lists
-pub mod Names
+pub mod Days
+pub mod Places
+pub mod Sequences
+pub mod Shapes

@@ -2,7 +2,7 @@
 use Rattle.std.specs.Prelude.{ℕ, Bool, List, [], ◌∷◌, Option, None, ◌==◌, if◌then◌else◌}
 use Rattle.std.specs.Cmp.Lexicographic.{pointwise}
 use Rattle.std.specs.Str.{is_utf8}
-use Rattle.toml.specs.Data.{Data, Items, no_items, item, Members, no_members, member, table}
+use Rattle.toml.specs.Data.{Data, Items, no_items, item, Members, no_members, member}
 use Rattle.toml.specs.Parse.{parse_document}
 
 -- the TOML document that the bytes are
@@ -18,11 +18,6 @@ elements (item d ds) = d ∷ elements ds
 abbrev pub keys_of : Members → List (List ℕ)
 keys_of no_members = []
 keys_of (member k d ms) = k ∷ keys_of ms
-
--- what a table holds; nothing, where the value is no table
-abbrev pub members_of : Data → Members
-members_of (table ms) = ms
-members_of _ = no_members
 
 -- the two texts have the same bytes
 abbrev pub same_text : List ℕ → List ℕ → Bool

@@ -1,10 +1,10 @@
 pub mod Document
 pub mod Keys
 pub mod Kinds
+pub mod Dates
 pub mod Types
 pub mod Values
 pub mod Wanted
 pub mod Reading
 pub mod Shape
-pub mod Rules
 pub mod Schema

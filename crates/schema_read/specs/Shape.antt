@@ -1,34 +1,30 @@
 -- The document of a schema: which keys stand where, of which types, and the schema that they give.
---
---     place    key     type       default
---     top      seed    Whole      required
---              units   Whole      required
---              table   TableList  required
---     table    name    TextValue  required
---              rows    Whole      required
---              insert  Whole      0
---              column  TableList  required
---     column   name    TextValue  required
---              kind    KindName   required
---     key      base    Whole      required
+-- Keys are tried in the order of these lists. The default of an optional key stands with the value that it gives, below.
 use Rattle.std.specs.Prelude.{ℕ, pos, List, [], ◌∷◌, map, false, Option, None}
 use Rattle.std.specs.Option.{option_or}
-use Rattle.toml.specs.Data.{Data, Members}
+use Rattle.toml.specs.Data.{Members, as_integer}
 use Rattle.schema_model.specs.declared.table.Schema.{Schema}
 use Rattle.schema_model.specs.declared.table.Table.{Table}
 use Rattle.schema_model.specs.declared.table.Delimiter.TheVariants.{Tab}
 use Rattle.schema_model.specs.declared.column.Column.{Column}
 use Rattle.schema_model.specs.declared.column.Kind.{Kind}
-use Rattle.schema_model.specs.declared.column.Kind.TheVariants as kinds
+use Rattle.schema_model.specs.declared.column.Kind.TheVariants as kind
+use Rattle.schema_model.specs.declared.column.Leaf.{Leaf}
+use Rattle.schema_model.specs.declared.column.Leaf.TheVariants as leaf
+use Rattle.schema_model.specs.declared.column.Window.TheVariants.{All}
 use Rattle.schema_read.specs.declared.fault.Place.{Place}
 use Rattle.schema_read.specs.declared.fault.Wrong.{Wrong}
-use Rattle.schema_read.specs.declared.fault.Expected.TheVariants.{Whole, TextValue, TableList, KindName}
+use Rattle.schema_read.specs.declared.fault.Expected.TheVariants.{Whole, TextValue, Flag, DelimiterName, TableList, TwoWholes, KindName as NameOfKind, LeafName as NameOfLeaf, DateText, TextList, Wholes, PartList, WindowValue}
 use Rattle.schema_read.specs.declared.key.SchemaKey.TheVariants as key
-use Rattle.schema_read.specs.declared.kind.KindName.{KindName as NameOfKind}
-use Rattle.schema_read.specs.declared.kind.KindName.TheVariants.{Key, Born}
-use Rattle.schema_read.specs.Document.{members_of}
-use Rattle.schema_read.specs.Values.{whole, whole_or, text, list, kind}
+use Rattle.schema_read.specs.declared.kind.KindName.{KindName}
+use Rattle.schema_read.specs.declared.kind.KindName.TheVariants.{Key, Born, Changed, Leaf as LeafOf, Template, Case, Ref, Lookup}
+use Rattle.schema_read.specs.declared.kind.LeafName.{LeafName}
+use Rattle.schema_read.specs.declared.kind.LeafName.TheVariants.{Int, Fixed, Date, Pick, Skew, Dict, Words, Chars}
+use Rattle.schema_read.specs.Types.{as_delimiter, as_life, as_kind, as_leaf, as_day, as_list_of, as_part, as_window}
+use Rattle.schema_read.specs.Values.{value, value_or, whole, whole_or, text, texts, flag_or, tables}
 use Rattle.schema_read.specs.Wanted.{Wanted, required, optional, first_wrong, each_from}
+
+-- ---- the places
 
 abbrev pub top : Place
 top = record { table = 0; column = 0; branch = 0 }
@@ -39,41 +35,133 @@ table_place i = record { table = i; column = 0; branch = 0 }
 abbrev pub column_place : ℕ → ℕ → Place
 column_place i j = record { table = i; column = j; branch = 0 }
 
+abbrev pub branch_place : ℕ → ℕ → ℕ → Place
+branch_place i j b = record { table = i; column = j; branch = b }
+
+-- ---- the keys of each place, in order
+
 abbrev pub top_keys : List Wanted
-top_keys = required key.Seed Whole ∷ required key.Units Whole ∷ required key.Table TableList ∷ []
+top_keys =
+    required key.Seed Whole
+    ∷ required key.Units Whole
+    ∷ optional key.Delimiter DelimiterName
+    ∷ required key.Table TableList
+    ∷ []
 
 abbrev pub table_keys : List Wanted
-table_keys = required key.Name TextValue ∷ required key.Rows Whole ∷ optional key.Insert Whole ∷ required key.Column TableList ∷ []
+table_keys =
+    required key.Name TextValue
+    ∷ required key.Rows Whole
+    ∷ optional key.Insert Whole
+    ∷ optional key.Life TwoWholes
+    ∷ optional key.Update Whole
+    ∷ required key.Column TableList
+    ∷ []
 
-abbrev pub kind_keys : NameOfKind → List Wanted
-kind_keys Key = required key.Base Whole ∷ []
+abbrev pub leaf_keys : LeafName → List Wanted
+leaf_keys Int = required key.Lo Whole ∷ required key.Hi Whole ∷ optional key.Step Whole ∷ []
+leaf_keys Fixed = required key.Lo Whole ∷ required key.Hi Whole ∷ required key.Decimals Whole ∷ []
+leaf_keys Date = required key.Lo DateText ∷ required key.Hi DateText ∷ []
+leaf_keys Pick = required key.Entries TextList ∷ optional key.Weights Wholes ∷ []
+leaf_keys Skew = required key.Lo Whole ∷ required key.Size Whole ∷ required key.Power Whole ∷ []
+leaf_keys Dict = required key.File TextValue ∷ []
+leaf_keys Words = required key.File TextValue ∷ required key.Lo Whole ∷ required key.Hi Whole ∷ []
+leaf_keys Chars = required key.Alphabet TextValue ∷ required key.Lo Whole ∷ required key.Hi Whole ∷ []
+
+abbrev pub kind_keys : KindName → List Wanted
+kind_keys Key = required key.Base Whole ∷ optional key.Scramble Flag ∷ []
 kind_keys Born = []
+kind_keys Changed = []
+kind_keys (LeafOf l) = leaf_keys l
+kind_keys Template = required key.Parts PartList ∷ []
+kind_keys Case = required key.On TextValue ∷ required key.Branches TableList ∷ []
+kind_keys Ref = required key.Table TextValue ∷ required key.Window WindowValue ∷ optional key.Spread Wholes ∷ []
+kind_keys Lookup = required key.Via TextValue ∷ required key.Column TextValue ∷ []
 
-abbrev pub column_keys : NameOfKind → List Wanted
-column_keys k = required key.Name TextValue ∷ required key.Kind KindName ∷ kind_keys k
+-- of a column of this kind
+abbrev pub column_keys : KindName → List Wanted
+column_keys k =
+    required key.Name TextValue
+    ∷ required key.Kind NameOfKind
+    ∷ optional key.Changes Flag
+    ∷ optional key.Null Whole
+    ∷ kind_keys k
 
--- the first wrong key of a column, of a table with its columns, and of the document
-abbrev pub column_wrong : ℕ → ℕ → Data → Option Wrong
-column_wrong i j d = first_wrong (column_place i j) (column_keys (kind key.Kind (members_of d))) (members_of d)
+-- of a branch of this kind
+abbrev pub branch_keys : LeafName → List Wanted
+branch_keys l = required key.Kind NameOfLeaf ∷ leaf_keys l
 
-abbrev pub table_wrong : ℕ → Data → Option Wrong
-table_wrong i d = option_or (first_wrong (table_place i) table_keys (members_of d)) (each_from (column_wrong i) 1 (list key.Column (members_of d)))
+-- ---- the first wrong key, depth first: of a place, and then of the places inside it
+
+abbrev pub kind_of : Members → KindName
+kind_of = value_or as_kind Born key.Kind
+
+abbrev pub leaf_of : Members → LeafName
+leaf_of = value_or as_leaf Int key.Kind
+
+abbrev pub branch_wrong : ℕ → ℕ → ℕ → Members → Option Wrong
+branch_wrong i j b ms = first_wrong (branch_place i j b) (branch_keys (leaf_of ms)) ms
+
+abbrev pub branches_wrong : ℕ → ℕ → KindName → Members → Option Wrong
+branches_wrong i j Case ms = each_from (branch_wrong i j) 1 (tables key.Branches ms)
+branches_wrong i j _ ms = None
+
+abbrev pub column_wrong : ℕ → ℕ → Members → Option Wrong
+column_wrong i j ms = option_or (first_wrong (column_place i j) (column_keys (kind_of ms)) ms) (branches_wrong i j (kind_of ms) ms)
+
+abbrev pub table_wrong : ℕ → Members → Option Wrong
+table_wrong i ms = option_or (first_wrong (table_place i) table_keys ms) (each_from (column_wrong i) 1 (tables key.Column ms))
 
 abbrev pub first_wrong_key : Members → Option Wrong
-first_wrong_key ms = option_or (first_wrong top top_keys ms) (each_from table_wrong 1 (list key.Table ms))
+first_wrong_key ms = option_or (first_wrong top top_keys ms) (each_from table_wrong 1 (tables key.Table ms))
 
--- what the keys of a column, of a table and of the document give
-abbrev pub column_kind : NameOfKind → Members → Kind
-column_kind Key ms = kinds.Key (whole key.Base ms) false
-column_kind Born ms = kinds.Born
+-- ---- the schema that the keys give
 
-abbrev pub column : Data → Column
-column d = let ms = members_of d in
-    record { name = text key.Name ms; kind = column_kind (kind key.Kind ms) ms; changes = false; null = pos 0 }
+abbrev pub pick : Members → Leaf
+pick ms = let entries = texts key.Entries ms in leaf.Pick entries (value_or (as_list_of as_integer) (map (λ _. pos 1) entries) key.Weights ms)
 
-abbrev pub table : Data → Table
-table d = let ms = members_of d in
-    record { name = text key.Name ms; rows = whole key.Rows ms; insert = whole_or (pos 0) key.Insert ms; life = None; update = None; columns = map column (list key.Column ms) }
+abbrev pub leaf_value : LeafName → Members → Leaf
+leaf_value Int ms = leaf.Int (whole key.Lo ms) (whole key.Hi ms) (whole_or (pos 1) key.Step ms)
+leaf_value Fixed ms = leaf.Fixed (whole key.Lo ms) (whole key.Hi ms) (whole key.Decimals ms)
+leaf_value Date ms = leaf.Date (value_or as_day (pos 0) key.Lo ms) (value_or as_day (pos 0) key.Hi ms)
+leaf_value Pick ms = pick ms
+leaf_value Skew ms = leaf.Skew (whole key.Lo ms) (whole key.Size ms) (whole key.Power ms)
+leaf_value Dict ms = leaf.Dict (text key.File ms)
+leaf_value Words ms = leaf.Words (text key.File ms) (whole key.Lo ms) (whole key.Hi ms)
+leaf_value Chars ms = leaf.Chars (text key.Alphabet ms) (whole key.Lo ms) (whole key.Hi ms)
+
+abbrev pub branch : Members → Leaf
+branch ms = leaf_value (leaf_of ms) ms
+
+abbrev pub kind_value : KindName → Members → Kind
+kind_value Key ms = kind.Key (whole key.Base ms) (flag_or false key.Scramble ms)
+kind_value Born ms = kind.Born
+kind_value Changed ms = kind.Changed
+kind_value (LeafOf l) ms = kind.Leaf (leaf_value l ms)
+kind_value Template ms = kind.Template (value_or (as_list_of as_part) [] key.Parts ms)
+kind_value Case ms = kind.Case (text key.On ms) (map branch (tables key.Branches ms))
+kind_value Ref ms = kind.Ref (text key.Table ms) (value_or as_window All key.Window ms) (value_or (as_list_of as_integer) (pos 1 ∷ []) key.Spread ms)
+kind_value Lookup ms = kind.Lookup (text key.Via ms) (text key.Column ms)
+
+abbrev pub column : Members → Column
+column ms = record { name = text key.Name ms; kind = kind_value (kind_of ms) ms; changes = flag_or false key.Changes ms; null = whole_or (pos 0) key.Null ms }
+
+abbrev pub table : Members → Table
+table ms =
+    record {
+      name = text key.Name ms;
+      rows = whole key.Rows ms;
+      insert = whole_or (pos 0) key.Insert ms;
+      life = value as_life key.Life ms;
+      update = value as_integer key.Update ms;
+      columns = map column (tables key.Column ms);
+    }
 
 abbrev pub schema : Members → Schema
-schema ms = record { seed = whole key.Seed ms; units = whole key.Units ms; delimiter = Tab; tables = map table (list key.Table ms) }
+schema ms =
+    record {
+      seed = whole key.Seed ms;
+      units = whole key.Units ms;
+      delimiter = value_or as_delimiter Tab key.Delimiter ms;
+      tables = map table (tables key.Table ms);
+    }

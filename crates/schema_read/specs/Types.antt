@@ -1,26 +1,84 @@
--- Which values are of a type.
-use Rattle.std.specs.Prelude.{Bool, false, Option, is_some, option_and_then}
-use Rattle.std.specs.Option.{option_map_or}
+-- The types of values that keys want: for each, the value that some data are, where they are of the type.
+use Rattle.std.specs.Prelude.{ℕ, ℤ, List, [], ◌∷◌, Bool, false, Option, Some, None, is_some, option_map, option_and_then, codes, if◌then◌else◌}
+use Rattle.std.specs.Option.{option_or}
 use Rattle.std.specs.List.{list_all}
-use Rattle.toml.specs.Data.{Data, as_integer, as_str, as_array, as_table}
+use Rattle.toml.specs.Data.{Data, Members, get_member, as_integer, as_str, as_bool, as_array, as_table}
+use Rattle.schema_model.specs.declared.table.Delimiter.{Delimiter}
+use Rattle.schema_model.specs.declared.table.Delimiter.TheVariants.{Tab, Bar}
+use Rattle.schema_model.specs.declared.table.Life.{Life}
+use Rattle.schema_model.specs.declared.column.Part.{Part}
+use Rattle.schema_model.specs.declared.column.Part.TheVariants.{Literal, Cited}
+use Rattle.schema_model.specs.declared.column.Window.{Window}
+use Rattle.schema_model.specs.declared.column.Window.TheVariants.{Units, All}
 use Rattle.schema_read.specs.declared.fault.Expected.{Expected}
-use Rattle.schema_read.specs.declared.fault.Expected.TheVariants.{Whole, TextValue, TableList, KindName, NoSuchKey}
-use Rattle.schema_read.specs.declared.kind.KindName.{KindName as Kind}
-use Rattle.schema_read.specs.Document.{elements}
-use Rattle.schema_read.specs.Kinds.{kind_named}
+use Rattle.schema_read.specs.declared.fault.Expected.TheVariants as type
+use Rattle.schema_read.specs.declared.kind.KindName.{KindName}
+use Rattle.schema_read.specs.declared.kind.LeafName.{LeafName}
+use Rattle.schema_read.specs.Dates.{day_named}
+use Rattle.schema_read.specs.Document.{elements, keys_of, same_text}
+use Rattle.schema_read.specs.Keys.{key_name, is_among}
+use Rattle.schema_read.specs.declared.key.SchemaKey.TheVariants.{Column}
+use Rattle.schema_read.specs.Kinds.{kind_named, leaf_named}
 
--- the value is an array, and each element passes the test
-abbrev pub is_list_of : (Data → Bool) → Data → Bool
-is_list_of test d = option_map_or (λ ds. list_all test (elements ds)) (as_array d) false
+-- the items, each read, where each can be
+abbrev pub all_read : {A : Type 0} → (Data → Option A) → List Data → Option (List A)
+all_read read [] = Some []
+all_read read (d ∷ ds) = option_and_then (λ x. option_map (λ xs. x ∷ xs) (all_read read ds)) (read d)
 
--- the kind that the value names
-abbrev pub as_kind : Data → Option Kind
+-- the elements of an array, each read, where each can be
+abbrev pub as_list_of : {A : Type 0} → (Data → Option A) → Data → Option (List A)
+as_list_of read d = option_and_then (λ ds. all_read read (elements ds)) (as_array d)
+
+abbrev pub delimiter_named : List ℕ → Option Delimiter
+delimiter_named name = if same_text name (codes "tab") then Some Tab else (if same_text name (codes "bar") then Some Bar else None)
+
+abbrev pub as_delimiter : Data → Option Delimiter
+as_delimiter d = option_and_then delimiter_named (as_str d)
+
+-- two whole numbers, and no more
+abbrev pub life_of : List Data → Option Life
+life_of (lo ∷ hi ∷ []) = option_and_then (λ l. option_map (λ h. record { lo = l; hi = h }) (as_integer hi)) (as_integer lo)
+life_of _ = None
+
+abbrev pub as_life : Data → Option Life
+as_life d = option_and_then (λ ds. life_of (elements ds)) (as_array d)
+
+abbrev pub as_kind : Data → Option KindName
 as_kind d = option_and_then kind_named (as_str d)
 
--- the value is of the type
+abbrev pub as_leaf : Data → Option LeafName
+as_leaf d = option_and_then leaf_named (as_str d)
+
+-- the day number of a date
+abbrev pub as_day : Data → Option ℤ
+as_day d = option_and_then day_named (as_str d)
+
+-- the column that a table with the one key `column` cites
+abbrev pub cited : Members → Option Part
+cited ms = if list_all (is_among (Column ∷ [])) (keys_of ms) then option_map Cited (option_and_then as_str (get_member (key_name Column) ms)) else None
+
+abbrev pub as_part : Data → Option Part
+as_part d = option_or (option_map Literal (as_str d)) (option_and_then cited (as_table d))
+
+abbrev pub window_named : List ℕ → Option Window
+window_named name = if same_text name (codes "all") then Some All else None
+
+abbrev pub as_window : Data → Option Window
+as_window d = option_or (option_map Units (as_integer d)) (option_and_then window_named (as_str d))
+
+-- whether a value is of a type
 abbrev pub fits : Expected → Data → Bool
-fits Whole d = is_some (as_integer d)
-fits TextValue d = is_some (as_str d)
-fits TableList d = is_list_of (λ e. is_some (as_table e)) d
-fits KindName d = is_some (as_kind d)
-fits NoSuchKey d = false
+fits type.Whole d = is_some (as_integer d)
+fits type.TextValue d = is_some (as_str d)
+fits type.Flag d = is_some (as_bool d)
+fits type.DelimiterName d = is_some (as_delimiter d)
+fits type.TableList d = is_some (as_list_of as_table d)
+fits type.TwoWholes d = is_some (as_life d)
+fits type.KindName d = is_some (as_kind d)
+fits type.LeafName d = is_some (as_leaf d)
+fits type.DateText d = is_some (as_day d)
+fits type.TextList d = is_some (as_list_of as_str d)
+fits type.Wholes d = is_some (as_list_of as_integer d)
+fits type.PartList d = is_some (as_list_of as_part d)
+fits type.WindowValue d = is_some (as_window d)
+fits type.NoSuchKey d = false

@@ -1,7 +1,7 @@
 -- The keys that a table of a document is to have, and the first that is wrong.
 use Rattle.std.specs.Prelude.{ℕ, suc, List, [], ◌∷◌, map, Bool, true, false, Option, Some, None, if◌then◌else◌}
 use Rattle.std.specs.Option.{option_or}
-use Rattle.std.specs.List.{list_all, list_any}
+use Rattle.std.specs.List.{list_all}
 use Rattle.toml.specs.Data.{Data, Members, get_member}
 use Rattle.schema_read.specs.declared.key.SchemaKey.{SchemaKey}
 use Rattle.schema_read.specs.declared.key.SchemaKey.TheVariants.{Other}
@@ -9,8 +9,8 @@ use Rattle.schema_read.specs.declared.fault.Expected.{Expected}
 use Rattle.schema_read.specs.declared.fault.Expected.TheVariants.{NoSuchKey}
 use Rattle.schema_read.specs.declared.fault.Place.{Place}
 use Rattle.schema_read.specs.declared.fault.Wrong.{Wrong}
-use Rattle.schema_read.specs.Document.{keys_of, same_text}
-use Rattle.schema_read.specs.Keys.{key_name}
+use Rattle.schema_read.specs.Document.{keys_of}
+use Rattle.schema_read.specs.Keys.{key_name, is_among}
 use Rattle.schema_read.specs.Types.{fits}
 
 -- a key with its type, and whether it may not be missing
@@ -43,10 +43,6 @@ abbrev pub first_of : Place → List Wanted → Members → Option Wrong
 first_of p [] ms = None
 first_of p (w ∷ ws) ms = option_or (wrong_key p w ms) (first_of p ws ms)
 
--- the key is one of these
-abbrev pub is_among : List SchemaKey → List ℕ → Bool
-is_among keys name = list_any (λ k. same_text (key_name k) name) keys
-
 -- a further key, where the table has one beside these
 abbrev pub further_key : Place → List SchemaKey → Members → Option Wrong
 further_key p keys ms = if list_all (is_among keys) (keys_of ms) then None else Some (wrong_at p Other NoSuchKey)
@@ -55,7 +51,7 @@ further_key p keys ms = if list_all (is_among keys) (keys_of ms) then None else 
 abbrev pub first_wrong : Place → List Wanted → Members → Option Wrong
 first_wrong p ws ms = option_or (first_of p ws ms) (further_key p (map (λ w. w.key) ws) ms)
 
--- the first wrong key among items, which are counted from n
-abbrev pub each_from : (ℕ → Data → Option Wrong) → ℕ → List Data → Option Wrong
+-- the first wrong key among tables, which are counted from n
+abbrev pub each_from : (ℕ → Members → Option Wrong) → ℕ → List Members → Option Wrong
 each_from wrong n [] = None
-each_from wrong n (d ∷ ds) = option_or (wrong n d) (each_from wrong (suc n) ds)
+each_from wrong n (ms ∷ mss) = option_or (wrong n ms) (each_from wrong (suc n) mss)

@@ -28,17 +28,35 @@ impl Place {
     };
 }
 
-/// What a key wants.
+/// The type of value that a key wants.
 #[derive(Clone, Copy, Debug, PartialEq, Eq)]
 pub enum Expected {
-    /// A whole number.
+    /// A whole number of 64 bits with a sign.
     Whole,
     /// A text.
     TextValue,
+    /// `true` or `false`.
+    Flag,
+    /// The text `tab` or `bar`.
+    DelimiterName,
     /// An array whose elements are all tables.
     TableList,
+    /// An array of two whole numbers.
+    TwoWholes,
     /// The name of a kind.
     KindName,
+    /// The name of a leaf kind.
+    LeafName,
+    /// A day as the ten bytes YYYY-MM-DD, of a year from 0001 to 9999.
+    DateText,
+    /// An array whose elements are all texts.
+    TextList,
+    /// An array whose elements are all whole numbers.
+    Wholes,
+    /// An array whose elements are texts, and tables with the one key `column`, a text.
+    PartList,
+    /// A whole number or the text `all`.
+    WindowValue,
     /// Nothing: the key has no place here.
     NoSuchKey,
 }

@@ -3,37 +3,112 @@
 ghost use Rattle.std.specs.Prelude.{◌≡◌};
 ghost use Rattle.schema_read.specs.Keys.{key_name};
 
-/// A key of a schema's text, or any further one.
+/// A key of a schema's text, or any further one. Keys that are written alike are one, wherever they stand.
 #[derive(Clone, Copy, Debug, PartialEq, Eq)]
 pub enum SchemaKey {
+    /// `seed`
     Seed,
+    /// `units`
     Units,
+    /// `delimiter`
+    Delimiter,
+    /// `table`
     Table,
+    /// `name`
     Name,
+    /// `rows`
     Rows,
+    /// `insert`
     Insert,
+    /// `life`
+    Life,
+    /// `update`
+    Update,
+    /// `column`
     Column,
+    /// `kind`
     Kind,
+    /// `changes`
+    Changes,
+    /// `null`
+    Null,
+    /// `base`
     Base,
+    /// `scramble`
+    Scramble,
+    /// `lo`
+    Lo,
+    /// `hi`
+    Hi,
+    /// `step`
+    Step,
+    /// `decimals`
+    Decimals,
+    /// `entries`
+    Entries,
+    /// `weights`
+    Weights,
+    /// `size`
+    Size,
+    /// `power`
+    Power,
+    /// `file`
+    File,
+    /// `alphabet`
+    Alphabet,
+    /// `parts`
+    Parts,
+    /// `on`
+    On,
+    /// `branches`
+    Branches,
+    /// `window`
+    Window,
+    /// `spread`
+    Spread,
+    /// `via`
+    Via,
     /// A key that has no place where it stands.
     Other,
 }
 
 impl SchemaKey {
-    /// The key as it stands in a schema's text. `Other` has none.
+    /// The key as it stands in a schema's text. `Other` has none, and gives the empty text.
     pub fn name(self) -> &'static str
         ensures { result.now ≡ key_name self }
     {
         match self {
             SchemaKey::Seed => "seed",
             SchemaKey::Units => "units",
+            SchemaKey::Delimiter => "delimiter",
             SchemaKey::Table => "table",
             SchemaKey::Name => "name",
             SchemaKey::Rows => "rows",
             SchemaKey::Insert => "insert",
+            SchemaKey::Life => "life",
+            SchemaKey::Update => "update",
             SchemaKey::Column => "column",
             SchemaKey::Kind => "kind",
+            SchemaKey::Changes => "changes",
+            SchemaKey::Null => "null",
             SchemaKey::Base => "base",
+            SchemaKey::Scramble => "scramble",
+            SchemaKey::Lo => "lo",
+            SchemaKey::Hi => "hi",
+            SchemaKey::Step => "step",
+            SchemaKey::Decimals => "decimals",
+            SchemaKey::Entries => "entries",
+            SchemaKey::Weights => "weights",
+            SchemaKey::Size => "size",
+            SchemaKey::Power => "power",
+            SchemaKey::File => "file",
+            SchemaKey::Alphabet => "alphabet",
+            SchemaKey::Parts => "parts",
+            SchemaKey::On => "on",
+            SchemaKey::Branches => "branches",
+            SchemaKey::Window => "window",
+            SchemaKey::Spread => "spread",
+            SchemaKey::Via => "via",
             SchemaKey::Other => "",
         }
     }

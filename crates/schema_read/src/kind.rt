@@ -1,13 +1,49 @@
-//! The names of the kinds of a column.
+//! The names of the kinds of a column and of a branch.
 
 ghost use Rattle.std.specs.Prelude.{◌≡◌};
-ghost use Rattle.schema_read.specs.Kinds.{kind_named};
+ghost use Rattle.schema_read.specs.Kinds.{kind_named, leaf_named};
+
+/// A kind of value that is drawn for a field alone; a branch of a case is of one of these.
+#[derive(Clone, Copy, Debug, PartialEq, Eq)]
+pub enum LeafName {
+    Int,
+    Fixed,
+    Date,
+    Pick,
+    Skew,
+    Dict,
+    Words,
+    Chars,
+}
 
 /// A kind of column.
 #[derive(Clone, Copy, Debug, PartialEq, Eq)]
 pub enum KindName {
     Key,
     Born,
+    Changed,
+    Template,
+    Case,
+    Ref,
+    Lookup,
+    Leaf(LeafName),
+}
+
+/// The leaf kind of this name.
+pub fn leaf_of_name(name: &str) -> Option<LeafName>
+    ensures { result ≡ leaf_named name.now }
+{
+    match name {
+        "int" => Some(LeafName::Int),
+        "fixed" => Some(LeafName::Fixed),
+        "date" => Some(LeafName::Date),
+        "pick" => Some(LeafName::Pick),
+        "skew" => Some(LeafName::Skew),
+        "dict" => Some(LeafName::Dict),
+        "words" => Some(LeafName::Words),
+        "chars" => Some(LeafName::Chars),
+        _ => None,
+    }
 }
 
 /// The kind of this name.
@@ -17,6 +53,14 @@ pub fn kind_of_name(name: &str) -> Option<KindName>
     match name {
         "key" => Some(KindName::Key),
         "born" => Some(KindName::Born),
-        _ => None,
+        "changed" => Some(KindName::Changed),
+        "template" => Some(KindName::Template),
+        "case" => Some(KindName::Case),
+        "ref" => Some(KindName::Ref),
+        "lookup" => Some(KindName::Lookup),
+        _ => match leaf_of_name(name) {
+            Some(leaf) => Some(KindName::Leaf(leaf)),
+            None => None,
+        },
     }
 }

@@ -1,9 +1,9 @@
-use Rattle.std.proofs.Common.{◌∙◌}
+use Rattle.std.proofs.Common.{refl, ◌∙◌}
 use Rattle.schema_read.proofs.Documents.{document-text, document-no_text}
 use Rattle.schema_read.proofs.read.parse.Goals as goal
 
-pub returns-in-Err-clause-unbuilt : goal.returns-in-Err-clause-unbuilt
-returns-in-Err-clause-unbuilt c _ = document-no_text c.args.bytes.now c.in-Err.ensures.cases.0
+pub returns-in-Err-clause-refused : goal.returns-in-Err-clause-refused
+returns-in-Err-clause-refused c _ = (refl, document-no_text c.args.bytes.now c.in-Err.ensures.cases.0)
 
 pub returns-in-Ok-table_from_str-clause-read : goal.returns-in-Ok-table_from_str-clause-read
 returns-in-Ok-table_from_str-clause-read c =

@@ -1,0 +1,269 @@
+//! Texts that have a wrong key, each behind its first one. What is expected follows from the table of keys: a key of
+//! another type, a required key that is missing, and a further key, each once at each place and kind.
+
+use crate::{ReadSchemaFault, read_schema};
+use std::alloc::{AllocError, Global};
+use std::test::Fail;
+
+// A whole text whose top has one wrong key.
+const TOP_FAULTS: [&str; 8] = [
+    "Seed Whole: seed=1.0\nunits=1\ndelimiter='bar'\ntable=[]",
+    "Seed Whole: units=1\ndelimiter='bar'\ntable=[]",
+    "Units Whole: seed=1\nunits=1.0\ndelimiter='bar'\ntable=[]",
+    "Units Whole: seed=1\ndelimiter='bar'\ntable=[]",
+    "Delimiter DelimiterName: seed=1\nunits=1\ndelimiter='comma'\ntable=[]",
+    "Table TableList: seed=1\nunits=1\ndelimiter='bar'\ntable=[1]",
+    "Table TableList: seed=1\nunits=1\ndelimiter='bar'",
+    "Other NoSuchKey: seed=1\nunits=1\ndelimiter='bar'\ntable=[]\nzz=1",
+];
+
+// What the first table holds, with one wrong key.
+const TABLE_FAULTS: [&str; 10] = [
+    "Name TextValue: name=1,rows=1,insert=1,life=[1,2],update=1,column=[]",
+    "Name TextValue: rows=1,insert=1,life=[1,2],update=1,column=[]",
+    "Rows Whole: name='a',rows=1.0,insert=1,life=[1,2],update=1,column=[]",
+    "Rows Whole: name='a',insert=1,life=[1,2],update=1,column=[]",
+    "Insert Whole: name='a',rows=1,insert=1.0,life=[1,2],update=1,column=[]",
+    "Life TwoWholes: name='a',rows=1,insert=1,life=[1,2,3],update=1,column=[]",
+    "Update Whole: name='a',rows=1,insert=1,life=[1,2],update=1.0,column=[]",
+    "Column TableList: name='a',rows=1,insert=1,life=[1,2],update=1,column=[1]",
+    "Column TableList: name='a',rows=1,insert=1,life=[1,2],update=1",
+    "Other NoSuchKey: name='a',rows=1,insert=1,life=[1,2],update=1,column=[],zz=1",
+];
+
+// What the first column of the first table holds, with one wrong key.
+const COLUMN_FAULTS: [&str; 77] = [
+    "Name TextValue: name=1,kind='born',changes=true,null=1",
+    "Name TextValue: kind='born',changes=true,null=1",
+    "Kind KindName: name='c',kind='nope',changes=true,null=1",
+    "Kind KindName: name='c',changes=true,null=1",
+    "Changes Flag: name='c',kind='born',changes=1,null=1",
+    "Null Whole: name='c',kind='born',changes=true,null=1.0",
+    "Base Whole: name='c',kind='key',base=1.0,scramble=true",
+    "Base Whole: name='c',kind='key',scramble=true",
+    "Scramble Flag: name='c',kind='key',base=1,scramble=1",
+    "Other NoSuchKey: name='c',kind='key',base=1,scramble=true,zz=1",
+    "Other NoSuchKey: name='c',kind='born',zz=1",
+    "Other NoSuchKey: name='c',kind='changed',zz=1",
+    "Lo Whole: name='c',kind='int',lo=1.0,hi=1,step=1",
+    "Lo Whole: name='c',kind='int',hi=1,step=1",
+    "Hi Whole: name='c',kind='int',lo=1,hi=1.0,step=1",
+    "Hi Whole: name='c',kind='int',lo=1,step=1",
+    "Step Whole: name='c',kind='int',lo=1,hi=1,step=1.0",
+    "Other NoSuchKey: name='c',kind='int',lo=1,hi=1,step=1,zz=1",
+    "Lo Whole: name='c',kind='fixed',lo=1.0,hi=1,decimals=1",
+    "Lo Whole: name='c',kind='fixed',hi=1,decimals=1",
+    "Hi Whole: name='c',kind='fixed',lo=1,hi=1.0,decimals=1",
+    "Hi Whole: name='c',kind='fixed',lo=1,decimals=1",
+    "Decimals Whole: name='c',kind='fixed',lo=1,hi=1,decimals=1.0",
+    "Decimals Whole: name='c',kind='fixed',lo=1,hi=1",
+    "Other NoSuchKey: name='c',kind='fixed',lo=1,hi=1,decimals=1,zz=1",
+    "Lo DateText: name='c',kind='date',lo='2023-02-29',hi='2024-02-29'",
+    "Lo DateText: name='c',kind='date',hi='2024-02-29'",
+    "Hi DateText: name='c',kind='date',lo='2024-02-29',hi='2023-02-29'",
+    "Hi DateText: name='c',kind='date',lo='2024-02-29'",
+    "Other NoSuchKey: name='c',kind='date',lo='2024-02-29',hi='2024-02-29',zz=1",
+    "Entries TextList: name='c',kind='pick',entries=['a',1],weights=[1]",
+    "Entries TextList: name='c',kind='pick',weights=[1]",
+    "Weights Wholes: name='c',kind='pick',entries=['a'],weights=[1,true]",
+    "Other NoSuchKey: name='c',kind='pick',entries=['a'],weights=[1],zz=1",
+    "Lo Whole: name='c',kind='skew',lo=1.0,size=1,power=1",
+    "Lo Whole: name='c',kind='skew',size=1,power=1",
+    "Size Whole: name='c',kind='skew',lo=1,size=1.0,power=1",
+    "Size Whole: name='c',kind='skew',lo=1,power=1",
+    "Power Whole: name='c',kind='skew',lo=1,size=1,power=1.0",
+    "Power Whole: name='c',kind='skew',lo=1,size=1",
+    "Other NoSuchKey: name='c',kind='skew',lo=1,size=1,power=1,zz=1",
+    "File TextValue: name='c',kind='dict',file=1",
+    "File TextValue: name='c',kind='dict'",
+    "Other NoSuchKey: name='c',kind='dict',file='a',zz=1",
+    "File TextValue: name='c',kind='words',file=1,lo=1,hi=1",
+    "File TextValue: name='c',kind='words',lo=1,hi=1",
+    "Lo Whole: name='c',kind='words',file='a',lo=1.0,hi=1",
+    "Lo Whole: name='c',kind='words',file='a',hi=1",
+    "Hi Whole: name='c',kind='words',file='a',lo=1,hi=1.0",
+    "Hi Whole: name='c',kind='words',file='a',lo=1",
+    "Other NoSuchKey: name='c',kind='words',file='a',lo=1,hi=1,zz=1",
+    "Alphabet TextValue: name='c',kind='chars',alphabet=1,lo=1,hi=1",
+    "Alphabet TextValue: name='c',kind='chars',lo=1,hi=1",
+    "Lo Whole: name='c',kind='chars',alphabet='a',lo=1.0,hi=1",
+    "Lo Whole: name='c',kind='chars',alphabet='a',hi=1",
+    "Hi Whole: name='c',kind='chars',alphabet='a',lo=1,hi=1.0",
+    "Hi Whole: name='c',kind='chars',alphabet='a',lo=1",
+    "Other NoSuchKey: name='c',kind='chars',alphabet='a',lo=1,hi=1,zz=1",
+    "Parts PartList: name='c',kind='template',parts=[{column='a',x=1}]",
+    "Parts PartList: name='c',kind='template'",
+    "Other NoSuchKey: name='c',kind='template',parts=['a',{column='b'}],zz=1",
+    "On TextValue: name='c',kind='case',on=1,branches=[]",
+    "On TextValue: name='c',kind='case',branches=[]",
+    "Branches TableList: name='c',kind='case',on='a',branches=[1]",
+    "Branches TableList: name='c',kind='case',on='a'",
+    "Other NoSuchKey: name='c',kind='case',on='a',branches=[],zz=1",
+    "Table TextValue: name='c',kind='ref',table=1,window='all',spread=[1]",
+    "Table TextValue: name='c',kind='ref',window='all',spread=[1]",
+    "Window WindowValue: name='c',kind='ref',table='a',window='two',spread=[1]",
+    "Window WindowValue: name='c',kind='ref',table='a',spread=[1]",
+    "Spread Wholes: name='c',kind='ref',table='a',window='all',spread=[1,true]",
+    "Other NoSuchKey: name='c',kind='ref',table='a',window='all',spread=[1],zz=1",
+    "Via TextValue: name='c',kind='lookup',via=1,column='a'",
+    "Via TextValue: name='c',kind='lookup',column='a'",
+    "Column TextValue: name='c',kind='lookup',via='a',column=1",
+    "Column TextValue: name='c',kind='lookup',via='a'",
+    "Other NoSuchKey: name='c',kind='lookup',via='a',column='a',zz=1",
+];
+
+// What the first branch of a case holds, with one wrong key.
+const BRANCH_FAULTS: [&str; 20] = [
+    "Kind LeafName: lo=1,hi=2",
+    "Kind LeafName: kind='key',base=1",
+    "Kind LeafName: kind='case'",
+    "Kind LeafName: ",
+    "Other NoSuchKey: kind='int',lo=1,hi=1,step=1,changes=true",
+    "Step Whole: kind='int',lo=1,hi=1,step=1.0",
+    "Other NoSuchKey: kind='fixed',lo=1,hi=1,decimals=1,changes=true",
+    "Decimals Whole: kind='fixed',lo=1,hi=1,decimals=1.0",
+    "Other NoSuchKey: kind='date',lo='2024-02-29',hi='2024-02-29',changes=true",
+    "Hi DateText: kind='date',lo='2024-02-29',hi='2023-02-29'",
+    "Other NoSuchKey: kind='pick',entries=['a'],weights=[1],changes=true",
+    "Weights Wholes: kind='pick',entries=['a'],weights=[1,true]",
+    "Other NoSuchKey: kind='skew',lo=1,size=1,power=1,changes=true",
+    "Power Whole: kind='skew',lo=1,size=1,power=1.0",
+    "Other NoSuchKey: kind='dict',file='a',changes=true",
+    "File TextValue: kind='dict',file=1",
+    "Other NoSuchKey: kind='words',file='a',lo=1,hi=1,changes=true",
+    "Hi Whole: kind='words',file='a',lo=1,hi=1.0",
+    "Other NoSuchKey: kind='chars',alphabet='a',lo=1,hi=1,changes=true",
+    "Hi Whole: kind='chars',alphabet='a',lo=1,hi=1.0",
+];
+
+// A whole text, and where its first wrong key is: the places go depth first, each with its further keys.
+const ORDER: [&str; 10] = [
+    "0 0 0 Units Whole: seed=1",
+    "0 0 0 Other NoSuchKey: seed=1\nunits=1\nzz=1\ntable=[{}]",
+    "1 0 0 Other NoSuchKey: seed=1\nunits=1\ntable=[{name='t',rows=1,column=[{}],zz=1}]",
+    "1 2 0 Name TextValue: seed=1\nunits=1\ntable=[{name='t',rows=1,column=[{name='a',kind='born'},{kind='born'}]},{}]",
+    "2 0 0 Rows Whole: seed=1\nunits=1\ntable=[{name='t',rows=1,column=[]},{name='u',rows='1'}]",
+    "1 1 0 Other NoSuchKey: seed=1\nunits=1\ntable=[{name='t',rows=1,column=[{name='c',kind='case',on='x',branches=[{}],zz=1}]}]",
+    "1 1 2 File TextValue: seed=1\nunits=1\ntable=[{name='t',rows=1,column=[{name='c',kind='case',on='x',branches=[{kind='dict',file='f'},{kind='dict'}]},{}]}]",
+    "1 0 0 Life TwoWholes: seed=1\nunits=1\ntable=[{name='t',rows=1,life=[],column=[]}]",
+    "1 0 0 Life TwoWholes: seed=1\nunits=1\ntable=[{name='t',rows=1,life=[1],column=[]}]",
+    "1 0 0 Life TwoWholes: seed=1\nunits=1\ntable=[{name='t',rows=1,life=[1,2.0],column=[]}]",
+];
+
+// What is no date: none of these days is in the calendar, or the text isn't ten bytes YYYY-MM-DD.
+const NO_DATES: [&str; 12] = [
+    "'0000-01-01'",
+    "'2023-00-10'",
+    "'2023-13-01'",
+    "'2023-04-31'",
+    "'2023-01-00'",
+    "'1900-02-29'",
+    "'2023-1-001'",
+    "'2023-01-1'",
+    "'12023-01-1'",
+    "'2023/01/01'",
+    "'+023-01-01'",
+    "2023-01-01",
+];
+
+// What is no window, and no list of parts.
+const NO_WINDOWS: [&str; 4] = ["true", "1.5", "'ALL'", "[1]"];
+
+const NO_PARTS: [&str; 4] = ["[1]", "[{}]", "[{column=1}]", "'a'"];
+
+/// The first wrong key of a text: its place, the key and the type that it wants.
+fn told(alloc: Global, text: &str) -> Result<String, AllocError> {
+    match read_schema(alloc, text.as_bytes()) {
+        Ok(_) => String::from_str(alloc, "read"),
+        Err(ReadSchemaFault::Syntax) => String::from_str(alloc, "no document"),
+        Err(ReadSchemaFault::Memory) => String::from_str(alloc, "no memory"),
+        Err(
+            ReadSchemaFault::Shape {
+                place,
+                key,
+                expected,
+            },
+        ) => {
+            let (table, column, branch) = (place.table, place.column, place.branch);
+            format!(in alloc; "{table} {column} {branch} {key:?} {expected:?}")
+        }
+    }
+}
+
+/// Tries each row of a table, whose text stands between a front and an end.
+fn try_rows(
+    rt: &(impl std::process::Abort + Print),
+    alloc: Global,
+    rows: &[&str],
+    place: &str,
+    front: &str,
+    end: &str,
+) -> Result<(), Fail> {
+    for row in rows {
+        let (expected, inner) = row.split_once(": ").ok_or("a row has a colon")?;
+        let text = format!(in alloc; "{front}{inner}{end}")?;
+        let expected = format!(in alloc; "{place}{expected}")?;
+        assert_eq!(rt;
+            told(alloc, text.as_str())?.as_str(),
+            expected.as_str(),
+            "{inner}"
+        );
+    }
+    Ok(())
+}
+
+const TABLE_FRONT: &str = "seed=1\nunits=1\ntable=[{";
+
+const COLUMN_FRONT: &str = "seed=1\nunits=1\ntable=[{name='t',rows=1,column=[{";
+
+const BRANCH_FRONT: &str =
+    "seed=1\nunits=1\ntable=[{name='t',rows=1,column=[{name='c',kind='case',on='x',branches=[{";
+
+#[test]
+fn each_wrong_key_is_told(rt: HostRuntime) -> Result<(), Fail> {
+    let alloc = rt.alloc();
+    try_rows(&rt, alloc, &TOP_FAULTS, "0 0 0 ", "", "")?;
+    try_rows(&rt, alloc, &TABLE_FAULTS, "1 0 0 ", TABLE_FRONT, "}]")?;
+    try_rows(&rt, alloc, &COLUMN_FAULTS, "1 1 0 ", COLUMN_FRONT, "}]}]")?;
+    try_rows(&rt, alloc, &BRANCH_FAULTS, "1 1 1 ", BRANCH_FRONT, "}]}]}]")
+}
+
+/// Tries each of these values under the key that ends a column.
+fn try_values(
+    rt: &(impl std::process::Abort + Print),
+    alloc: Global,
+    values: &[&str],
+    column: &str,
+    expected: &str,
+) -> Result<(), Fail> {
+    for value in values {
+        let text = format!(in alloc; "{COLUMN_FRONT}name='c',{column}{value}}}]}}]")?;
+        assert_eq!(rt; told(alloc, text.as_str())?.as_str(), expected, "{value}");
+    }
+    Ok(())
+}
+
+#[test]
+fn the_first_wrong_key_is_told(rt: HostRuntime) -> Result<(), Fail> {
+    let alloc = rt.alloc();
+    try_rows(&rt, alloc, &ORDER, "", "", "")?;
+    let date = "kind='date',hi='2024-01-01',lo=";
+    try_values(&rt, alloc, &NO_DATES, date, "1 1 0 Lo DateText")?;
+    let window = "kind='ref',table='p',window=";
+    try_values(&rt, alloc, &NO_WINDOWS, window, "1 1 0 Window WindowValue")?;
+    let parts = "kind='template',parts=";
+    try_values(&rt, alloc, &NO_PARTS, parts, "1 1 0 Parts PartList")
+}
+
+#[test]
+fn what_is_no_document_is_told(rt: HostRuntime) -> Result<(), Fail> {
+    let alloc = rt.alloc();
+    assert_eq!(rt; told(alloc, "seed = \"ab")?.as_str(), "no document");
+    assert_eq!(rt;
+        told(alloc, "seed = 9223372036854775808\n")?.as_str(),
+        "no document"
+    );
+    let not_utf8 = read_schema(alloc, b"# \xff\n");
+    assert!(rt; matches!(not_utf8, Err(ReadSchemaFault::Syntax)));
+    Ok(())
+}

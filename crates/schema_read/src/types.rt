@@ -1,0 +1,131 @@
+//! Values of the types that keys want.
+
+ghost use Rattle.std.specs.Prelude.{◌≡◌, option_map, map, is_some};
+ghost use Rattle.std.specs.List.{list_all};
+ghost use Rattle.toml.specs.Data.{Data, as_array, as_integer, as_str, as_table};
+ghost use Rattle.toml.specs.View.{view};
+ghost use Rattle.schema_read.specs.Document.{elements};
+ghost use Rattle.schema_read.specs.Reading.{tables_of};
+ghost use Rattle.schema_read.specs.Types.{all_read, as_list_of, delimiter_named, as_delimiter, life_of, as_life, as_kind, as_leaf, as_day, window_named, as_window};
+
+use crate::date::day_of_text;
+use crate::kind::{KindName, LeafName, kind_of_name, leaf_of_name};
+use schema_model::{Delimiter, Life, Window};
+use toml::Value;
+
+fn delimiter_of_name(name: &str) -> Option<Delimiter>
+    ensures { result ≡ delimiter_named name.now }
+{
+    match name {
+        "tab" => Some(Delimiter::Tab),
+        "bar" => Some(Delimiter::Bar),
+        _ => None,
+    }
+}
+
+pub fn delimiter_of(value: &Value) -> Option<Delimiter>
+    ensures { result ≡ as_delimiter (view value.now) }
+{
+    match value.as_str() {
+        Some(name) => delimiter_of_name(name),
+        None => None,
+    }
+}
+
+pub fn kind_of(value: &Value) -> Option<KindName>
+    ensures { result ≡ as_kind (view value.now) }
+{
+    match value.as_str() {
+        Some(name) => kind_of_name(name),
+        None => None,
+    }
+}
+
+pub fn leaf_kind_of(value: &Value) -> Option<LeafName>
+    ensures { result ≡ as_leaf (view value.now) }
+{
+    match value.as_str() {
+        Some(name) => leaf_of_name(name),
+        None => None,
+    }
+}
+
+/// The day number of a date.
+pub fn day_of(value: &Value) -> Option<i32>
+    ensures { result ≡ as_day (view value.now) }
+{
+    match value.as_str() {
+        Some(text) => day_of_text(text),
+        None => None,
+    }
+}
+
+fn window_of_name(name: &str) -> Option<Window>
+    ensures { result ≡ window_named name.now }
+{
+    match name {
+        "all" => Some(Window::All),
+        _ => None,
+    }
+}
+
+pub fn window_of(value: &Value) -> Option<Window>
+    ensures { result ≡ as_window (view value.now) }
+{
+    match value.as_integer() {
+        Some(units) => Some(Window::Units(units)),
+        None => match value.as_str() {
+            Some(name) => window_of_name(name),
+            None => None,
+        },
+    }
+}
+
+/// The elements of an array.
+pub fn array_elements(value: &Value) -> Option<&[Value]>
+    ensures { option_map (λ items. map view items.now) result ≡ option_map elements (as_array (view value.now)) }
+{
+    match value.as_array() {
+        Some(items) => Some(items.as_slice()),
+        None => None,
+    }
+}
+
+fn life_of_items(items: &[Value]) -> Option<Life>
+    ensures { result ≡ life_of (map view items.now) }
+{
+    let (first, others) = items.split_first()?;
+    let (second, further) = others.split_first()?;
+    if !further.is_empty() {
+        return None;
+    }
+    let lo = first.as_integer()?;
+    let hi = second.as_integer()?;
+    Some(Life { lo, hi })
+}
+
+/// The two whole numbers of an array.
+pub fn life_of_value(value: &Value) -> Option<Life>
+    ensures { result ≡ as_life (view value.now) }
+{
+    match array_elements(value) {
+        Some(items) => life_of_items(items),
+        None => None,
+    }
+}
+
+fn are_tables(items: &[Value]) -> bool
+    ensures { result ≡ list_all (λ v. is_some (as_table (view v))) items.now }
+{
+    items.iter().all(|item| item.is_table())
+}
+
+/// The elements of an array that are all tables.
+pub fn table_elements(value: &Value) -> Option<&[Value]>
+    ensures { option_map (λ items. tables_of items.now) result ≡ as_list_of as_table (view value.now) }
+{
+    match array_elements(value) {
+        Some(items) => { if are_tables(items) { Some(items) } else { None } }
+        None => None,
+    }
+}
