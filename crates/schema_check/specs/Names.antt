@@ -21,4 +21,4 @@ begins_with_letter (b ∷ bs) = is_letter b
 
 -- a letter, and then letters, digits and _: at most 32 bytes together
 abbrev pub is_name : List ℕ → Bool
-is_name bs = begins_with_letter bs && list_all is_name_byte bs && nat_le (length bs) 32
+is_name bs = begins_with_letter bs && nat_le (length bs) 32 && list_all is_name_byte bs

@@ -84,7 +84,7 @@ pub(crate) fn greatest_line(facts: &[TableFacts]) -> u64
 {
     let mut most = 0;
     for fact in facts {
-        most = fact.max_line.max(most);
+        most = most.max(fact.max_line);
     }
     most
 }

@@ -1,7 +1,8 @@
 //! Names of tables and columns.
 
 ghost use Rattle.std.specs.Prelude.{◌≡◌};
-ghost use Rattle.schema_check.specs.Names.{is_name, is_letter, is_name_byte};
+ghost use Rattle.std.specs.List.{list_all};
+ghost use Rattle.schema_check.specs.Names.{is_name, begins_with_letter, is_letter, is_name_byte};
 
 use schema_model::Text;
 
@@ -13,10 +14,25 @@ pub(crate) fn is_name(text: &Text) -> bool
     ensures { result ≡ is_name text.now }
 {
     let bytes = text.as_str().as_bytes();
-    let Some(first) = bytes.first() else {
+    if !begins_with_letter(bytes) || bytes.len() > MAX_LEN {
         return false;
-    };
-    is_letter(*first) && bytes.iter().all(|byte| is_name_byte(*byte)) && bytes.len() <= MAX_LEN
+    }
+    are_name_bytes(bytes)
+}
+
+fn are_name_bytes(bytes: &[u8]) -> bool
+    ensures { result ≡ list_all is_name_byte bytes.now }
+{
+    bytes.iter().all(|byte| is_name_byte(*byte))
+}
+
+fn begins_with_letter(bytes: &[u8]) -> bool
+    ensures { result ≡ begins_with_letter bytes.now }
+{
+    match bytes {
+        [first, ..] => is_letter(*first),
+        [] => false,
+    }
 }
 
 fn is_letter(byte: u8) -> bool

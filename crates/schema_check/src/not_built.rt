@@ -1,6 +1,7 @@
 //! What a schema may hold that no table can be made of yet.
 
 ghost use Rattle.std.specs.Prelude.{◌≡◌};
+ghost use Rattle.std.specs.List.{list_any};
 ghost use Rattle.schema_check.specs.Unbuilt.{is_unbuilt, is_unbuilt_table, is_unbuilt_column, is_unbuilt_kind};
 
 use schema_model::{Column, Delimiter, Kind, Schema, Table};
@@ -10,24 +11,31 @@ use schema_model::{Column, Delimiter, Kind, Schema, Table};
 pub fn unbuilt(schema: &Schema) -> bool
     ensures { result ≡ is_unbuilt schema.now }
 {
-    schema.delimiter == Delimiter::Bar
-        || schema
-            .tables
-            .as_slice()
-            .iter()
-            .any(|table| is_unbuilt_table(table))
+    if schema.delimiter == Delimiter::Bar {
+        return true;
+    }
+    is_any_table_unbuilt(schema.tables.as_slice())
+}
+
+fn is_any_table_unbuilt(tables: &[Table]) -> bool
+    ensures { result ≡ list_any is_unbuilt_table tables.now }
+{
+    tables.iter().any(|table| is_unbuilt_table(table))
 }
 
 fn is_unbuilt_table(table: &Table) -> bool
     ensures { result ≡ is_unbuilt_table table.now }
 {
-    table.life.is_some()
-        || table.update.is_some()
-        || table
-            .columns
-            .as_slice()
-            .iter()
-            .any(|column| is_unbuilt_column(column))
+    if table.life.is_some() || table.update.is_some() {
+        return true;
+    }
+    is_any_column_unbuilt(table.columns.as_slice())
+}
+
+fn is_any_column_unbuilt(columns: &[Column]) -> bool
+    ensures { result ≡ list_any is_unbuilt_column columns.now }
+{
+    columns.iter().any(|column| is_unbuilt_column(column))
 }
 
 fn is_unbuilt_column(column: &Column) -> bool

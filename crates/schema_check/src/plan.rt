@@ -1,7 +1,9 @@
 //! The plan of an accepted schema.
 
 ghost use Rattle.std.specs.Prelude.{◌≡◌, ◌<◌, false, length, IfOk};
+ghost use Rattle.std.specs.List.{position};
 ghost use Rattle.schema_check.specs.Counts.{count};
+ghost use Rattle.schema_check.specs.Names.{same_text};
 ghost use Rattle.schema_check.specs.Rules.{IsAccepted};
 ghost use Rattle.schema_check.specs.Unbuilt.{is_unbuilt};
 ghost use Rattle.schema_check.specs.Limits.{IsInLimits};
@@ -9,9 +11,10 @@ ghost use Rattle.schema_check.specs.InTurn.{table_place};
 ghost use Rattle.schema_check.specs.Lives.{sure_life, longest_life};
 ghost use Rattle.schema_check.specs.Costs.{cost};
 ghost use Rattle.schema_check.specs.Sizes.{max_line, reach};
+ghost use Rattle.schema_check.specs.Planned.{facts_at};
 
 use crate::facts::{TableFacts, facts_of_tables, greatest_line};
-use schema_model::Schema;
+use schema_model::{Schema, Table};
 use std::alloc::{AllocError, Global};
 use std::marker::Model;
 
@@ -80,8 +83,7 @@ impl Plan {
     pub fn table_named(&self, name: &str) -> Option<u32>
         ensures { result ≡ table_place self.now name.now }
     {
-        let tables = self.schema.tables.as_slice();
-        match tables.iter().position(|table| table.name.as_str() == name) {
+        match place_of(self.schema.tables.as_slice(), name) {
             Some(place) => Some(place as u32),
             None => None,
         }
@@ -92,7 +94,7 @@ impl Plan {
         requires { table < length self.now.tables }
         ensures { result ≡ sure_life self.now table }
     {
-        self.facts[table as usize].sure_life
+        self.facts_of(table).sure_life
     }
 
     /// For how many units the rows of a table live at most; None exactly where that is unbounded.
@@ -100,7 +102,7 @@ impl Plan {
         requires { table < length self.now.tables }
         ensures { result ≡ longest_life self.now table }
     {
-        self.facts[table as usize].longest_life
+        self.facts_of(table).longest_life
     }
 
     /// What a row of a table costs: one more than the permutations that its report takes at most.
@@ -108,7 +110,7 @@ impl Plan {
         requires { table < length self.now.tables }
         ensures { result ≡ cost self.now table }
     {
-        self.facts[table as usize].cost
+        self.facts_of(table).cost
     }
 
     /// The greatest length of a line of a table, in bytes, with its line feed.
@@ -116,7 +118,7 @@ impl Plan {
         requires { table < length self.now.tables }
         ensures { result ≡ max_line self.now table }
     {
-        self.facts[table as usize].max_line
+        self.facts_of(table).max_line
     }
 
     /// The greatest length of a line of any table, in bytes.
@@ -125,4 +127,18 @@ impl Plan {
     {
         self.reach
     }
+
+    fn facts_of(&self, table: u32) -> &TableFacts
+        requires { table < length self.now.tables }
+        ensures { result.now ≡ facts_at self.now table }
+    {
+        &self.facts[table as usize]
+    }
+}
+
+/// The place of the first of some tables that has a name.
+fn place_of(tables: &[Table], name: &str) -> Option<usize>
+    ensures { result ≡ position (λ table. same_text table.name name.now) tables.now }
+{
+    tables.iter().position(|table| table.name.as_str() == name)
 }

@@ -1,15 +1,17 @@
 //! The rules, each as tests of the schema, of a table and of a column, and the search for the first that is broken.
 
-ghost use Rattle.std.specs.Prelude.{◌≡◌, ◌<◌, ◌^◌, List, length};
+ghost use Rattle.std.specs.Prelude.{◌≡◌, List, map};
 ghost use Rattle.schema_model.specs.declared.table.Schema.{Schema};
 ghost use Rattle.schema_model.specs.declared.table.Table.{Table};
+ghost use Rattle.std.specs.List.{list_any};
 ghost use Rattle.schema_check.specs.Counts.{count};
-ghost use Rattle.schema_check.specs.Rule.{first_break, break_in_table};
+ghost use Rattle.schema_check.specs.Names.{same_text};
+ghost use Rattle.schema_check.specs.Rule.{first_break, first_broken_of, break_in_table};
 ghost use Rattle.schema_check.specs.Rules.{rule_named, first_broken, keeps_v1, keeps_v3, column_keeps_v4, column_keeps_v5, is_one_to_64, keeps_v6, row_count};
 
 use crate::broken::Broken;
 use crate::names::is_name;
-use schema_model::{Column, Kind, Schema, Table};
+use schema_model::{Column, Kind, Schema, Table, Text};
 
 /// The greatest last unit.
 const MAX_UNITS: i64 = 10_000;
@@ -46,11 +48,19 @@ const ORDER: [RuleName; 6] = [
 
 /// The first rule that a schema breaks, at its first place: the whole before the tables, in their order, and a table
 /// before its columns, in their order.
+#[tactic(auto, unfolding(crate::specs::Rules::first_broken))]
 pub(crate) fn first_broken(schema: &Schema) -> Option<Broken>
     ensures { result ≡ first_broken schema.now }
 {
-    for rule in ORDER {
-        if let Some(broken) = first_break(rule, schema) {
+    first_broken_of(&ORDER, schema)
+}
+
+/// The first of some rules that a schema breaks, at its first place.
+fn first_broken_of(rules: &[RuleName], schema: &Schema) -> Option<Broken>
+    ensures { result ≡ first_broken_of (map rule_named rules.now) schema.now }
+{
+    for rule in rules {
+        if let Some(broken) = first_break(*rule, schema) {
             return Some(broken);
         }
     }
@@ -80,7 +90,6 @@ fn break_in_table(
     before: &[Table],
     table: &Table,
 ) -> Option<Broken>
-    requires { length before.now < 2 ^ 32 }
     ensures { result ≡ break_in_table (rule_named rule) schema.now before.now table.now }
 {
     let number = before.len() as u64 + 1;
@@ -175,13 +184,27 @@ fn keeps_v1(schema: &Schema) -> bool
 fn keeps_v3(before: &[Table], table: &Table) -> bool
     ensures { result ≡ keeps_v3 before.now table.now }
 {
-    is_name(&table.name) && !before.iter().any(|other| other.name == table.name)
+    is_name(&table.name) && !is_table_named(before, &table.name)
+}
+
+/// Whether one of some tables has a name.
+fn is_table_named(tables: &[Table], name: &Text) -> bool
+    ensures { result ≡ list_any (λ table. same_text table.name name.now) tables.now }
+{
+    tables.iter().any(|table| table.name == *name)
 }
 
 fn column_keeps_v4(earlier: &[Column], column: &Column) -> bool
     ensures { result ≡ column_keeps_v4 earlier.now column.now }
 {
-    is_name(&column.name) && !earlier.iter().any(|other| other.name == column.name)
+    is_name(&column.name) && !is_column_named(earlier, &column.name)
+}
+
+/// Whether one of some columns has a name.
+fn is_column_named(columns: &[Column], name: &Text) -> bool
+    ensures { result ≡ list_any (λ column. same_text column.name name.now) columns.now }
+{
+    columns.iter().any(|column| column.name == *name)
 }
 
 fn column_keeps_v5(earlier: &[Column], column: &Column) -> bool
