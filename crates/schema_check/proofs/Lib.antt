@@ -1,0 +1,4 @@
+pub mod FirstFound
+pub mod Tests
+pub mod Kept
+pub mod Accepted

@@ -1,0 +1,57 @@
+-- What a row costs: how many permutations are asked at most to report it, and one more.
+use Rattle.std.specs.Prelude.{ℕ, ◌+◌, if◌then◌else◌, List, [], ◌∷◌, sum, sum_by, Option, Some, None, is_some, slice_get, slice_index, slice_index_or, unwrap_or}
+use Rattle.std.specs.List.{position}
+use Rattle.std.specs.Option.{option_map, option_map_or, option_and_then}
+use Rattle.schema_model.specs.declared.table.Schema.{Schema}
+use Rattle.schema_model.specs.declared.table.Table.{Table}
+use Rattle.schema_model.specs.declared.column.Column.{Column}
+use Rattle.schema_model.specs.declared.column.Kind.{Kind}
+use Rattle.schema_model.specs.declared.column.Kind.TheVariants.{Key, Template, Ref, Lookup}
+use Rattle.schema_model.specs.declared.column.Part.{Part}
+use Rattle.schema_model.specs.declared.column.Part.TheVariants.{Literal, Cited}
+use Rattle.schema_check.specs.InTurn.{in_turn, given_by, columns_in_turn, column_place}
+use Rattle.schema_check.specs.Parents.{parent_column_value}
+
+-- the death of a reference's parent, and the permutation that places the child
+abbrev pub death_cost_by : Schema → List ℕ → Kind → ℕ
+death_cost_by schema given (Ref table window spread) = 1 + unwrap_or (given_by schema given table) 0
+death_cost_by schema given _ = 0
+
+-- D: the permutations that the death of a row takes, for each table
+abbrev pub death_costs : Schema → List ℕ
+death_costs schema =
+    in_turn
+    (λ given table.
+    (if is_some table.life then 1 else 0)
+    + sum_by (λ column. death_cost_by schema given column.kind) table.columns)
+    [] schema.tables
+
+-- a cited column costs once for each part that cites it
+abbrev pub part_cost : Table → List ℕ → Part → ℕ
+part_cost table given (Literal bytes) = 0
+part_cost table given (Cited name) = option_map_or (slice_index given) (column_place table name) 0
+
+-- F: the permutations that a field takes, by its column's kind
+abbrev pub field_cost : Schema → List (List ℕ) → Table → List ℕ → Kind → ℕ
+field_cost schema tables table given (Key base scramble) = if scramble then 1 else 0
+field_cost schema tables table given (Ref parent window spread) =
+    1 + option_map_or (λ columns. slice_index columns 0) (given_by schema tables parent) 0
+field_cost schema tables table given (Lookup via column) =
+    1 + parent_column_value schema tables table via column
+field_cost schema tables table given (Template parts) = sum_by (part_cost table given) parts
+field_cost schema tables table given _ = 0
+
+abbrev pub field_costs : Schema → List (List ℕ)
+field_costs schema =
+    columns_in_turn (λ tables table given column. field_cost schema tables table given column.kind) schema
+
+-- one more where the table has updates
+abbrev pub update_cost : Schema → ℕ → ℕ
+update_cost schema place =
+    option_map_or (λ table. if is_some table.update then 1 else 0) (slice_get schema.tables place) 0
+
+-- the cost of a row of the table at a place
+unfoldable pub cost : Schema → ℕ → ℕ
+cost schema place =
+    1 + slice_index (death_costs schema) place + update_cost schema place
+    + sum (slice_index_or (field_costs schema) place [])
