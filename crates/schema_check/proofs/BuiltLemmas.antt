@@ -117,8 +117,8 @@ built_death_costs schema built =
         let first = or_parts (is_some table.life) (is_some table.update) parts.0 in
         let life : one_if (is_some table.life) ≡ 0 = ap one_if first.0 in
         let draws : sum_by (λ column. death_cost_by schema given column.kind) table.columns ≡ 0 =
-            fold_idle (λ a column. a + death_cost_by schema given column.kind) is_unbuilt_column
-            (λ a column c. omega (arith, no_draw_for_death schema given column.kind (built_kind column c))) table.columns parts.1 0 in
+        fold_idle (λ a column. a + death_cost_by schema given column.kind) is_unbuilt_column
+        (λ a column c. omega (arith, no_draw_for_death schema given column.kind (built_kind column c))) table.columns parts.1 0 in
         omega (arith, life, draws)
 
 built_update_cost : (schema : Schema) → list_any is_unbuilt_table schema.tables ≡ false → (place : ℕ) → update_cost schema place ≡ 0
@@ -154,11 +154,11 @@ built_cost : (schema : Schema) → list_any is_unbuilt_table schema.tables ≡ f
 unfolding cost
 built_cost schema built place =
     let deaths : slice_index (death_costs schema) place ≡ 0 =
-        ap (λ costs. get_or costs place 0) (built_death_costs schema built) ∙ N.get_or-map (λ (table : Table). 0) schema.tables place no_table in
+    ap (λ costs. get_or costs place 0) (built_death_costs schema built) ∙ N.get_or-map (λ (table : Table). 0) schema.tables place no_table in
     let fields : sum (get_or (field_costs schema) place []) ≡ 0 =
-        ap (λ costs. sum (get_or costs place [])) (built_field_costs schema built)
-        ∙ ap sum (N.get_or-map (λ (table : Table). map (λ (column : Column). 0) table.columns) schema.tables place no_table)
-        ∙ sum-zeros (get_or schema.tables place no_table).columns in
+    ap (λ costs. sum (get_or costs place [])) (built_field_costs schema built)
+    ∙ ap sum (N.get_or-map (λ (table : Table). map (λ (column : Column). 0) table.columns) schema.tables place no_table)
+    ∙ sum-zeros (get_or schema.tables place no_table).columns in
     omega (arith, deaths, fields, built_update_cost schema built place)
 
 built_max_line : (schema : Schema) → list_any is_unbuilt_table schema.tables ≡ false → (place : ℕ) → max_line schema place ≡ built_line (get_or schema.tables place no_table)
@@ -172,7 +172,7 @@ pub built_facts_of : (schema : Schema) → list_any is_unbuilt_table schema.tabl
 built_facts_of schema built =
     fill_by_all (facts_at schema) (map built_facts schema.tables) (length schema.tables) (facts_at schema 0) (length-map schema.tables built_facts)
     (λ k h. get_or-map built_facts schema.tables k no_table (facts_at schema 0) h
-        ∙ sym (rw (built_sure_life schema built k, built_longest_life schema built k, built_cost schema built k, built_max_line schema built k) refl))
+    ∙ sym (rw (built_sure_life schema built k, built_longest_life schema built k, built_cost schema built k, built_max_line schema built k) refl))
 
 -- the reach is the greatest of the lines
 pub built_reach : (schema : Schema) → list_any is_unbuilt_table schema.tables ≡ false → greatest_by (λ fact. fact.max_line) (map built_facts schema.tables) ≡ reach schema
@@ -180,7 +180,7 @@ unfolding reach
 built_reach schema built =
     fold-map (λ most (fact : TableFacts). max most fact.max_line) built_facts 0 schema.tables
     ∙ sym (ap (λ sizes. greatest_by line_size sizes) (built_field_sizes schema built)
-        ∙ fold-map (λ most sizes. max most (line_size sizes)) (λ (table : Table). map (λ (column : Column). built_size column.kind) table.columns) 0 schema.tables)
+    ∙ fold-map (λ most sizes. max most (line_size sizes)) (λ (table : Table). map (λ (column : Column). built_size column.kind) table.columns) 0 schema.tables)
 
 -- the tables of a built schema are built
 pub built_tables : (schema : Schema) → is_unbuilt schema ≡ false → list_any is_unbuilt_table schema.tables ≡ false

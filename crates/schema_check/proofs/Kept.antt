@@ -63,9 +63,9 @@ pub none_from_keeps : (rule : Rule) (schema : Schema) → Keeps rule schema → 
 none_from_keeps rule schema keeps =
     both_none _ _ (none_unless _ rule 0 0 keeps.whole)
     (none_found (break_in_table rule schema) schema.tables
-        (λ i d h. both_none _ _ (none_unless _ rule _ 0 (keeps.tables i d h))
-            (none_found (break_at_column rule schema (take i schema.tables) (get_or schema.tables i d)) (get_or schema.tables i d).columns
-                (λ j e lt. none_unless _ rule _ _ (keeps.columns i d h j e lt)))))
+    (λ i d h. both_none _ _ (none_unless _ rule _ 0 (keeps.tables i d h))
+    (none_found (break_at_column rule schema (take i schema.tables) (get_or schema.tables i d)) (get_or schema.tables i d).columns
+    (λ j e lt. none_unless _ rule _ _ (keeps.columns i d h j e lt)))))
 
 -- something is found at an item, and nothing at any before it
 abbrev pub FoundAt : {A B : Type 0} → (List A → A → Option B) → List A → List A → B → Type 0

@@ -66,11 +66,11 @@ city = record {
   life = None;
   update = None;
   columns =
-    plain (codes "id") (Key (pos 1) true)
-    ∷ plain (codes "name") (Drawn (Pick (codes "Oslo" ∷ codes "Li\tma" ∷ []) (pos 5 ∷ pos 3 ∷ [])))
-    ∷ plain (codes "mark") (Drawn (Chars (codes "a\\b") (pos 0) (pos 3)))
-    ∷ plain (codes "label") (Template (Literal (codes "in ") ∷ Cited (codes "name") ∷ Cited (codes "name") ∷ []))
-    ∷ [];
+      plain (codes "id") (Key (pos 1) true)
+      ∷ plain (codes "name") (Drawn (Pick (codes "Oslo" ∷ codes "Li\tma" ∷ []) (pos 5 ∷ pos 3 ∷ [])))
+      ∷ plain (codes "mark") (Drawn (Chars (codes "a\\b") (pos 0) (pos 3)))
+      ∷ plain (codes "label") (Template (Literal (codes "in ") ∷ Cited (codes "name") ∷ Cited (codes "name") ∷ []))
+      ∷ [];
 }
 
 -- houses with the key and the name of their city
@@ -82,10 +82,10 @@ house = record {
   life = None;
   update = None;
   columns =
-    key ∷ reference (codes "city") 0
-    ∷ plain (codes "where") (Lookup (codes "city") (codes "name"))
-    ∷ plain (codes "again") (Template (Cited (codes "city") ∷ Cited (codes "city") ∷ []))
-    ∷ [];
+      key ∷ reference (codes "city") 0
+      ∷ plain (codes "where") (Lookup (codes "city") (codes "name"))
+      ∷ plain (codes "again") (Template (Cited (codes "city") ∷ Cited (codes "city") ∷ []))
+      ∷ [];
 }
 
 abbrev pub places : Schema

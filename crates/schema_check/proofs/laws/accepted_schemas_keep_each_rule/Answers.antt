@@ -7,6 +7,6 @@ use Rattle.schema_check.proofs.laws.accepted_schemas_keep_each_rule.Goals as goa
 pub returns : goal.returns
 unfolding first_broken
 returns c = λ schema. (
-    (λ accepted k d h. keeps_from_none _ schema (found_at_none (λ earlier rule. first_break rule schema) schema_rules accepted k d h)),
-    (λ keeps. none_found (λ earlier rule. first_break rule schema) schema_rules (λ k d h. none_from_keeps (get_or schema_rules k d) schema (keeps k d h)))
-  )
+  (λ accepted k d h. keeps_from_none _ schema (found_at_none (λ earlier rule. first_break rule schema) schema_rules accepted k d h)),
+  (λ keeps. none_found (λ earlier rule. first_break rule schema) schema_rules (λ k d h. none_from_keeps (get_or schema_rules k d) schema (keeps k d h))),
+)

@@ -8,14 +8,14 @@ pub index-requires : goal.index-requires
 index-requires c =
     let inside = c.self.inside in
     let within : c.args.table < length inside.schema.tables =
-        subst (λ (s : Schema). c.args.table < length s.tables) (sym c.self.view_is) c.requires in
+    subst (λ (s : Schema). c.args.table < length s.tables) (sym c.self.view_is) c.requires in
     omega (arith, within, length-facts_of inside.schema inside.facts.items c.self.invariant.facts, inside.facts.ok.0)
 
 pub returns : goal.returns
 returns c =
     let inside = c.self.inside in
     let within : c.args.table < length inside.schema.tables =
-        subst (λ (s : Schema). c.args.table < length s.tables) (sym c.self.view_is) c.requires in
+    subst (λ (s : Schema). c.args.table < length s.tables) (sym c.self.view_is) c.requires in
     c.index.ensures
     ∙ get_or-facts_of inside.schema inside.facts.items c.self.invariant.facts c.args.table _ within
     ∙ ap (λ (s : Schema). facts_at s c.args.table) c.self.view_is
