@@ -2,3 +2,6 @@ pub mod FirstFound
 pub mod Tests
 pub mod Kept
 pub mod Accepted
+pub mod InLimits
+pub mod BuiltLemmas
+pub mod PlannedLemmas

@@ -1,5 +1,5 @@
 -- What a row costs: how many permutations are asked at most to report it, and one more.
-use Rattle.std.specs.Prelude.{ℕ, ◌+◌, if◌then◌else◌, List, [], ◌∷◌, sum, sum_by, Option, Some, None, is_some, slice_get, slice_index, slice_index_or, unwrap_or}
+use Rattle.std.specs.Prelude.{ℕ, ◌+◌, Bool, if◌then◌else◌, List, [], ◌∷◌, sum, sum_by, Option, Some, None, is_some, slice_get, slice_index, slice_index_or, unwrap_or}
 use Rattle.std.specs.List.{position}
 use Rattle.std.specs.Option.{option_map, option_map_or, option_and_then}
 use Rattle.schema_model.specs.declared.table.Schema.{Schema}
@@ -12,6 +12,10 @@ use Rattle.schema_model.specs.declared.column.Part.TheVariants.{Literal, Cited}
 use Rattle.schema_check.specs.InTurn.{in_turn, given_by, columns_in_turn, column_place}
 use Rattle.schema_check.specs.Parents.{parent_column_value}
 
+-- 1 where a test is true, else 0
+abbrev pub one_if : Bool → ℕ
+one_if test = if test then 1 else 0
+
 -- the death of a reference's parent, and the permutation that places the child
 abbrev pub death_cost_by : Schema → List ℕ → Kind → ℕ
 death_cost_by schema given (Ref table window spread) = 1 + unwrap_or (given_by schema given table) 0
@@ -22,7 +26,7 @@ abbrev pub death_costs : Schema → List ℕ
 death_costs schema =
     in_turn
     (λ given table.
-    (if is_some table.life then 1 else 0)
+    one_if (is_some table.life)
     + sum_by (λ column. death_cost_by schema given column.kind) table.columns)
     [] schema.tables
 
@@ -33,7 +37,7 @@ part_cost table given (Cited name) = option_map_or (slice_index given) (column_p
 
 -- F: the permutations that a field takes, by its column's kind
 abbrev pub field_cost : Schema → List (List ℕ) → Table → List ℕ → Kind → ℕ
-field_cost schema tables table given (Key base scramble) = if scramble then 1 else 0
+field_cost schema tables table given (Key base scramble) = one_if scramble
 field_cost schema tables table given (Ref parent window spread) =
     1 + option_map_or (λ columns. slice_index columns 0) (given_by schema tables parent) 0
 field_cost schema tables table given (Lookup via column) =
@@ -48,7 +52,7 @@ field_costs schema =
 -- one more where the table has updates
 abbrev pub update_cost : Schema → ℕ → ℕ
 update_cost schema place =
-    option_map_or (λ table. if is_some table.update then 1 else 0) (slice_get schema.tables place) 0
+    option_map_or (λ table. one_if (is_some table.update)) (slice_get schema.tables place) 0
 
 -- the cost of a row of the table at a place
 unfoldable pub cost : Schema → ℕ → ℕ

@@ -13,3 +13,4 @@ pub mod Sizes
 pub mod Faults
 pub mod Built
 pub mod Planned
+pub mod Worked

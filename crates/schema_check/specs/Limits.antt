@@ -2,6 +2,7 @@
 use Rattle.std.specs.Prelude.{◌≡◌, ◌≢◌, ℕ, ℤ, pos, ◌^◌, ◌≤◌, Bool, true, false, List, [], ◌∷◌, length, All, AllPairs}
 use Rattle.schema_model.specs.declared.table.Schema.{Schema}
 use Rattle.schema_model.specs.declared.table.Table.{Table}
+use Rattle.schema_model.specs.declared.table.Delimiter.TheVariants.{Tab}
 use Rattle.schema_model.specs.declared.column.Column.{Column}
 use Rattle.schema_model.specs.declared.column.Kind.{Kind}
 use Rattle.schema_model.specs.declared.column.Kind.TheVariants.{Key, Born}
@@ -41,5 +42,6 @@ pub record IsInLimits (schema : Schema) : Type 0 where
   pub unit_limit : count schema.units ≤ 10000
   pub some_table : 1 ≤ length schema.tables
   pub table_limit : length schema.tables ≤ 64
+  pub delimiter : schema.delimiter ≡ Tab
   pub tables : All (IsTableInLimits schema.units) schema.tables
   pub tables_apart : AllPairs (λ one other. one.name ≢ other.name) schema.tables

@@ -45,12 +45,12 @@ rule_on_columns number holds = record {
 pub record Keeps (rule : Rule) (schema : Schema) : Type 0 where
   pub whole : rule.holds_for_schema schema ≡ true
   pub tables : (i : ℕ) (d : Table) → i < length schema.tables →
-    rule.holds_for_table schema (take i schema.tables) (slice_index_or schema.tables i d) ≡ true
+      rule.holds_for_table schema (take i schema.tables) (slice_index_or schema.tables i d) ≡ true
   pub columns : (i : ℕ) (d : Table) → i < length schema.tables →
-    (j : ℕ) (e : Column) → j < length (slice_index_or schema.tables i d).columns →
-    rule.holds_for_column schema (take i schema.tables) (slice_index_or schema.tables i d)
-    (take j (slice_index_or schema.tables i d).columns) (slice_index_or (slice_index_or schema.tables i d).columns j e)
-    ≡ true
+      (j : ℕ) (e : Column) → j < length (slice_index_or schema.tables i d).columns →
+      rule.holds_for_column schema (take i schema.tables) (slice_index_or schema.tables i d)
+      (take j (slice_index_or schema.tables i d).columns) (slice_index_or (slice_index_or schema.tables i d).columns j e)
+      ≡ true
 
 -- what is found first in a list, item by item, each seen with the items before it
 abbrev pub first_found : {A B : Type 0} → (List A → A → Option B) → List A → List A → Option B

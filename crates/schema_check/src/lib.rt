@@ -8,6 +8,7 @@
 mod broken;
 mod checker;
 mod facts;
+pub mod laws;
 mod names;
 mod not_built;
 mod plan;
