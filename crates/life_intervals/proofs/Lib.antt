@@ -1,0 +1,4 @@
+pub mod Ranges
+pub mod ListLemmas
+pub mod CohortLemmas
+pub mod SimulationLemmas

@@ -1,0 +1,49 @@
+-- The lines of one cohort, and what the code keeps of them.
+use Rattle.std.specs.Prelude.{◌≡◌, ◌<◌, ◌≤◌, ℕ, List, ⊤, length}
+use Rattle.schema_model.specs.declared.column.Kind.{Kind}
+use Rattle.schema_model.specs.declared.column.Kind.TheVariants.{Key, Born}
+use Rattle.schema_model.specs.declared.table.Table.{Table}
+use Rattle.schema_check.specs.Costs.{one_if}
+use Rattle.schema_check.specs.Counts.{count}
+use Rattle.schema_check.specs.Limits.{IsTableInLimits}
+use Rattle.life_intervals.specs.Cohorts.{cohort_size}
+use Rattle.life_intervals.specs.CohortKeys.{CohortOf}
+use Rattle.life_intervals.specs.Keys.{key_base, is_scrambled}
+use Rattle.life_intervals.specs.Rows.{new_row}
+use Rattle.life_intervals.specs.Rules.{TableRules}
+use Rattle.life_intervals.specs.SchemaRules.{rules_of, schema_rules, table_rules}
+use Rattle.row_lines.specs.Lines.{line}
+
+-- the rules of the cohort's table
+abbrev pub table_of : CohortOf → TableRules
+table_of cohort = rules_of cohort.schema cohort.table
+
+-- the line of the row with an index in the cohort
+abbrev pub line_in_cohort : CohortOf → ℕ → List ℕ
+line_in_cohort cohort index =
+    line (schema_rules cohort.schema) cohort.table (table_of cohort) (new_row (table_of cohort) cohort.unit index)
+
+-- the table, the delimiter and the unit of the cohort are known
+pub record AreLinesOf (cohort : CohortOf) (table : Table) (byte birth : ℕ) : Type 0 where
+  pub rules : table_rules table ≡ table_of cohort
+  pub limits : IsTableInLimits cohort.schema.units table
+  pub place : cohort.table < length cohort.schema.tables
+  pub delimiter : byte ≡ (schema_rules cohort.schema).delimiter
+  pub unit : birth ≡ cohort.unit
+  pub unit_limit : birth ≤ 10000
+
+-- a column of this kind is the table's key, or a birth unit
+abbrev pub IsKindOf : TableRules → Kind → Type 0
+IsKindOf table (Key base scramble) = (count base ≡ key_base table) × (scramble ≡ is_scrambled table)
+IsKindOf table Born = ⊤
+IsKindOf table _ = ⊥
+
+-- the most bytes of a field of this kind
+abbrev pub field_room : Kind → ℕ
+field_room Born = 5
+field_room _ = 20
+
+-- the permutations that a field of this kind takes
+abbrev pub field_steps : Kind → ℕ
+field_steps (Key base scramble) = one_if scramble
+field_steps _ = 0
