@@ -91,6 +91,20 @@ LiesIn-later table last ordinal born later =
 pub LiesIn-early : (table : TableRules) (last ordinal : ℕ) → ordinal < table.rows → LiesIn table last ordinal 0
 LiesIn-early table last ordinal early = record { index = ordinal; in_units = omega arith; in_cohort = early; is = omega arith }
 
+-- the same of a table whose numbers are known by other names
+pub LiesIn-found : (table : TableRules) (last ordinal rows insert : ℕ) → rows ≡ table.rows → insert ≡ table.insert → ordinal < born_count table last → rows ≤ ordinal →
+    LiesIn table last ordinal ((ordinal - rows) / insert + 1)
+LiesIn-found table last ordinal rows insert rows_is insert_is born later =
+    let at : (ordinal - rows) / insert + 1 ≡ (ordinal - table.rows) / table.insert + 1 =
+        ap (λ (r : ℕ). (ordinal - r) / insert + 1) rows_is ∙ ap (λ (i : ℕ). (ordinal - table.rows) / i + 1) insert_is in
+    subst (LiesIn table last ordinal) (sym at) (LiesIn-later table last ordinal born (omega (arith, rows_is)))
+
+pub birth-found : (table : TableRules) (ordinal rows insert : ℕ) → rows ≡ table.rows → insert ≡ table.insert → rows ≤ ordinal →
+    (ordinal - rows) / insert + 1 ≡ birth table ordinal
+birth-found table ordinal rows insert rows_is insert_is later =
+    ap (λ (r : ℕ). (ordinal - r) / insert + 1) rows_is ∙ ap (λ (i : ℕ). (ordinal - table.rows) / i + 1) insert_is
+    ∙ sym (birth-later table ordinal (omega (arith, rows_is)))
+
 -- each ordinal that is born lies in the cohort of its birth
 pub LiesIn-birth : (table : TableRules) (last ordinal : ℕ) → ordinal < born_count table last → LiesIn table last ordinal (birth table ordinal)
 LiesIn-birth table last ordinal born =

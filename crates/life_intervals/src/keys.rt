@@ -6,7 +6,7 @@ ghost use Rattle.philox_seeds.specs.SeedTree as seeds;
 ghost use Rattle.schema_check.specs.Counts.{count};
 ghost use Rattle.schema_check.specs.Costs.{one_if};
 ghost use Rattle.life_intervals.specs.Cohorts.{cohort_size};
-ghost use Rattle.life_intervals.specs.Keys.{is_scrambled, key_base, key_in_cohort, key_of};
+ghost use Rattle.life_intervals.specs.Keys.{is_scrambled, key_base, key_in_cohort, key_of, place_in_cohort};
 ghost use Rattle.life_intervals.specs.SchemaRules.{rows_in_all, rules_of, schema_rules};
 
 use crate::births::{birth, born, cohort};
@@ -76,6 +76,20 @@ impl<'a> CohortKeys<'a> {
         };
         self.base + self.cohort.first + place
     }
+
+    /// The index of the row whose key has this place among the cohort's. It takes at most one step, and none where the
+    /// keys aren't scrambled.
+    fn index_of<L: Ledger>(&self, place: u64, steps: &mut Steps<L>) -> u64
+        requires { place < cohort_size (rules_of self.now.schema self.now.table) self.now.unit }
+        ensures below { result < cohort_size (rules_of self.now.schema self.now.table) self.now.unit }
+        ensures has_it { place_in_cohort (schema_rules self.now.schema) self.now.table self.now.unit result ≡ place }
+        ensures steps { steps.new ≤ steps.old + one_if (is_scrambled (rules_of self.now.schema self.now.table)) }
+    {
+        match &self.order {
+            Some(order) => order.unplace(place, steps),
+            None => place,
+        }
+    }
 }
 
 /// The order of the keys of a cohort.
@@ -115,17 +129,12 @@ pub fn row_of_key<L: Ledger>(plan: &Plan, table: u32, key: u64, steps: &mut Step
     ensures none { IsNone result ↔ ((j : ℕ) → j < rows_in_all plan.now table → key_of (schema_rules plan.now) table j ≢ key) }
     ensures steps { steps.new ≤ steps.old + one_if (is_scrambled (rules_of plan.now table)) }
 {
-    let KeyRule { base, scramble } = key_rule(table_of(plan, table));
+    let base = key_rule(table_of(plan, table)).base;
     if key < base || key - base >= born(plan, table, plan.units()) {
         return None;
     }
     let unit = birth(plan, table, key - base);
-    let Cohort { first, size } = cohort(plan, table, unit);
+    let first = cohort(plan, table, unit).first;
     let place = key - base - first;
-    let index = if scramble {
-        key_order(plan, table, unit, size).unplace(place, steps)
-    } else {
-        place
-    };
-    Some(first + index)
+    Some(first + CohortKeys::new(plan, table, unit).index_of(place, steps))
 }
