@@ -1,10 +1,10 @@
 -- The text of a table: a line for each row, in COPY text form (PostgreSQL's manual, "COPY").
-use Rattle.std.specs.Prelude.{ℕ, List, [], ◌∷◌, ◌++◌, map, flat_map, Option, Some, None, codes, decimal}
+use Rattle.std.specs.Prelude.{ℕ, List, ◌++◌, map, flat_map, Option, Some, None, codes, decimal}
 use Rattle.std.specs.List.{join_with_byte, range_with_len}
 use Rattle.life_intervals.specs.Rules.{TableRules, Rules, ColumnRule, key_column, born_column, table_at}
 use Rattle.life_intervals.specs.Cohorts.{cohort_size}
 use Rattle.life_intervals.specs.Intervals.{row_of}
-use Rattle.life_intervals.specs.Keys.{key_number}
+use Rattle.life_intervals.specs.Keys.{key_number, key_of}
 use Rattle.life_intervals.specs.Rows.{Row, new_row, index_in_cohort}
 use Rattle.life_intervals.specs.Simulation.{rows_at}
 
@@ -26,22 +26,13 @@ line rules place table row =
     (map (λ column. field_text (field rules place table row column)) table.columns)
     ++ codes "\n"
 
--- the text of the first of some fields
-abbrev pub first_text : Rules → ℕ → TableRules → Row → List ColumnRule → List ℕ
-first_text rules place table row [] = []
-first_text rules place table row (column ∷ columns) = field_text (field rules place table row column)
-
--- the key line of a row: the text of its first field, the key, then a line feed
-unfoldable pub key_line : Rules → ℕ → TableRules → Row → List ℕ
-key_line rules place table row = first_text rules place table row table.columns ++ codes "\n"
-
 -- the line of the row with an ordinal in the table at a place of the schema
 abbrev pub line_of : Rules → ℕ → ℕ → List ℕ
 line_of rules place ordinal = line rules place (table_at rules place) (row_of (table_at rules place) ordinal)
 
--- the key line of that row
+-- the key line of that row: its key, then a line feed
 abbrev pub key_line_of : Rules → ℕ → ℕ → List ℕ
-key_line_of rules place ordinal = key_line rules place (table_at rules place) (row_of (table_at rules place) ordinal)
+key_line_of rules place ordinal = decimal (key_of rules place ordinal) ++ codes "\n"
 
 -- the text of the table at a place of the schema, at a unit: the lines of its rows, in order
 unfoldable pub table_text : Rules → ℕ → ℕ → List ℕ
