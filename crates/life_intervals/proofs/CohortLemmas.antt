@@ -123,3 +123,8 @@ first_ordinal-within table (suc unit) last within =
     let first : first_ordinal table (suc unit) ≡ table.rows + unit * table.insert = first_ordinal-suc table unit in
     let units : suc unit * table.insert ≤ last * table.insert = mul-le (suc unit) table.insert last table.insert within (omega arith) in
     omega (arith, all, first, units)
+
+-- more rows are born by a later unit
+pub born_count-le : (table : TableRules) (unit last : ℕ) → unit ≤ last → born_count table unit ≤ born_count table last
+born_count-le table unit last within =
+    omega (arith, first_ordinal-within table unit last within, first_ordinal-next table unit)

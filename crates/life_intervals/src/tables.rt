@@ -1,6 +1,6 @@
 //! The tables of a plan.
 
-ghost use Rattle.std.specs.Prelude.{◌≡◌, ◌<◌, ◌≤◌, ◌+◌, ◌*◌, ◌^◌, length};
+ghost use Rattle.std.specs.Prelude.{◌≡◌, ◌<◌, ◌≤◌, ◌+◌, ◌*◌, ◌^◌, Some, length, slice_get};
 ghost use Rattle.schema_check.specs.Counts.{count};
 ghost use Rattle.schema_check.specs.Limits.{IsKeyThenBorn, IsTableInLimits};
 ghost use Rattle.life_intervals.specs.Keys.{key_base, is_scrambled};
@@ -12,6 +12,7 @@ use schema_model::{Kind, Table};
 /// The table at a place of a plan's schema, counted from 0.
 pub fn table_of(plan: &Plan, table: u32) -> &Table
     requires { table < length plan.now.tables }
+    ensures found { slice_get plan.now.tables table ≡ Some result.now }
     ensures rules { table_rules result.now ≡ rules_of plan.now table }
     ensures limits { IsTableInLimits plan.now.units result.now }
 {

@@ -1,5 +1,5 @@
 -- The lines of one cohort, and what the code keeps of them.
-use Rattle.std.specs.Prelude.{◌≡◌, ◌<◌, ◌≤◌, ℕ, List, ⊤, length}
+use Rattle.std.specs.Prelude.{◌≡◌, ◌<◌, ◌≤◌, ℕ, List, ⊤, Some, slice_get}
 use Rattle.schema_model.specs.declared.column.Kind.{Kind}
 use Rattle.schema_model.specs.declared.column.Kind.TheVariants.{Key, Born}
 use Rattle.schema_model.specs.declared.table.Table.{Table}
@@ -11,8 +11,8 @@ use Rattle.life_intervals.specs.CohortKeys.{CohortOf}
 use Rattle.life_intervals.specs.Keys.{key_base, is_scrambled}
 use Rattle.life_intervals.specs.Rows.{new_row}
 use Rattle.life_intervals.specs.Rules.{TableRules}
-use Rattle.life_intervals.specs.SchemaRules.{rules_of, schema_rules, table_rules}
-use Rattle.row_lines.specs.Lines.{line}
+use Rattle.life_intervals.specs.SchemaRules.{column_rule, rules_of, schema_rules, table_rules}
+use Rattle.row_lines.specs.Lines.{field, field_text, line}
 
 -- the rules of the cohort's table
 abbrev pub table_of : CohortOf → TableRules
@@ -23,11 +23,16 @@ abbrev pub line_in_cohort : CohortOf → ℕ → List ℕ
 line_in_cohort cohort index =
     line (schema_rules cohort.schema) cohort.table (table_of cohort) (new_row (table_of cohort) cohort.unit index)
 
+-- what the row with an index in the cohort holds in a column of this kind, as it is written
+abbrev pub text_in_cohort : CohortOf → ℕ → Kind → List ℕ
+text_in_cohort cohort index kind =
+    field_text (field (schema_rules cohort.schema) cohort.table (table_of cohort) (new_row (table_of cohort) cohort.unit index) (column_rule kind))
+
 -- the table, the delimiter and the unit of the cohort are known
 pub record AreLinesOf (cohort : CohortOf) (table : Table) (byte birth : ℕ) : Type 0 where
+  pub found : slice_get cohort.schema.tables cohort.table ≡ Some table
   pub rules : table_rules table ≡ table_of cohort
   pub limits : IsTableInLimits cohort.schema.units table
-  pub place : cohort.table < length cohort.schema.tables
   pub delimiter : byte ≡ (schema_rules cohort.schema).delimiter
   pub unit : birth ≡ cohort.unit
   pub unit_limit : birth ≤ 10000

@@ -4,11 +4,9 @@ ghost use Rattle.std.specs.Prelude.{◌≡◌, ◌<◌, ◌≤◌, ◌+◌, ◌+
 ghost use Rattle.schema_check.specs.Counts.{count};
 ghost use Rattle.schema_check.specs.Sizes.{max_line};
 ghost use Rattle.life_intervals.specs.Cohorts.{cohort_size};
-ghost use Rattle.life_intervals.specs.Rows.{new_row};
-ghost use Rattle.life_intervals.specs.SchemaRules.{column_rule, schema_rules, delimiter_byte as byte_of};
-ghost use Rattle.row_lines.specs.CohortLines.{IsKindOf, field_room, field_steps, line_in_cohort, table_of};
+ghost use Rattle.life_intervals.specs.SchemaRules.{delimiter_byte as byte_of};
+ghost use Rattle.row_lines.specs.CohortLines.{IsKindOf, field_room, field_steps, line_in_cohort, table_of, text_in_cohort};
 ghost use Rattle.row_lines.specs.LineSteps.{line_steps};
-ghost use Rattle.row_lines.specs.Lines.{field, field_text};
 
 use crate::fields::{put_delimiter, put_number};
 use life_intervals::{CohortKeys, table_of};
@@ -63,7 +61,8 @@ impl<'a> CohortLines<'a> {
         ensures size { length (line_in_cohort self.now index) ≤ max_line self.now.schema self.now.table }
         ensures steps { steps.new ≤ steps.old + line_steps self.now.schema self.now.table }
     {
-        for (number, column) in self.table.columns.as_slice().iter().enumerate() {
+        let columns = self.table.columns.as_slice();
+        for (number, column) in columns.iter().enumerate() {
             put_delimiter(buf, self.delimiter, number);
             self.put_field(&column.kind, index, buf, steps);
         }
@@ -75,8 +74,7 @@ impl<'a> CohortLines<'a> {
         requires kind { IsKindOf (table_of self.now) kind.now }
         requires row { index < cohort_size (table_of self.now) self.now.unit }
         requires room { length buf.old.text + field_room kind.now ≤ buf.old.room }
-        ensures text { buf.new ≡ record buf.old { text = buf.old.text ++ field_text
-            (field (schema_rules self.now.schema) self.now.table (table_of self.now) (new_row (table_of self.now) self.now.unit index) (column_rule kind.now)) } }
+        ensures text { buf.new ≡ record buf.old { text = buf.old.text ++ text_in_cohort self.now index kind.now } }
         ensures size { length buf.new.text ≤ length buf.old.text + field_room kind.now }
         ensures steps { steps.new ≤ steps.old + field_steps kind.now }
     {
