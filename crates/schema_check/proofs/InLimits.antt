@@ -16,7 +16,7 @@ use Rattle.schema_check.specs.Names.{same_text, is_name}
 use Rattle.schema_check.specs.Rules.{IsAccepted, is_between, is_one_to_64, is_key, is_key_in_range, column_keeps_v5, row_count}
 use Rattle.schema_check.specs.Unbuilt.{is_unbuilt, is_unbuilt_table, is_unbuilt_column, is_unbuilt_kind, is_bar}
 use Rattle.schema_check.specs.Limits.{IsCount, IsKeyThenBorn, IsTableInLimits, IsInLimits}
-use Rattle.schema_check.proofs.Tests.{count_from_test, limit_from_test, count_from_between, fails_each, apart_from_test}
+use Rattle.schema_check.proofs.FromTests.{count_from_test, limit_from_test, count_from_between, fails_each, apart_from_test}
 use Rattle.schema_check.proofs.Accepted.{KeepsAll, keeps_all}
 
 -- items whose names no earlier item has are apart

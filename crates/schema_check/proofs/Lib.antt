@@ -1,5 +1,5 @@
 pub mod FirstFound
-pub mod Tests
+pub mod FromTests
 pub mod Kept
 pub mod Accepted
 pub mod InLimits
