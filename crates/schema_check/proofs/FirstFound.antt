@@ -17,6 +17,3 @@ first_found_here look xs i x b h at found =
 pub first_found_later : {A B : Type 0} (look : List A → A → Option B) (xs : List A) (i : ℕ) (x : A) → i < length xs → x ≡ get_or xs i x → look (take i xs) x ≡ None → first_found look (take i xs) (drop i xs) ≡ first_found look (take (i + 1) xs) (drop (i + 1) xs)
 first_found_later look xs i x h at none =
     first_found-step look xs i x h ∙ ap (λ o. option_or o (first_found look (take (i + 1) xs) (drop (i + 1) xs))) (ap (look (take i xs)) (sym at) ∙ none)
-
-pub first_found_nowhere : {A B : Type 0} (look : List A → A → Option B) (xs : List A) (i : ℕ) → length xs ≤ i → first_found look (take i xs) (drop i xs) ≡ None
-first_found_nowhere look xs i h = ap (first_found look (take i xs)) (drop_all i xs h)

@@ -4,6 +4,7 @@ use Rattle.std.specs.List.{list_any, All, AllPairs}
 use Rattle.std.specs.Ordering.{int_eq}
 use Rattle.std.proofs.lemmas.Bool.{and_parts, or_parts, leb-true, not-true}
 use Rattle.std.proofs.lemmas.List.{get_or-take, length-take-le}
+use Rattle.std.proofs.lemmas.Option.{slice_get-get_or}
 use Rattle.schema_model.specs.declared.table.Schema.{Schema}
 use Rattle.schema_model.specs.declared.table.Table.{Table}
 use Rattle.schema_model.specs.declared.table.Delimiter.{Delimiter}
@@ -67,9 +68,10 @@ tab Bar h = cc
 table_in_limits : (schema : Schema) → KeepsAll schema → list_any is_unbuilt_table schema.tables ≡ false → (i : ℕ) (d : Table) → i < length schema.tables → IsTableInLimits schema.units (get_or schema.tables i d)
 table_in_limits schema keeps built i d h =
     let t = get_or schema.tables i d in
-    let v3 = and_parts (is_name t.name) (not (list_any (λ other. same_text other.name t.name) (take i schema.tables))) (keeps.v3.tables i d h) in
-    let v4 = and_parts (nat_le 1 (length t.columns)) (nat_le (length t.columns) 64) (keeps.v4.tables i d h) in
-    let v6 = and_parts (int_le (pos 0) t.rows && int_le (pos 0) t.insert) (nat_le (row_count schema.units t) (2 ^ 40)) (keeps.v6.tables i d h) in
+    let at = slice_get-get_or schema.tables i d h in
+    let v3 = and_parts (is_name t.name) (not (list_any (λ other. same_text other.name t.name) (take i schema.tables))) (keeps.v3 (suc i) 0 t at) in
+    let v4 = and_parts (nat_le 1 (length t.columns)) (nat_le (length t.columns) 64) (keeps.v4 (suc i) 0 t at) in
+    let v6 = and_parts (int_le (pos 0) t.rows && int_le (pos 0) t.insert) (nat_le (row_count schema.units t) (2 ^ 40)) (keeps.v6 (suc i) 0 t at) in
     let counts = and_parts (int_le (pos 0) t.rows) (int_le (pos 0) t.insert) v6.0 in
     let columns = or_parts (is_some t.life || is_some t.update) (list_any is_unbuilt_column t.columns) (fails_each is_unbuilt_table schema.tables i d h built) in
     record {
@@ -80,22 +82,22 @@ table_in_limits schema keeps built i d h =
       column_limit = leb-true (length t.columns) 64 v4.1;
       column_names = λ j e lt. (column_name schema keeps i d h j e lt).0;
       columns_apart = λ j k e lt below. names_apart (λ c. c.name) t.columns (λ j e lt. (column_name schema keeps i d h j e lt).1) e j k lt below;
-      kinds = key_then_born t.columns (leb-true 1 (length t.columns) v4.0) columns.1 (λ j e lt. keeps.v5.columns i d h j e lt);
+      kinds = key_then_born t.columns (leb-true 1 (length t.columns) v4.0) columns.1 (λ j e lt. keeps.v5 (suc i) (suc j) t (get_or t.columns j e) at (slice_get-get_or t.columns j e lt));
     }
   where
     column_name : (schema : Schema) → KeepsAll schema → (i : ℕ) (d : Table) → i < length schema.tables → (j : ℕ) (e : Column) → j < length (get_or schema.tables i d).columns → (is_name (get_or (get_or schema.tables i d).columns j e).name ≡ true) × (list_any (λ other. same_text other.name (get_or (get_or schema.tables i d).columns j e).name) (take j (get_or schema.tables i d).columns) ≡ false)
     column_name schema keeps i d h j e lt =
         let columns = (get_or schema.tables i d).columns in
-        let parts = and_parts (is_name (get_or columns j e).name) (not (list_any (λ other. same_text other.name (get_or columns j e).name) (take j columns))) (keeps.v4.columns i d h j e lt) in
+        let parts = and_parts (is_name (get_or columns j e).name) (not (list_any (λ other. same_text other.name (get_or columns j e).name) (take j columns))) (keeps.v4 (suc i) (suc j) (get_or schema.tables i d) (get_or columns j e) (slice_get-get_or schema.tables i d h) (slice_get-get_or columns j e lt)) in
         (parts.0, not-true _ parts.1)
 
 pub in_limits : (schema : Schema) → IsAccepted schema → is_unbuilt schema ≡ false → IsInLimits schema
 in_limits schema accepted built =
     let keeps = keeps_all schema accepted in
     let parts = or_parts (is_bar schema.delimiter) (list_any is_unbuilt_table schema.tables) built in
-    let v1 = and_parts (int_le (pos 0) schema.seed) (is_between 0 10000 schema.units) keeps.v1.whole in
+    let v1 = and_parts (int_le (pos 0) schema.seed) (is_between 0 10000 schema.units) (keeps.v1 0 0) in
     let units = count_from_between 0 10000 schema.units v1.1 in
-    let v2 = and_parts (nat_le 1 (length schema.tables)) (nat_le (length schema.tables) 64) keeps.v2.whole in
+    let v2 = and_parts (nat_le 1 (length schema.tables)) (nat_le (length schema.tables) 64) (keeps.v2 0 0) in
     record {
       seed = count_from_test schema.seed v1.0;
       units = units.0 refl;
@@ -104,7 +106,7 @@ in_limits schema accepted built =
       table_limit = leb-true (length schema.tables) 64 v2.1;
       delimiter = tab schema.delimiter parts.0;
       tables = λ i d h. table_in_limits schema keeps parts.1 i d h;
-      tables_apart = λ i j d h lt. names_apart (λ t. t.name) schema.tables (λ k e below. not-true _ ((and_parts (is_name (get_or schema.tables k e).name) (not (list_any (λ other. same_text other.name (get_or schema.tables k e).name) (take k schema.tables))) (keeps.v3.tables k e below)).1)) d i j h lt;
+      tables_apart = λ i j d h lt. names_apart (λ t. t.name) schema.tables (λ k e below. not-true _ ((and_parts (is_name (get_or schema.tables k e).name) (not (list_any (λ other. same_text other.name (get_or schema.tables k e).name) (take k schema.tables))) (keeps.v3 (suc k) 0 (get_or schema.tables k e) (slice_get-get_or schema.tables k e below))).1)) d i j h lt;
     }
 
 -- each table has at most 64 columns

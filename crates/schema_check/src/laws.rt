@@ -1,7 +1,6 @@
 //! Laws of the definitions that the contracts cite, each the contract of a function without a body.
 
 ghost use Rattle.std.specs.Prelude.{◌≡◌, ℕ, ◌<◌, ◌↔◌, ◌∷◌, [], Some, None, slice_get};
-ghost use Rattle.std.specs.List.{All};
 ghost use Rattle.schema_model.specs.declared.table.Schema.{Schema};
 ghost use Rattle.schema_check.specs.declared.broken.Broken.{Broken};
 ghost use Rattle.schema_check.specs.Rule.{Rule, Keeps, first_break};
@@ -13,7 +12,8 @@ ghost use Rattle.schema_check.specs.Worked.{sales, places};
 
 /// A schema is accepted exactly where it keeps each rule.
 pub fn accepted_schemas_keep_each_rule()
-    ensures { (schema : Schema) → IsAccepted schema ↔ All (λ rule. Keeps rule schema) schema_rules }
+    ensures { (schema : Schema) → IsAccepted schema
+        ↔ ((i : ℕ) (rule : Rule) → slice_get schema_rules i ≡ Some rule → Keeps rule schema) }
 {}
 
 /// The first broken rule is one of the rules, and each rule before it is kept.
