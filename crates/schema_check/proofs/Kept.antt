@@ -9,7 +9,7 @@ use Rattle.schema_model.specs.declared.column.Column.{Column}
 use Rattle.schema_check.specs.declared.broken.Broken.{Broken}
 use Rattle.schema_check.specs.Rule.{Rule, HoldsAt, Keeps, IsBefore, IsFirstBreak, first_found, broken_unless, break_at_column, break_in_table, first_break}
 
-one_of_some : {A : Type 0} (a b : A) → Some a ≡ Some b → a ≡ b
+pub one_of_some : {A : Type 0} (a b : A) → Some a ≡ Some b → a ≡ b
 one_of_some a b h = cc
 
 -- where nothing is found first or second, nothing is found at either
@@ -20,7 +20,7 @@ option_or-None (Some x) b h = cc
 both_none : {A : Type 0} (a b : Option A) → a ≡ None → b ≡ None → option_or a b ≡ None
 both_none a b p q = ap (λ o. option_or o b) p ∙ q
 
-holds_from_none : (holds : Bool) (rule : Rule) (table column : ℕ) → broken_unless holds rule table column ≡ None → holds ≡ true
+pub holds_from_none : (holds : Bool) (rule : Rule) (table column : ℕ) → broken_unless holds rule table column ≡ None → holds ≡ true
 holds_from_none true rule table column h = refl
 holds_from_none false rule table column h = cc
 
@@ -76,7 +76,7 @@ found_at look before (x ∷ xs) b h =
     found_step look before xs x b (first_found look (before ++ x ∷ []) xs) (look before x) refl h (λ rest. found_at look (before ++ x ∷ []) xs b rest)
 
 -- a table that doesn't break a rule keeps it, itself and its columns
-table_holds : (rule : Rule) (schema : Schema) (i : ℕ) → ((t : Table) → slice_get schema.tables i ≡ Some t → break_in_table rule schema (take i schema.tables) t ≡ None) → (column : ℕ) → HoldsAt rule schema (suc i) column
+pub table_holds : (rule : Rule) (schema : Schema) (i : ℕ) → ((t : Table) → slice_get schema.tables i ≡ Some t → break_in_table rule schema (take i schema.tables) t ≡ None) → (column : ℕ) → HoldsAt rule schema (suc i) column
 table_holds rule schema i none zero = λ t at. holds_from_none _ rule _ _ ((option_or-None _ _ (none t at)).0)
 table_holds rule schema i none (suc j) = λ t c at at'.
     holds_from_none _ rule _ _ (none_at (break_at_column rule schema (take i schema.tables) t) t.columns ((option_or-None _ _ (none t at)).1) j c at')

@@ -5,3 +5,4 @@ pub mod Accepted
 pub mod InLimits
 pub mod BuiltLemmas
 pub mod PlannedLemmas
+pub mod FirstBreak

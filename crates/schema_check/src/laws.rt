@@ -3,7 +3,7 @@
 ghost use Rattle.std.specs.Prelude.{◌≡◌, ℕ, ◌<◌, ◌↔◌, ◌∷◌, [], Some, None, slice_get};
 ghost use Rattle.schema_model.specs.declared.table.Schema.{Schema};
 ghost use Rattle.schema_check.specs.declared.broken.Broken.{Broken};
-ghost use Rattle.schema_check.specs.Rule.{Rule, Keeps, first_break};
+ghost use Rattle.schema_check.specs.Rule.{Rule, Keeps, IsFirstBreak};
 ghost use Rattle.schema_check.specs.Rules.{IsAccepted, first_broken, schema_rules};
 ghost use Rattle.schema_check.specs.Lives.{sure_life, longest_life};
 ghost use Rattle.schema_check.specs.Costs.{cost};
@@ -16,10 +16,11 @@ pub fn accepted_schemas_keep_each_rule()
         ↔ ((i : ℕ) (rule : Rule) → slice_get schema_rules i ≡ Some rule → Keeps rule schema) }
 {}
 
-/// The first broken rule is one of the rules, and each rule before it is kept.
-pub fn rules_before_the_first_broken_are_kept()
+/// The first broken rule is one of the rules, it is broken at the place that is told and holds at each place before it,
+/// and each rule before it is kept.
+pub fn first_broken_is_the_first_rule_at_its_first_place()
     ensures { (schema : Schema) (broken : Broken) → first_broken schema ≡ Some broken →
-        (i : ℕ) × (rule : Rule) × (slice_get schema_rules i ≡ Some rule) × (first_break rule schema ≡ Some broken)
+        (i : ℕ) × (rule : Rule) × (slice_get schema_rules i ≡ Some rule) × IsFirstBreak rule schema broken
         × ((k : ℕ) (other : Rule) → k < i → slice_get schema_rules k ≡ Some other → Keeps other schema) }
 {}
 
