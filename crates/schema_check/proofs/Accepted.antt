@@ -1,16 +1,7 @@
 -- An accepted schema of which tables can be made is within its limits.
-use Rattle.std.proofs.Common.{◌≡◌, ◌≢◌, ℕ, ℤ, pos, zero, suc, ◌+◌, ◌<◌, ◌≤◌, ◌^◌, Bool, true, false, not, ◌&&◌, List, [], ◌∷◌, length, get_or, take, slice_get, Option, Some, None, refl, sym, ap, ◌∙◌, arith, int_le, nat_le}
-use Rattle.std.specs.List.{list_any, All, AllPairs}
-use Rattle.std.proofs.lemmas.Bool.{and_parts, or_parts, leb-true, not-true}
+use Rattle.std.proofs.Common.{◌≡◌, ℕ, slice_get, Some, refl}
 use Rattle.schema_model.specs.declared.table.Schema.{Schema}
-use Rattle.schema_model.specs.declared.table.Table.{Table}
-use Rattle.schema_model.specs.declared.column.Column.{Column}
-use Rattle.schema_model.specs.declared.column.Kind.{Kind}
-use Rattle.schema_model.specs.declared.column.Kind.TheVariants.{Key, Born}
-use Rattle.schema_check.specs.declared.broken.Broken.{Broken}
-use Rattle.schema_check.specs.Counts.{count}
-use Rattle.schema_check.specs.Names.{same_text, is_name}
-use Rattle.schema_check.specs.Rule.{Rule, Keeps, first_found, first_break}
+use Rattle.schema_check.specs.Rule.{Rule, Keeps, first_break}
 use Rattle.schema_check.specs.Rules.{rule_v1, rule_v2, rule_v3, rule_v4, rule_v5, rule_v6, schema_rules, first_broken, IsAccepted}
 use Rattle.schema_check.proofs.Kept.{keeps_from_none, none_at}
 

@@ -1,5 +1,5 @@
 -- The place of a broken rule is the first at which it is broken.
-use Rattle.std.proofs.Common.{◌≡◌, ◌⊎◌, inl, inr, ℕ, suc, zero, ◌+◌, ◌<◌, Bool, true, false, List, [], ◌∷◌, ◌++◌, length, take, slice_get, Option, Some, None, refl, sym, ap, ◌∙◌, subst, arith, add-one}
+use Rattle.std.proofs.Common.{◌≡◌, ◌⊎◌, inl, inr, ℕ, suc, zero, ◌+◌, ◌<◌, Bool, true, false, List, [], length, take, slice_get, Option, Some, None, refl, sym, ap, ◌∙◌, subst, arith}
 use Rattle.std.specs.Option.{option_or}
 use Rattle.std.proofs.lemmas.Bool.{both_ways}
 use Rattle.std.proofs.lemmas.List.{length-take-le}
@@ -9,7 +9,7 @@ use Rattle.schema_model.specs.declared.table.Table.{Table}
 use Rattle.schema_model.specs.declared.column.Column.{Column}
 use Rattle.schema_check.specs.declared.broken.Broken.{Broken}
 use Rattle.schema_check.specs.Rule.{Rule, HoldsAt, IsBefore, IsFirstBreak, first_found, broken_unless, break_at_column, break_in_table, first_break}
-use Rattle.schema_check.proofs.Kept.{table_holds, none_at, found_at, holds_from_none, one_of_some}
+use Rattle.schema_check.proofs.Kept.{table_holds, found_at, holds_from_none, one_of_some}
 
 -- a rule broken at a place, with the place as it is counted
 abbrev broken_at : Rule → ℕ → ℕ → Broken
@@ -70,21 +70,21 @@ in_tables rule schema broken whole h =
     let t = found.1 in
     let earlier = λ (k c : ℕ) (lt : k < i). table_holds rule schema k (λ t at. found.4 k t lt at) c in
     elim (found_cases (broken_unless (rule.holds_for_table schema (take i schema.tables) t) rule (length (take i schema.tables) + 1) 0) (first_found (break_at_column rule schema (take i schema.tables) t) [] t.columns) broken found.3) [
-      inl here ↦
-        let out = broken_from_false (rule.holds_for_table schema (take i schema.tables) t) rule (length (take i schema.tables) + 1) 0 broken here in
-        first_break_at rule schema broken (suc i) 0
-        (ap (λ n. broken_at rule n 0) (sym (number_is schema.tables i t found.2)) ∙ out.1)
-        (λ holds. both_ways _ out.0 (holds t found.2))
-        (before_table rule schema i 0 whole earlier (λ c lt. absurd (omega arith)))
-    | inr behind ↦
-        in_columns rule schema broken i t found.2 whole earlier (holds_from_none _ rule _ _ behind.0) behind.1
+      | inl here ↦
+          let out = broken_from_false (rule.holds_for_table schema (take i schema.tables) t) rule (length (take i schema.tables) + 1) 0 broken here in
+          first_break_at rule schema broken (suc i) 0
+          (ap (λ n. broken_at rule n 0) (sym (number_is schema.tables i t found.2)) ∙ out.1)
+          (λ holds. both_ways _ out.0 (holds t found.2))
+          (before_table rule schema i 0 whole earlier (λ c lt. absurd (omega arith)))
+      | inr behind ↦
+          in_columns rule schema broken i t found.2 whole earlier (holds_from_none _ rule _ _ behind.0) behind.1
     ]
 
 pub is_first_break : (rule : Rule) (schema : Schema) (broken : Broken) → first_break rule schema ≡ Some broken → IsFirstBreak rule schema broken
 is_first_break rule schema broken h =
     elim (found_cases (broken_unless (rule.holds_for_schema schema) rule 0 0) (first_found (break_in_table rule schema) [] schema.tables) broken h) [
-      inl here ↦
-        let out = broken_from_false (rule.holds_for_schema schema) rule 0 0 broken here in
-        first_break_at rule schema broken 0 0 out.1 (λ holds. both_ways _ out.0 holds) (λ t c h. elim h [ inl lt ↦ absurd (omega arith) | inr e ↦ absurd (omega (arith, e.1)) ])
-    | inr behind ↦ in_tables rule schema broken (holds_from_none _ rule _ _ behind.0) behind.1
+      | inl here ↦
+          let out = broken_from_false (rule.holds_for_schema schema) rule 0 0 broken here in
+          first_break_at rule schema broken 0 0 out.1 (λ holds. both_ways _ out.0 holds) (λ t c h. elim h [ inl lt ↦ absurd (omega arith) | inr e ↦ absurd (omega (arith, e.1)) ])
+      | inr behind ↦ in_tables rule schema broken (holds_from_none _ rule _ _ behind.0) behind.1
     ]

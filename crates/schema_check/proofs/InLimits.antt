@@ -1,6 +1,6 @@
 -- An accepted schema of which tables can be made is within its limits.
-use Rattle.std.proofs.Common.{◌≡◌, ◌≢◌, ℕ, ℤ, pos, negsuc, zero, suc, ◌+◌, ◌<◌, ◌≤◌, ◌^◌, Bool, true, false, not, ◌&&◌, ◌||◌, List, [], ◌∷◌, length, get_or, take, Option, Some, None, is_some, refl, sym, ap, ◌∙◌, arith, int_le, nat_le, subst}
-use Rattle.std.specs.List.{list_any, All, AllPairs}
+use Rattle.std.proofs.Common.{◌≡◌, ◌≢◌, ℕ, pos, negsuc, suc, ◌<◌, ◌≤◌, ◌^◌, true, false, not, ◌&&◌, ◌||◌, List, [], ◌∷◌, length, get_or, take, is_some, refl, sym, ap, ◌∙◌, arith, int_le, nat_le, subst}
+use Rattle.std.specs.List.{list_any, All}
 use Rattle.std.specs.Ordering.{int_eq}
 use Rattle.std.proofs.lemmas.Bool.{and_parts, or_parts, leb-true, not-true}
 use Rattle.std.proofs.lemmas.List.{get_or-take, length-take-le}
@@ -12,11 +12,10 @@ use Rattle.schema_model.specs.declared.table.Delimiter.TheVariants.{Tab, Bar}
 use Rattle.schema_model.specs.declared.column.Column.{Column}
 use Rattle.schema_model.specs.declared.column.Kind.{Kind}
 use Rattle.schema_model.specs.declared.column.Kind.TheVariants.{Key, Born}
-use Rattle.schema_check.specs.Counts.{count}
 use Rattle.schema_check.specs.Names.{same_text, is_name}
-use Rattle.schema_check.specs.Rules.{IsAccepted, is_between, is_one_to_64, is_key, is_key_in_range, column_keeps_v5, row_count}
+use Rattle.schema_check.specs.Rules.{IsAccepted, is_between, is_key, is_key_in_range, column_keeps_v5, row_count}
 use Rattle.schema_check.specs.Unbuilt.{is_unbuilt, is_unbuilt_table, is_unbuilt_column, is_unbuilt_kind, is_bar}
-use Rattle.schema_check.specs.Limits.{IsCount, IsKeyThenBorn, IsTableInLimits, IsInLimits}
+use Rattle.schema_check.specs.Limits.{IsKeyThenBorn, IsTableInLimits, IsInLimits}
 use Rattle.schema_check.proofs.FromTests.{count_from_test, limit_from_test, count_from_between, fails_each, apart_from_test}
 use Rattle.schema_check.proofs.Accepted.{KeepsAll, keeps_all}
 

@@ -1,13 +1,10 @@
 -- A rule that isn't broken holds at each place, and one that is broken holds before the first place.
-use Rattle.std.proofs.Common.{◌≡◌, ◌⊎◌, inl, inr, ℕ, suc, zero, ◌+◌, ◌<◌, Bool, true, false, List, [], ◌∷◌, ◌++◌, length, take, slice_get, Option, Some, None, refl, sym, ap, ◌∙◌, subst, arith, append_assoc, add-one}
+use Rattle.std.proofs.Common.{◌≡◌, ℕ, suc, zero, ◌<◌, Bool, true, false, List, [], ◌∷◌, ◌++◌, take, slice_get, Option, Some, None, refl, sym, ap, ◌∙◌, arith, append_assoc}
 use Rattle.std.specs.Option.{option_or}
-use Rattle.std.proofs.lemmas.List.{append-nil, length-take-le}
-use Rattle.std.proofs.lemmas.Option.{slice_get_within}
+use Rattle.std.proofs.lemmas.List.{append-nil}
 use Rattle.schema_model.specs.declared.table.Schema.{Schema}
 use Rattle.schema_model.specs.declared.table.Table.{Table}
-use Rattle.schema_model.specs.declared.column.Column.{Column}
-use Rattle.schema_check.specs.declared.broken.Broken.{Broken}
-use Rattle.schema_check.specs.Rule.{Rule, HoldsAt, Keeps, IsBefore, IsFirstBreak, first_found, broken_unless, break_at_column, break_in_table, first_break}
+use Rattle.schema_check.specs.Rule.{Rule, HoldsAt, Keeps, first_found, broken_unless, break_at_column, break_in_table, first_break}
 
 pub one_of_some : {A : Type 0} (a b : A) → Some a ≡ Some b → a ≡ b
 one_of_some a b h = cc
@@ -90,6 +87,6 @@ pub none_from_keeps : (rule : Rule) (schema : Schema) → Keeps rule schema → 
 none_from_keeps rule schema keeps =
     both_none _ _ (none_from_holds _ rule 0 0 (keeps 0 0))
     (none_found (break_in_table rule schema) schema.tables
-        (λ i t at. both_none _ _ (none_from_holds _ rule _ 0 (keeps (suc i) 0 t at))
-            (none_found (break_at_column rule schema (take i schema.tables) t) t.columns
-                (λ j c at'. none_from_holds _ rule _ _ (keeps (suc i) (suc j) t c at at')))))
+    (λ i t at. both_none _ _ (none_from_holds _ rule _ 0 (keeps (suc i) 0 t at))
+    (none_found (break_at_column rule schema (take i schema.tables) t) t.columns
+    (λ j c at'. none_from_holds _ rule _ _ (keeps (suc i) (suc j) t c at at')))))

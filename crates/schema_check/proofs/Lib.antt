@@ -6,3 +6,4 @@ pub mod InLimits
 pub mod BuiltLemmas
 pub mod PlannedLemmas
 pub mod FirstBreak
+pub mod CohortLemmas

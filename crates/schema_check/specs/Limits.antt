@@ -1,10 +1,9 @@
 -- What the rules give for the numbers and names of a schema, and what it holds while little is built.
-use Rattle.std.specs.Prelude.{◌≡◌, ◌≢◌, ℕ, ℤ, pos, ◌^◌, ◌≤◌, Bool, true, false, List, [], ◌∷◌, length, All, AllPairs}
+use Rattle.std.specs.Prelude.{◌≡◌, ◌≢◌, ℕ, ℤ, pos, ◌^◌, ◌≤◌, true, false, List, ◌∷◌, length, All, AllPairs}
 use Rattle.schema_model.specs.declared.table.Schema.{Schema}
 use Rattle.schema_model.specs.declared.table.Table.{Table}
 use Rattle.schema_model.specs.declared.table.Delimiter.TheVariants.{Tab}
 use Rattle.schema_model.specs.declared.column.Column.{Column}
-use Rattle.schema_model.specs.declared.column.Kind.{Kind}
 use Rattle.schema_model.specs.declared.column.Kind.TheVariants.{Key, Born}
 use Rattle.schema_check.specs.Counts.{count}
 use Rattle.schema_check.specs.Names.{is_name}

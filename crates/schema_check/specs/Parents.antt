@@ -1,5 +1,5 @@
 -- The table that a reference names, and its columns.
-use Rattle.std.specs.Prelude.{ℕ, List, Option, Some, None, slice_get, slice_index}
+use Rattle.std.specs.Prelude.{ℕ, List, Option, None, slice_get, slice_index}
 use Rattle.std.specs.Option.{option_and_then, option_map_or}
 use Rattle.schema_model.specs.declared.table.Schema.{Schema}
 use Rattle.schema_model.specs.declared.table.Table.{Table}

@@ -6,6 +6,6 @@ use Rattle.schema_check.proofs.laws.accepted_schemas_keep_each_rule.Goals as goa
 pub returns : goal.returns
 unfolding first_broken
 returns c = λ schema. (
-    (λ accepted i rule at. keeps_from_none rule schema (none_at (λ earlier other. first_break other schema) schema_rules accepted i rule at)),
-    (λ keeps. none_found (λ earlier rule. first_break rule schema) schema_rules (λ i rule at. none_from_keeps rule schema (keeps i rule at)))
-  )
+  (λ accepted i rule at. keeps_from_none rule schema (none_at (λ earlier other. first_break other schema) schema_rules accepted i rule at)),
+  (λ keeps. none_found (λ earlier rule. first_break rule schema) schema_rules (λ i rule at. none_from_keeps rule schema (keeps i rule at))),
+)
