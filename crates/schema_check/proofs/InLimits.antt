@@ -5,6 +5,7 @@ use Rattle.std.specs.Ordering.{int_eq}
 use Rattle.std.proofs.lemmas.Bool.{and_parts, or_parts, leb-true, not-true}
 use Rattle.std.proofs.lemmas.List.{get_or-take, length-take-le}
 use Rattle.std.proofs.lemmas.Option.{slice_get-get_or}
+use Rattle.std.proofs.lemmas.List.Elements.{All-same, All-cons}
 use Rattle.schema_model.specs.declared.table.Schema.{Schema}
 use Rattle.schema_model.specs.declared.table.Table.{Table}
 use Rattle.schema_model.specs.declared.table.Delimiter.{Delimiter}
@@ -15,7 +16,7 @@ use Rattle.schema_model.specs.declared.column.Kind.TheVariants.{Key, Born}
 use Rattle.schema_check.specs.Names.{same_text, is_name}
 use Rattle.schema_check.specs.Rules.{IsAccepted, is_between, is_key, is_key_in_range, column_keeps_v5, row_count}
 use Rattle.schema_check.specs.Unbuilt.{is_unbuilt, is_unbuilt_table, is_unbuilt_column, is_unbuilt_kind, is_bar}
-use Rattle.schema_check.specs.Limits.{IsKeyThenBorn, IsTableInLimits, IsInLimits}
+use Rattle.schema_check.specs.Limits.{IsPlainKind, IsKeyThenBorn, IsTableInLimits, IsInLimits}
 use Rattle.schema_check.proofs.FromTests.{count_from_test, limit_from_test, count_from_between, fails_each, apart_from_test}
 use Rattle.schema_check.proofs.Accepted.{KeepsAll, keeps_all}
 
@@ -60,6 +61,13 @@ key_then_born (c ∷ cs) some built keeps =
       others_born = λ k d h. born_kind (get_or cs k d).kind (built_kind (get_or cs k d) (fails_each is_unbuilt_column cs k d h parts.1)) (keeps (suc k) d (omega arith));
     }
 
+plain_kinds : (columns : List Column) → IsKeyThenBorn columns → All (λ column. IsPlainKind column.kind) columns
+plain_kinds columns first =
+    let P : Column → Type 0 = λ column. IsPlainKind column.kind in
+    let key : P first.key = subst IsPlainKind (sym first.key_kind) first.base_limit in
+    let others : All P first.others = λ k d h. subst IsPlainKind (sym (first.others_born k d h)) tt in
+    All-same P columns (first.key ∷ first.others) first.are (All-cons P first.key first.others key others)
+
 tab : (delimiter : Delimiter) → is_bar delimiter ≡ false → delimiter ≡ Tab
 tab Tab h = refl
 tab Bar h = cc
@@ -73,6 +81,7 @@ table_in_limits schema keeps built i d h =
     let v6 = and_parts (int_le (pos 0) t.rows && int_le (pos 0) t.insert) (nat_le (row_count schema.units t) (2 ^ 40)) (keeps.v6 (suc i) 0 t at) in
     let counts = and_parts (int_le (pos 0) t.rows) (int_le (pos 0) t.insert) v6.0 in
     let columns = or_parts (is_some t.life || is_some t.update) (list_any is_unbuilt_column t.columns) (fails_each is_unbuilt_table schema.tables i d h built) in
+    let key_first = key_then_born t.columns (leb-true 1 (length t.columns) v4.0) columns.1 (λ j e lt. keeps.v5 (suc i) (suc j) t (get_or t.columns j e) at (slice_get-get_or t.columns j e lt)) in
     record {
       name = v3.0;
       rows = count_from_test t.rows counts.0;
@@ -81,7 +90,8 @@ table_in_limits schema keeps built i d h =
       column_limit = leb-true (length t.columns) 64 v4.1;
       column_names = λ j e lt. (column_name schema keeps i d h j e lt).0;
       columns_apart = λ j k e lt below. names_apart (λ c. c.name) t.columns (λ j e lt. (column_name schema keeps i d h j e lt).1) e j k lt below;
-      kinds = key_then_born t.columns (leb-true 1 (length t.columns) v4.0) columns.1 (λ j e lt. keeps.v5 (suc i) (suc j) t (get_or t.columns j e) at (slice_get-get_or t.columns j e lt));
+      kinds = plain_kinds t.columns key_first;
+      key_first = key_first;
     }
   where
     column_name : (schema : Schema) → KeepsAll schema → (i : ℕ) (d : Table) → i < length schema.tables → (j : ℕ) (e : Column) → j < length (get_or schema.tables i d).columns → (is_name (get_or (get_or schema.tables i d).columns j e).name ≡ true) × (list_any (λ other. same_text other.name (get_or (get_or schema.tables i d).columns j e).name) (take j (get_or schema.tables i d).columns) ≡ false)

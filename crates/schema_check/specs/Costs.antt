@@ -7,8 +7,8 @@ use Rattle.schema_model.specs.declared.column.Kind.{Kind}
 use Rattle.schema_model.specs.declared.column.Kind.TheVariants.{Key, Template, Ref, Lookup}
 use Rattle.schema_model.specs.declared.column.Part.{Part}
 use Rattle.schema_model.specs.declared.column.Part.TheVariants.{Literal, Cited}
-use Rattle.schema_check.specs.InTurn.{in_turn, given_by, columns_in_turn, column_place}
-use Rattle.schema_check.specs.Parents.{parent_column_value}
+use Rattle.schema_check.specs.InTurn.{in_turn, given_by, columns_in_turn}
+use Rattle.schema_check.specs.Places.{table_at, number_of_column, number_of_parent}
 
 -- 1 where a test is true, else 0
 abbrev pub one_if : Bool → ℕ
@@ -31,7 +31,7 @@ death_costs schema =
 -- a cited column costs once for each part that cites it
 abbrev pub part_cost : Table → List ℕ → Part → ℕ
 part_cost table given (Literal bytes) = 0
-part_cost table given (Cited name) = option_map_or (slice_index given) (column_place table name) 0
+part_cost table given (Cited name) = number_of_column table given name
 
 -- F: the permutations that a field takes, by its column's kind
 abbrev pub field_cost : Schema → List (List ℕ) → Table → List ℕ → Kind → ℕ
@@ -39,7 +39,7 @@ field_cost schema tables table given (Key base scramble) = one_if scramble
 field_cost schema tables table given (Ref parent window spread) =
     1 + option_map_or (λ columns. slice_index columns 0) (given_by schema tables parent) 0
 field_cost schema tables table given (Lookup via column) =
-    1 + parent_column_value schema tables table via column
+    1 + number_of_parent schema tables table via column
 field_cost schema tables table given (Template parts) = sum_by (part_cost table given) parts
 field_cost schema tables table given _ = 0
 
@@ -47,13 +47,8 @@ abbrev pub field_costs : Schema → List (List ℕ)
 field_costs schema =
     columns_in_turn (λ tables table given column. field_cost schema tables table given column.kind) schema
 
--- one more where the table has updates
-abbrev pub update_cost : Schema → ℕ → ℕ
-update_cost schema place =
-    option_map_or (λ table. one_if (is_some table.update)) (slice_get schema.tables place) 0
-
 -- the cost of a row of the table at a place
 unfoldable pub cost : Schema → ℕ → ℕ
 cost schema place =
-    1 + slice_index (death_costs schema) place + update_cost schema place
+    1 + slice_index (death_costs schema) place + one_if (is_some (table_at schema place).update)
     + sum (slice_index_or (field_costs schema) place [])

@@ -14,8 +14,8 @@ use Rattle.schema_model.specs.declared.column.Part.{Part}
 use Rattle.schema_model.specs.declared.column.Part.TheVariants.{Literal, Cited}
 use Rattle.schema_check.specs.Counts.{count}
 use Rattle.schema_check.specs.Unbuilt.{is_bar}
-use Rattle.schema_check.specs.InTurn.{columns_in_turn, column_place}
-use Rattle.schema_check.specs.Parents.{parent_column_value}
+use Rattle.schema_check.specs.InTurn.{columns_in_turn}
+use Rattle.schema_check.specs.Places.{number_of_column, number_of_parent}
 
 -- the greatest of a number for each item, 0 where there is no item
 abbrev pub greatest_by : {A : Type 0} → (A → ℕ) → List A → ℕ
@@ -45,7 +45,7 @@ leaf_size delimiter (Chars alphabet lo hi) =
 -- a cited column counts once for each part that cites it
 abbrev pub part_size : Delimiter → Table → List ℕ → Part → ℕ
 part_size delimiter table given (Literal bytes) = written_size delimiter bytes
-part_size delimiter table given (Cited name) = option_map_or (slice_index given) (column_place table name) 0
+part_size delimiter table given (Cited name) = number_of_column table given name
 
 -- the greatest size of a value, by its column's kind
 abbrev pub kind_size : Schema → List (List ℕ) → Table → List ℕ → Kind → ℕ
@@ -56,7 +56,7 @@ kind_size schema tables table given (Drawn leaf) = leaf_size schema.delimiter le
 kind_size schema tables table given (Template parts) = sum_by (part_size schema.delimiter table given) parts
 kind_size schema tables table given (Case on branches) = greatest_by (leaf_size schema.delimiter) branches
 kind_size schema tables table given (Ref parent window spread) = 20
-kind_size schema tables table given (Lookup via column) = parent_column_value schema tables table via column
+kind_size schema tables table given (Lookup via column) = number_of_parent schema tables table via column
 
 -- the greatest size of a field, for each column of each table: never less than 2, the size of \N
 abbrev pub field_sizes : Schema → List (List ℕ)
