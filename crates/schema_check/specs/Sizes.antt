@@ -1,7 +1,6 @@
 -- How many bytes a field and a line take at most, as they are written.
-use Rattle.std.specs.Prelude.{ℕ, ◌+◌, ◌-◌, ◌*◌, ◌==◌, ◌||◌, ◌&&◌, Bool, if◌then◌else◌, nat_le, max, List, [], sum, sum_by, length, slice_index, slice_index_or, encode_utf8}
+use Rattle.std.specs.Prelude.{ℕ, ◌+◌, ◌-◌, ◌*◌, ◌==◌, ◌||◌, ◌&&◌, Bool, if◌then◌else◌, nat_le, max, List, [], sum, sum_by, length, slice_index_or, encode_utf8}
 use Rattle.std.specs.List.{fold}
-use Rattle.std.specs.Option.{option_map_or}
 use Rattle.std.specs.Str.{chars}
 use Rattle.schema_model.specs.declared.table.Schema.{Schema}
 use Rattle.schema_model.specs.declared.table.Table.{Table}
