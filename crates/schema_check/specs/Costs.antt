@@ -14,12 +14,13 @@ use Rattle.schema_check.specs.Places.{table_at, number_of_column, number_of_pare
 abbrev pub one_if : Bool → ℕ
 one_if test = if test then 1 else 0
 
--- the death of a reference's parent, and the permutation that places the child
+-- a reference takes the permutation that places the child, and what the death of the parent takes
 abbrev pub death_cost_by : Schema → List ℕ → Kind → ℕ
 death_cost_by schema given (Ref table window spread) = 1 + unwrap_or (given_by schema given table) 0
 death_cost_by schema given _ = 0
 
--- D: the permutations that the death of a row takes, for each table
+-- the permutations that the death of a row takes, for each table: that of its own life, and for each reference its
+-- own and those of the parent's death
 abbrev pub death_costs : Schema → List ℕ
 death_costs schema =
     in_turn
@@ -33,7 +34,7 @@ abbrev pub part_cost : Table → List ℕ → Part → ℕ
 part_cost table given (Literal bytes) = 0
 part_cost table given (Cited name) = number_of_column table given name
 
--- F: the permutations that a field takes, by its column's kind
+-- the permutations that a field takes, by its column's kind
 abbrev pub field_cost : Schema → List (List ℕ) → Table → List ℕ → Kind → ℕ
 field_cost schema tables table given (Key base scramble) = one_if scramble
 field_cost schema tables table given (Ref parent window spread) =
@@ -43,11 +44,12 @@ field_cost schema tables table given (Lookup via column) =
 field_cost schema tables table given (Template parts) = sum_by (part_cost table given) parts
 field_cost schema tables table given _ = 0
 
+-- the permutations that a field takes, for each column of each table
 abbrev pub field_costs : Schema → List (List ℕ)
 field_costs schema =
     columns_in_turn (λ tables table given column. field_cost schema tables table given column.kind) schema
 
--- the cost of a row of the table at a place
+-- the cost of a row of the table at a place: one, and the permutations of its death, of its update and of its fields
 unfoldable pub cost : Schema → ℕ → ℕ
 cost schema place =
     1 + slice_index (death_costs schema) place + one_if (is_some (table_at schema place).update)
