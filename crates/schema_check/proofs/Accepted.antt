@@ -1,18 +1,9 @@
 -- An accepted schema of which tables can be made is within its limits.
-use Rattle.std.proofs.Common.{◌≡◌, ◌≢◌, ℕ, ℤ, pos, zero, suc, ◌+◌, ◌<◌, ◌≤◌, ◌^◌, Bool, true, false, not, ◌&&◌, List, [], ◌∷◌, length, get_or, take, Option, Some, None, refl, sym, ap, ◌∙◌, arith, int_le, nat_le}
-use Rattle.std.specs.List.{list_any, All, AllPairs}
-use Rattle.std.proofs.lemmas.Bool.{and_parts, or_parts, leb-true, not-true}
+use Rattle.std.proofs.Common.{◌≡◌, ℕ, slice_get, Some, refl}
 use Rattle.schema_model.specs.declared.table.Schema.{Schema}
-use Rattle.schema_model.specs.declared.table.Table.{Table}
-use Rattle.schema_model.specs.declared.column.Column.{Column}
-use Rattle.schema_model.specs.declared.column.Kind.{Kind}
-use Rattle.schema_model.specs.declared.column.Kind.TheVariants.{Key, Born}
-use Rattle.schema_check.specs.declared.broken.Broken.{Broken}
-use Rattle.schema_check.specs.Counts.{count}
-use Rattle.schema_check.specs.Names.{same_text, is_name}
-use Rattle.schema_check.specs.Rule.{Rule, Keeps, first_found, first_break}
+use Rattle.schema_check.specs.Rule.{Rule, Keeps, first_break}
 use Rattle.schema_check.specs.Rules.{rule_v1, rule_v2, rule_v3, rule_v4, rule_v5, rule_v6, schema_rules, first_broken, IsAccepted}
-use Rattle.schema_check.proofs.Kept.{keeps_from_none, found_at_none}
+use Rattle.schema_check.proofs.Kept.{keeps_from_none, none_at}
 
 -- what an accepted schema keeps
 pub record KeepsAll (schema : Schema) : Type 0 where
@@ -23,18 +14,17 @@ pub record KeepsAll (schema : Schema) : Type 0 where
   pub v5 : Keeps rule_v5 schema
   pub v6 : Keeps rule_v6 schema
 
-keeps_at : (schema : Schema) → IsAccepted schema → (i : ℕ) → i < 6 → Keeps (get_or schema_rules i rule_v1) schema
+keeps_at : (schema : Schema) → IsAccepted schema → (i : ℕ) (rule : Rule) → slice_get schema_rules i ≡ Some rule → Keeps rule schema
 unfolding first_broken
-keeps_at schema accepted i h =
-    keeps_from_none (get_or schema_rules i rule_v1) schema
-    (found_at_none (λ earlier rule. first_break rule schema) schema_rules accepted i rule_v1 h)
+keeps_at schema accepted i rule at =
+    keeps_from_none rule schema (none_at (λ earlier other. first_break other schema) schema_rules accepted i rule at)
 
 pub keeps_all : (schema : Schema) → IsAccepted schema → KeepsAll schema
 keeps_all schema accepted = record {
-  v1 = keeps_at schema accepted 0 (omega arith);
-  v2 = keeps_at schema accepted 1 (omega arith);
-  v3 = keeps_at schema accepted 2 (omega arith);
-  v4 = keeps_at schema accepted 3 (omega arith);
-  v5 = keeps_at schema accepted 4 (omega arith);
-  v6 = keeps_at schema accepted 5 (omega arith);
+  v1 = keeps_at schema accepted 0 rule_v1 refl;
+  v2 = keeps_at schema accepted 1 rule_v2 refl;
+  v3 = keeps_at schema accepted 2 rule_v3 refl;
+  v4 = keeps_at schema accepted 3 rule_v4 refl;
+  v5 = keeps_at schema accepted 4 rule_v5 refl;
+  v6 = keeps_at schema accepted 5 rule_v6 refl;
 }

@@ -1,8 +1,7 @@
 -- What the definitions come to for what is built.
-use Rattle.std.proofs.Common.{◌≡◌, ℕ, pos, zero, suc, ◌+◌, ◌*◌, ◌-◌, ◌<◌, ◌≤◌, max, Bool, true, false, not, ◌||◌, List, [], ◌∷◌, ◌++◌, map, length, get_or, sum, sum_by, Option, Some, None, is_some, refl, sym, ap, ◌∙◌, arith, slice_get, slice_index, cond}
-use Rattle.std.specs.List.{list_any, fold, range_with_len}
-use Rattle.std.specs.Option.{option_map, option_map_or}
-use Rattle.std.specs.Ordering.{int_eq}
+use Rattle.std.proofs.Common.{◌≡◌, ℕ, zero, suc, ◌+◌, max, Bool, true, false, ◌||◌, List, [], ◌∷◌, ◌++◌, map, length, get_or, sum, sum_by, Option, Some, None, is_some, refl, sym, ap, ◌∙◌, arith, slice_index}
+use Rattle.std.specs.List.{list_any, fold}
+use Rattle.std.specs.Option.{option_map}
 use Rattle.std.proofs.Math.ListN as N
 use Rattle.std.proofs.lemmas.Bool.{or_parts}
 use Rattle.std.proofs.lemmas.List.{get_or-map, length-map}
@@ -17,9 +16,10 @@ use Rattle.schema_model.specs.declared.column.Kind.{Kind}
 use Rattle.schema_model.specs.declared.column.Kind.TheVariants.{Key, Born}
 use Rattle.schema_check.specs.declared.facts.TableFacts.{TableFacts}
 use Rattle.schema_check.specs.Unbuilt.{is_unbuilt, is_bar, is_unbuilt_table, is_unbuilt_column, is_unbuilt_kind}
+use Rattle.schema_check.specs.Places.{no_table}
 use Rattle.schema_check.specs.InTurn.{in_turn, columns_in_turn}
 use Rattle.schema_check.specs.Lives.{lesser_life, life_of_parent, lives_by, sure_life, longest_life}
-use Rattle.schema_check.specs.Costs.{one_if, death_cost_by, death_costs, field_cost, field_costs, update_cost, cost}
+use Rattle.schema_check.specs.Costs.{one_if, death_cost_by, death_costs, field_cost, field_costs, cost}
 use Rattle.schema_check.specs.Sizes.{kind_size, field_sizes, line_size, max_line, greatest_by, reach}
 use Rattle.schema_check.specs.Built.{built_size, built_line, built_facts}
 use Rattle.schema_check.specs.Planned.{facts_at, facts_of}
@@ -103,10 +103,6 @@ pub built_field_costs : (schema : Schema) → list_any is_unbuilt_table schema.t
 built_field_costs schema built =
     columns_in_turn-map _ (λ column. 0) (λ tables table given column h. no_draw_for_field schema tables table given column.kind (built_kind column h)) schema built
 
--- a table without rows and columns
-abbrev no_table : Table
-no_table = record { name = []; rows = pos 0; insert = pos 0; life = None; update = None; columns = [] }
-
 built_death_costs : (schema : Schema) → list_any is_unbuilt_table schema.tables ≡ false → death_costs schema ≡ map (λ table. 0) schema.tables
 built_death_costs schema built =
     in_turn-map _ (λ table. 0) is_unbuilt_table (λ given table h. one schema given table h) schema.tables built []
@@ -121,17 +117,14 @@ built_death_costs schema built =
         (λ a column c. omega (arith, no_draw_for_death schema given column.kind (built_kind column c))) table.columns parts.1 0 in
         omega (arith, life, draws)
 
-built_update_cost : (schema : Schema) → list_any is_unbuilt_table schema.tables ≡ false → (place : ℕ) → update_cost schema place ≡ 0
-built_update_cost schema built place = at schema.tables built place
-  where
-    at : (tables : List Table) → list_any is_unbuilt_table tables ≡ false → (place : ℕ) → option_map_or (λ (table : Table). one_if (is_some table.update)) (slice_get tables place) 0 ≡ 0
-    at [] built place = refl
-    at (t ∷ ts) built zero =
-        let parts = or_parts (is_unbuilt_table t) (list_any is_unbuilt_table ts) built in
-        let own = or_parts (is_some t.life || is_some t.update) (list_any is_unbuilt_column t.columns) parts.0 in
-        ap one_if ((or_parts (is_some t.life) (is_some t.update) own.0).1)
-    at (t ∷ ts) built (suc place) =
-        at ts ((or_parts (is_unbuilt_table t) (list_any is_unbuilt_table ts) built).1) place
+no_update : (tables : List Table) → list_any is_unbuilt_table tables ≡ false → (place : ℕ) → is_some (get_or tables place no_table).update ≡ false
+no_update [] built place = refl
+no_update (t ∷ ts) built zero =
+    let parts = or_parts (is_unbuilt_table t) (list_any is_unbuilt_table ts) built in
+    let own = or_parts (is_some t.life || is_some t.update) (list_any is_unbuilt_column t.columns) parts.0 in
+    (or_parts (is_some t.life) (is_some t.update) own.0).1
+no_update (t ∷ ts) built (suc place) =
+    no_update ts ((or_parts (is_unbuilt_table t) (list_any is_unbuilt_table ts) built).1) place
 
 sum-zeros : (columns : List Column) → sum (map (λ column. 0) columns) ≡ 0
 sum-zeros columns = fold-map ◌+◌ (λ (column : Column). 0) 0 columns ∙ stays columns
@@ -159,7 +152,8 @@ built_cost schema built place =
     ap (λ costs. sum (get_or costs place [])) (built_field_costs schema built)
     ∙ ap sum (N.get_or-map (λ (table : Table). map (λ (column : Column). 0) table.columns) schema.tables place no_table)
     ∙ sum-zeros (get_or schema.tables place no_table).columns in
-    omega (arith, deaths, fields, built_update_cost schema built place)
+    let updates : one_if (is_some (get_or schema.tables place no_table).update) ≡ 0 = ap one_if (no_update schema.tables built place) in
+    omega (arith, deaths, fields, updates)
 
 built_max_line : (schema : Schema) → list_any is_unbuilt_table schema.tables ≡ false → (place : ℕ) → max_line schema place ≡ built_line (get_or schema.tables place no_table)
 unfolding max_line

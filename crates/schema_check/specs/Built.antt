@@ -1,7 +1,6 @@
 -- What the definitions come to for what is built: plain keys and units of birth, in tables without end.
 use Rattle.std.specs.Prelude.{ℕ, map, None}
 use Rattle.schema_model.specs.declared.table.Table.{Table}
-use Rattle.schema_model.specs.declared.column.Column.{Column}
 use Rattle.schema_model.specs.declared.column.Kind.{Kind}
 use Rattle.schema_model.specs.declared.column.Kind.TheVariants.{Born}
 use Rattle.schema_check.specs.declared.facts.TableFacts.{TableFacts}

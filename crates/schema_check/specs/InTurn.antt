@@ -1,24 +1,15 @@
 -- What each table, and each column, gives in turn, by what the earlier ones gave.
 use Rattle.std.specs.Prelude.{ℕ, List, [], ◌∷◌, ◌++◌, Option, slice_get}
-use Rattle.std.specs.List.{position}
 use Rattle.std.specs.Option.{option_and_then}
 use Rattle.schema_model.specs.declared.table.Schema.{Schema}
 use Rattle.schema_model.specs.declared.table.Table.{Table}
 use Rattle.schema_model.specs.declared.column.Column.{Column}
-use Rattle.schema_check.specs.Names.{same_text}
+use Rattle.schema_check.specs.Places.{table_place}
 
 -- what each of some items gives, in turn, by what those before it gave
 abbrev pub in_turn : {A B : Type 0} → (List B → A → B) → List B → List A → List B
 in_turn give given [] = []
 in_turn give given (x ∷ xs) = give given x ∷ in_turn give (given ++ give given x ∷ []) xs
-
--- the place of the table with a name, counted from 0; None where no table has it
-abbrev pub table_place : Schema → List ℕ → Option ℕ
-table_place schema name = position (λ table. same_text table.name name) schema.tables
-
--- the place of the column with a name, counted from 0; None where no column has it
-abbrev pub column_place : Table → List ℕ → Option ℕ
-column_place table name = position (λ column. same_text column.name name) table.columns
 
 -- what the table with a name gave; None where it isn't among the earlier ones
 abbrev pub given_by : {B : Type 0} → Schema → List B → List ℕ → Option B

@@ -5,8 +5,8 @@ pub mod Rules
 pub mod Unbuilt
 pub mod Limits
 pub mod Cohorts
+pub mod Places
 pub mod InTurn
-pub mod Parents
 pub mod Lives
 pub mod Costs
 pub mod Sizes

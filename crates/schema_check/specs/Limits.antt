@@ -1,5 +1,5 @@
 -- What the rules give for the numbers and names of a schema, and what it holds while little is built.
-use Rattle.std.specs.Prelude.{◌≡◌, ◌≢◌, ℕ, ℤ, pos, ◌^◌, ◌≤◌, Bool, true, false, List, [], ◌∷◌, length, All, AllPairs}
+use Rattle.std.specs.Prelude.{◌≡◌, ◌≢◌, ℕ, ℤ, pos, ◌^◌, ◌≤◌, true, false, List, ◌∷◌, length, All, AllPairs, ⊤}
 use Rattle.schema_model.specs.declared.table.Schema.{Schema}
 use Rattle.schema_model.specs.declared.table.Table.{Table}
 use Rattle.schema_model.specs.declared.table.Delimiter.TheVariants.{Tab}
@@ -13,6 +13,12 @@ use Rattle.schema_check.specs.Rules.{row_count}
 -- a number that isn't below 0
 abbrev pub IsCount : ℤ → Type 0
 IsCount n = n ≡ pos (count n)
+
+-- a key in order and from a base of at most 2^62, or units of birth
+abbrev pub IsPlainKind : Kind → Type 0
+IsPlainKind (Key (pos base) false) = base ≤ 2 ^ 62
+IsPlainKind Born = ⊤
+IsPlainKind _ = ⊥
 
 -- columns of which the first is the key, in order and from a base of at most 2^62, and the others are born
 pub record IsKeyThenBorn (columns : List Column) : Type 0 where
@@ -33,7 +39,8 @@ pub record IsTableInLimits (units : ℤ) (table : Table) : Type 0 where
   pub column_limit : length table.columns ≤ 64
   pub column_names : All (λ column. is_name column.name ≡ true) table.columns
   pub columns_apart : AllPairs (λ one other. one.name ≢ other.name) table.columns
-  pub kinds : IsKeyThenBorn table.columns
+  pub kinds : All (λ column. IsPlainKind column.kind) table.columns
+  pub key_first : IsKeyThenBorn table.columns
 
 -- an accepted schema, of which tables can be made, within its limits
 pub record IsInLimits (schema : Schema) : Type 0 where

@@ -1,5 +1,5 @@
 -- What a rule of a schema is, and where a schema first breaks one.
-use Rattle.std.specs.Prelude.{◌≡◌, ℕ, ◌+◌, ◌<◌, take, slice_index_or, Bool, true, if◌then◌else◌, List, [], ◌∷◌, ◌++◌, length, Option, Some, None}
+use Rattle.std.specs.Prelude.{◌≡◌, ◌⊎◌, ℕ, zero, suc, ◌+◌, ◌<◌, Bool, true, if◌then◌else◌, List, [], ◌∷◌, ◌++◌, length, take, slice_get, Option, Some, None}
 use Rattle.std.specs.Option.{option_or}
 use Rattle.schema_model.specs.declared.table.Schema.{Schema}
 use Rattle.schema_model.specs.declared.table.Table.{Table}
@@ -41,16 +41,31 @@ rule_on_columns number holds = record {
   holds_for_column = holds;
 }
 
--- a schema keeps a rule: it holds for the whole, for each table and for each column
-pub record Keeps (rule : Rule) (schema : Schema) : Type 0 where
-  pub whole : rule.holds_for_schema schema ≡ true
-  pub tables : (i : ℕ) (d : Table) → i < length schema.tables →
-      rule.holds_for_table schema (take i schema.tables) (slice_index_or schema.tables i d) ≡ true
-  pub columns : (i : ℕ) (d : Table) → i < length schema.tables →
-      (j : ℕ) (e : Column) → j < length (slice_index_or schema.tables i d).columns →
-      rule.holds_for_column schema (take i schema.tables) (slice_index_or schema.tables i d)
-      (take j (slice_index_or schema.tables i d).columns) (slice_index_or (slice_index_or schema.tables i d).columns j e)
-      ≡ true
+-- a rule holds at a place: at (0, 0) for the whole schema, at (i, 0) for its table i, at (i, j) for column j of that
+-- table. Both count from 1
+abbrev pub HoldsAt : Rule → Schema → ℕ → ℕ → Type 0
+HoldsAt rule schema zero column = rule.holds_for_schema schema ≡ true
+HoldsAt rule schema (suc i) zero =
+    (table : Table) → slice_get schema.tables i ≡ Some table →
+    rule.holds_for_table schema (take i schema.tables) table ≡ true
+HoldsAt rule schema (suc i) (suc j) =
+    (table : Table) (column : Column) →
+    slice_get schema.tables i ≡ Some table → slice_get table.columns j ≡ Some column →
+    rule.holds_for_column schema (take i schema.tables) table (take j table.columns) column ≡ true
+
+-- a schema keeps a rule: it holds at each place
+abbrev pub Keeps : Rule → Schema → Type 0
+Keeps rule schema = (table column : ℕ) → HoldsAt rule schema table column
+
+-- the order of places: the whole, then each table before its columns and before the next table
+abbrev pub IsBefore : ℕ → ℕ → ℕ → ℕ → Type 0
+IsBefore table column table' column' = (table < table') ⊎ ((table ≡ table') × (column < column'))
+
+-- a rule is broken at a place, and holds at each place before it
+pub record IsFirstBreak (rule : Rule) (schema : Schema) (broken : Broken) : Type 0 where
+  pub number : broken.number ≡ rule.number
+  pub breaks : ¬ HoldsAt rule schema broken.table broken.column
+  pub before : (table column : ℕ) → IsBefore table column broken.table broken.column → HoldsAt rule schema table column
 
 -- what is found first in a list, item by item, each seen with the items before it
 abbrev pub first_found : {A B : Type 0} → (List A → A → Option B) → List A → List A → Option B

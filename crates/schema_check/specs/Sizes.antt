@@ -1,12 +1,10 @@
 -- How many bytes a field and a line take at most, as they are written.
-use Rattle.std.specs.Prelude.{ℕ, ◌+◌, ◌-◌, ◌*◌, ◌==◌, ◌||◌, ◌&&◌, Bool, if◌then◌else◌, nat_le, max, List, [], ◌∷◌, map, sum, sum_by, length, slice_index, slice_index_or, encode_utf8}
+use Rattle.std.specs.Prelude.{ℕ, ◌+◌, ◌-◌, ◌*◌, ◌==◌, ◌||◌, ◌&&◌, Bool, if◌then◌else◌, nat_le, max, List, [], sum, sum_by, length, slice_index_or, encode_utf8}
 use Rattle.std.specs.List.{fold}
-use Rattle.std.specs.Option.{option_map_or}
 use Rattle.std.specs.Str.{chars}
 use Rattle.schema_model.specs.declared.table.Schema.{Schema}
 use Rattle.schema_model.specs.declared.table.Table.{Table}
 use Rattle.schema_model.specs.declared.table.Delimiter.{Delimiter}
-use Rattle.schema_model.specs.declared.column.Column.{Column}
 use Rattle.schema_model.specs.declared.column.Leaf.{Leaf}
 use Rattle.schema_model.specs.declared.column.Leaf.TheVariants.{Int, Fixed, Date, Pick, Skew, Dict, Words, Chars}
 use Rattle.schema_model.specs.declared.column.Kind.{Kind}
@@ -15,8 +13,8 @@ use Rattle.schema_model.specs.declared.column.Part.{Part}
 use Rattle.schema_model.specs.declared.column.Part.TheVariants.{Literal, Cited}
 use Rattle.schema_check.specs.Counts.{count}
 use Rattle.schema_check.specs.Unbuilt.{is_bar}
-use Rattle.schema_check.specs.InTurn.{columns_in_turn, column_place}
-use Rattle.schema_check.specs.Parents.{parent_column_value}
+use Rattle.schema_check.specs.InTurn.{columns_in_turn}
+use Rattle.schema_check.specs.Places.{number_of_column, number_of_parent}
 
 -- the greatest of a number for each item, 0 where there is no item
 abbrev pub greatest_by : {A : Type 0} → (A → ℕ) → List A → ℕ
@@ -46,7 +44,7 @@ leaf_size delimiter (Chars alphabet lo hi) =
 -- a cited column counts once for each part that cites it
 abbrev pub part_size : Delimiter → Table → List ℕ → Part → ℕ
 part_size delimiter table given (Literal bytes) = written_size delimiter bytes
-part_size delimiter table given (Cited name) = option_map_or (slice_index given) (column_place table name) 0
+part_size delimiter table given (Cited name) = number_of_column table given name
 
 -- the greatest size of a value, by its column's kind
 abbrev pub kind_size : Schema → List (List ℕ) → Table → List ℕ → Kind → ℕ
@@ -57,7 +55,7 @@ kind_size schema tables table given (Drawn leaf) = leaf_size schema.delimiter le
 kind_size schema tables table given (Template parts) = sum_by (part_size schema.delimiter table given) parts
 kind_size schema tables table given (Case on branches) = greatest_by (leaf_size schema.delimiter) branches
 kind_size schema tables table given (Ref parent window spread) = 20
-kind_size schema tables table given (Lookup via column) = parent_column_value schema tables table via column
+kind_size schema tables table given (Lookup via column) = number_of_parent schema tables table via column
 
 -- the greatest size of a field, for each column of each table: never less than 2, the size of \N
 abbrev pub field_sizes : Schema → List (List ℕ)

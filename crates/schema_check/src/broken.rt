@@ -2,7 +2,7 @@
 
 /// The rule that a schema breaks, and where.
 #[derive(Clone, Copy, Debug, PartialEq, Eq)]
-pub struct Broken {
+pub(crate) struct Broken {
     /// The rule's number: 1 for V1.
     pub number: u32,
     /// The table, counted from 1; 0 where the whole schema breaks the rule.

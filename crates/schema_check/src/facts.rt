@@ -8,6 +8,12 @@ ghost use Rattle.schema_check.specs.Built.{built_size, built_line, built_facts};
 use schema_model::{Column, Kind, Table};
 use std::alloc::{AllocError, Global};
 
+/// The greatest length of a key number, in bytes.
+const KEY_SIZE: u64 = 20;
+
+/// The greatest length of a unit, in bytes.
+const UNIT_SIZE: u64 = 5;
+
 /// What doesn't change from row to row in a table. Lives are in units, None where they have no bound; a line is in bytes.
 #[derive(Clone, Copy, Debug, PartialEq, Eq)]
 pub(crate) struct TableFacts {
@@ -72,8 +78,8 @@ fn field_size(kind: &Kind) -> u64
     ensures limit { result ≤ 20 }
 {
     match kind {
-        Kind::Key { .. } => 20,
-        Kind::Born => 5,
+        Kind::Key { .. } => KEY_SIZE,
+        Kind::Born => UNIT_SIZE,
         _ => unreachable!(),
     }
 }

@@ -1,11 +1,13 @@
 //! Laws of the definitions that the contracts cite, each the contract of a function without a body.
 
-ghost use Rattle.std.specs.Prelude.{◌≡◌, ℕ, ◌<◌, ◌↔◌, ◌∷◌, [], Some, None, slice_get};
-ghost use Rattle.std.specs.List.{All};
+ghost use Rattle.std.specs.Prelude.{◌≡◌, ℕ, ◌+◌, ◌*◌, ◌<◌, ◌↔◌, ◌∷◌, [], Some, None, slice_get};
 ghost use Rattle.schema_model.specs.declared.table.Schema.{Schema};
+ghost use Rattle.schema_model.specs.declared.table.Table.{Table};
 ghost use Rattle.schema_check.specs.declared.broken.Broken.{Broken};
-ghost use Rattle.schema_check.specs.Rule.{Rule, Keeps, first_break};
-ghost use Rattle.schema_check.specs.Rules.{IsAccepted, first_broken, schema_rules};
+ghost use Rattle.schema_check.specs.Rule.{Rule, Keeps, IsFirstBreak};
+ghost use Rattle.schema_check.specs.Rules.{IsAccepted, first_broken, schema_rules, row_count};
+ghost use Rattle.schema_check.specs.Counts.{count};
+ghost use Rattle.schema_check.specs.Cohorts.{born_count};
 ghost use Rattle.schema_check.specs.Lives.{sure_life, longest_life};
 ghost use Rattle.schema_check.specs.Costs.{cost};
 ghost use Rattle.schema_check.specs.Sizes.{max_line, reach, field_sizes};
@@ -13,14 +15,25 @@ ghost use Rattle.schema_check.specs.Worked.{sales, places};
 
 /// A schema is accepted exactly where it keeps each rule.
 pub fn accepted_schemas_keep_each_rule()
-    ensures { (schema : Schema) → IsAccepted schema ↔ All (λ rule. Keeps rule schema) schema_rules }
+    ensures { (schema : Schema) → IsAccepted schema
+        ↔ ((i : ℕ) (rule : Rule) → slice_get schema_rules i ≡ Some rule → Keeps rule schema) }
 {}
 
-/// The first broken rule is one of the rules, and each rule before it is kept.
-pub fn rules_before_the_first_broken_are_kept()
+/// The first broken rule is one of the rules, it is broken at the place that is told and holds at each place before it,
+/// and each rule before it is kept.
+pub fn first_broken_is_the_first_rule_at_its_first_place()
     ensures { (schema : Schema) (broken : Broken) → first_broken schema ≡ Some broken →
-        (i : ℕ) × (rule : Rule) × (slice_get schema_rules i ≡ Some rule) × (first_break rule schema ≡ Some broken)
+        (i : ℕ) × (rule : Rule) × (slice_get schema_rules i ≡ Some rule) × IsFirstBreak rule schema broken
         × ((k : ℕ) (other : Rule) → k < i → slice_get schema_rules k ≡ Some other → Keeps other schema) }
+{}
+
+/// The rows of a table are those of unit 0 and as many more for each unit after it: so the rows that are born by the last
+/// unit are those that rule V6 limits.
+pub fn tables_grow_by_their_inserts()
+    ensures born { (table : Table) (unit : ℕ) →
+        born_count table unit ≡ count table.rows + count table.insert * unit }
+    ensures all { (schema : Schema) (table : Table) →
+        born_count table (count schema.units) ≡ row_count schema.units table }
 {}
 
 /// Lives worked out by hand: orders may name a customer who is two units older, lines an order of their own unit, and

@@ -14,7 +14,6 @@ mod not_built;
 mod plan;
 mod rules;
 
-pub use broken::Broken;
 pub use checker::{CheckFault, check};
 pub use not_built::unbuilt;
 pub use plan::Plan;

@@ -7,7 +7,7 @@ ghost use Rattle.schema_check.specs.Names.{same_text};
 ghost use Rattle.schema_check.specs.Rules.{IsAccepted};
 ghost use Rattle.schema_check.specs.Unbuilt.{is_unbuilt};
 ghost use Rattle.schema_check.specs.Limits.{IsInLimits};
-ghost use Rattle.schema_check.specs.InTurn.{table_place};
+ghost use Rattle.schema_check.specs.Places.{table_place};
 ghost use Rattle.schema_check.specs.Lives.{sure_life, longest_life};
 ghost use Rattle.schema_check.specs.Costs.{cost};
 ghost use Rattle.schema_check.specs.Sizes.{max_line, reach};

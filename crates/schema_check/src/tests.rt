@@ -110,7 +110,7 @@ fn told(alloc: Global, schema: Schema) -> Result<Option<(u32, u64, u64)>, Fail> 
     }
 }
 
-// The expected places are those of the table of rules, each at its first bound and one past it.
+// Each rule at its first bound and one past it. The expected places follow from the wording of the rules.
 #[test]
 fn schema_bounds(rt: HostRuntime) -> Result<(), Fail> {
     let alloc = rt.alloc();

@@ -1,5 +1,5 @@
 -- The rule at a place of the list is the one that the name there stands for.
-use Rattle.std.proofs.Common.{◌≡◌, ℕ, ◌+◌, ◌<◌, ◌∙◌, sym, ap, List, get_or, length, map, take, drop, Some, None}
+use Rattle.std.proofs.Common.{◌≡◌, ℕ, ◌+◌, ◌<◌, ◌∙◌, sym, List, get_or, length, map, take, drop, Some, None}
 use Rattle.std.proofs.lemmas.List.{get_or-map, length-map}
 use Rattle.schema_model.specs.declared.table.Schema.{Schema}
 use Rattle.schema_check.specs.Rule.{first_found, first_break}

@@ -1,5 +1,5 @@
 use Rattle.std.proofs.Common.{◌≡◌, map, take, drop}
-use Rattle.schema_check.specs.Rule.{Rule, first_found, first_break, first_broken_of}
+use Rattle.schema_check.specs.Rule.{first_found, first_break, first_broken_of}
 use Rattle.schema_check.specs.Rules.{rule_named}
 use Rattle.schema_check.proofs.rules.first_broken_of.Given as goal
 

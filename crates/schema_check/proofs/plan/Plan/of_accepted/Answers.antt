@@ -1,5 +1,4 @@
-use Rattle.std.proofs.Common.{◌≡◌, sym, ap, ◌∙◌, length, get_or, subst, map}
-use Rattle.std.specs.List.{All}
+use Rattle.std.proofs.Common.{ap, ◌∙◌, map}
 use Rattle.schema_check.specs.Sizes.{greatest_by}
 use Rattle.schema_check.proofs.InLimits.{in_limits, few_columns}
 use Rattle.schema_check.proofs.BuiltLemmas.{built_facts_of, built_reach, built_tables}

@@ -1,12 +1,12 @@
 -- What the tests of a schema tell.
-use Rattle.std.proofs.Common.{◌≡◌, ◌≢◌, ℕ, ℤ, pos, negsuc, ◌+◌, ◌<◌, ◌≤◌, Bool, true, false, List, [], ◌∷◌, length, get_or, Option, Some, None, refl, sym, ap, ◌∙◌, arith, int_le}
+use Rattle.std.proofs.Common.{◌≡◌, ◌≢◌, ℕ, ℤ, pos, negsuc, ◌<◌, ◌≤◌, Bool, true, false, List, length, get_or, refl, sym, ap, ◌∙◌, arith, int_le}
 use Rattle.std.specs.List.{list_any}
 use Rattle.std.specs.Cmp.Lexicographic as Lex
-use Rattle.std.proofs.lemmas.Bool.{and_parts, or_parts, leb-true, both_ways, not-true, false_from_ne_true}
+use Rattle.std.proofs.lemmas.Bool.{and_parts, leb-true, both_ways, false_from_ne_true}
 use Rattle.std.proofs.lemmas.List.Folds.{list_any_at}
 use Rattle.schema_check.specs.Counts.{count}
 use Rattle.schema_check.specs.Limits.{IsCount}
-use Rattle.schema_check.specs.Rules.{is_between, is_one_to_64}
+use Rattle.schema_check.specs.Rules.{is_between}
 use Rattle.schema_check.specs.Names.{same_text}
 
 -- a number that isn't below 0 is the count that it stands for
