@@ -96,7 +96,7 @@ pub LiesIn-found : (table : TableRules) (last ordinal rows insert : ℕ) → row
     LiesIn table last ordinal ((ordinal - rows) / insert + 1)
 LiesIn-found table last ordinal rows insert rows_is insert_is born later =
     let at : (ordinal - rows) / insert + 1 ≡ (ordinal - table.rows) / table.insert + 1 =
-        ap (λ (r : ℕ). (ordinal - r) / insert + 1) rows_is ∙ ap (λ (i : ℕ). (ordinal - table.rows) / i + 1) insert_is in
+    ap (λ (r : ℕ). (ordinal - r) / insert + 1) rows_is ∙ ap (λ (i : ℕ). (ordinal - table.rows) / i + 1) insert_is in
     subst (LiesIn table last ordinal) (sym at) (LiesIn-later table last ordinal born (omega (arith, rows_is)))
 
 pub birth-found : (table : TableRules) (ordinal rows insert : ℕ) → rows ≡ table.rows → insert ≡ table.insert → rows ≤ ordinal →
@@ -109,7 +109,7 @@ birth-found table ordinal rows insert rows_is insert_is later =
 pub LiesIn-birth : (table : TableRules) (last ordinal : ℕ) → ordinal < born_count table last → LiesIn table last ordinal (birth table ordinal)
 LiesIn-birth table last ordinal born =
     elim (cases_lt ordinal table.rows) [
-      inl early ↦ subst (LiesIn table last ordinal) (sym (birth-early table ordinal early)) (LiesIn-early table last ordinal early)
+      | inl early ↦ subst (LiesIn table last ordinal) (sym (birth-early table ordinal early)) (LiesIn-early table last ordinal early)
       | inr later ↦ subst (LiesIn table last ordinal) (sym (birth-later table ordinal later)) (LiesIn-later table last ordinal born later)
     ]
 

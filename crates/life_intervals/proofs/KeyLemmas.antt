@@ -58,7 +58,7 @@ KeyLiesIn-birth rules place orders last ordinal born =
     let unit : ℕ = birth table ordinal in
     let lies : LiesIn table last ordinal unit = LiesIn-birth table last ordinal born in
     let bijection : IsBijectionBelow (cohort_size table unit) (place_in_cohort rules place unit) =
-        IsBijectionBelow-key_place rules place orders (is_scrambled table) unit (omega (arith, lies.in_cohort)) in
+    IsBijectionBelow-key_place rules place orders (is_scrambled table) unit (omega (arith, lies.in_cohort)) in
     record {
       index = lies.index;
       in_units = lies.in_units;
@@ -101,13 +101,13 @@ key_of-one_to_one rules place orders last i j born_i born_j same =
     let table : TableRules = table_at rules place in
     let unit : ℕ = birth table i in
     let alike : birth table j ≡ unit =
-        sym (birth-key_of rules place orders last j born_j) ∙ ap (λ (key : ℕ). birth table (key - key_base table)) (sym same) ∙ birth-key_of rules place orders last i born_i in
+    sym (birth-key_of rules place orders last j born_j) ∙ ap (λ (key : ℕ). birth table (key - key_base table)) (sym same) ∙ birth-key_of rules place orders last i born_i in
     let lies_i : KeyLiesIn rules place last i unit = KeyLiesIn-birth rules place orders last i born_i in
     let lies_j : KeyLiesIn rules place last j unit = subst (KeyLiesIn rules place last j) alike (KeyLiesIn-birth rules place orders last j born_j) in
     let bijection : IsBijectionBelow (cohort_size table unit) (place_in_cohort rules place unit) =
-        IsBijectionBelow-key_place rules place orders (is_scrambled table) unit (omega (arith, lies_i.in_cohort)) in
+    IsBijectionBelow-key_place rules place orders (is_scrambled table) unit (omega (arith, lies_i.in_cohort)) in
     let places : place_in_cohort rules place unit lies_i.index ≡ place_in_cohort rules place unit lies_j.index =
-        omega (arith, lies_i.key, lies_j.key, same) in
+    omega (arith, lies_i.key, lies_j.key, same) in
     let indices : lies_i.index ≡ lies_j.index = bijection.one_to_one lies_i.index lies_j.index lies_i.in_cohort lies_j.in_cohort places in
     omega (arith, lies_i.is, lies_j.is, indices)
 
@@ -118,10 +118,10 @@ pub row_of_key-found : (rules : Rules) (place : ℕ) → OrdersCohorts rules pla
 row_of_key-found rules place orders last ordinal key unit first index born has unit_is first_is below index_is =
     let table : TableRules = table_at rules place in
     let alike : birth table ordinal ≡ unit =
-        sym (birth-key_of rules place orders last ordinal born) ∙ ap (λ (k : ℕ). birth table (k - key_base table)) has ∙ sym unit_is in
+    sym (birth-key_of rules place orders last ordinal born) ∙ ap (λ (k : ℕ). birth table (k - key_base table)) has ∙ sym unit_is in
     let lies : KeyLiesIn rules place last ordinal unit = subst (KeyLiesIn rules place last ordinal) alike (KeyLiesIn-birth rules place orders last ordinal born) in
     let bijection : IsBijectionBelow (cohort_size table unit) (place_in_cohort rules place unit) =
-        IsBijectionBelow-key_place rules place orders (is_scrambled table) unit (omega (arith, below)) in
+    IsBijectionBelow-key_place rules place orders (is_scrambled table) unit (omega (arith, below)) in
     let same : place_in_cohort rules place unit index ≡ place_in_cohort rules place unit lies.index = omega (arith, index_is, lies.key, has, first_is) in
     let indices : index ≡ lies.index = bijection.one_to_one index lies.index below lies.in_cohort same in
     omega (arith, lies.is, indices, first_is)

@@ -75,4 +75,3 @@ pub fn rows_are_the_cohorts()
     ensures { (rules : Rules) (place unit : ℕ) →
         rows_at rules place unit ≡ flat_map (cohort (table_at rules place)) (range_with_len 0 (unit + 1)) }
 {}
-
