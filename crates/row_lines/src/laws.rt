@@ -7,10 +7,10 @@ ghost use Rattle.std.specs.Prelude.{◌≡◌, ℕ, ◌+◌, ◌≤◌, ◌++◌
 ghost use Rattle.std.specs.List.{range_with_len};
 ghost use Rattle.life_intervals.specs.Cohorts.{born_count, cohort_size};
 ghost use Rattle.life_intervals.specs.Intervals.{row_of};
-ghost use Rattle.life_intervals.specs.Keys.{key_number};
+ghost use Rattle.life_intervals.specs.Keys.{is_scrambled, key_base, key_number};
 ghost use Rattle.life_intervals.specs.Rows.{new_row};
 ghost use Rattle.life_intervals.specs.Rules.{Rules, TableRules, born_column, key_column, table_at};
-ghost use Rattle.row_lines.specs.Lines.{cohort_text, field, first_lines, line, table_text, text_before};
+ghost use Rattle.row_lines.specs.Lines.{cohort_text, field, field_text, first_lines, key_line_of, line, table_text, text_before};
 ghost use Rattle.row_lines.specs.Worked.{one, pairs};
 
 /// The text of a table is the lines of the ordinals born by the unit.
@@ -76,6 +76,14 @@ pub fn fields_of_a_new_row()
         ≡ Some (decimal (key_number rules place table base scramble unit index)) }
     ensures born { (rules : Rules) (place : ℕ) (table : TableRules) (unit index : ℕ) →
         field rules place table (new_row table unit index) born_column ≡ Some (decimal unit) }
+{}
+
+/// The key line of a row is the key's field, as it is written, and a line feed.
+pub fn key_line_is_the_key_field()
+    ensures { (rules : Rules) (place ordinal : ℕ) →
+        key_line_of rules place ordinal
+        ≡ field_text (field rules place (table_at rules place) (row_of (table_at rules place) ordinal)
+        (key_column (key_base (table_at rules place)) (is_scrambled (table_at rules place)))) ++ codes "\n" }
 {}
 
 /// Texts worked out by hand: a row at each unit; scrambled keys in cohorts of two, none at unit 0;
