@@ -1,5 +1,5 @@
 -- What the definitions come to for what is built.
-use Rattle.std.proofs.Common.{◌≡◌, ℕ, zero, suc, ◌+◌, max, Bool, true, false, ◌||◌, List, [], ◌∷◌, ◌++◌, map, length, get_or, sum, sum_by, Option, Some, None, is_some, refl, sym, ap, ◌∙◌, arith, slice_index}
+use Rattle.std.proofs.Common.{◌≤◌, ◌≡◌, ℕ, zero, suc, ◌+◌, max, Bool, true, false, ◌||◌, List, [], ◌∷◌, ◌++◌, map, length, get_or, sum, sum_by, Option, Some, None, is_some, refl, sym, ap, ◌∙◌, arith, slice_index}
 use Rattle.std.specs.List.{list_any, fold}
 use Rattle.std.specs.Option.{option_map}
 use Rattle.std.proofs.Math.ListN as N
@@ -16,7 +16,7 @@ use Rattle.schema_model.specs.declared.column.Kind.{Kind}
 use Rattle.schema_model.specs.declared.column.Kind.TheVariants.{Key, Born}
 use Rattle.schema_check.specs.declared.facts.TableFacts.{TableFacts}
 use Rattle.schema_check.specs.Unbuilt.{is_unbuilt, is_bar, is_unbuilt_table, is_unbuilt_column, is_unbuilt_kind}
-use Rattle.schema_check.specs.Places.{no_table}
+use Rattle.schema_check.specs.Places.{no_table, table_at}
 use Rattle.schema_check.specs.InTurn.{in_turn, columns_in_turn}
 use Rattle.schema_check.specs.Lives.{lesser_life, life_of_parent, lives_by, sure_life, longest_life}
 use Rattle.schema_check.specs.Costs.{one_if, death_cost_by, death_costs, field_cost, field_costs, cost}
@@ -161,12 +161,15 @@ built_max_line schema built place =
     ap (λ sizes. line_size (get_or sizes place [])) (built_field_sizes schema built)
     ∙ ap line_size (N.get_or-map (λ (table : Table). map (λ (column : Column). built_size column.kind) table.columns) schema.tables place no_table)
 
--- the facts of the tables are those that hold for what is built
+-- the facts of the table at a place are those that hold for what is built
+pub built_facts_at : (schema : Schema) → list_any is_unbuilt_table schema.tables ≡ false → (place : ℕ) → facts_at schema place ≡ built_facts (table_at schema place)
+built_facts_at schema built place =
+    rw (built_sure_life schema built place, built_longest_life schema built place, built_cost schema built place, built_max_line schema built place) refl
+
 pub built_facts_of : (schema : Schema) → list_any is_unbuilt_table schema.tables ≡ false → map built_facts schema.tables ≡ facts_of schema
 built_facts_of schema built =
     fill_by_all (facts_at schema) (map built_facts schema.tables) (length schema.tables) (facts_at schema 0) (length-map schema.tables built_facts)
-    (λ k h. get_or-map built_facts schema.tables k no_table (facts_at schema 0) h
-    ∙ sym (rw (built_sure_life schema built k, built_longest_life schema built k, built_cost schema built k, built_max_line schema built k) refl))
+    (λ k h. get_or-map built_facts schema.tables k no_table (facts_at schema 0) h ∙ sym (built_facts_at schema built k))
 
 -- the reach is the greatest of the lines
 pub built_reach : (schema : Schema) → list_any is_unbuilt_table schema.tables ≡ false → greatest_by (λ fact. fact.max_line) (map built_facts schema.tables) ≡ reach schema
@@ -179,3 +182,18 @@ built_reach schema built =
 -- the tables of a built schema are built
 pub built_tables : (schema : Schema) → is_unbuilt schema ≡ false → list_any is_unbuilt_table schema.tables ≡ false
 built_tables schema h = (or_parts (is_bar schema.delimiter) (list_any is_unbuilt_table schema.tables) h).1
+
+-- the greatest of a number is at least what it began from, and at least that of each item
+greatest_from : {A : Type 0} (number : A → ℕ) (xs : List A) (a : ℕ) → a ≤ fold (λ most x. max most (number x)) a xs
+greatest_from number [] a = omega arith
+greatest_from number (x ∷ xs) a = omega (arith, greatest_from number xs (max a (number x)))
+
+greatest_at : {A : Type 0} (number : A → ℕ) (xs : List A) (a : ℕ) (i : ℕ) (d : A) → number d ≤ a → number (get_or xs i d) ≤ fold (λ most x. max most (number x)) a xs
+greatest_at number [] a i d h = h
+greatest_at number (x ∷ xs) a zero d h = omega (arith, greatest_from number xs (max a (number x)))
+greatest_at number (x ∷ xs) a (suc i) d h = greatest_at number xs (max a (number x)) i d (omega arith)
+
+-- no line is longer than the reach
+pub max_line-reach : (schema : Schema) (place : ℕ) → max_line schema place ≤ reach schema
+unfolding max_line reach
+max_line-reach schema place = greatest_at line_size (field_sizes schema) 0 place [] (omega arith)

@@ -1,17 +1,18 @@
 //! The plan of an accepted schema.
 
-ghost use Rattle.std.specs.Prelude.{◌≡◌, ◌<◌, false, length, IfOk};
+ghost use Rattle.std.specs.Prelude.{◌≡◌, ◌<◌, ◌≤◌, false, length, IfOk};
 ghost use Rattle.std.specs.List.{position};
 ghost use Rattle.schema_check.specs.Counts.{count};
 ghost use Rattle.schema_check.specs.Names.{same_text};
 ghost use Rattle.schema_check.specs.Rules.{IsAccepted};
 ghost use Rattle.schema_check.specs.Unbuilt.{is_unbuilt};
 ghost use Rattle.schema_check.specs.Limits.{IsInLimits};
-ghost use Rattle.schema_check.specs.Places.{table_place};
+ghost use Rattle.schema_check.specs.Places.{table_at, table_place};
 ghost use Rattle.schema_check.specs.Lives.{sure_life, longest_life};
 ghost use Rattle.schema_check.specs.Costs.{cost};
 ghost use Rattle.schema_check.specs.Sizes.{max_line, reach};
 ghost use Rattle.schema_check.specs.Planned.{facts_at};
+ghost use Rattle.schema_check.specs.Built.{built_line, built_facts};
 
 use crate::facts::{TableFacts, facts_of_tables, greatest_line};
 use schema_model::{Schema, Table};
@@ -116,7 +117,9 @@ impl Plan {
     /// The greatest length of a line of a table, in bytes, with its line feed.
     pub fn max_line(&self, table: u32) -> u64
         requires { table < length self.now.tables }
-        ensures { result ≡ max_line self.now table }
+        ensures size { result ≡ max_line self.now table }
+        ensures built { result ≡ built_line (table_at self.now table) }
+        ensures within_reach { result ≤ reach self.now }
     {
         self.facts_of(table).max_line
     }
@@ -130,7 +133,9 @@ impl Plan {
 
     fn facts_of(&self, table: u32) -> &TableFacts
         requires { table < length self.now.tables }
-        ensures { result.now ≡ facts_at self.now table }
+        ensures facts { result.now ≡ facts_at self.now table }
+        ensures built { result.now ≡ built_facts (table_at self.now table) }
+        ensures within_reach { result.now.max_line ≤ reach self.now }
     {
         &self.facts[table as usize]
     }
