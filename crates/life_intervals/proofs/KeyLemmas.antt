@@ -1,5 +1,5 @@
 -- Keys: each row has one of its own, and the cohorts' keys stand one after the other.
-use Rattle.std.proofs.Common.{◌≡◌, ◌<◌, ◌≤◌, ℕ, zero, suc, ◌+◌, ◌-◌, Bool, true, false, refl, ap, sym, subst, ◌∙◌, arith}
+use Rattle.std.proofs.Common.{◌≡◌, ◌<◌, ◌≤◌, ℕ, ◌+◌, ◌-◌, Bool, true, false, refl, ap, sym, subst, ◌∙◌, arith}
 use Rattle.philox_seeds.specs.SeedTree as seeds
 use Rattle.id_permutation.specs.Walk.{IsBijectionBelow}
 use Rattle.id_permutation.proofs.PlacementLaws.{IsBijectionBelow-place}

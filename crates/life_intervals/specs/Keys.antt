@@ -1,8 +1,8 @@
 -- The keys of a table's rows.
-use Rattle.std.specs.Prelude.{ℕ, ◌+◌, ◌<◌, Bool, false, if◌then◌else◌, List, [], ◌∷◌}
+use Rattle.std.specs.Prelude.{ℕ, ◌+◌, ◌<◌, Bool, false, if◌then◌else◌, List, ◌∷◌}
 use Rattle.philox_seeds.specs.SeedTree as seeds
 use Rattle.id_permutation.specs.Walk.{IsBijectionBelow}
-use Rattle.life_intervals.specs.Rules.{ColumnRule, key_column, born_column, TableRules, Rules, table_at}
+use Rattle.life_intervals.specs.Rules.{ColumnRule, key_column, TableRules, Rules, table_at}
 use Rattle.life_intervals.specs.Cohorts.{cohort_size, first_ordinal}
 use Rattle.life_intervals.specs.Rows.{index_in_cohort}
 use Rattle.life_intervals.specs.Intervals.{row_of}

@@ -1,10 +1,10 @@
-use Rattle.std.proofs.Common.{◌≡◌, ◌<◌, ◌≤◌, ◌+◌, ◌-◌, ◌*◌, ◌/◌, ℕ, ap, arith, sym, subst, ◌∙◌}
+use Rattle.std.proofs.Common.{◌≡◌, ◌<◌, ◌+◌, ◌-◌, ◌*◌, arith, sym}
 use Rattle.std.proofs.Math.Nat.{div-le_self}
 use Rattle.schema_check.specs.Counts.{count}
-use Rattle.life_intervals.specs.Cohorts.{born_count, first_ordinal}
+use Rattle.life_intervals.specs.Cohorts.{born_count}
 use Rattle.life_intervals.specs.Rules.{TableRules}
 use Rattle.life_intervals.specs.SchemaRules.{rules_of}
-use Rattle.life_intervals.proofs.CohortLemmas.{first_ordinal-add_one, LiesIn, LiesIn-found, birth-early, birth-found, some_insert}
+use Rattle.life_intervals.proofs.CohortLemmas.{first_ordinal-add_one, LiesIn-found, birth-early, birth-found, some_insert}
 use Rattle.life_intervals.proofs.births.birth.Goals as goal
 
 pub nonzero_div-result : goal.nonzero_div-result

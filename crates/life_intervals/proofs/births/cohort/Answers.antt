@@ -1,4 +1,4 @@
-use Rattle.std.proofs.Common.{◌≡◌, ◌+◌, ◌-◌, ap, arith, sym, ◌∙◌}
+use Rattle.std.proofs.Common.{◌≡◌, ◌+◌, ◌-◌, ap, arith, ◌∙◌}
 use Rattle.life_intervals.specs.Cohorts.{first_ordinal}
 use Rattle.life_intervals.specs.SchemaRules.{rules_of}
 use Rattle.life_intervals.proofs.CohortLemmas.{first_ordinal-add_one}

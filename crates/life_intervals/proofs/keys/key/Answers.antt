@@ -1,9 +1,8 @@
-use Rattle.std.proofs.Common.{◌≡◌, ◌<◌, ◌≤◌, ◌+◌, ◌-◌, ℕ, ap, arith, sym, subst, ◌∙◌}
+use Rattle.std.proofs.Common.{◌<◌, ◌≤◌, ◌+◌, ◌-◌, ℕ, ap, sym, subst, ◌∙◌}
 use Rattle.schema_check.specs.Counts.{count}
 use Rattle.life_intervals.specs.CohortKeys.{CohortOf}
-use Rattle.life_intervals.specs.Rules.{Rules}
 use Rattle.life_intervals.specs.SchemaRules.{rules_of, schema_rules, rows_in_all}
-use Rattle.life_intervals.specs.Keys.{key_in_cohort, key_of, key_base}
+use Rattle.life_intervals.specs.Keys.{key_in_cohort, key_base}
 use Rattle.life_intervals.proofs.KeyLemmas.{OrdersCohorts-schema_rules, key_of-found, key_of-from_base, key_of-within, key_of-one_to_one}
 use Rattle.life_intervals.proofs.keys.key.Goals as goal
 

@@ -1,9 +1,9 @@
-use Rattle.std.proofs.Common.{◌≡◌, ◌≢◌, ◌<◌, ◌≤◌, ◌+◌, ◌-◌, ℕ, Option, Some, None, true, false, refl, ap, arith, sym, subst, ◌∙◌}
+use Rattle.std.proofs.Common.{◌≡◌, ◌≢◌, ◌<◌, ◌≤◌, ◌+◌, ◌-◌, ℕ, Some, refl, ap, arith, sym, subst, ◌∙◌}
 use Rattle.schema_check.specs.Counts.{count}
 use Rattle.life_intervals.specs.CohortKeys.{CohortOf}
 use Rattle.life_intervals.specs.Cohorts.{born_count, cohort_size}
 use Rattle.life_intervals.specs.Intervals.{birth}
-use Rattle.life_intervals.specs.Rules.{Rules, TableRules, table_at}
+use Rattle.life_intervals.specs.Rules.{Rules, table_at}
 use Rattle.life_intervals.specs.SchemaRules.{rules_of, schema_rules, rows_in_all}
 use Rattle.life_intervals.specs.Keys.{key_base, key_of, place_in_cohort, OrdersCohorts}
 use Rattle.life_intervals.proofs.CohortLemmas.{first_ordinal-within}
