@@ -76,11 +76,11 @@ pub max_line-kinds : (rules : TableRules) (schema : Schema) (place : ℕ) (table
 unfolding max_line
 max_line-kinds rules schema place table found kinds =
     let at = in_turn-at (λ tables (table : Table). in_turn (λ given (column : Column). max 2 (kind_size schema tables table given column.kind)) [] table.columns) [] schema.tables place [] table
-        (slice_get_within schema.tables place table found) in
+    (slice_get_within schema.tables place table found) in
     ap line_size (at.1
-        ∙ ap (λ (t : Table). in_turn (λ given (column : Column). max 2 (kind_size schema at.0 t given column.kind)) [] t.columns) (get_or_from_slice_get schema.tables place table table found)
-        ∙ in_turn-map (λ given (column : Column). max 2 (kind_size schema at.0 table given column.kind)) (λ (column : Column). field_room column.kind) table.columns
-        (λ k e below given. size_of-kind rules schema at.0 table given (get_or table.columns k e).kind (kinds k e below)) [])
+    ∙ ap (λ (t : Table). in_turn (λ given (column : Column). max 2 (kind_size schema at.0 t given column.kind)) [] t.columns) (get_or_from_slice_get schema.tables place table table found)
+    ∙ in_turn-map (λ given (column : Column). max 2 (kind_size schema at.0 table given column.kind)) (λ (column : Column). field_room column.kind) table.columns
+    (λ k e below given. size_of-kind rules schema at.0 table given (get_or table.columns k e).kind (kinds k e below)) [])
     ∙ omega (arith, sum-map (λ (column : Column). field_room column.kind) table.columns, length-map table.columns (λ (column : Column). field_room column.kind), sum_by-and_one (λ (column : Column). field_room column.kind) table.columns)
 
 -- the fields of a line take no more permutations than the line may
@@ -89,10 +89,10 @@ pub line_steps-kinds : (rules : TableRules) (schema : Schema) (place : ℕ) (tab
 unfolding cost
 line_steps-kinds rules schema place table found kinds =
     let at = in_turn-at (λ tables (table : Table). in_turn (λ given (column : Column). field_cost schema tables table given column.kind) [] table.columns) [] schema.tables place [] table
-        (slice_get_within schema.tables place table found) in
+    (slice_get_within schema.tables place table found) in
     let fields : get_or (field_costs schema) place [] ≡ map (λ (column : Column). field_steps column.kind) table.columns =
-        at.1
-        ∙ ap (λ (t : Table). in_turn (λ given (column : Column). field_cost schema at.0 t given column.kind) [] t.columns) (get_or_from_slice_get schema.tables place table table found)
-        ∙ in_turn-map (λ given (column : Column). field_cost schema at.0 table given column.kind) (λ (column : Column). field_steps column.kind) table.columns
-        (λ k e below given. steps_of-kind rules schema at.0 table given (get_or table.columns k e).kind (kinds k e below)) [] in
+    at.1
+    ∙ ap (λ (t : Table). in_turn (λ given (column : Column). field_cost schema at.0 t given column.kind) [] t.columns) (get_or_from_slice_get schema.tables place table table found)
+    ∙ in_turn-map (λ given (column : Column). field_cost schema at.0 table given column.kind) (λ (column : Column). field_steps column.kind) table.columns
+    (λ k e below given. steps_of-kind rules schema at.0 table given (get_or table.columns k e).kind (kinds k e below)) [] in
     omega (arith, ap sum fields, sum-map (λ (column : Column). field_steps column.kind) table.columns)

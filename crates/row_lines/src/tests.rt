@@ -16,7 +16,12 @@ use std::sync::ledger::{Blank, Ledger};
 use std::test::Fail;
 use step_count::Steps;
 
-fn with_column(alloc: Global, columns: Columns, name: &str, kind: Kind) -> Result<Columns, AllocError> {
+fn with_column(
+    alloc: Global,
+    columns: Columns,
+    name: &str,
+    kind: Kind,
+) -> Result<Columns, AllocError> {
     let mut columns = columns;
     let column = Column {
         name: Text::of(alloc, name).map_err(|_| AllocError)?,
@@ -101,7 +106,11 @@ fn page_of(alloc: Global, room: usize) -> Result<PageBuf, Fail>
 fn lines_and_keys(rt: HostRuntime) -> Result<(), Fail> {
     let alloc = rt.alloc();
     let one = plan(alloc, 1, 1, 2)?;
-    let lines = [(0, "1\t0\n", "1\n"), (1, "2\t1\n", "2\n"), (2, "3\t2\n", "3\n")];
+    let lines = [
+        (0, "1\t0\n", "1\n"),
+        (1, "2\t1\n", "2\n"),
+        (2, "3\t2\n", "3\n"),
+    ];
     assert_lines::<Brand>(&rt, alloc, &one, &lines, Blank::new(1))?;
     let large = plan(alloc, 1 << 40, 0, 0)?;
     let lines = [(1_099_511_627_775, "1099511627776\t0\n", "1099511627776\n")];

@@ -22,7 +22,7 @@ pub put_delimiter-requires : goal.put_delimiter-requires
 put_delimiter-requires g c =
     let columns : List Column = c.as_slice-columns.result.now in
     let are : AreColumnsOf c.args.self.now columns =
-        AreColumnsOf-table c.args.self.now _ c.self.inside.table.now _ _ c.self.view_is c.self.invariant columns c.as_slice-columns.ensures in
+    AreColumnsOf-table c.args.self.now _ c.self.inside.table.now _ _ c.self.view_is c.self.invariant columns c.as_slice-columns.ensures in
     omega (
       arith,
       c.loop-number.invariant.short,
@@ -36,7 +36,7 @@ pub put_field-requires-clause-kind : goal.put_field-requires-clause-kind
 put_field-requires-clause-kind g c =
     let columns : List Column = c.as_slice-columns.result.now in
     let are : AreColumnsOf c.args.self.now columns =
-        AreColumnsOf-table c.args.self.now _ c.self.inside.table.now _ _ c.self.view_is c.self.invariant columns c.as_slice-columns.ensures in
+    AreColumnsOf-table c.args.self.now _ c.self.inside.table.now _ _ c.self.view_is c.self.invariant columns c.as_slice-columns.ensures in
     subst (λ (column : Column). IsKindOf (table_of c.args.self.now) column.kind) (sym c.index-columns-number.is)
     (are.kinds c.loop-number.number c.index-columns-number.result c.loop-number-test.true)
 
@@ -45,7 +45,7 @@ put_field-requires-clause-room g c =
     let columns : List Column = c.as_slice-columns.result.now in
     let n : ℕ = c.loop-number.number in
     let are : AreColumnsOf c.args.self.now columns =
-        AreColumnsOf-table c.args.self.now _ c.self.inside.table.now _ _ c.self.view_is c.self.invariant columns c.as_slice-columns.ensures in
+    AreColumnsOf-table c.args.self.now _ c.self.inside.table.now _ _ c.self.view_is c.self.invariant columns c.as_slice-columns.ensures in
     omega (
       arith,
       c.loop-number.invariant.short,
@@ -69,7 +69,7 @@ loop-number-preserved g c =
     let own : List ℕ = text_in_cohort c.args.self.now c.args.index column.kind in
     let delimiter : ℕ = (schema_rules c.args.self.now.schema).delimiter in
     let delimiter_is : c.self.inside.delimiter ≡ delimiter =
-        c.self.invariant.delimiter ∙ ap (λ (keys : CohortOf). (schema_rules keys.schema).delimiter) c.self.view_is in
+    c.self.invariant.delimiter ∙ ap (λ (keys : CohortOf). (schema_rules keys.schema).delimiter) c.self.view_is in
     record {
       text = ap (λ (page : Page). page.text) c.put_field.ensures.text
           ∙ ap (λ (page : Page). page.text ++ own) c.put_delimiter.ensures
@@ -78,29 +78,29 @@ loop-number-preserved g c =
           c.loop-number-test.true c.index-columns-number.is c.loop-number.invariant.text;
       room = ap (λ (page : Page). page.room) c.put_field.ensures.text ∙ ap (λ (page : Page). page.room) c.put_delimiter.ensures ∙ c.loop-number.invariant.room;
       short = omega (
-            arith,
-            c.loop-number.invariant.short,
-            c.put_field.ensures.size,
-            ap (λ (page : Page). length page.text) c.put_delimiter.ensures,
-            length-append c.loop-number.buf.text between,
-            length-delimiter n c.self.inside.delimiter,
-            sum_by_more room_of columns n column c.loop-number-test.true,
-            ap room_of c.index-columns-number.is,
-          );
+        arith,
+        c.loop-number.invariant.short,
+        c.put_field.ensures.size,
+        ap (λ (page : Page). length page.text) c.put_delimiter.ensures,
+        length-append c.loop-number.buf.text between,
+        length-delimiter n c.self.inside.delimiter,
+        sum_by_more room_of columns n column c.loop-number-test.true,
+        ap room_of c.index-columns-number.is,
+      );
       steps = omega (
-            arith,
-            c.loop-number.invariant.steps,
-            c.put_field.ensures.steps,
-            sum_by_more cost_of columns n column c.loop-number-test.true,
-            ap cost_of c.index-columns-number.is,
-          );
+        arith,
+        c.loop-number.invariant.steps,
+        c.put_field.ensures.steps,
+        sum_by_more cost_of columns n column c.loop-number-test.true,
+        ap cost_of c.index-columns-number.is,
+      );
     }
 
 pub put-requires : goal.put-requires
 put-requires g c =
     let columns : List Column = c.as_slice-columns.result.now in
     let are : AreColumnsOf c.args.self.now columns =
-        AreColumnsOf-table c.args.self.now _ c.self.inside.table.now _ _ c.self.view_is c.self.invariant columns c.as_slice-columns.ensures in
+    AreColumnsOf-table c.args.self.now _ c.self.inside.table.now _ _ c.self.view_is c.self.invariant columns c.as_slice-columns.ensures in
     omega (
       arith,
       are.some,
@@ -115,7 +115,7 @@ pub returns-clause-line : goal.returns-clause-line
 returns-clause-line g c =
     let columns : List Column = c.as_slice-columns.result.now in
     let are : AreColumnsOf c.args.self.now columns =
-        AreColumnsOf-table c.args.self.now _ c.self.inside.table.now _ _ c.self.view_is c.self.invariant columns c.as_slice-columns.ensures in
+    AreColumnsOf-table c.args.self.now _ c.self.inside.table.now _ _ c.self.view_is c.self.invariant columns c.as_slice-columns.ensures in
     let joined : List Column → List ℕ = λ cs. join_with_byte (schema_rules c.args.self.now.schema).delimiter (texts_of c.args.self.now c.args.index cs) in
     c.put.ensures
     ∙ ap (λ (room : ℕ). record { text = c.loop-number.buf.text ++ codes "\n"; room = room }) c.loop-number.invariant.room
@@ -129,7 +129,7 @@ pub returns-clause-size : goal.returns-clause-size
 returns-clause-size g c =
     let columns : List Column = c.as_slice-columns.result.now in
     let are : AreColumnsOf c.args.self.now columns =
-        AreColumnsOf-table c.args.self.now _ c.self.inside.table.now _ _ c.self.view_is c.self.invariant columns c.as_slice-columns.ensures in
+    AreColumnsOf-table c.args.self.now _ c.self.inside.table.now _ _ c.self.view_is c.self.invariant columns c.as_slice-columns.ensures in
     omega (
       arith,
       are.some,
@@ -146,7 +146,7 @@ pub returns-clause-steps : goal.returns-clause-steps
 returns-clause-steps g c =
     let columns : List Column = c.as_slice-columns.result.now in
     let are : AreColumnsOf c.args.self.now columns =
-        AreColumnsOf-table c.args.self.now _ c.self.inside.table.now _ _ c.self.view_is c.self.invariant columns c.as_slice-columns.ensures in
+    AreColumnsOf-table c.args.self.now _ c.self.inside.table.now _ _ c.self.view_is c.self.invariant columns c.as_slice-columns.ensures in
     omega (
       arith,
       c.loop-number.invariant.steps,
