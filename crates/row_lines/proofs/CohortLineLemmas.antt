@@ -44,11 +44,11 @@ pub AreColumnsOf-table : (cohort keys : CohortOf) (table : Table) (byte birth : 
     AreColumnsOf cohort columns
 AreColumnsOf-table cohort keys table byte birth same known columns is =
     let lines : AreLinesOf cohort table byte birth = subst (λ (k : CohortOf). AreLinesOf k table byte birth) same known in
-    let kinds : AreKindsOf (table_of cohort) table.columns = AreKindsOf-table table (table_of cohort) lines.rules lines.limits.kinds in
+    let kinds : AreKindsOf (table_of cohort) table.columns = AreKindsOf-table table (table_of cohort) lines.rules lines.limits.key_first in
     let all : AreColumnsOf cohort table.columns = record {
       kinds = kinds;
       rules = sym (ap (λ (r : TableRules). r.columns) lines.rules);
-      some = some_column table.columns lines.limits.kinds;
+      some = some_column table.columns lines.limits.key_first;
       bytes = max_line-kinds (table_of cohort) cohort.schema cohort.table table lines.found kinds;
       steps = line_steps-kinds (table_of cohort) cohort.schema cohort.table table lines.found kinds;
     } in

@@ -10,7 +10,7 @@ use Rattle.schema_model.specs.declared.table.Table.{Table}
 use Rattle.schema_model.specs.declared.column.Column.{Column}
 use Rattle.schema_model.specs.declared.column.Kind.{Kind}
 use Rattle.schema_model.specs.declared.column.Kind.TheVariants.{Key, Born}
-use Rattle.schema_check.specs.Costs.{cost, death_costs, field_cost, field_costs, update_cost}
+use Rattle.schema_check.specs.Costs.{cost, death_costs, field_cost, field_costs}
 use Rattle.schema_check.specs.Counts.{count}
 use Rattle.schema_check.specs.Limits.{IsKeyThenBorn}
 use Rattle.schema_check.specs.InTurn.{in_turn}
