@@ -11,7 +11,7 @@ ghost use Rattle.life_intervals.specs.SchemaRules.{rows_in_all, rules_of, schema
 
 use crate::births::{birth, born, cohort};
 use crate::cohorts::Cohort;
-use crate::tables::{KeyRule, key_rule, table_of};
+use crate::tables::{KeyRule, key_rule};
 use id_permutation::Shuffle;
 use philox_seeds::{KEY_COLUMN, permutation_seed};
 use schema_check::Plan;
@@ -47,7 +47,7 @@ impl<'a> CohortKeys<'a> {
         requires unit { unit ≤ count plan.now.units }
         ensures { result ≡ record { schema = plan.now; table = table; unit = unit } }
     {
-        let KeyRule { base, scramble } = key_rule(table_of(plan, table));
+        let KeyRule { base, scramble } = key_rule(plan, table);
         let cohort = cohort(plan, table, unit);
         let order = if scramble && cohort.size > 0 {
             Some(key_order(plan, table, unit, cohort.size))
@@ -129,7 +129,7 @@ pub fn row_of_key<L: Ledger>(plan: &Plan, table: u32, key: u64, steps: &mut Step
     ensures none { IsNone result ↔ ((j : ℕ) → j < rows_in_all plan.now table → key_of (schema_rules plan.now) table j ≢ key) }
     ensures steps { steps.new ≤ steps.old + one_if (is_scrambled (rules_of plan.now table)) }
 {
-    let base = key_rule(table_of(plan, table)).base;
+    let base = key_rule(plan, table).base;
     if key < base || key - base >= born(plan, table, plan.units()) {
         return None;
     }

@@ -2,7 +2,7 @@
 
 ghost use Rattle.std.specs.Prelude.{◌≡◌, ◌<◌, ◌≤◌, ◌+◌, ◌*◌, ◌^◌, Some, length, slice_get};
 ghost use Rattle.schema_check.specs.Counts.{count};
-ghost use Rattle.schema_check.specs.Limits.{IsKeyThenBorn, IsTableInLimits};
+ghost use Rattle.schema_check.specs.Limits.{IsTableInLimits};
 ghost use Rattle.life_intervals.specs.Keys.{key_base, is_scrambled};
 ghost use Rattle.life_intervals.specs.SchemaRules.{rules_of, table_rules};
 
@@ -27,13 +27,13 @@ pub(crate) struct KeyRule {
 }
 
 /// The rule of a table's keys, which its first column has.
-pub(crate) fn key_rule(table: &Table) -> KeyRule
-    requires { IsKeyThenBorn table.now.columns }
-    ensures base { result.base ≡ key_base (table_rules table.now) }
-    ensures scramble { result.scramble ≡ is_scrambled (table_rules table.now) }
+pub(crate) fn key_rule(plan: &Plan, table: u32) -> KeyRule
+    requires { table < length plan.now.tables }
+    ensures base { result.base ≡ key_base (rules_of plan.now table) }
+    ensures scramble { result.scramble ≡ is_scrambled (rules_of plan.now table) }
     ensures limit { result.base ≤ 2 ^ 62 }
 {
-    match &table.columns.get(0).kind {
+    match &table_of(plan, table).columns.get(0).kind {
         Kind::Key { base, scramble } => KeyRule {
             base: *base as u64,
             scramble: *scramble,

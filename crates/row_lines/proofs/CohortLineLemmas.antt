@@ -1,12 +1,10 @@
 -- The line of a row of a cohort, field by field.
-use Rattle.std.proofs.Common.{◌≡◌, ◌<◌, ◌≤◌, ℕ, zero, suc, ◌+◌, ◌==◌, if◌then◌else◌, List, [], ◌∷◌, ◌++◌, map, min, length, get_or, take, sum_by, codes, refl, ap, sym, subst, ◌∙◌, arith, length-append}
+use Rattle.std.proofs.Common.{◌≡◌, ◌≤◌, ℕ, zero, suc, ◌+◌, ◌==◌, if◌then◌else◌, List, [], ◌∷◌, ◌++◌, map, min, length, sum_by, codes, refl, ap, sym, subst, ◌∙◌, arith}
 use Rattle.std.specs.List.{join_with_byte}
 use Rattle.std.proofs.lemmas.Bool.Decides.{nat_tests}
 use Rattle.std.proofs.lemmas.Simd.{map-map}
-use Rattle.std.proofs.lemmas.List.Sums.{sum_by-take-le, sum_by_more, sum_by_more_le}
 use Rattle.schema_model.specs.declared.column.Column.{Column}
 use Rattle.schema_model.specs.declared.table.Table.{Table}
-use Rattle.schema_check.specs.Limits.{IsKeyThenBorn}
 use Rattle.schema_check.specs.Sizes.{max_line}
 use Rattle.life_intervals.specs.CohortKeys.{CohortOf}
 use Rattle.life_intervals.specs.Rows.{new_row}
@@ -15,7 +13,7 @@ use Rattle.life_intervals.specs.SchemaRules.{column_rule, schema_rules}
 use Rattle.row_lines.specs.CohortLines.{AreLinesOf, field_room, field_steps, line_in_cohort, table_of, text_in_cohort}
 use Rattle.row_lines.specs.LineSteps.{line_steps}
 use Rattle.row_lines.specs.Lines.{field, field_text, line}
-use Rattle.row_lines.proofs.CostLemmas.{AreKindsOf, AreKindsOf-table, line_steps-kinds, max_line-kinds}
+use Rattle.row_lines.proofs.CostLemmas.{AreKindsOf, line_steps-kinds, max_line-kinds}
 
 -- the most bytes of some fields, with the byte behind each
 abbrev pub bytes_of : List Column → ℕ
@@ -37,20 +35,16 @@ pub record AreColumnsOf (cohort : CohortOf) (columns : List Column) : Type 0 whe
   pub bytes : max_line cohort.schema cohort.table ≡ bytes_of columns
   pub steps : steps_of columns ≤ line_steps cohort.schema cohort.table
 
-some_column : (columns : List Column) → IsKeyThenBorn columns → 1 ≤ length columns
-some_column columns kinds = omega (arith, ap (λ (cs : List Column). length cs) kinds.are)
-
 pub AreColumnsOf-table : (cohort keys : CohortOf) (table : Table) (byte birth : ℕ) → keys ≡ cohort → AreLinesOf keys table byte birth → (columns : List Column) → columns ≡ table.columns →
     AreColumnsOf cohort columns
 AreColumnsOf-table cohort keys table byte birth same known columns is =
     let lines : AreLinesOf cohort table byte birth = subst (λ (k : CohortOf). AreLinesOf k table byte birth) same known in
-    let kinds : AreKindsOf (table_of cohort) table.columns = AreKindsOf-table table (table_of cohort) lines.rules lines.limits.key_first in
     let all : AreColumnsOf cohort table.columns = record {
-      kinds = kinds;
+      kinds = lines.kinds;
       rules = sym (ap (λ (r : TableRules). r.columns) lines.rules);
-      some = some_column table.columns lines.limits.key_first;
-      bytes = max_line-kinds (table_of cohort) cohort.schema cohort.table table lines.found kinds;
-      steps = line_steps-kinds (table_of cohort) cohort.schema cohort.table table lines.found kinds;
+      some = lines.some;
+      bytes = max_line-kinds (table_of cohort) cohort.schema cohort.table table lines.found lines.kinds;
+      steps = line_steps-kinds (table_of cohort) cohort.schema cohort.table table lines.found lines.kinds;
     } in
     subst (AreColumnsOf cohort) (sym is) all
 

@@ -1,6 +1,6 @@
 -- What the lines of a table of keys and birth units take: bytes and permutations.
-use Rattle.std.proofs.Common.{◌≡◌, ◌<◌, ◌≤◌, ℕ, zero, suc, pos, ◌+◌, ◌-◌, Bool, false, List, [], ◌∷◌, map, length, get_or, sum, sum_by, max, Option, Some, None, refl, ap, sym, subst, ◌∙◌, arith, slice_get, slice_index}
-use Rattle.std.specs.List.{fold, All}
+use Rattle.std.proofs.Common.{◌≡◌, ◌≤◌, ℕ, zero, suc, pos, ◌+◌, Bool, false, List, [], ◌∷◌, map, length, get_or, sum, sum_by, max, Some, refl, ap, sym, subst, ◌∙◌, arith, slice_get}
+use Rattle.std.specs.List.{All}
 use Rattle.std.proofs.lemmas.Option.{get_or_from_slice_get, slice_get_within}
 use Rattle.std.proofs.lemmas.List.{length-map}
 use Rattle.std.proofs.lemmas.List.Folds.{fold-map}
@@ -10,11 +10,10 @@ use Rattle.schema_model.specs.declared.table.Table.{Table}
 use Rattle.schema_model.specs.declared.column.Column.{Column}
 use Rattle.schema_model.specs.declared.column.Kind.{Kind}
 use Rattle.schema_model.specs.declared.column.Kind.TheVariants.{Key, Born}
-use Rattle.schema_check.specs.Costs.{cost, death_costs, field_cost, field_costs}
-use Rattle.schema_check.specs.Counts.{count}
+use Rattle.schema_check.specs.Costs.{cost, field_cost, field_costs}
 use Rattle.schema_check.specs.Limits.{IsKeyThenBorn}
 use Rattle.schema_check.specs.InTurn.{in_turn}
-use Rattle.schema_check.specs.Sizes.{field_sizes, kind_size, line_size, max_line}
+use Rattle.schema_check.specs.Sizes.{kind_size, line_size, max_line}
 use Rattle.life_intervals.specs.Keys.{first_base, first_scrambled}
 use Rattle.life_intervals.specs.Rules.{ColumnRule, key_column, TableRules}
 use Rattle.life_intervals.specs.SchemaRules.{column_rule, table_rules}
@@ -49,6 +48,10 @@ AreKindsOf-table table rules same kinds =
     let is = key_kind_is table.columns kinds in
     subst (AreKindsOf rules) (sym kinds.are)
     (AreKindsOf-cons rules kinds.key kinds.others (IsKindOf-first kinds.key.kind is.0 is.1 rules (map own kinds.others) is.2 columns) kinds.others_born)
+
+-- and there is one
+pub some_column : (columns : List Column) → IsKeyThenBorn columns → 1 ≤ length columns
+some_column columns kinds = omega (arith, ap (λ (cs : List Column). length cs) kinds.are)
 
 sum-map : {A : Type 0} (f : A → ℕ) (xs : List A) → sum (map f xs) ≡ sum_by f xs
 sum-map f xs = fold-map (λ a x. a + x) f 0 xs

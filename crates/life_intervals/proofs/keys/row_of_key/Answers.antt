@@ -28,7 +28,7 @@ no_row g c j born =
     let last : ℕ = count c.args.plan.now.units in
     let orders : OrdersCohorts rules c.args.table = OrdersCohorts-schema_rules c.args.plan.now c.args.table in
     let base_is : c.key_rule-base.result.base ≡ key_base (rules_of c.args.plan.now c.args.table) =
-    c.key_rule-base.ensures.base ∙ ap key_base c.table_of.ensures.rules in
+    c.key_rule-base.ensures.base in
     elim c.then-key-base.branch [
       | then-key-base-via-then-key-base w ↦ no_row_before rules c.args.table c.args.key c.key_rule-base.result.base last j orders base_is w.if-key-base.true born
       | then-key-base-via-else-key-base+then-key-base-2 w ↦
@@ -47,7 +47,7 @@ place_is : (g : _) (c : goal.After-index_of g) → place_in_cohort (schema_rules
     ≡ c.args.key - key_base (rules_of c.args.plan.now c.args.table) - c.cohort-first.result.first
 place_is g c =
     let base_is : c.key_rule-base.result.base ≡ key_base (rules_of c.args.plan.now c.args.table) =
-    c.key_rule-base.ensures.base ∙ ap key_base c.table_of.ensures.rules in
+    c.key_rule-base.ensures.base in
     ap (λ (cohort : CohortOf). place_in_cohort (schema_rules cohort.schema) cohort.table cohort.unit c.index_of.result) (sym c.new.ensures)
     ∙ c.index_of.ensures.has_it
     ∙ ap (λ (base : ℕ). c.args.key - base - c.cohort-first.result.first) base_is
@@ -62,13 +62,13 @@ within g c =
 unit_is : (g : _) (c : goal.After-index_of g) → c.birth-unit.result ≡ birth (rules_of c.args.plan.now c.args.table) (c.args.key - key_base (rules_of c.args.plan.now c.args.table))
 unit_is g c =
     let base_is : c.key_rule-base.result.base ≡ key_base (rules_of c.args.plan.now c.args.table) =
-    c.key_rule-base.ensures.base ∙ ap key_base c.table_of.ensures.rules in
+    c.key_rule-base.ensures.base in
     c.birth-unit.ensures.unit ∙ ap (λ (base : ℕ). birth (rules_of c.args.plan.now c.args.table) (c.args.key - base)) base_is
 
 pub returns-clause-has_it : goal.returns-clause-has_it
 returns-clause-has_it g c =
     let base_is : c.key_rule-base.result.base ≡ key_base (rules_of c.args.plan.now c.args.table) =
-    c.key_rule-base.ensures.base ∙ ap key_base c.table_of.ensures.rules in
+    c.key_rule-base.ensures.base in
     key_of-row (schema_rules c.args.plan.now) c.args.table c.args.key c.birth-unit.result c.cohort-first.result.first c.index_of.result
     c.cohort-first.ensures.first (below g c) (omega (arith, base_is)) (omega (arith, base_is, c.birth-unit.ensures.begun, c.cohort-first.ensures.first)) (place_is g c)
 
@@ -79,3 +79,6 @@ returns-clause-found g c = λ j born same.
 
 pub returns-clause-none : goal.returns-clause-none
 returns-clause-none g c = ((λ none. absurd (cc)), λ no. absurd (no (c.cohort-first.result.first + c.index_of.result) (within g c) (returns-clause-has_it g c)))
+
+pub returns-clause-within : goal.returns-clause-within
+returns-clause-within = within

@@ -1,4 +1,4 @@
-use Rattle.std.proofs.Common.{◌++◌, ◌∷◌, [], ℕ, List, ap, sym, arith, decimal, length, length-append, append_assoc, ◌∙◌, codes}
+use Rattle.std.proofs.Common.{◌++◌, ℕ, List, ap, arith, decimal, length, length-append, append_assoc, ◌∙◌, codes}
 use Rattle.pd_outside.specs.Pages.{Page}
 use Rattle.life_intervals.specs.Keys.{key_of}
 use Rattle.life_intervals.specs.SchemaRules.{schema_rules}

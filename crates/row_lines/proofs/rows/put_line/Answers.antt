@@ -1,4 +1,4 @@
-use Rattle.std.proofs.Common.{◌<◌, ◌≤◌, arith}
+use Rattle.std.proofs.Common.{arith}
 use Rattle.schema_check.specs.Counts.{count}
 use Rattle.life_intervals.specs.SchemaRules.{rules_of}
 use Rattle.life_intervals.proofs.CohortLemmas.{born_count-le}

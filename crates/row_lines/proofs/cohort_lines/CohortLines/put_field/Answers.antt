@@ -1,4 +1,4 @@
-use Rattle.std.proofs.Common.{◌≡◌, ℕ, ap, arith, decimal, length, length-append}
+use Rattle.std.proofs.Common.{ap, arith, decimal, length, length-append}
 use Rattle.pd_outside.specs.Pages.{Page}
 use Rattle.row_lines.specs.CohortLines.{field_room}
 use Rattle.row_lines.proofs.FieldLemmas.{length-decimal-le_20, length-decimal-le_5}

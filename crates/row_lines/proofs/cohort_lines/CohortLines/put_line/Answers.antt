@@ -1,4 +1,4 @@
-use Rattle.std.proofs.Common.{◌≡◌, ◌<◌, ◌≤◌, ◌+◌, ◌==◌, ◌++◌, if◌then◌else◌, [], ◌∷◌, ℕ, List, length, get_or, take, codes, ap, sym, subst, ◌∙◌, arith, length-append}
+use Rattle.std.proofs.Common.{◌≡◌, ◌+◌, ◌==◌, ◌++◌, if◌then◌else◌, [], ◌∷◌, ℕ, List, length, take, codes, ap, sym, subst, ◌∙◌, arith, length-append}
 use Rattle.std.specs.List.{join_with_byte}
 use Rattle.std.proofs.lemmas.List.{append_assoc, take_all}
 use Rattle.std.proofs.lemmas.List.Sums.{sum_by-take-le, sum_by_more, sum_by_more_le}
@@ -7,7 +7,7 @@ use Rattle.life_intervals.specs.CohortKeys.{CohortOf}
 use Rattle.life_intervals.specs.SchemaRules.{schema_rules}
 use Rattle.pd_outside.specs.Pages.{Page}
 use Rattle.row_lines.specs.CohortLines.{IsKindOf, field_room, field_steps, line_in_cohort, table_of, text_in_cohort}
-use Rattle.row_lines.proofs.CohortLineLemmas.{AreColumnsOf, AreColumnsOf-table, bytes_of, steps_of, texts_of, length-delimiter, line_in_cohort-texts}
+use Rattle.row_lines.proofs.CohortLineLemmas.{AreColumnsOf, AreColumnsOf-table, texts_of, length-delimiter, line_in_cohort-texts}
 use Rattle.row_lines.proofs.ListLemmas.{join_with_byte-take_more}
 use Rattle.row_lines.proofs.cohort_lines.CohortLines.put_line.Goals as goal
 
