@@ -1,0 +1,5 @@
+pub mod Ranges
+pub mod ListLemmas
+pub mod CohortLemmas
+pub mod SimulationLemmas
+pub mod KeyLemmas

@@ -1,0 +1,23 @@
+//! When the rows of a table are born, and their keys, of one ordinal at a time and in constant time.
+//!
+//! The rows that are born at one unit are a cohort. A row is named by its ordinal, its place in the order of birth in
+//! its table, or by its index, its place in its cohort; both count from 0. The rules of these numbers stand in
+//! `specs/`, beside the simulation that defines the generated data, lists of rows stepped unit by unit; `laws` has its
+//! laws.
+//!
+//! A table is named by its place in the schema, counted from 0. No call takes memory.
+#![tactic(auto)]
+
+mod births;
+mod cohorts;
+mod keys;
+pub mod laws;
+mod tables;
+
+pub use births::{birth, born, cohort};
+pub use cohorts::Cohort;
+pub use keys::{CohortKeys, key, row_of_key};
+pub use tables::table_of;
+
+#[cfg(test)]
+mod tests;

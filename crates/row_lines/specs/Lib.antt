@@ -1,0 +1,4 @@
+pub mod Lines
+pub mod CohortLines
+pub mod LineSteps
+pub mod Worked

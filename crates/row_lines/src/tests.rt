@@ -1,0 +1,179 @@
+//! Values from outside: small ones worked out by hand, and the checksum of a text that an independent program wrote, in
+//! Python from the rules of cohorts, keys and lines, with no shared code (docs/SECOND_PROGRAM.md).
+
+ghost use Rattle.std.specs.Prelude.{◌≡◌, ℕ, ◌<◌, ◌≤◌, IfOk, length};
+ghost use Rattle.schema_check.specs.Counts.{count};
+
+use super::*;
+use life_intervals::{born, cohort};
+use pd_outside::{Memory, PageBuf};
+use schema_check::{Plan, check, unbuilt};
+use schema_model::{Column, Columns, Delimiter, Kind, Schema, Table, Tables, Text};
+use std::alloc::{AllocError, Global};
+use std::marker::Brand;
+use std::process::Abort;
+use std::sync::ledger::{Blank, Ledger};
+use std::test::Fail;
+use step_count::Steps;
+
+fn with_column(
+    alloc: Global,
+    columns: Columns,
+    name: &str,
+    kind: Kind,
+) -> Result<Columns, AllocError> {
+    let mut columns = columns;
+    let column = Column {
+        name: Text::of(alloc, name).map_err(|_| AllocError)?,
+        kind,
+        changes: false,
+        null: 0,
+    };
+    columns.push(column).map_err(|_| AllocError)?;
+    Ok(columns)
+}
+
+/// The plan of one table with keys from 1 and birth units, with seed 7.
+fn plan(alloc: Global, rows: i64, insert: i64, units: i64) -> Result<Plan, Fail> {
+    let key = Kind::Key {
+        base: 1,
+        scramble: false,
+    };
+    let columns = with_column(alloc, Columns::new(alloc), "id", key)?;
+    let columns = with_column(alloc, columns, "born", Kind::Born)?;
+    let table = Table {
+        name: Text::of(alloc, "t").map_err(|_| AllocError)?,
+        rows,
+        insert,
+        life: None,
+        update: None,
+        columns,
+    };
+    let mut tables = Tables::new(alloc);
+    tables.push(table).map_err(|_| AllocError)?;
+    let schema = Schema {
+        seed: 7,
+        units,
+        delimiter: Delimiter::Tab,
+        tables,
+    };
+    if unbuilt(&schema) {
+        return Err(Fail::from("not built"));
+    }
+    match check(alloc, schema) {
+        Ok(plan) => Ok(plan),
+        Err(fault) => Err(Fail::from(fault)),
+    }
+}
+
+fn assert_lines<L: Ledger>(
+    rt: &impl Abort,
+    alloc: Global,
+    plan: &Plan,
+    lines: &[(u64, &str, &str)],
+    blank: Blank,
+) -> Result<(), Fail>
+    requires name { blank.name ≡ L.name }
+    requires parts { blank.parts ≡ L.parts }
+    requires some { 0 < blank.parts }
+{
+    let mut steps = Steps::<L>::new(blank);
+    assert!(rt; plan.tables() == 1);
+    for (row, line, key_line) in lines {
+        assert!(rt; *row < born(plan, 0, plan.units()));
+        let room = plan.max_line(0) as usize;
+        let mut page = page_of(alloc, room)?;
+        put_line(plan, 0, *row, plan.units(), &mut page, &mut steps);
+        assert!(rt; page.text() == line.as_bytes());
+        let mut page = page_of(alloc, 21)?;
+        put_key(plan, 0, *row, &mut page, &mut steps);
+        assert!(rt; page.text() == key_line.as_bytes());
+    }
+    Ok(())
+}
+
+fn page_of(alloc: Global, room: usize) -> Result<PageBuf, Fail>
+    ensures empty { IfOk result (λ page. length page.text ≡ 0) }
+    ensures room { IfOk result (λ page. page.room ≡ room) }
+{
+    match PageBuf::with_room(alloc, room) {
+        Ok(page) => Ok(page),
+        Err(Memory) => Err(Fail::from("out of memory")),
+    }
+}
+
+#[test]
+fn lines_and_keys(rt: HostRuntime) -> Result<(), Fail> {
+    let alloc = rt.alloc();
+    let one = plan(alloc, 1, 1, 2)?;
+    let lines = [
+        (0, "1\t0\n", "1\n"),
+        (1, "2\t1\n", "2\n"),
+        (2, "3\t2\n", "3\n"),
+    ];
+    assert_lines::<Brand>(&rt, alloc, &one, &lines, Blank::new(1))?;
+    let large = plan(alloc, 1 << 40, 0, 0)?;
+    let lines = [(1_099_511_627_775, "1099511627776\t0\n", "1099511627776\n")];
+    assert_lines::<Brand>(&rt, alloc, &large, &lines, Blank::new(1))?;
+    let long = plan(alloc, 0, 1, 10_000)?;
+    let lines = [(9_999, "10000\t10000\n", "10000\n")];
+    assert_lines::<Brand>(&rt, alloc, &long, &lines, Blank::new(1))
+}
+
+/// A checksum of a text, behind one so far.
+fn checksum(so_far: u64, text: &[u8]) -> u64 {
+    let mut sum = so_far;
+    for byte in text {
+        sum = sum.wrapping_mul(1_000_003).wrapping_add(u64::from(*byte));
+    }
+    sum
+}
+
+/// The checksum of the lines of a cohort, behind one so far.
+fn cohort_checksum<L: Ledger>(
+    alloc: Global,
+    plan: &Plan,
+    unit: u64,
+    so_far: u64,
+    steps: &mut Steps<L>,
+) -> Result<u64, Fail>
+    requires table { 0 < length plan.now.tables }
+    requires unit { unit ≤ count plan.now.units }
+{
+    let mut sum = so_far;
+    let lines = CohortLines::new(plan, 0, unit);
+    let room = plan.max_line(0) as usize;
+    for index in 0..cohort(plan, 0, unit).size {
+        let mut page = page_of(alloc, room)?;
+        lines.put_line(index, &mut page, steps);
+        sum = checksum(sum, page.text());
+    }
+    Ok(sum)
+}
+
+fn text_checksum<L: Ledger>(alloc: Global, plan: &Plan, blank: Blank) -> Result<u64, Fail>
+    requires table { 0 < length plan.now.tables }
+    requires units { 5 ≤ count plan.now.units }
+    requires name { blank.name ≡ L.name }
+    requires parts { blank.parts ≡ L.parts }
+    requires some { 0 < blank.parts }
+{
+    let mut steps = Steps::<L>::new(blank);
+    let mut sum = 0;
+    for unit in 0..6 {
+        sum = cohort_checksum(alloc, plan, unit, sum, &mut steps)?;
+    }
+    Ok(sum)
+}
+
+// The checksum of the Python program's text, of 1,050 lines.
+#[test]
+fn text_of_a_table(rt: HostRuntime) -> Result<(), Fail> {
+    let alloc = rt.alloc();
+    let plan = plan(alloc, 1000, 10, 5)?;
+    assert!(rt; plan.tables() == 1);
+    assert!(rt; plan.units() == 5);
+    let sum = text_checksum::<Brand>(alloc, &plan, Blank::new(1))?;
+    assert_eq!(rt; sum, 9_241_165_838_321_129_305);
+    Ok(())
+}

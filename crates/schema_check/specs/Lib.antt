@@ -1,0 +1,16 @@
+pub mod Counts
+pub mod Names
+pub mod Rule
+pub mod Rules
+pub mod Unbuilt
+pub mod Limits
+pub mod Cohorts
+pub mod Places
+pub mod InTurn
+pub mod Lives
+pub mod Costs
+pub mod Sizes
+pub mod Faults
+pub mod Built
+pub mod Planned
+pub mod Worked

@@ -1,0 +1,22 @@
+//! The rules of a schema, and the plan of an accepted one.
+//!
+//! A schema may be read whole and still make no sense. `check` tries the rules V1 to V25 in their order (V13 first) and
+//! gives either the first one that is broken, at its first place, or a plan: the schema, with what doesn't change from
+//! row to row. V1 to V6 are built; `unbuilt` says of which schemas no table can be made yet.
+#![tactic(auto)]
+
+mod broken;
+mod checker;
+mod facts;
+pub mod laws;
+mod names;
+mod not_built;
+mod plan;
+mod rules;
+
+pub use checker::{CheckFault, check};
+pub use not_built::unbuilt;
+pub use plan::Plan;
+
+#[cfg(test)]
+mod tests;

@@ -1,0 +1,376 @@
+use super::*;
+use schema_model::{Column, Columns, Delimiter, Kind, Life, Schema, Table, Tables, Text};
+use std::alloc::{AllocError, Global};
+use std::test::Fail;
+use std::thread;
+
+/// A column of a test: a key that counts from a base, or units of birth.
+#[derive(Clone, Copy)]
+enum Holds {
+    Key(i64),
+    Born,
+}
+
+use Holds::{Born, Key};
+
+/// The columns of the table One.
+const ONE: [(&str, Holds); 2] = [("id", Key(1)), ("born", Born)];
+
+fn text(alloc: Global, text: &str) -> Result<Text, AllocError> {
+    Text::of(alloc, text).map_err(|_| AllocError)
+}
+
+fn columns(alloc: Global, cases: &[(&str, Holds)]) -> Result<Columns, AllocError> {
+    let mut columns = Columns::new(alloc);
+    for (name, holds) in cases {
+        let kind = match holds {
+            Key(base) => Kind::Key {
+                base: *base,
+                scramble: false,
+            },
+            Born => Kind::Born,
+        };
+        let name = text(alloc, name)?;
+        let column = Column {
+            name,
+            kind,
+            changes: false,
+            null: 0,
+        };
+        columns.push(column).map_err(|_| AllocError)?;
+    }
+    Ok(columns)
+}
+
+fn table(
+    alloc: Global,
+    name: &str,
+    counts: (i64, i64),
+    cases: &[(&str, Holds)],
+) -> Result<Table, AllocError> {
+    let columns = columns(alloc, cases)?;
+    let name = text(alloc, name)?;
+    Ok(Table {
+        name,
+        rows: counts.0,
+        insert: counts.1,
+        life: None,
+        update: None,
+        columns,
+    })
+}
+
+fn schema(alloc: Global, seed: i64, units: i64) -> Schema {
+    Schema {
+        seed,
+        units,
+        delimiter: Delimiter::Tab,
+        tables: Tables::new(alloc),
+    }
+}
+
+/// The schema with one more table.
+fn with_table(
+    alloc: Global,
+    schema: Schema,
+    name: &str,
+    counts: (i64, i64),
+    cases: &[(&str, Holds)],
+) -> Result<Schema, AllocError> {
+    let mut schema = schema;
+    let table = table(alloc, name, counts, cases)?;
+    schema.tables.push(table).map_err(|_| AllocError)?;
+    Ok(schema)
+}
+
+/// A schema of one table `t` with these rows, inserts and columns, up to unit 2.
+fn single(
+    alloc: Global,
+    counts: (i64, i64),
+    cases: &[(&str, Holds)],
+) -> Result<Schema, AllocError> {
+    with_table(alloc, schema(alloc, 1, 2), "t", counts, cases)
+}
+
+/// What the check of a built schema tells: the rule, the table and the column, or None where it is accepted.
+fn told(alloc: Global, schema: Schema) -> Result<Option<(u32, u64, u64)>, Fail> {
+    if unbuilt(&schema) {
+        return Err(Fail::from("not built"));
+    }
+    match check(alloc, schema) {
+        Ok(_) => Ok(None),
+        Err(
+            CheckFault::Rule {
+                number,
+                table,
+                column,
+            },
+        ) => Ok(Some((number, table, column))),
+        Err(CheckFault::Memory) => Err(Fail::from("out of memory")),
+    }
+}
+
+// Each rule at its first bound and one past it. The expected places follow from the wording of the rules.
+#[test]
+fn schema_bounds(rt: HostRuntime) -> Result<(), Fail> {
+    let alloc = rt.alloc();
+    for (seed, units, broken) in [
+        (0, 0, None),
+        (i64::MAX, 10_000, None),
+        (-1, 2, Some((1, 0, 0))),
+        (1, -1, Some((1, 0, 0))),
+        (1, 10_001, Some((1, 0, 0))),
+    ] {
+        let schema = with_table(alloc, schema(alloc, seed, units), "t", (1, 1), &ONE)?;
+        assert_eq!(rt; told(alloc, schema)?, broken, "seed {seed}, units {units}");
+    }
+    Ok(())
+}
+
+#[test]
+fn numbers_of_tables_and_columns(rt: HostRuntime) -> Result<(), Fail> {
+    let alloc = rt.alloc();
+    for (tables, columns, broken) in [
+        (0, 1, Some((2, 0, 0))),
+        (64, 1, None),
+        (65, 1, Some((2, 0, 0))),
+        (2, 0, Some((4, 1, 0))),
+        (1, 64, None),
+        (1, 65, Some((4, 1, 0))),
+    ] {
+        let mut schema = schema(alloc, 1, 2);
+        for place in 0..tables {
+            let mut table = table(alloc, "t", (1, 1), &[])?;
+            table.name = numbered(alloc, place)?;
+            table.columns = numbered_columns(alloc, columns)?;
+            schema.tables.push(table).map_err(|_| AllocError)?;
+        }
+        assert_eq!(rt;
+            told(alloc, schema)?,
+            broken,
+            "{tables} tables of {columns} columns"
+        );
+    }
+    Ok(())
+}
+
+/// A name that no other number has.
+fn numbered(alloc: Global, number: u8) -> Result<Text, AllocError> {
+    let name = format!(in alloc; "n{number}")?;
+    text(alloc, name.as_str())
+}
+
+/// A key, and then units of birth.
+fn numbered_columns(alloc: Global, count: u8) -> Result<Columns, AllocError> {
+    let mut columns = Columns::new(alloc);
+    for place in 0..count {
+        let kind = if place == 0 {
+            Kind::Key {
+                base: 1,
+                scramble: false,
+            }
+        } else {
+            Kind::Born
+        };
+        let name = numbered(alloc, place)?;
+        let column = Column {
+            name,
+            kind,
+            changes: false,
+            null: 0,
+        };
+        columns.push(column).map_err(|_| AllocError)?;
+    }
+    Ok(columns)
+}
+
+#[test]
+fn names(rt: HostRuntime) -> Result<(), Fail> {
+    let alloc = rt.alloc();
+    for (name, is_name) in [
+        ("a", true),
+        ("a_9z", true),
+        ("abcdefghijklmnopqrstuvwxyz_01234", true),
+        ("abcdefghijklmnopqrstuvwxyz_012345", false),
+        ("", false),
+        ("9a", false),
+        ("_a", false),
+        ("aB", false),
+        ("a b", false),
+        ("é", false),
+    ] {
+        let table = with_table(alloc, schema(alloc, 1, 2), name, (1, 1), &ONE)?;
+        let broken = if is_name { None } else { Some((3, 1, 0)) };
+        assert_eq!(rt; told(alloc, table)?, broken, "a table {name:?}");
+        let column = single(alloc, (1, 1), &[("id", Key(1)), (name, Born)])?;
+        let broken = if is_name { None } else { Some((4, 1, 2)) };
+        assert_eq!(rt; told(alloc, column)?, broken, "a column {name:?}");
+    }
+    Ok(())
+}
+
+#[test]
+fn same_names(rt: HostRuntime) -> Result<(), Fail> {
+    let alloc = rt.alloc();
+    let twice = with_table(alloc, single(alloc, (1, 1), &ONE)?, "t", (1, 1), &ONE)?;
+    assert_eq!(rt; told(alloc, twice)?, Some((3, 2, 0)));
+    let apart = with_table(alloc, single(alloc, (1, 1), &ONE)?, "t1", (1, 1), &ONE)?;
+    assert_eq!(rt; told(alloc, apart)?, None);
+    let columns = [("id", Key(1)), ("born", Born), ("id", Born), ("born", Born)];
+    assert_eq!(rt;
+        told(alloc, single(alloc, (1, 1), &columns)?)?,
+        Some((4, 1, 3))
+    );
+    Ok(())
+}
+
+#[test]
+fn keys(rt: HostRuntime) -> Result<(), Fail> {
+    let alloc = rt.alloc();
+    for (first, second, broken) in [
+        (Key(0), Born, None),
+        (Key(1 << 62), Born, None),
+        (Key(-1), Born, Some((5, 1, 1))),
+        (Key((1 << 62) + 1), Born, Some((5, 1, 1))),
+        (Born, Key(1), Some((5, 1, 1))),
+        (Key(1), Key(1), Some((5, 1, 2))),
+    ] {
+        let schema = single(alloc, (1, 1), &[("id", first), ("other", second)])?;
+        assert_eq!(rt; told(alloc, schema)?, broken);
+    }
+    Ok(())
+}
+
+#[test]
+fn numbers_of_rows(rt: HostRuntime) -> Result<(), Fail> {
+    let alloc = rt.alloc();
+    for (units, rows, insert, broken) in [
+        (2, 0, 0, None),
+        (2, 1 << 40, 0, None),
+        (2, (1 << 40) + 1, 0, Some((6, 1, 0))),
+        (2, (1 << 40) - 2, 1, None),
+        (2, (1 << 40) - 1, 1, Some((6, 1, 0))),
+        (2, -1, 0, Some((6, 1, 0))),
+        (2, 1, -1, Some((6, 1, 0))),
+        (0, 1, i64::MAX, None),
+        (2, 1, i64::MAX, Some((6, 1, 0))),
+        (10_000, i64::MAX, i64::MAX, Some((6, 1, 0))),
+    ] {
+        let schema = with_table(alloc, schema(alloc, 1, units), "t", (rows, insert), &ONE)?;
+        assert_eq!(rt;
+            told(alloc, schema)?,
+            broken,
+            "{rows} rows, {insert} a unit up to {units}"
+        );
+    }
+    Ok(())
+}
+
+// An earlier rule at a later place is told before a later rule at an earlier place.
+#[test]
+fn rules_come_before_places(rt: HostRuntime) -> Result<(), Fail> {
+    let alloc = rt.alloc();
+    let exchanged = [("born", Born), ("id", Key(1))];
+    let one = single(alloc, (-1, 1), &exchanged)?;
+    let two = with_table(alloc, one, "t", (1, 1), &ONE)?;
+    assert_eq!(rt; told(alloc, two)?, Some((3, 2, 0)));
+    let one = single(alloc, (-1, 1), &exchanged)?;
+    let two = with_table(alloc, one, "u", (1, 1), &exchanged)?;
+    assert_eq!(rt; told(alloc, two)?, Some((5, 1, 1)));
+    let one = single(alloc, (-1, 1), &ONE)?;
+    let two = with_table(alloc, one, "u", (1, 1), &exchanged)?;
+    assert_eq!(rt; told(alloc, two)?, Some((5, 2, 1)));
+    Ok(())
+}
+
+#[test]
+fn schemas_that_are_not_built(rt: HostRuntime) -> Result<(), Fail> {
+    let alloc = rt.alloc();
+    assert!(rt; !unbuilt(&single(alloc, (1, 1), &ONE)?));
+    let mut bar = single(alloc, (1, 1), &ONE)?;
+    bar.delimiter = Delimiter::Bar;
+    assert!(rt; unbuilt(&bar));
+    for life in [None, Some(Life { lo: 1, hi: 2 })] {
+        for update in [None, Some(1)] {
+            let mut changed = table(alloc, "u", (1, 1), &ONE)?;
+            changed.life = life;
+            changed.update = update;
+            let mut schema = single(alloc, (1, 1), &ONE)?;
+            schema.tables.push(changed).map_err(|_| AllocError)?;
+            assert_eq!(rt; unbuilt(&schema), life.is_some() || update.is_some());
+        }
+    }
+    Ok(())
+}
+
+/// Whether a schema with this column behind the key is unbuilt.
+fn is_unbuilt_with(
+    alloc: Global,
+    kind: Kind,
+    changes: bool,
+    null: i64,
+) -> Result<bool, AllocError> {
+    let mut table = table(alloc, "t", (1, 1), &[("id", Key(1))])?;
+    let name = text(alloc, "c")?;
+    let column = Column {
+        name,
+        kind,
+        changes,
+        null,
+    };
+    table.columns.push(column).map_err(|_| AllocError)?;
+    let mut schema = schema(alloc, 1, 2);
+    schema.tables.push(table).map_err(|_| AllocError)?;
+    Ok(unbuilt(&schema))
+}
+
+#[test]
+fn columns_that_are_not_built(rt: HostRuntime) -> Result<(), Fail> {
+    let alloc = rt.alloc();
+    assert!(rt; !is_unbuilt_with(alloc, Kind::Born, false, 0)?);
+    assert!(rt; is_unbuilt_with(alloc, Kind::Changed, false, 0)?);
+    assert!(rt; is_unbuilt_with(alloc, Kind::Born, true, 0)?);
+    assert!(rt; is_unbuilt_with(alloc, Kind::Born, false, 1)?);
+    assert!(rt; is_unbuilt_with(alloc, Kind::Born, false, -1)?);
+    for scramble in [false, true] {
+        let key = Kind::Key { base: 1, scramble };
+        assert_eq!(rt; is_unbuilt_with(alloc, key, false, 0)?, scramble);
+    }
+    Ok(())
+}
+
+/// The plan of three tables of one, two and three columns.
+fn plan_of_three(alloc: Global) -> Result<Plan, Fail> {
+    let three = [("id", Key(1)), ("born", Born), ("again", Born)];
+    let schema = with_table(alloc, schema(alloc, 1, 2), "one", (1, 1), &[("id", Key(7))])?;
+    let schema = with_table(alloc, schema, "two", (0, 3), &ONE)?;
+    let schema = with_table(alloc, schema, "three", (5, 0), &three)?;
+    if unbuilt(&schema) {
+        return Err(Fail::from("not built"));
+    }
+    match check(alloc, schema) {
+        Ok(plan) => Ok(plan),
+        Err(fault) => Err(Fail::from(fault)),
+    }
+}
+
+// A line of a key alone has 20 bytes and its line feed; a unit of birth adds 5 and a tab. Two threads share the plan.
+#[test]
+fn plan(rt: HostRuntime) -> Result<(), Fail> {
+    let plan = plan_of_three(rt.alloc())?;
+    assert_eq!(rt; plan.schema().tables.len(), 3);
+    assert_eq!(rt; plan.units(), 2);
+    assert_eq!(rt; plan.tables(), 3);
+    assert_eq!(rt; plan.reach(), 33);
+    let (two, four) = thread::join(&rt, || plan.table_named("two"), || plan.table_named("four"));
+    assert_eq!(rt; two, Some(1));
+    assert_eq!(rt; four, None);
+    for (table, max_line) in [(0, 21), (1, 27), (2, 33)] {
+        assert!(rt; table < plan.tables());
+        assert_eq!(rt; plan.sure_life(table), None);
+        assert_eq!(rt; plan.longest_life(table), None);
+        assert_eq!(rt; plan.cost(table), 1);
+        assert_eq!(rt; plan.max_line(table), max_line);
+    }
+    Ok(())
+}
