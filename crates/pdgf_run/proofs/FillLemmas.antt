@@ -1,46 +1,26 @@
--- The lines of a table, as they are written one after the other.
-use Rattle.std.proofs.Common.{◌≡◌, ◌<◌, ◌≤◌, ℕ, ◌+◌, ◌-◌, List, [], ◌∷◌, ◌++◌, map, length, get_or, codes, decimal, refl, ap, sym, ◌∙◌, arith, append_assoc, add_assoc}
-use Rattle.std.specs.List.{join_with_byte, range_with_len, flat_map}
-use Rattle.std.proofs.lemmas.List.{get_or-map}
-use Rattle.pdgf_run.specs.Cohorts.{cohort_size, first_ordinal}
-use Rattle.pdgf_run.specs.DueFiles.{texts_before}
-use Rattle.pdgf_run.specs.Layout.{fields_text, line_column_rule, line_table_rules, number_in}
-use Rattle.pdgf_run.specs.Lines.{field, field_text, line, first_lines, cohort_text, table_text, text_before}
-use Rattle.pdgf_run.specs.Rows.{Row, new_row}
-use Rattle.pdgf_run.specs.Rules.{ColumnRule, TableRules, Rules, no_table, table_at}
-use Rattle.pdgf_run.specs.declared.layout.LineColumn.{LineColumn}
-use Rattle.pdgf_run.specs.declared.layout.LineColumn.TheVariants.{Key, Born}
-use Rattle.pdgf_run.specs.declared.layout.LineTable.{LineTable}
-use Rattle.pdgf_run.proofs.LineLemmas.{cohort_text-split, first_lines-add_one, index_in_cohort-new_row, text_before-add_one, table_text-text_before, lines_after}
-use Rattle.pdgf_run.proofs.Ranges.{flat_map-range_with_len_front, flat_map-range_with_len_more}
-
--- what a row of a cohort holds in a column, as it is written
-abbrev text_in : Rules → ℕ → TableRules → Row → ColumnRule → List ℕ
-text_in rules place table row column = field_text (field rules place table row column)
-
-text_in-new_row : (rules : Rules) (place : ℕ) (table : TableRules) (unit index : ℕ) (column : LineColumn) →
-    text_in rules place table (new_row table unit index) (line_column_rule column) ≡ decimal (number_in (first_ordinal table unit + index) unit column)
-text_in-new_row rules place table unit index (Key base) =
-    ap (λ (i : ℕ). decimal (base + first_ordinal table unit + i)) (index_in_cohort-new_row table unit index)
-    ∙ ap decimal (add_assoc base (first_ordinal table unit) index)
-text_in-new_row rules place table unit index Born = refl
-
-texts-new_row : (rules : Rules) (place : ℕ) (table : TableRules) (unit index : ℕ) (columns : List LineColumn) →
-    map (text_in rules place table (new_row table unit index)) (map line_column_rule columns)
-    ≡ map (λ column. decimal (number_in (first_ordinal table unit + index) unit column)) columns
-texts-new_row rules place table unit index [] = refl
-texts-new_row rules place table unit index (column ∷ columns) =
-    ap (λ (text : List ℕ). text ∷ map (text_in rules place table (new_row table unit index)) (map line_column_rule columns)) (text_in-new_row rules place table unit index column)
-    ∙ ap (λ (texts : List (List ℕ)). decimal (number_in (first_ordinal table unit + index) unit column) ∷ texts) (texts-new_row rules place table unit index columns)
-
--- the line of a row of a cohort
-pub line-new_row : (rules : Rules) (place : ℕ) (table : LineTable) (delimiter unit index : ℕ) → rules.delimiter ≡ delimiter →
-    fields_text delimiter (first_ordinal (line_table_rules table) unit + index) unit table.columns.items ++ codes "\n"
-    ≡ line rules place (line_table_rules table) (new_row (line_table_rules table) unit index)
-unfolding line fields_text
-line-new_row rules place table delimiter unit index same =
-    ap (λ (d : ℕ). join_with_byte d (map (λ column. decimal (number_in (first_ordinal (line_table_rules table) unit + index) unit column)) table.columns.items) ++ codes "\n") (sym same)
-    ∙ ap (λ (texts : List (List ℕ)). join_with_byte rules.delimiter texts ++ codes "\n") (sym (texts-new_row rules place (line_table_rules table) unit index table.columns.items))
+-- The files of a snapshot, as they are written one after the other.
+use Rattle.std.proofs.Common.{◌≡◌, ◌<◌, ◌≤◌, ℕ, zero, suc, ◌+◌, ◌-◌, max, List, [], ◌∷◌, ◌++◌, map, length, get_or, take, drop, Option, None, Some, inl, inr, refl, ap, sym, subst, ◌∙◌, arith, append_assoc, false}
+use Rattle.std.specs.Prelude.{IfSome, is_some}
+use Rattle.std.specs.List.{fold, range_with_len, flat_map}
+use Rattle.std.specs.Option.{option_map}
+use Rattle.std.proofs.lemmas.List.{append-nil, get_or_past, map-append, take-append-drop, take_more}
+use Rattle.std.proofs.lemmas.Bool.{cases_lt}
+use Rattle.std.proofs.lemmas.List.Concat.{flat_map-append}
+use Rattle.pd_outside.specs.Appending.{files_then_prefix}
+use Rattle.pd_outside.specs.Files.{File}
+use Rattle.pd_outside.specs.Shelf.{Held, finish_files, HoldsPrefixOf, IsFrontOfNext}
+use Rattle.schema_model.specs.declared.table.Schema.{Schema}
+use Rattle.schema_check.specs.Sizes.{field_sizes, line_size, max_line, reach}
+use Rattle.life_intervals.specs.Cohorts.{cohort_size}
+use Rattle.life_intervals.specs.Rows.{new_row}
+use Rattle.life_intervals.specs.Rules.{TableRules, Rules, table_at}
+use Rattle.life_intervals.specs.SchemaRules.{schema_rules}
+use Rattle.life_intervals.proofs.Ranges.{flat_map-range_with_len_front, flat_map-range_with_len_more, range_with_len-add}
+use Rattle.row_lines.specs.Lines.{line, first_lines, cohort_text, table_text, text_before}
+use Rattle.row_lines.proofs.LineLemmas.{cohort_text-split, first_lines-add_one, lines_after, table_text-text_before, text_before-add_one}
+use Rattle.pdgf_run.specs.DueFiles.{check_line, check_lines}
+use Rattle.pdgf_run.specs.Jobs.{texts_from}
+use Rattle.pdgf_run.specs.declared.job.JobFile.{JobFile}
 
 -- a cohort's text: the lines before an index, the index's own, and the rest
 pub cohort_text-at : (rules : Rules) (place : ℕ) (table : TableRules) (unit index : ℕ) → index < cohort_size table unit →
@@ -73,13 +53,14 @@ text_before-front rules place table unit last within =
     flat_map-range_with_len_front (cohort_text rules place table) (unit + 1) (last + 1) (omega arith)
 
 -- a table's text: the cohorts before a unit, the unit's own, and the rest
-pub text_before-at : (rules : Rules) (place : ℕ) (table : TableRules) (unit last : ℕ) → unit ≤ last →
-    text_before rules place table (last + 1)
-    ≡ text_before rules place table unit ++ (cohort_text rules place table unit ++ cohorts_after rules place table unit last)
-text_before-at rules place table unit last within =
-    text_before-front rules place table unit last within
-    ∙ ap (λ (text : List ℕ). text ++ cohorts_after rules place table unit last) (text_before-add_one rules place table unit)
-    ∙ append_assoc (text_before rules place table unit) (cohort_text rules place table unit) (cohorts_after rules place table unit last)
+pub table_text-at : (rules : Rules) (place unit last : ℕ) → unit ≤ last →
+    table_text rules place last
+    ≡ text_before rules place (table_at rules place) unit ++ (cohort_text rules place (table_at rules place) unit ++ cohorts_after rules place (table_at rules place) unit last)
+table_text-at rules place unit last within =
+    table_text-text_before rules place last
+    ∙ text_before-front rules place (table_at rules place) unit last within
+    ∙ ap (λ (text : List ℕ). text ++ cohorts_after rules place (table_at rules place) unit last) (text_before-add_one rules place (table_at rules place) unit)
+    ∙ append_assoc (text_before rules place (table_at rules place) unit) (cohort_text rules place (table_at rules place) unit) (cohorts_after rules place (table_at rules place) unit last)
 
 -- no cohort
 pub text_before-zero : (rules : Rules) (place : ℕ) (table : TableRules) → text_before rules place table 0 ≡ []
@@ -87,37 +68,127 @@ unfolding text_before
 text_before-zero rules place table = refl
 
 -- the texts of tables: none, one more, and those before a table, its own and the rest
-pub texts_before-zero : (rules : Rules) (unit : ℕ) → texts_before rules unit 0 ≡ []
-unfolding texts_before
-texts_before-zero rules unit = refl
+pub texts_from-zero : (schema : Schema) (unit from : ℕ) → texts_from schema unit from 0 ≡ []
+unfolding texts_from
+texts_from-zero schema unit from = refl
 
-pub texts_before-add_one : (rules : Rules) (unit place : ℕ) → texts_before rules unit (place + 1) ≡ texts_before rules unit place ++ table_text rules place unit
-unfolding texts_before
-texts_before-add_one rules unit place = flat_map-range_with_len_more (λ p. table_text rules p unit) place
+pub texts_from-add_one : (schema : Schema) (unit from count : ℕ) →
+    texts_from schema unit from (count + 1) ≡ texts_from schema unit from count ++ table_text (schema_rules schema) (from + count) unit
+unfolding texts_from
+texts_from-add_one schema unit from count =
+    ap (flat_map (λ place. table_text (schema_rules schema) place unit)) (range_with_len-add from count 1)
+    ∙ flat_map-append (λ place. table_text (schema_rules schema) place unit) (range_with_len from count) (range_with_len (from + count) 1)
+    ∙ ap (λ (text : List ℕ). flat_map (λ place. table_text (schema_rules schema) place unit) (range_with_len from count) ++ text) (append-nil (table_text (schema_rules schema) (from + count) unit))
 
-abbrev pub texts_after : Rules → ℕ → ℕ → List ℕ
-texts_after rules unit place = flat_map (λ p. table_text rules p unit) (range_with_len (place + 1) (length rules.tables - (place + 1)))
+abbrev pub texts_after : Schema → ℕ → ℕ → ℕ → ℕ → List ℕ
+texts_after schema unit from number count = texts_from schema unit (from + (number + 1)) (count - (number + 1))
 
-texts_before-front : (rules : Rules) (unit place : ℕ) → place < length rules.tables →
-    texts_before rules unit (length rules.tables) ≡ texts_before rules unit (place + 1) ++ texts_after rules unit place
-unfolding texts_before
-texts_before-front rules unit place below =
-    flat_map-range_with_len_front (λ p. table_text rules p unit) (place + 1) (length rules.tables) (omega arith)
+pub texts_from-at : (schema : Schema) (unit from number count : ℕ) → number < count →
+    texts_from schema unit from count
+    ≡ texts_from schema unit from number ++ (table_text (schema_rules schema) (from + number) unit ++ texts_after schema unit from number count)
+unfolding texts_from
+texts_from-at schema unit from number count below =
+    let parts : count ≡ (number + 1) + (count - (number + 1)) = omega arith in
+    ap (λ (n : ℕ). flat_map (λ place. table_text (schema_rules schema) place unit) (range_with_len from n)) parts
+    ∙ ap (flat_map (λ place. table_text (schema_rules schema) place unit)) (range_with_len-add from (number + 1) (count - (number + 1)))
+    ∙ flat_map-append (λ place. table_text (schema_rules schema) place unit) (range_with_len from (number + 1)) (range_with_len (from + (number + 1)) (count - (number + 1)))
+    ∙ ap (λ (text : List ℕ). text ++ texts_from schema unit (from + (number + 1)) (count - (number + 1))) (texts_from-add_one schema unit from number)
+    ∙ append_assoc (texts_from schema unit from number) (table_text (schema_rules schema) (from + number) unit) (texts_from schema unit (from + (number + 1)) (count - (number + 1)))
 
-pub texts_before-at : (rules : Rules) (unit place : ℕ) → place < length rules.tables →
-    texts_before rules unit (length rules.tables) ≡ texts_before rules unit place ++ (table_text rules place unit ++ texts_after rules unit place)
-texts_before-at rules unit place below =
-    texts_before-front rules unit place below
-    ∙ ap (λ (text : List ℕ). text ++ texts_after rules unit place) (texts_before-add_one rules unit place)
-    ∙ append_assoc (texts_before rules unit place) (table_text rules place unit) (texts_after rules unit place)
+fold_max-from : {A : Type 0} (number : A → ℕ) (most : ℕ) (xs : List A) → most ≤ fold (λ m x. max m (number x)) most xs
+fold_max-from number most [] = omega arith
+fold_max-from number most (x ∷ xs) = omega (arith, fold_max-from number (max most (number x)) xs)
 
--- a table's text is that of its layout
-pub table_text-layout : (rules : Rules) (tables : List LineTable) (place unit : ℕ) (table : LineTable) → rules.tables ≡ map line_table_rules tables →
-    place < length tables → table ≡ get_or tables place table → text_before rules place (line_table_rules table) (unit + 1) ≡ table_text rules place unit
-table_text-layout rules tables place unit table same below is =
-    let here : table_at rules place ≡ line_table_rules table =
-    ap (λ (all : List TableRules). get_or all place no_table) same
-    ∙ get_or-map line_table_rules tables place table no_table below
-    ∙ ap line_table_rules (sym is)
-    in
-    ap (λ (t : TableRules). text_before rules place t (unit + 1)) (sym here) ∙ sym (table_text-text_before rules place unit)
+fold_max-at : {A : Type 0} (number : A → ℕ) (most : ℕ) (xs : List A) (i : ℕ) (d : A) → i < length xs → number (get_or xs i d) ≤ fold (λ m x. max m (number x)) most xs
+fold_max-at number most [] i d below = absurd (omega arith)
+fold_max-at number most (x ∷ xs) zero d below = omega (arith, fold_max-from number (max most (number x)) xs)
+fold_max-at number most (x ∷ xs) (suc i) d below = fold_max-at number (max most (number x)) xs i d (omega arith)
+
+-- no table's lines are longer than the reach
+pub max_line-le-reach : (schema : Schema) (place : ℕ) → max_line schema place ≤ reach schema
+unfolding max_line reach
+max_line-le-reach schema place =
+    elim (cases_lt place (length (field_sizes schema))) [
+      | inl below ↦ fold_max-at line_size 0 (field_sizes schema) place [] below
+      | inr past ↦ omega (arith, ap line_size (get_or_past (field_sizes schema) place [] past))
+    ]
+
+finished_both : (done more : List File) (before : Option Held) → option_map (finish_files more) (option_map (finish_files done) before) ≡ option_map (finish_files (done ++ more)) before
+finished_both done more None = refl
+finished_both done more (Some h) = ap (λ (files : List File). Some (record { finished = files; begun = None })) (append_assoc h.finished done more)
+
+-- these files are finished, and then more
+pub finished_then : (done more : List File) (before mid now : Option Held) → mid ≡ option_map (finish_files done) before → now ≡ option_map (finish_files more) mid →
+    now ≡ option_map (finish_files (done ++ more)) before
+finished_then done more before mid now first then = then ∙ ap (option_map (finish_files more)) first ∙ finished_both done more before
+
+front_of_more : (rest more : List File) (begun : Option File) → IsFrontOfNext rest begun → IsFrontOfNext (rest ++ more) begun
+front_of_more rest more None front = tt
+front_of_more [] more (Some file) front = absurd front
+front_of_more (next ∷ rest) more (Some file) front = front
+
+-- a prefix of some files is one of these and more
+pub prefix_of_more : (due more : List File) (before now : Option Held) → HoldsPrefixOf due before now → HoldsPrefixOf (due ++ more) before now
+prefix_of_more due more before now prefix = record {
+  done = prefix.done;
+  rest = prefix.rest ++ more;
+  begun = prefix.begun;
+  parts = ap (λ (files : List File). files ++ more) prefix.parts ∙ append_assoc prefix.done prefix.rest more;
+  front = front_of_more prefix.rest more prefix.begun prefix.front;
+  held = prefix.held;
+}
+
+-- what is told of tables: nothing, and one more line
+pub check_lines-zero : (schema : Schema) → check_lines schema 0 ≡ []
+unfolding check_lines
+check_lines-zero schema = refl
+
+pub check_lines-add_one : (schema : Schema) (count : ℕ) → check_lines schema (count + 1) ≡ check_lines schema count ++ check_line schema count
+unfolding check_lines
+check_lines-add_one schema count = flat_map-range_with_len_more (check_line schema) count
+
+-- one more item of a map over a range
+pub map-range_with_len-add_one : {A : Type 0} (f : ℕ → A) (from count : ℕ) → map f (range_with_len from (count + 1)) ≡ map f (range_with_len from count) ++ f (from + count) ∷ []
+map-range_with_len-add_one f from count =
+    ap (map f) (range_with_len-add from count 1) ∙ map-append f (range_with_len from count) (range_with_len (from + count) 1)
+
+-- the files before an item, and the item's own
+map-take-add_one : {A B : Type 0} (f : A → B) (xs : List A) (i : ℕ) (x : A) → i < length xs → x ≡ get_or xs i x → map f (take (i + 1) xs) ≡ map f (take i xs) ++ f x ∷ []
+map-take-add_one f xs i x below is =
+    ap (map f) (take_more xs i x below)
+    ∙ map-append f (take i xs) (get_or xs i x ∷ [])
+    ∙ ap (λ (y : _). map f (take i xs) ++ f y ∷ []) (sym is)
+
+-- one more file is finished
+pub one_more_finished : (f : JobFile → File) (files : List JobFile) (i : ℕ) (file : JobFile) (before mid now : Option Held) → i < length files → file ≡ get_or files i file →
+    mid ≡ option_map (finish_files (map f (take i files))) before → now ≡ option_map (finish_files (f file ∷ [])) mid →
+    now ≡ option_map (finish_files (map f (take (i + 1) files))) before
+one_more_finished f files i file before mid now below is first then =
+    finished_then (map f (take i files)) (f file ∷ []) before mid now first then
+    ∙ ap (λ (due : List File). option_map (finish_files due) before) (sym (map-take-add_one f files i file below is))
+
+parts_at : (f : JobFile → File) (files : List JobFile) (i : ℕ) (file : JobFile) → i < length files → file ≡ get_or files i file →
+    (map f (take i files) ++ f file ∷ []) ++ map f (drop (i + 1) files) ≡ map f files
+parts_at f files i file below is =
+    ap (λ (due : List File). due ++ map f (drop (i + 1) files)) (sym (map-take-add_one f files i file below is))
+    ∙ sym (map-append f (take (i + 1) files) (drop (i + 1) files))
+    ∙ ap (map f) (take-append-drop (i + 1) files)
+
+-- a prefix of the next file, behind those that are finished, is a prefix of all
+pub next_in_part : (f : JobFile → File) (files : List JobFile) (i : ℕ) (file : JobFile) (before mid now : Option Held) → i < length files → file ≡ get_or files i file →
+    mid ≡ option_map (finish_files (map f (take i files))) before → HoldsPrefixOf (f file ∷ []) mid now → HoldsPrefixOf (map f files) before now
+next_in_part f files i file before mid now below is first prefix =
+    subst (λ (due : List File). HoldsPrefixOf due before now) (parts_at f files i file below is)
+    (prefix_of_more (map f (take i files) ++ f file ∷ []) (map f (drop (i + 1) files)) before now
+    (files_then_prefix (map f (take i files)) (f file ∷ []) before mid now first prefix))
+
+nothing_begun : (begun : Option File) → is_some begun ≡ false → begun ≡ None
+nothing_begun None is = refl
+nothing_begun (Some file) is = absurd (cc)
+
+-- nothing is finished
+pub finished_nothing : (before : Option Held) → IfSome before (λ h. is_some h.begun ≡ false) → before ≡ option_map (finish_files []) before
+finished_nothing None none = refl
+finished_nothing (Some h) none =
+    ap (λ (begun : Option File). Some (record h { begun = begun })) (nothing_begun h.begun none)
+    ∙ ap (λ (files : List File). Some (record { finished = files; begun = None })) (sym (append-nil h.finished))

@@ -1,9 +1,4 @@
-pub mod BuiltLemmas
-pub mod CohortLemmas
 pub mod DecideLemmas
 pub mod FillLemmas
-pub mod LineLemmas
-pub mod ListLemmas
+pub mod JobLemmas
 pub mod PlainLemmas
-pub mod Ranges
-pub mod SimulationLemmas

@@ -9,12 +9,12 @@ use Rattle.std.specs.declared.alloc.Global.{Global}
 use Rattle.pdgf_run.specs.declared.model.plain.PlainTable.{PlainTable}
 use Rattle.pdgf_run.specs.declared.model.plain.PlainRules.{PlainRules}
 use Rattle.pdgf_run.specs.declared.model.plain.PlainRow.{PlainRow}
-use Rattle.pdgf_run.specs.Rules.{TableRules, table_at, no_table}
-use Rattle.pdgf_run.specs.Rows.{Row, cohort}
-use Rattle.pdgf_run.specs.Simulation.{State, in_turn, with_cohort, simulation, rows_at}
+use Rattle.life_intervals.specs.Rules.{TableRules, table_at, no_table}
+use Rattle.life_intervals.specs.Rows.{Row, cohort}
+use Rattle.life_intervals.specs.Simulation.{State, in_turn, with_cohort, simulation, rows_at}
 use Rattle.pdgf_run.specs.Plain.{column_rule, row_views, state_view, table_rules, rules_view}
-use Rattle.pdgf_run.specs.Lines.{field, field_text, line, table_text}
-use Rattle.pdgf_run.proofs.SimulationLemmas.{in_turn-drop_more}
+use Rattle.row_lines.specs.Lines.{field, field_text, line, table_text}
+use Rattle.life_intervals.proofs.SimulationLemmas.{in_turn-drop_more}
 
 -- the tables that are done, and what comes of the rest
 abbrev pub insertions_from : ℕ → List PlainTable → List (Vec PlainRow Global) → State → ℕ → State

@@ -1,22 +1,62 @@
 -- The files that a request is due.
-use Rattle.std.specs.Prelude.{ℕ, List, [], ◌∷◌, length, flat_map, codes}
+use Rattle.std.specs.Prelude.{ℕ, ◌++◌, List, [], ◌∷◌, length, map, flat_map, Option, Some, None, codes, decimal, slice_index_or}
 use Rattle.std.specs.List.{range_with_len}
+use Rattle.std.specs.Option.{option_map}
 use Rattle.pd_outside.specs.Files.{File}
-use Rattle.pdgf_run.specs.Lines.{table_text}
-use Rattle.pdgf_run.specs.Rules.{Rules}
+use Rattle.schema_model.specs.declared.table.Schema.{Schema}
+use Rattle.schema_model.specs.declared.table.Table.{Table}
+use Rattle.schema_check.specs.Costs.{cost}
+use Rattle.schema_check.specs.Places.{table_place}
+use Rattle.schema_check.specs.Lives.{sure_life}
+use Rattle.schema_check.specs.Sizes.{max_line}
+use Rattle.life_intervals.specs.SchemaRules.{rows_in_all, schema_rules}
+use Rattle.row_lines.specs.Lines.{table_text}
 
 -- the name of the standard output
 abbrev pub standard_output : List ℕ
 standard_output = codes "-"
 
--- the texts of the first tables at a unit, as many as `count`, one after the other
-unfoldable pub texts_before : Rules → ℕ → ℕ → List ℕ
-texts_before rules unit count = flat_map (λ place. table_text rules place unit) (range_with_len 0 count)
+-- the name of the table at a place of a schema, counted from 0
+abbrev pub name_at : Schema → ℕ → List ℕ
+name_at schema place = slice_index_or (map (λ (table : Table). table.name) schema.tables) place []
 
--- the texts of all tables at a unit, in schema order, one after the other
-abbrev pub snapshot_text : Rules → ℕ → List ℕ
-snapshot_text rules unit = texts_before rules unit (length rules.tables)
+-- the places of the tables that are chosen: all in order, or the one of a name, where there is one
+abbrev pub chosen : Schema → Option (List ℕ) → Option (List ℕ)
+chosen schema None = Some (range_with_len 0 (length schema.tables))
+chosen schema (Some name) = option_map (λ place. place ∷ []) (table_place schema name)
 
--- the files of a snapshot at a unit: all texts on the standard output
-abbrev pub snapshot_files : Rules → ℕ → List File
-snapshot_files rules unit = record { name = standard_output; bytes = snapshot_text rules unit } ∷ []
+-- the texts of the tables at these places at a unit, one after the other
+abbrev pub texts_at : Schema → ℕ → List ℕ → List ℕ
+texts_at schema unit places = flat_map (λ place. table_text (schema_rules schema) place unit) places
+
+-- the file of a table in a directory
+abbrev pub path_of : List ℕ → List ℕ → List ℕ
+path_of directory name = directory ++ codes "/" ++ name ++ codes ".tbl"
+
+-- the files of a snapshot of tables at a unit: one each in a directory, or all texts on the standard output
+abbrev pub snapshot_files : Schema → ℕ → List ℕ → Option (List ℕ) → List File
+snapshot_files schema unit places None = record { name = standard_output; bytes = texts_at schema unit places } ∷ []
+snapshot_files schema unit places (Some directory) =
+    map (λ place. record { name = path_of directory (name_at schema place); bytes = table_text (schema_rules schema) place unit }) places
+
+-- how long the rows of a table live for sure, as it is told
+abbrev pub life_text : Option ℕ → List ℕ
+life_text None = codes "none"
+life_text (Some units) = decimal units
+
+-- what is told of a table: its name, the rows born in all units, its sure life, its cost and its greatest line
+abbrev pub check_line : Schema → ℕ → List ℕ
+check_line schema place =
+    name_at schema place ++ codes "\t"
+    ++ decimal (rows_in_all schema place) ++ codes "\t"
+    ++ life_text (sure_life schema place) ++ codes "\t"
+    ++ decimal (cost schema place) ++ codes "\t"
+    ++ decimal (max_line schema place) ++ codes "\n"
+
+-- the lines of the first tables of a schema, as many as `count`
+unfoldable pub check_lines : Schema → ℕ → List ℕ
+check_lines schema count = flat_map (check_line schema) (range_with_len 0 count)
+
+-- the file of a check: a line for each table on the standard output
+abbrev pub check_files : Schema → List File
+check_files schema = record { name = standard_output; bytes = check_lines schema (length schema.tables) } ∷ []

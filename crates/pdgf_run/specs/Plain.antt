@@ -6,9 +6,9 @@ use Rattle.pdgf_run.specs.declared.model.plain.PlainColumn.TheVariants.{Key, Bor
 use Rattle.pdgf_run.specs.declared.model.plain.PlainTable.{PlainTable}
 use Rattle.pdgf_run.specs.declared.model.plain.PlainRules.{PlainRules}
 use Rattle.pdgf_run.specs.declared.model.plain.PlainRow.{PlainRow}
-use Rattle.pdgf_run.specs.Rules.{in_place, ColumnRule, key_column, born_column, TableRules, Rules}
-use Rattle.pdgf_run.specs.Rows.{Row}
-use Rattle.pdgf_run.specs.Simulation.{State}
+use Rattle.life_intervals.specs.Rules.{in_place, ColumnRule, key_column, born_column, TableRules, Rules}
+use Rattle.life_intervals.specs.Rows.{Row}
+use Rattle.life_intervals.specs.Simulation.{State}
 
 -- a column's rule: its key isn't scrambled
 abbrev pub column_rule : PlainColumn → ColumnRule

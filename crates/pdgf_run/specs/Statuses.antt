@@ -1,18 +1,30 @@
--- The program's exit statuses and messages.
-use Rattle.std.specs.Prelude.{ℕ, Bool, ◌==◌, List, [], ◌∷◌, codes, if◌then◌else◌}
+-- The program's exit statuses, and its messages on the standard error.
+use Rattle.std.specs.Prelude.{◌≡◌, refl, ℕ, zero, Bool, ◌==◌, List, [], ◌∷◌, ◌++◌, codes, decimal, if◌then◌else◌, Option, Some, None}
+use Rattle.std.specs.Fmt.{digits}
 use Rattle.std.specs.List.{list_any}
+use Rattle.schema_read.specs.Keys.{key_name}
+use Rattle.schema_read.specs.declared.fault.Expected.{Expected}
+use Rattle.schema_read.specs.declared.fault.Expected.TheVariants.{Whole, TextValue, Flag, DelimiterName, TableList, TwoWholes, KindName, LeafName, DateText, TextList, Wholes, PartList, WindowValue, NoSuchKey}
+use Rattle.schema_read.specs.declared.key.SchemaKey.{SchemaKey}
+use Rattle.schema_read.specs.declared.key.SchemaKey.TheVariants.{Units, Window, Other}
 use Rattle.pdgf_run.specs.declared.refusal.Refusal.{Refusal}
-use Rattle.pdgf_run.specs.declared.refusal.Refusal.TheVariants.{Usage, NotBuilt}
+use Rattle.pdgf_run.specs.declared.refusal.Refusal.TheVariants.{Usage, SchemaTooLong, Syntax, Shape, NotBuilt, Rule, OutOfRange}
+use Rattle.pdgf_run.specs.declared.usage.OptionName.{OptionName}
+use Rattle.pdgf_run.specs.declared.usage.OptionName.TheVariants as option
+use Rattle.pdgf_run.specs.declared.usage.UsageFault.{UsageFault}
+use Rattle.pdgf_run.specs.declared.usage.UsageFault.TheVariants as usage
+
+-- ---- statuses
 
 -- the status of a refusal
 abbrev pub status_of : Refusal → ℕ
 status_of (Usage fault) = 2
+status_of Syntax = 3
+status_of (Shape place key expected) = 3
+status_of (Rule number table column) = 4
+status_of (OutOfRange name) = 8
+status_of SchemaTooLong = 10
 status_of NotBuilt = 11
-
--- the message of a refusal
-abbrev pub text_of : Refusal → List ℕ
-text_of (Usage fault) = codes "pdgf: usage: bad words\n"
-text_of NotBuilt = codes "pdgf: not built\n"
 
 -- all is done
 abbrev pub done_status : ℕ
@@ -22,32 +34,137 @@ done_status = 0
 abbrev pub read_failed_status : ℕ
 read_failed_status = 5
 
-abbrev pub read_failed_text : List ℕ
-read_failed_text = codes "pdgf: read failed\n"
-
 -- a write failed
 abbrev pub write_failed_status : ℕ
 write_failed_status = 6
-
-abbrev pub write_failed_text : List ℕ
-write_failed_text = codes "pdgf: write failed\n"
 
 -- memory ran out
 abbrev pub memory_status : ℕ
 memory_status = 7
 
-abbrev pub memory_text : List ℕ
-memory_text = codes "pdgf: out of memory\n"
-
 -- whether a number is a status of the program
 abbrev pub is_status : ℕ → Bool
-is_status status = list_any (λ known. status == known) (0 ∷ 2 ∷ 5 ∷ 6 ∷ 7 ∷ 11 ∷ [])
+is_status status =
+    list_any (λ known. status == known) (0 ∷ 2 ∷ 3 ∷ 4 ∷ 5 ∷ 6 ∷ 7 ∷ 8 ∷ 10 ∷ 11 ∷ [])
 
--- the message that goes with a status
-abbrev pub message_of : ℕ → List ℕ
-message_of status =
-    if status == 2 then codes "pdgf: usage: bad words\n"
-    else (if status == 5 then read_failed_text
-    else (if status == 6 then write_failed_text
-    else (if status == 7 then memory_text
-    else (if status == 11 then codes "pdgf: not built\n" else []))))
+-- ---- the words of messages
+
+-- an option as it is written among the words
+abbrev pub option_text : OptionName → List ℕ
+option_text option.Schema = codes "SCHEMA"
+option_text option.Unit = codes "--unit"
+option_text option.Table = codes "--table"
+option_text option.Out = codes "--out"
+
+-- what is wrong with the words (want of memory never comes as a refusal: it tells what it is)
+abbrev pub usage_text : UsageFault → List ℕ
+usage_text usage.Words = codes "usage: bad words"
+usage_text usage.Mode = codes "usage: unknown mode"
+usage_text (usage.Unwanted name) = codes "usage: unwanted " ++ option_text name
+usage_text (usage.Missing name) = codes "usage: missing " ++ option_text name
+usage_text (usage.Number name) = codes "usage: bad number for " ++ option_text name
+usage_text (usage.EmptyDirectory name) = codes "usage: empty directory for " ++ option_text name
+usage_text usage.Memory = codes "out of memory"
+
+-- a place of a schema: a table, a column and a branch, each counted from 1, or 0 where the place isn't inside one
+abbrev pub place_text : ℕ → ℕ → ℕ → List ℕ
+place_text zero column branch = codes "top"
+place_text table zero branch = codes "table " ++ decimal table
+place_text table column zero = codes "table " ++ decimal table ++ codes " column " ++ decimal column
+place_text table column branch =
+    codes "table " ++ decimal table ++ codes " column " ++ decimal column ++ codes " branch " ++ decimal branch
+
+-- the type of value that a key wants; a key that has no place where it stands wants none
+abbrev pub expected_text : Expected → List ℕ
+expected_text Whole = codes "whole number"
+expected_text TextValue = codes "text"
+expected_text Flag = codes "true or false"
+expected_text DelimiterName = codes "\"tab\" or \"bar\""
+expected_text TableList = codes "list of tables"
+expected_text TwoWholes = codes "two whole numbers"
+expected_text KindName = codes "name of a kind"
+expected_text LeafName = codes "name of a leaf kind"
+expected_text DateText = codes "date YYYY-MM-DD"
+expected_text TextList = codes "list of texts"
+expected_text Wholes = codes "list of whole numbers"
+expected_text PartList = codes "list of texts and cited columns"
+expected_text WindowValue = codes "whole number or \"all\""
+expected_text NoSuchKey = codes "no such key"
+
+-- a key and what it wants, behind its place
+abbrev pub wanted_text : SchemaKey → Expected → List ℕ
+wanted_text key expected = codes " key " ++ key_name key ++ codes ": expected " ++ expected_text expected
+
+-- what is wrong at a key, behind its place
+abbrev pub key_text : SchemaKey → Expected → List ℕ
+key_text Other expected = codes ": no such key"
+key_text key expected = wanted_text key expected
+
+-- the words of a refusal
+abbrev pub refusal_text : Refusal → List ℕ
+refusal_text (Usage fault) = usage_text fault
+refusal_text Syntax = codes "schema: not TOML"
+refusal_text (Shape place key expected) =
+    codes "schema: " ++ place_text place.table place.column place.branch ++ key_text key expected
+refusal_text (Rule number table column) =
+    codes "rule V" ++ decimal number ++ codes " at " ++ place_text table column 0
+refusal_text (OutOfRange name) = codes "out of range: " ++ option_text name
+refusal_text SchemaTooLong = codes "too long: schema"
+refusal_text NotBuilt = codes "not built"
+
+-- ---- messages
+
+-- a message: the program's name and these words, on a line
+abbrev pub line_of : List ℕ → List ℕ
+line_of words = codes "pdgf: " ++ words ++ codes "\n"
+
+-- the message of a refusal
+abbrev pub text_of : Refusal → List ℕ
+text_of refusal = line_of (refusal_text refusal)
+
+-- the message of a failed read
+abbrev pub read_failed_text : List ℕ
+read_failed_text = line_of (codes "read failed")
+
+-- the message of a failed write
+abbrev pub write_failed_text : List ℕ
+write_failed_text = line_of (codes "write failed")
+
+-- the message that memory ran out
+abbrev pub memory_text : List ℕ
+memory_text = line_of (codes "out of memory")
+
+-- the message of a status that has only one
+abbrev pub fixed_text : ℕ → Option (List ℕ)
+fixed_text status =
+    if status == 0 then Some [] else
+    (if status == 5 then Some read_failed_text else
+    (if status == 6 then Some write_failed_text else
+    (if status == 7 then Some memory_text else None)))
+
+-- ---- worked messages
+
+worked_usage : text_of (Usage (usage.Missing option.Unit)) ≡ codes "pdgf: usage: missing --unit\n"
+worked_usage = refl
+
+worked_top : text_of (Shape (record { table = 0; column = 0; branch = 0 }) Units Whole) ≡ codes "pdgf: schema: top key units: expected whole number\n"
+worked_top = refl
+
+worked_column : text_of (Shape (record { table = 2; column = 2; branch = 0 }) Window WindowValue) ≡ codes "pdgf: schema: table 2 column 2 key window: expected whole number or \"all\"\n"
+unfolding digits
+worked_column = refl
+
+worked_branch : text_of (Shape (record { table = 1; column = 12; branch = 3 }) Other NoSuchKey) ≡ codes "pdgf: schema: table 1 column 12 branch 3: no such key\n"
+unfolding digits
+worked_branch = refl
+
+worked_rule : text_of (Rule 19 2 2) ≡ codes "pdgf: rule V19 at table 2 column 2\n"
+unfolding digits
+worked_rule = refl
+
+worked_rule_of_a_table : text_of (Rule 3 2 0) ≡ codes "pdgf: rule V3 at table 2\n"
+unfolding digits
+worked_rule_of_a_table = refl
+
+worked_range : text_of (OutOfRange option.Unit) ≡ codes "pdgf: out of range: --unit\n"
+worked_range = refl

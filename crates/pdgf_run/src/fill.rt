@@ -1,81 +1,72 @@
-// The texts of tables, line by line onto a shelf.
-ghost use Rattle.std.specs.Prelude.{◌≡◌, ℕ, ◌+◌, ◌*◌, ◌^◌, ◌<◌, ◌≤◌, ◌++◌, codes, false, map, All, IsTrue, OnOk, OnErr, length};
+// The files of a job, line by line onto a shelf.
+ghost use Rattle.std.specs.Prelude.{◌≡◌, ◌<◌, ◌≤◌, ◌+◌, ◌++◌, ◌∷◌, [], false, IsTrue, OnErr, OnOk, length};
 ghost use Rattle.std.specs.Option.{option_map};
 ghost use Rattle.pd_outside.specs.Faults.{Rose};
 ghost use Rattle.pd_outside.specs.Shelf.{finish_files, HoldsPrefixOf};
-ghost use Rattle.pdgf_run.specs.Cohorts.{cohort_size, first_ordinal};
-ghost use Rattle.pdgf_run.specs.DueFiles.{snapshot_files, snapshot_text};
-ghost use Rattle.pdgf_run.specs.Job.{AreRulesOf};
-ghost use Rattle.pdgf_run.specs.Layout.{base_of, fields_text, line_table_rules, Appends, CanWrite};
-ghost use Rattle.pdgf_run.specs.Lines.{cohort_text, text_before};
-ghost use Rattle.pdgf_run.specs.Rules.{Rules};
+ghost use Rattle.schema_check.specs.Counts.{count};
+ghost use Rattle.schema_check.specs.Sizes.{max_line, reach};
+ghost use Rattle.life_intervals.specs.Cohorts.{cohort_size};
+ghost use Rattle.life_intervals.specs.SchemaRules.{rules_of, schema_rules};
+ghost use Rattle.row_lines.specs.CohortLines.{line_in_cohort, table_of};
+ghost use Rattle.row_lines.specs.Lines.{cohort_text, table_text};
+ghost use Rattle.pdgf_run.specs.Appends.{Appends, Finishes};
+ghost use Rattle.pdgf_run.specs.DueFiles.{standard_output};
+ghost use Rattle.pdgf_run.specs.Jobs.{CanFill, CanWrite, due_of, file_of, snapshot_due, texts_from};
 
-use crate::job::Job;
-use crate::layout::{FIELD_ROOM, LineTable, put_line};
+use crate::job::{Job, JobFile, SnapshotJob};
+use life_intervals::cohort;
 use pd_outside::{Failed, PageBuf, Shelf, WriteFailed, write_all};
+use row_lines::CohortLines;
+use schema_check::Plan;
+use std::marker::Brand;
+use std::sync::ledger::{Blank, Ledger};
+use step_count::Steps;
 
-// The first ordinal of the cohort of a unit.
-fn first_ordinal_of(table: &LineTable, unit: u64) -> u64
-    requires { table.now.rows + table.now.insert * unit ≤ 2 ^ 40 }
-    ensures first { result ≡ first_ordinal (line_table_rules table.now) unit }
-    ensures small { result + cohort_size (line_table_rules table.now) unit ≤ 2 ^ 40 }
-{
-    if unit == 0 {
-        0
-    } else {
-        table.rows + (unit - 1) * table.insert
-    }
-}
-
-// How many rows are born at a unit.
-fn cohort_size_of(table: &LineTable, unit: u64) -> u64
-    ensures { result ≡ cohort_size (line_table_rules table.now) unit }
-{
-    if unit == 0 { table.rows } else { table.insert }
-}
-
-// Writes the line of the row of this ordinal and birth unit.
-fn write_line<S: Shelf>(
+// Writes the line of the row with this index in its cohort.
+fn write_line<S: Shelf, B: Ledger>(
     shelf: &mut S,
     page: &mut PageBuf,
-    table: &LineTable,
-    delimiter: u8,
-    ordinal: u64,
-    born: u64,
+    lines: &CohortLines<'_>,
+    index: u64,
+    steps: &mut Steps<B>,
 ) -> Result<(), WriteFailed>
     requires begun { IsTrue (S.is_begun shelf.old) }
-    requires fits { FIELD_ROOM * length table.now.columns.items < page.old.room }
-    requires keys { All (λ column. base_of column + ordinal < 2 ^ 64) table.now.columns.items }
-    ensures line { Appends result (fields_text delimiter ordinal born table.now.columns.items ++ codes "\n") (S.held shelf.old) (S.held shelf.new) }
+    requires row { index < cohort_size (table_of lines.now) lines.now.unit }
+    requires room { max_line lines.now.schema lines.now.table ≤ page.old.room }
+    ensures line { Appends result (line_in_cohort lines.now index) (S.held shelf.old) (S.held shelf.new) }
     ensures cause { OnErr result (Rose (S.faults shelf.old) (S.faults shelf.new)) }
     ensures begun { IsTrue (S.is_begun shelf.new) }
     ensures never_falls { S.faults shelf.old ≤ S.faults shelf.new }
     ensures room { page.new.room ≡ page.old.room }
 {
-    put_line(page, &table.columns, delimiter, ordinal, born);
+    page.clear();
+    lines.put_line(index, page, steps);
     write_all(shelf, page.text())
 }
 
-// Writes the lines of the rows that are born at a unit.
-fn write_cohort<S: Shelf>(
+// Writes the lines of the rows of a table that are born at a unit.
+fn write_cohort<S: Shelf, B: Ledger>(
     shelf: &mut S,
     page: &mut PageBuf,
-    table: &LineTable,
-    delimiter: u8,
+    plan: &Plan,
+    table: u32,
     unit: u64,
+    steps: &mut Steps<B>,
 ) -> Result<(), WriteFailed>
     requires begun { IsTrue (S.is_begun shelf.old) }
-    requires fits { CanWrite table.now unit page.old.room }
-    ensures lines { (rules : Rules) (place : ℕ) → rules.delimiter ≡ delimiter →
-        Appends result (cohort_text rules place (line_table_rules table.now) unit) (S.held shelf.old) (S.held shelf.new) }
+    requires table { table < length plan.now.tables }
+    requires unit { unit ≤ count plan.now.units }
+    requires room { max_line plan.now table ≤ page.old.room }
+    ensures lines { Appends result (cohort_text (schema_rules plan.now) table (rules_of plan.now table) unit) (S.held shelf.old) (S.held shelf.new) }
     ensures cause { OnErr result (Rose (S.faults shelf.old) (S.faults shelf.new)) }
     ensures begun { IsTrue (S.is_begun shelf.new) }
     ensures never_falls { S.faults shelf.old ≤ S.faults shelf.new }
     ensures room { page.new.room ≡ page.old.room }
 {
-    let first = first_ordinal_of(table, unit);
-    for index in 0..cohort_size_of(table, unit) {
-        match write_line(shelf, page, table, delimiter, first + index, unit) {
+    let lines = CohortLines::new(plan, table, unit);
+    let size = cohort(plan, table, unit).size;
+    for index in 0..size {
+        match write_line(shelf, page, &lines, index, steps) {
             Ok(()) => {}
             Err(WriteFailed) => return Err(WriteFailed),
         }
@@ -83,26 +74,28 @@ fn write_cohort<S: Shelf>(
     Ok(())
 }
 
-/// Writes the text of a table at a unit: the lines of the rows that are born by then.
-pub(crate) fn write_table<S: Shelf>(
+// Writes the text of a table at a unit: the lines of the rows that are born by then.
+fn write_table<S: Shelf, B: Ledger>(
     shelf: &mut S,
     page: &mut PageBuf,
-    table: &LineTable,
-    delimiter: u8,
+    plan: &Plan,
+    table: u32,
     last: u64,
+    steps: &mut Steps<B>,
 ) -> Result<(), WriteFailed>
     requires begun { IsTrue (S.is_begun shelf.old) }
-    requires fits { CanWrite table.now last page.old.room }
-    requires small { last < 2 ^ 32 }
-    ensures text { (rules : Rules) (place : ℕ) → rules.delimiter ≡ delimiter →
-        Appends result (text_before rules place (line_table_rules table.now) (last + 1)) (S.held shelf.old) (S.held shelf.new) }
+    requires table { table < length plan.now.tables }
+    requires unit { last ≤ count plan.now.units }
+    requires small { count plan.now.units ≤ 10000 }
+    requires room { reach plan.now ≤ page.old.room }
+    ensures text { Appends result (table_text (schema_rules plan.now) table last) (S.held shelf.old) (S.held shelf.new) }
     ensures cause { OnErr result (Rose (S.faults shelf.old) (S.faults shelf.new)) }
     ensures begun { IsTrue (S.is_begun shelf.new) }
     ensures never_falls { S.faults shelf.old ≤ S.faults shelf.new }
     ensures room { page.new.room ≡ page.old.room }
 {
     for unit in 0..last + 1 {
-        match write_cohort(shelf, page, table, delimiter, unit) {
+        match write_cohort(shelf, page, plan, table, unit, steps) {
             Ok(()) => {}
             Err(WriteFailed) => return Err(WriteFailed),
         }
@@ -110,25 +103,29 @@ pub(crate) fn write_table<S: Shelf>(
     Ok(())
 }
 
-// Writes the texts of tables at a unit, one after the other.
-fn write_tables<S: Shelf>(
+// Writes the texts of some tables from a place on, one after the other.
+fn write_tables<S: Shelf, B: Ledger>(
     shelf: &mut S,
     page: &mut PageBuf,
-    tables: &[LineTable],
-    delimiter: u8,
+    plan: &Plan,
     last: u64,
+    file: &JobFile,
+    steps: &mut Steps<B>,
 ) -> Result<(), WriteFailed>
     requires begun { IsTrue (S.is_begun shelf.old) }
-    requires fits { All (λ table. CanWrite table last page.old.room) tables.now }
-    requires small { last < 2 ^ 32 }
-    ensures text { (rules : Rules) → rules.tables ≡ map line_table_rules tables.now → rules.delimiter ≡ delimiter →
-        Appends result (snapshot_text rules last) (S.held shelf.old) (S.held shelf.new) }
+    requires tables { file.now.tables.from + file.now.tables.count ≤ length plan.now.tables }
+    requires few { length plan.now.tables ≤ 64 }
+    requires unit { last ≤ count plan.now.units }
+    requires small { count plan.now.units ≤ 10000 }
+    requires room { reach plan.now ≤ page.old.room }
+    ensures text { Appends result (texts_from plan.now last file.now.tables.from file.now.tables.count) (S.held shelf.old) (S.held shelf.new) }
     ensures cause { OnErr result (Rose (S.faults shelf.old) (S.faults shelf.new)) }
     ensures begun { IsTrue (S.is_begun shelf.new) }
     ensures never_falls { S.faults shelf.old ≤ S.faults shelf.new }
+    ensures room { page.new.room ≡ page.old.room }
 {
-    for table in tables {
-        match write_table(shelf, page, table, delimiter, last) {
+    for number in 0..file.tables.count {
+        match write_table(shelf, page, plan, file.tables.from + number, last, steps) {
             Ok(()) => {}
             Err(WriteFailed) => return Err(WriteFailed),
         }
@@ -136,30 +133,32 @@ fn write_tables<S: Shelf>(
     Ok(())
 }
 
-/// Writes the files that a job is due. At `WriteFailed` a prefix of them stands, and nothing further was begun.
-pub(crate) fn fill<S: Shelf>(shelf: &mut S, job: Job) -> Result<(), WriteFailed>
+// Writes a file of a snapshot, from its begin to its end.
+fn write_file<S: Shelf, B: Ledger>(
+    shelf: &mut S,
+    page: &mut PageBuf,
+    plan: &Plan,
+    last: u64,
+    file: &JobFile,
+    steps: &mut Steps<B>,
+) -> Result<(), WriteFailed>
     requires none_begun { S.is_begun shelf.old ≡ false }
-    requires fits { All (λ table. CanWrite table job.unit job.page.room) job.tables.items }
-    requires small { job.unit < 2 ^ 32 }
-    ensures all { (rules : Rules) → AreRulesOf job rules →
-        OnOk result (S.held shelf.new ≡ option_map (finish_files (snapshot_files rules job.unit)) (S.held shelf.old)) }
-    ensures prefix { (rules : Rules) → AreRulesOf job rules →
-        OnErr result (HoldsPrefixOf (snapshot_files rules job.unit) (S.held shelf.old) (S.held shelf.new)) }
+    requires tables { file.now.tables.from + file.now.tables.count ≤ length plan.now.tables }
+    requires few { length plan.now.tables ≤ 64 }
+    requires unit { last ≤ count plan.now.units }
+    requires small { count plan.now.units ≤ 10000 }
+    requires room { reach plan.now ≤ page.old.room }
+    ensures file { Finishes result (file_of plan.now last file.now ∷ []) (S.held shelf.old) (S.held shelf.new) }
     ensures none_begun { OnOk result (S.is_begun shelf.new ≡ false) }
     ensures cause { OnErr result (Rose (S.faults shelf.old) (S.faults shelf.new)) }
     ensures never_falls { S.faults shelf.old ≤ S.faults shelf.new }
+    ensures room { page.new.room ≡ page.old.room }
 {
-    let Job {
-        tables,
-        delimiter,
-        unit,
-        mut page,
-    } = job;
-    match shelf.begin("-") {
+    match shelf.begin(file.name.as_str()) {
         Ok(()) => {}
         Err(Failed) => return Err(WriteFailed),
     }
-    match write_tables(shelf, &mut page, &tables, delimiter, unit) {
+    match write_tables(shelf, page, plan, last, file, steps) {
         Ok(()) => {}
         Err(WriteFailed) => return Err(WriteFailed),
     }
@@ -168,4 +167,74 @@ pub(crate) fn fill<S: Shelf>(shelf: &mut S, job: Job) -> Result<(), WriteFailed>
         Err(Failed) => return Err(WriteFailed),
     }
     Ok(())
+}
+
+// Writes the files of a snapshot, in order. Nothing further is begun after a failure.
+fn write_snapshot<S: Shelf, B: Ledger>(
+    shelf: &mut S,
+    job: SnapshotJob,
+    blank: Blank,
+) -> Result<(), WriteFailed>
+    requires name { blank.name ≡ B.name }
+    requires parts { blank.parts ≡ B.parts }
+    requires some { 0 < blank.parts }
+    requires none_begun { S.is_begun shelf.old ≡ false }
+    requires can { CanWrite job }
+    ensures files { Finishes result (snapshot_due job) (S.held shelf.old) (S.held shelf.new) }
+    ensures none_begun { OnOk result (S.is_begun shelf.new ≡ false) }
+    ensures cause { OnErr result (Rose (S.faults shelf.old) (S.faults shelf.new)) }
+    ensures never_falls { S.faults shelf.old ≤ S.faults shelf.new }
+{
+    let SnapshotJob {
+        plan,
+        unit,
+        files,
+        mut page,
+    } = job;
+    let mut steps = Steps::<B>::new(blank);
+    for file in &files {
+        match write_file(shelf, &mut page, &plan, unit, file, &mut steps) {
+            Ok(()) => {}
+            Err(WriteFailed) => return Err(WriteFailed),
+        }
+    }
+    Ok(())
+}
+
+// Writes bytes to the standard output.
+fn write_text<S: Shelf>(shelf: &mut S, bytes: &[u8]) -> Result<(), WriteFailed>
+    requires none_begun { S.is_begun shelf.old ≡ false }
+    ensures file { Finishes result (record { name = standard_output; bytes = bytes.now } ∷ []) (S.held shelf.old) (S.held shelf.new) }
+    ensures none_begun { OnOk result (S.is_begun shelf.new ≡ false) }
+    ensures cause { OnErr result (Rose (S.faults shelf.old) (S.faults shelf.new)) }
+    ensures never_falls { S.faults shelf.old ≤ S.faults shelf.new }
+{
+    match shelf.begin("-") {
+        Ok(()) => {}
+        Err(Failed) => return Err(WriteFailed),
+    }
+    match write_all(shelf, bytes) {
+        Ok(()) => {}
+        Err(WriteFailed) => return Err(WriteFailed),
+    }
+    match shelf.end() {
+        Ok(()) => {}
+        Err(Failed) => return Err(WriteFailed),
+    }
+    Ok(())
+}
+
+/// Writes the files that a job is due. At `WriteFailed` a prefix of them stands, and nothing further was begun.
+pub(crate) fn fill<S: Shelf>(shelf: &mut S, job: Job) -> Result<(), WriteFailed>
+    requires none_begun { S.is_begun shelf.old ≡ false }
+    requires can { CanFill job }
+    ensures files { Finishes result (due_of job) (S.held shelf.old) (S.held shelf.new) }
+    ensures none_begun { OnOk result (S.is_begun shelf.new ≡ false) }
+    ensures cause { OnErr result (Rose (S.faults shelf.old) (S.faults shelf.new)) }
+    ensures never_falls { S.faults shelf.old ≤ S.faults shelf.new }
+{
+    match job {
+        Job::Text(bytes) => write_text(shelf, &bytes),
+        Job::Snapshot(job) => write_snapshot::<S, Brand>(shelf, job, Blank::new(1)),
+    }
 }

@@ -1,74 +1,158 @@
 // What a request comes to, before anything is written.
-ghost use Rattle.std.specs.Prelude.{◌≡◌, ◌≤◌, ◌^◌, All, IfOk, map};
-ghost use Rattle.schema_model.specs.declared.column.Column.{Column};
-ghost use Rattle.pdgf_run.specs.Layout.{base_of, line_column_rule, line_table_rules, CanWrite};
-ghost use Rattle.pdgf_run.specs.SchemaRules.{column_rule, table_rules};
-ghost use Rattle.pdgf_run.specs.Kinds.{IsPlainKind, IsPlainTable};
+ghost use Rattle.std.specs.Prelude.{◌≡◌, ℕ, ◌≤◌, ◌+◌, ◌∷◌, ◌++◌, [], All, IfOk, IfSome, OnOk, map, length};
+ghost use Rattle.std.specs.Option.{option_map};
+ghost use Rattle.schema_check.specs.Counts.{count};
+ghost use Rattle.pdgf_run.specs.DueFiles.{chosen, path_of, snapshot_files, standard_output};
+ghost use Rattle.pdgf_run.specs.Jobs.{file_in, file_of, places_of, snapshot_due, CanWrite, IsWithin};
 
-use crate::layout::{FIELD_ROOM, LineColumn, LineTable};
+use crate::check::name_of;
 use pd_outside::{Memory, PageBuf};
-use schema_model::{Column, Kind, Table};
+use schema_check::Plan;
+use schema_model::Text as Name;
 use std::alloc::Global;
 
-/// The room for a line: a table has at most 64 columns.
-pub(crate) const PAGE_ROOM: usize = 64 * FIELD_ROOM + 1;
-
-/// A snapshot of tables at a unit, with the buffer that its lines are made in.
+/// All that is to be written, with all the memory that it takes.
 #[derive(Drop)]
-pub(crate) struct Job {
-    pub(crate) tables: Vec<LineTable>,
-    pub(crate) delimiter: u8,
+pub(crate) enum Job {
+    /// These bytes, on the standard output.
+    Text(Vec<u8>),
+    /// The texts of tables at a unit.
+    Snapshot(SnapshotJob),
+}
+
+/// The texts of tables at a unit, with the buffer that their lines are made in.
+#[derive(Drop)]
+pub(crate) struct SnapshotJob {
+    pub(crate) plan: Plan,
     pub(crate) unit: u64,
+    pub(crate) files: Vec<JobFile>,
     pub(crate) page: PageBuf,
 }
 
-fn line_column(kind: &Kind) -> LineColumn
-    requires { IsPlainKind kind.now }
-    ensures rule { line_column_rule result ≡ column_rule kind.now }
-    ensures base { base_of result ≤ 2 ^ 62 }
+/// A file: the texts of some tables, one after the other.
+#[derive(Drop)]
+pub(crate) struct JobFile {
+    pub(crate) name: Name,
+    pub(crate) tables: Places,
+}
+
+/// The places of `count` tables from the one at place `from` on.
+#[derive(Clone, Copy, Debug, PartialEq, Eq)]
+pub(crate) struct Places {
+    pub(crate) from: u32,
+    pub(crate) count: u32,
+}
+
+/// The tables that are chosen: all, or the one of a name; None where no table has the name.
+pub(crate) fn choose(plan: &Plan, table: &Option<Name>) -> Option<Places>
+    ensures places { chosen plan.now table.now ≡ option_map places_of result }
+    ensures within { IfSome result (λ places. places.from + places.count ≤ length plan.now.tables) }
 {
-    match kind {
-        Kind::Key { base, .. } => LineColumn::Key { base: *base as u64 },
-        _ => LineColumn::Born,
+    match table {
+        None => Some(Places {
+            from: 0,
+            count: plan.tables(),
+        }),
+        Some(name) => {
+            let from = plan.table_named(name.as_str())?;
+            Some(Places { from, count: 1 })
+        }
     }
 }
 
-fn line_columns(alloc: Global, columns: &[Column]) -> Result<Vec<LineColumn>, Memory>
-    requires { All (λ (column : Column). IsPlainKind column.kind) columns.now }
-    ensures rules { IfOk result (λ made. map line_column_rule made.items ≡ map (λ (column : Column). column_rule column.kind) columns.now) }
-    ensures bases { IfOk result (λ made. All (λ column. base_of column ≤ 2 ^ 62) made.items) }
+// The name of a table's file in a directory.
+fn path(alloc: Global, directory: &str, name: &str) -> Result<Name, Memory>
+    ensures { IfOk result (λ made. made ≡ path_of directory.now name.now) }
 {
-    let mut made = Vec::new(alloc);
-    for column in columns {
-        made.push(line_column(&column.kind))?;
+    let mut path = Name::new(alloc);
+    push(&mut path, directory)?;
+    push(&mut path, "/")?;
+    push(&mut path, name)?;
+    push(&mut path, ".tbl")?;
+    Ok(path)
+}
+
+fn push(path: &mut Name, piece: &str) -> Result<(), Memory>
+    ensures { OnOk result (path.new ≡ path.old ++ piece.now) }
+{
+    match path.push(piece) {
+        Ok(()) => Ok(()),
+        Err(_) => Err(Memory),
     }
-    Ok(made)
 }
 
-fn line_table(alloc: Global, table: &Table, units: u64) -> Result<LineTable, Memory>
-    requires { IsPlainTable units table.now }
-    ensures rules { IfOk result (λ made. line_table_rules made ≡ table_rules table.now) }
-    ensures room { IfOk result (λ made. CanWrite made units PAGE_ROOM) }
+// All texts in one file, the standard output.
+fn one_file(alloc: Global, tables: Places) -> Result<Vec<JobFile>, Memory>
+    ensures { IfOk result (λ files. files.items ≡ record { name = standard_output; tables = tables } ∷ []) }
 {
-    Ok(LineTable {
-        rows: table.rows as u64,
-        insert: table.insert as u64,
-        columns: line_columns(alloc, table.columns.as_slice())?,
-    })
+    let mut name = Name::new(alloc);
+    push(&mut name, "-")?;
+    let mut files = Vec::new(alloc);
+    files.push(JobFile { name, tables })?;
+    Ok(files)
 }
 
-pub(crate) fn line_tables(
+// A file for each table, in a directory.
+fn files_in(
     alloc: Global,
-    tables: &[Table],
-    units: u64,
-) -> Result<Vec<LineTable>, Memory>
-    requires { All (IsPlainTable units) tables.now }
-    ensures rules { IfOk result (λ made. map line_table_rules made.items ≡ map table_rules tables.now) }
-    ensures room { IfOk result (λ made. All (λ table. CanWrite table units PAGE_ROOM) made.items) }
+    plan: &Plan,
+    tables: Places,
+    directory: &str,
+) -> Result<Vec<JobFile>, Memory>
+    requires within { tables.from + tables.count ≤ length plan.now.tables }
+    requires few { length plan.now.tables ≤ 64 }
+    ensures { IfOk result (λ files. files.items ≡ map (file_in plan.now directory.now) (places_of tables)) }
 {
-    let mut made = Vec::new(alloc);
-    for table in tables {
-        made.push(line_table(alloc, table, units)?)?;
+    let mut files = Vec::new(alloc);
+    for number in 0..tables.count {
+        let from = tables.from + number;
+        files.push(JobFile {
+            name: path(alloc, directory, name_of(plan, from))?,
+            tables: Places { from, count: 1 },
+        })?;
     }
-    Ok(made)
+    Ok(files)
+}
+
+// The files of a snapshot of tables.
+fn job_files(
+    alloc: Global,
+    plan: &Plan,
+    tables: Places,
+    out: &Option<Name>,
+) -> Result<Vec<JobFile>, Memory>
+    requires within { tables.from + tables.count ≤ length plan.now.tables }
+    requires few { length plan.now.tables ≤ 64 }
+    ensures files { IfOk result (λ files. (unit : ℕ) →
+        map (file_of plan.now unit) files.items ≡ snapshot_files plan.now unit (places_of tables) out.now) }
+    ensures within { IfOk result (λ files. All (IsWithin (length plan.now.tables)) files.items) }
+{
+    match out {
+        None => one_file(alloc, tables),
+        Some(directory) => files_in(alloc, plan, tables, directory.as_str()),
+    }
+}
+
+/// The snapshot of some tables at a unit.
+pub(crate) fn snapshot_job(
+    alloc: Global,
+    plan: Plan,
+    unit: u64,
+    tables: Places,
+    out: &Option<Name>,
+) -> Result<SnapshotJob, Memory>
+    requires unit { unit ≤ count plan.units }
+    requires within { tables.from + tables.count ≤ length plan.tables }
+    ensures due { IfOk result (λ job. snapshot_due job ≡ snapshot_files plan unit (places_of tables) out.now) }
+    ensures can { IfOk result CanWrite }
+{
+    let _limits = plan.schema();
+    let files = job_files(alloc, &plan, tables, out)?;
+    let page = PageBuf::with_room(alloc, plan.reach() as usize)?;
+    Ok(SnapshotJob {
+        plan,
+        unit,
+        files,
+        page,
+    })
 }

@@ -1,20 +1,23 @@
 //! From the words of a command line to the files that they are due.
 #![tactic(auto)]
 
+mod check;
 mod decide;
 mod fill;
 mod job;
-mod layout;
+mod message;
 pub mod model;
 mod refusal;
 mod report;
 mod run;
+mod usage;
 mod words;
 
 pub use refusal::Refusal;
 pub use report::Report;
 pub use run::pdgf;
-pub use words::{Request, UsageFault, read_words};
+pub use usage::{Mode, OptionName, Request, UsageFault};
+pub use words::read_words;
 
 #[cfg(test)]
 mod tests;

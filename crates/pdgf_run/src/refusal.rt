@@ -1,16 +1,38 @@
 // Why a request isn't carried out.
-ghost use Rattle.std.specs.Prelude.{◌≡◌, ◌≤◌, length};
+ghost use Rattle.std.specs.Prelude.{◌≡◌};
 ghost use Rattle.pdgf_run.specs.Statuses.{status_of, text_of};
 
-use crate::UsageFault;
+use crate::message::{line, put_refusal};
+use crate::usage::{OptionName, UsageFault};
+use pd_outside::Message;
+use schema_read::{Expected, Place, SchemaKey};
 
 /// Why a request isn't carried out, with the place.
 #[derive(Clone, Copy, Debug, PartialEq, Eq)]
 pub enum Refusal {
     /// The words give no request.
     Usage(UsageFault),
-    /// The schema's text is longer than its limit or isn't one that is built, or the unit is past the schema's last one.
+    /// The schema's text is longer than its limit.
+    SchemaTooLong,
+    /// The schema's text is no TOML document.
+    Syntax,
+    /// The first wrong key of the schema's document, and what was expected of it.
+    Shape {
+        place: Place,
+        key: SchemaKey,
+        expected: Expected,
+    },
+    /// The schema holds something that isn't built.
     NotBuilt,
+    /// The first rule that the schema breaks, at its first place: a table and a column, counted from 1, or 0 where there
+    /// is none.
+    Rule {
+        number: u32,
+        table: u64,
+        column: u64,
+    },
+    /// What the request names isn't in the schema.
+    OutOfRange(OptionName),
 }
 
 impl Refusal {
@@ -20,18 +42,20 @@ impl Refusal {
     {
         match self {
             Refusal::Usage(_) => 2,
+            Refusal::Syntax | Refusal::Shape { .. } => 3,
+            Refusal::Rule { .. } => 4,
+            Refusal::OutOfRange(_) => 8,
+            Refusal::SchemaTooLong => 10,
             Refusal::NotBuilt => 11,
         }
     }
 
-    /// The message of the refusal, with its line feed.
-    pub fn text(self) -> &'static [u8]
-        ensures text { result.now ≡ text_of self }
-        ensures short { length result.now ≤ 100 }
+    /// The message of the refusal: one line, with its line feed.
+    pub fn message(self) -> Message
+        ensures { result ≡ text_of self }
     {
-        match self {
-            Refusal::Usage(_) => b"pdgf: usage: bad words\n",
-            Refusal::NotBuilt => b"pdgf: not built\n",
-        }
+        let mut words = Message::new();
+        put_refusal(&mut words, self);
+        line(words.text())
     }
 }

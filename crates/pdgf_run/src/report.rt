@@ -1,8 +1,9 @@
 // What a call of the program came to.
-ghost use Rattle.std.specs.Prelude.{◌≡◌, ◌≤◌, [], length};
+ghost use Rattle.std.specs.Prelude.{◌≡◌, []};
 ghost use Rattle.pdgf_run.specs.Statuses as status;
 
 use crate::Refusal;
+use crate::message::line;
 use pd_outside::Message;
 
 /// What a call came to: an exit status and a message for the standard error, empty or ended by a line feed.
@@ -12,15 +13,6 @@ pub struct Report {
     pub status: u8,
     /// The message.
     pub message: Message,
-}
-
-fn message_of(text: &[u8]) -> Message
-    requires { length text.now ≤ Message.ROOM }
-    ensures { result ≡ text.now }
-{
-    let mut message = Message::new();
-    message.put(text);
-    message
 }
 
 /// All is done.
@@ -39,7 +31,7 @@ pub(crate) fn read_failed() -> Report
 {
     Report {
         status: 5,
-        message: message_of(b"pdgf: read failed\n"),
+        message: line(b"read failed"),
     }
 }
 
@@ -49,7 +41,7 @@ pub(crate) fn write_failed() -> Report
 {
     Report {
         status: 6,
-        message: message_of(b"pdgf: write failed\n"),
+        message: line(b"write failed"),
     }
 }
 
@@ -59,7 +51,7 @@ pub(crate) fn out_of_memory() -> Report
 {
     Report {
         status: 7,
-        message: message_of(b"pdgf: out of memory\n"),
+        message: line(b"out of memory"),
     }
 }
 
@@ -69,6 +61,6 @@ pub(crate) fn refused(refusal: Refusal) -> Report
 {
     Report {
         status: refusal.status(),
-        message: message_of(refusal.text()),
+        message: refusal.message(),
     }
 }

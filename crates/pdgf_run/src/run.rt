@@ -1,18 +1,18 @@
 // The top call.
-ghost use Rattle.std.specs.Prelude.{◌≡◌, ◌≢◌, ◌≤◌, ◌↔◌, [], false, map, string_bytes, IsErr, IsOkAnd, IsTrue};
+ghost use Rattle.std.specs.Prelude.{◌≡◌, ◌≢◌, ◌≤◌, ◌+◌, ◌↔◌, [], false, map, string_bytes, IfErr, IfSome, IsErr, IsOkAnd, IsTrue, OnOk};
 ghost use Rattle.std.specs.Option.{option_map};
 ghost use Rattle.pd_outside.specs.Faults.{Rose};
 ghost use Rattle.pd_outside.specs.Library.{Content, left, AskedFrontOf};
 ghost use Rattle.pd_outside.specs.Shelf.{HoldsPrefixOf};
-ghost use Rattle.pdgf_run.specs.Statuses.{is_status, message_of};
+ghost use Rattle.pdgf_run.specs.Statuses.{fixed_text, is_status, text_of};
 ghost use Rattle.pdgf_run.specs.TopCall.{Carries};
-ghost use Rattle.pdgf_run.specs.Verdict.{reading_list, WhereTold};
+ghost use Rattle.pdgf_run.specs.Verdict.{reading_list, schema_limit, WhereTold};
 ghost use Rattle.pdgf_run.specs.Words.{request};
 
-use crate::Report;
 use crate::decide::{Stop, decide};
 use crate::fill::fill;
 use crate::report::{done, out_of_memory, read_failed, refused, write_failed};
+use crate::{Refusal, Report};
 use pd_outside::{Gate, Library, Shelf, WriteFailed};
 use std::alloc::Global;
 use std::thread::Threads;
@@ -21,9 +21,10 @@ use std::thread::Threads;
 /// writes the files that they are due.
 ///
 /// What words and files come to is the definition `verdict`: due files by a plain simulation that steps from unit to unit,
-/// or a refusal. The statuses are 0 (all is done), 2 (the words give no request), 5 (a read failed), 6 (a write failed), 7
-/// (memory ran out) and 11 (what is asked for isn't built). Where a library or a shelf doesn't tell its files, the clauses
-/// say only what can be said.
+/// or a refusal. The statuses are 0 (all is done), 2 (the words give no request), 3 (the schema's text isn't a schema), 4
+/// (the schema breaks a rule), 5 (a read failed), 6 (a write failed), 7 (memory ran out), 8 (an option's value is out of the
+/// schema's range), 10 (the schema's text is too long) and 11 (what is asked for isn't built). Where a library or a shelf
+/// doesn't tell its files, the clauses say only what can be said.
 pub fn pdgf<R: Threads + Sync, L: Library, S: Shelf, G: Gate + Sync>(
     _rt: &R,
     alloc: Global,
@@ -41,8 +42,12 @@ pub fn pdgf<R: Threads + Sync, L: Library, S: Shelf, G: Gate + Sync>(
 
     // Each status has its cause.
     ensures known { IsTrue (is_status result.status) }
-    ensures message { result.message ≡ message_of result.status }
+    ensures message { IfSome (fixed_text result.status) (λ text. result.message ≡ text) }
     ensures usage { (result.status ≡ 2) ↔ IsErr (request (map string_bytes words.now)) }
+    ensures usage_text { IfErr (request (map string_bytes words.now)) (λ fault. result.message ≡ text_of (Refusal.Usage fault)) }
+    ensures too_long { result.status ≡ 10 → L.taken library.new ≡ schema_limit + 1 }
+    ensures longer { OnOk (request (map string_bytes words.now))
+        (result.status ≢ 7 → L.taken library.new ≡ schema_limit + 1 → result.status ≡ 10) }
     ensures read_failed { result.status ≡ 5 → Rose (L.faults library.old) (L.faults library.new) }
     ensures stopped { result.status ≡ 5 → L.is_started library.new ≡ false }
     ensures write_failed { result.status ≡ 6 → Rose (S.faults shelf.old) (S.faults shelf.new) }

@@ -1,11 +1,11 @@
-// The first path from words to bytes, over devices that fail.
+// From words to bytes, over devices that fail. The texts are worked out by hand from the rules.
 ghost use Rattle.std.specs.Prelude.{◌<◌};
 
 use crate::{Report, pdgf};
 use pd_outside::{
     Files, LibraryFails, MemLibrary, MemShelf, Memory, OpenGate, ShelfFail, ShelfFails,
 };
-use std::alloc::Global;
+use std::alloc::{AllocError, Global};
 use std::process::Abort;
 use std::test::Fail;
 use std::thread::Threads;
@@ -14,57 +14,40 @@ use std::thread::Threads;
 const ONE: &str =
     "seed = 1\nunits = 2\n[[table]]\nname = \"t\"\nrows = 1\ninsert = 1\n[[table.column]]\nname = \"id\"\nkind = \"key\"\nbase = 1\n[[table.column]]\nname = \"born\"\nkind = \"born\"\n";
 
-fn library(alloc: Global, schema: &str) -> Result<MemLibrary, Memory> {
+const ONE_AT_2: &str = "1\t0\n2\t1\n3\t2\n";
+
+const TWO: [&str; 5] = ["pdgf", "snapshot", "s.toml", "--unit", "2"];
+
+// Three tables: keys alone, one row at the first unit, and rows from the second unit on.
+const THREE: &str =
+    "seed = 5\nunits = 1\n[[table]]\nname = \"a\"\nrows = 2\ninsert = 1\n[[table.column]]\nname = \"id\"\nkind = \"key\"\nbase = 1\n[[table]]\nname = \"b\"\nrows = 1\n[[table.column]]\nname = \"id\"\nkind = \"key\"\nbase = 10\n[[table.column]]\nname = \"at\"\nkind = \"born\"\n[[table]]\nname = \"c\"\nrows = 0\ninsert = 2\n[[table.column]]\nname = \"id\"\nkind = \"key\"\nbase = 0\n[[table.column]]\nname = \"at\"\nkind = \"born\"\n";
+
+const THREE_OUT: [&str; 7] = ["pdgf", "snapshot", "s.toml", "--unit", "1", "--out", "d"];
+
+// A table with no row at any unit.
+const EMPTY: &str =
+    "seed = 1\nunits = 2\n[[table]]\nname = \"t\"\nrows = 0\n[[table.column]]\nname = \"id\"\nkind = \"key\"\nbase = 1\n";
+
+// More rows than a table may have.
+const TOO_MANY_ROWS: &str =
+    "seed = 1\nunits = 2\n[[table]]\nname = \"t\"\nrows = 1099511627777\n[[table.column]]\nname = \"id\"\nkind = \"key\"\nbase = 1\n";
+
+// A bar between fields, which isn't built.
+const BAR: &str =
+    "seed = 1\nunits = 2\ndelimiter = \"bar\"\n[[table]]\nname = \"t\"\nrows = 1\n[[table.column]]\nname = \"id\"\nkind = \"key\"\nbase = 1\n";
+
+fn library(alloc: Global, schema: &[u8]) -> Result<MemLibrary, Memory> {
     let mut files = Files::new(alloc);
-    files.push("one.toml", schema.as_bytes())?;
+    files.push("s.toml", schema)?;
     Ok(MemLibrary::new(alloc, files, LibraryFails::new(alloc)))
 }
 
-fn words(alloc: Global, words: &[&str]) -> Result<Vec<String>, std::alloc::AllocError> {
+fn words(alloc: Global, words: &[&str]) -> Result<Vec<String>, AllocError> {
     let mut owned = Vec::new(alloc);
     for word in words {
         owned.push(String::from_str(alloc, word)?)?;
     }
     Ok(owned)
-}
-
-const ONE_AT_2: &str = "1\t0\n2\t1\n3\t2\n";
-
-const TWO: [&str; 5] = ["pdgf", "snapshot", "one.toml", "--unit", "2"];
-
-// Runs the words over the schema and a shelf with a failure, and tells the report and how far the shelf came: the begun
-// file's name and bytes, or the bytes of the finished one.
-fn run_gives<R: Threads + Sync + Abort>(
-    rt: &R,
-    alloc: Global,
-    schema: &str,
-    given: &[&str],
-    shelf: MemShelf,
-    status: u8,
-    message: &str,
-    begun: Option<&str>,
-    bytes: &str,
-) -> Result<(), Fail> {
-    let mut shelf = shelf;
-    if shelf.begun().is_some() {
-        return Ok(());
-    }
-    let mut library = library(alloc, schema)?;
-    let given = words(alloc, given)?;
-    let Report {
-        status: got,
-        message: told,
-    } = pdgf(rt, alloc, &given, &mut library, &mut shelf, &OpenGate);
-    assert_eq!(rt; got, status);
-    assert_eq!(rt; told.text(), message.as_bytes());
-    assert_eq!(rt; shelf.begun(), begun);
-    if shelf.finished().len() == 1 {
-        assert_eq!(rt; shelf.finished().name(0), "-");
-        assert_eq!(rt; shelf.finished().bytes(0), bytes.as_bytes());
-    } else {
-        assert_eq!(rt; shelf.begun_bytes(), bytes.as_bytes());
-    }
-    Ok(())
 }
 
 fn shelf(alloc: Global, fail: ShelfFail, step: usize) -> Result<MemShelf, Memory>
@@ -75,122 +58,213 @@ fn shelf(alloc: Global, fail: ShelfFail, step: usize) -> Result<MemShelf, Memory
     Ok(MemShelf::new(alloc, fails, step))
 }
 
+// What a run is to come to: its report, the begun file with its bytes, and the finished ones.
+#[derive(Clone, Copy)]
+struct Outcome<'a> {
+    status: u8,
+    message: &'a str,
+    begun: Option<&'a str>,
+    begun_bytes: &'a str,
+    finished: &'a [(&'a str, &'a str)],
+}
+
+const fn all_done<'a>(finished: &'a [(&'a str, &'a str)]) -> Outcome<'a> {
+    Outcome {
+        status: 0,
+        message: "",
+        begun: None,
+        begun_bytes: "",
+        finished,
+    }
+}
+
+const fn refused(status: u8, message: &str) -> Outcome<'_> {
+    Outcome {
+        status,
+        message,
+        begun: None,
+        begun_bytes: "",
+        finished: &[],
+    }
+}
+
+const fn write_failed<'a>(
+    begun: Option<&'a str>,
+    begun_bytes: &'a str,
+    finished: &'a [(&'a str, &'a str)],
+) -> Outcome<'a> {
+    Outcome {
+        status: 6,
+        message: "pdgf: write failed\n",
+        begun,
+        begun_bytes,
+        finished,
+    }
+}
+
+// Runs the words over a schema and a shelf, and compares what they come to.
+fn run_gives<R: Threads + Sync + Abort>(
+    rt: &R,
+    alloc: Global,
+    schema: &[u8],
+    given: &[&str],
+    shelf: MemShelf,
+    outcome: Outcome<'_>,
+) -> Result<(), Fail> {
+    let mut shelf = shelf;
+    if shelf.begun().is_some() {
+        return Ok(());
+    }
+    let mut library = library(alloc, schema)?;
+    let given = words(alloc, given)?;
+    let Report { status, message } = pdgf(rt, alloc, &given, &mut library, &mut shelf, &OpenGate);
+    assert_eq!(rt; status, outcome.status);
+    assert_eq!(rt; message.text(), outcome.message.as_bytes());
+    assert_eq!(rt; shelf.begun(), outcome.begun);
+    assert_eq!(rt; shelf.begun_bytes(), outcome.begun_bytes.as_bytes());
+    assert_eq!(rt; shelf.finished().len(), outcome.finished.len());
+    for number in 0..shelf.finished().len() {
+        if let Some((name, bytes)) = outcome.finished.get(number) {
+            assert_eq!(rt; shelf.finished().name(number), *name);
+            assert_eq!(rt; shelf.finished().bytes(number), bytes.as_bytes());
+        }
+    }
+    Ok(())
+}
+
 #[test]
-fn one_is_written_as_far_as_the_shelf_goes(rt: HostRuntime) -> Result<(), Fail> {
+fn files_are_written_as_far_as_the_shelf_goes(rt: HostRuntime) -> Result<(), Fail> {
     let alloc = rt.alloc();
-    let failed = "pdgf: write failed\n";
-    run_gives(
-        &rt,
-        alloc,
-        ONE,
-        &TWO,
-        shelf(alloc, ShelfFail::Begin(2), 1000)?,
-        0,
-        "",
-        None,
-        ONE_AT_2,
-    )?;
-    run_gives(
-        &rt,
-        alloc,
-        ONE,
-        &TWO,
-        shelf(alloc, ShelfFail::Begin(2), 1)?,
-        0,
-        "",
-        None,
-        ONE_AT_2,
-    )?;
-    run_gives(
-        &rt,
-        alloc,
-        ONE,
-        &TWO,
-        shelf(alloc, ShelfFail::Begin(1), 1000)?,
-        6,
-        failed,
-        None,
-        "",
-    )?;
-    run_gives(
-        &rt,
-        alloc,
-        ONE,
-        &TWO,
-        shelf(alloc, ShelfFail::Write(1), 1000)?,
-        6,
-        failed,
-        Some("-"),
-        "",
-    )?;
-    run_gives(
-        &rt,
-        alloc,
-        ONE,
-        &TWO,
-        shelf(alloc, ShelfFail::Write(2), 1000)?,
-        6,
-        failed,
-        Some("-"),
-        "1\t0\n",
-    )?;
-    run_gives(
-        &rt,
-        alloc,
-        ONE,
-        &TWO,
-        shelf(alloc, ShelfFail::End(1), 1000)?,
-        6,
-        failed,
-        Some("-"),
-        ONE_AT_2,
-    )
+    let a = ("d/a.tbl", "1\n2\n3\n");
+    let b = ("d/b.tbl", "10\t0\n");
+    let c = ("d/c.tbl", "0\t1\n1\t1\n");
+    let one: [(ShelfFail, usize, Outcome<'_>); 6] = [
+        (ShelfFail::Begin(2), 1000, all_done(&[("-", ONE_AT_2)])),
+        (ShelfFail::Begin(2), 1, all_done(&[("-", ONE_AT_2)])),
+        (ShelfFail::Begin(1), 1000, write_failed(None, "", &[])),
+        (ShelfFail::Write(1), 1000, write_failed(Some("-"), "", &[])),
+        (ShelfFail::Write(2), 1000, write_failed(Some("-"), "1\t0\n", &[])),
+        (ShelfFail::End(1), 1000, write_failed(Some("-"), ONE_AT_2, &[])),
+    ];
+    for (fail, step, outcome) in one {
+        if 0 < step {
+            run_gives(&rt, alloc, ONE.as_bytes(), &TWO, shelf(alloc, fail, step)?, outcome)?;
+        }
+    }
+    let three: [(ShelfFail, Outcome<'_>); 4] = [
+        (ShelfFail::Begin(4), all_done(&[a, b, c])),
+        (ShelfFail::Begin(2), write_failed(None, "", &[a])),
+        (ShelfFail::Write(4), write_failed(Some("d/b.tbl"), "", &[a])),
+        (ShelfFail::Write(6), write_failed(Some("d/c.tbl"), "0\t1\n", &[a, b])),
+    ];
+    for (fail, outcome) in three {
+        run_gives(&rt, alloc, THREE.as_bytes(), &THREE_OUT, shelf(alloc, fail, 1000)?, outcome)?;
+    }
+    Ok(())
+}
+
+#[test]
+fn requests_come_to_their_files(rt: HostRuntime) -> Result<(), Fail> {
+    let alloc = rt.alloc();
+    let cases: [(&str, &[&str], (&str, &str)); 7] = [
+        (ONE, &["pdgf", "check", "s.toml"], ("-", "t\t3\tnone\t1\t27\n")),
+        (
+            THREE,
+            &["pdgf", "check", "s.toml"],
+            ("-", "a\t3\tnone\t1\t21\nb\t1\tnone\t1\t27\nc\t2\tnone\t1\t27\n"),
+        ),
+        (
+            THREE,
+            &["pdgf", "snapshot", "s.toml", "--unit", "1"],
+            ("-", "1\n2\n3\n10\t0\n0\t1\n1\t1\n"),
+        ),
+        (
+            THREE,
+            &["pdgf", "snapshot", "s.toml", "--table", "b", "--unit", "1"],
+            ("-", "10\t0\n"),
+        ),
+        (
+            THREE,
+            &["pdgf", "snapshot", "s.toml", "--out", "d", "--table", "c", "--unit", "1"],
+            ("d/c.tbl", "0\t1\n1\t1\n"),
+        ),
+        (THREE, &["pdgf", "snapshot", "s.toml", "--unit", "0", "--table", "c"], ("-", "")),
+        (
+            EMPTY,
+            &["pdgf", "snapshot", "s.toml", "--unit", "2", "--out", "out"],
+            ("out/t.tbl", ""),
+        ),
+    ];
+    for (schema, given, file) in cases {
+        let shelf = shelf(alloc, ShelfFail::Begin(9), 1000)?;
+        run_gives(&rt, alloc, schema.as_bytes(), given, shelf, all_done(&[file]))?;
+    }
+    Ok(())
 }
 
 #[test]
 fn other_words_and_schemas_are_refused(rt: HostRuntime) -> Result<(), Fail> {
     let alloc = rt.alloc();
     let usage = "pdgf: usage: bad words\n";
-    let cases: [(&[&str], &str, u8, &str); 9] = [
-        (&["pdgf"], ONE, 2, usage),
-        (&["pdgf", "snapshot", "one.toml", "--unit"], ONE, 2, usage),
+    let number = "pdgf: usage: bad number for --unit\n";
+    let unit = "pdgf: out of range: --unit\n";
+    let table = "pdgf: out of range: --table\n";
+    let words: [(&[&str], u8, &str); 15] = [
+        (&[], 2, usage),
+        (&["pdgf"], 2, usage),
+        (&["pdgf", "snapshot", "s.toml", "--unit"], 2, usage),
+        (&["pdgf", "snapshot", "-", "--unit", "2"], 2, usage),
+        (&["pdgf", "make", "s.toml"], 2, "pdgf: usage: unknown mode\n"),
+        (&["pdgf", "check", "s.toml", "--unit", "1"], 2, "pdgf: usage: unwanted --unit\n"),
+        (&["pdgf", "snapshot", "--unit", "1"], 2, "pdgf: usage: missing SCHEMA\n"),
+        (&["pdgf", "snapshot", "s.toml"], 2, "pdgf: usage: missing --unit\n"),
+        (&["pdgf", "snapshot", "s.toml", "--unit", "+2"], 2, number),
+        (&["pdgf", "snapshot", "s.toml", "--unit", "18446744073709551616"], 2, number),
         (
-            &["pdgf", "snapshot", "one.toml", "--unit", "+2"],
-            ONE,
+            &["pdgf", "snapshot", "s.toml", "--unit", "2", "--out", ""],
             2,
-            usage,
+            "pdgf: usage: empty directory for --out\n",
         ),
-        (
-            &[
-                "pdgf",
-                "snapshot",
-                "one.toml",
-                "--unit",
-                "18446744073709551616",
-            ],
-            ONE,
-            2,
-            usage,
-        ),
-        (&["pdgf", "snapshot", "-", "--unit", "2"], ONE, 2, usage),
-        (
-            &["pdgf", "snapshot", "two.toml", "--unit", "2"],
-            ONE,
-            5,
-            "pdgf: read failed\n",
-        ),
-        (
-            &["pdgf", "snapshot", "one.toml", "--unit", "3"],
-            ONE,
-            11,
-            "pdgf: not built\n",
-        ),
-        (&TWO, "seed = \"ab", 11, "pdgf: not built\n"),
-        (&TWO, "seed = 1\nunits = 2\n", 11, "pdgf: not built\n"),
+        (&["pdgf", "snapshot", "two.toml", "--unit", "2"], 5, "pdgf: read failed\n"),
+        (&["pdgf", "snapshot", "s.toml", "--unit", "3"], 8, unit),
+        (&["pdgf", "snapshot", "s.toml", "--table", "u", "--unit", "3"], 8, unit),
+        (&["pdgf", "snapshot", "s.toml", "--unit", "2", "--table", "u"], 8, table),
     ];
-    for (given, schema, status, message) in cases {
+    for (given, status, message) in words {
         let shelf = shelf(alloc, ShelfFail::Begin(9), 1000)?;
-        run_gives(&rt, alloc, schema, given, shelf, status, message, None, "")?;
+        run_gives(&rt, alloc, ONE.as_bytes(), given, shelf, refused(status, message))?;
+    }
+    let schemas: [(&str, u8, &str); 4] = [
+        ("seed = \"ab", 3, "pdgf: schema: not TOML\n"),
+        (
+            "seed = 1\nunits = 2\n",
+            3,
+            "pdgf: schema: top key table: expected list of tables\n",
+        ),
+        (TOO_MANY_ROWS, 4, "pdgf: rule V6 at table 1\n"),
+        (BAR, 11, "pdgf: not built\n"),
+    ];
+    for (schema, status, message) in schemas {
+        let shelf = shelf(alloc, ShelfFail::Begin(9), 1000)?;
+        run_gives(&rt, alloc, schema.as_bytes(), &TWO, shelf, refused(status, message))?;
     }
     Ok(())
+}
+
+// A schema's text with line feeds behind it. It is made apart, so that no proof unfolds it.
+fn padded(alloc: Global, schema: &str, more: usize) -> Result<Vec<u8>, AllocError> {
+    let mut bytes = Vec::from_elem(alloc, b'\n', more)?;
+    bytes.extend_from_slice(schema.as_bytes())?;
+    Ok(bytes)
+}
+
+#[test]
+fn a_schema_of_a_byte_too_many_is_refused(rt: HostRuntime) -> Result<(), Fail> {
+    let alloc = rt.alloc();
+    let fits = padded(alloc, ONE, 1_048_576 - ONE.len())?;
+    let shelf_for_fits = shelf(alloc, ShelfFail::Begin(9), 1000)?;
+    run_gives(&rt, alloc, &fits, &TWO, shelf_for_fits, all_done(&[("-", ONE_AT_2)]))?;
+    let too_long = padded(alloc, ONE, 1_048_577 - ONE.len())?;
+    let shelf_for_too_long = shelf(alloc, ShelfFail::Begin(9), 1000)?;
+    run_gives(&rt, alloc, &too_long, &TWO, shelf_for_too_long, refused(10, "pdgf: too long: schema\n"))
 }

@@ -1,12 +1,12 @@
 //! The simulation as a plain program: it holds the rows and steps them unit by unit, as the
 //! definition says, and serves to compare texts on small rules. Keys are in place, not scrambled.
 
-ghost use Rattle.pdgf_run.specs.Cohorts.{cohort_size, first_ordinal};
-ghost use Rattle.pdgf_run.specs.Lines.{field, field_text, line, table_text};
+ghost use Rattle.life_intervals.specs.Cohorts.{cohort_size, first_ordinal};
+ghost use Rattle.row_lines.specs.Lines.{field, field_text, line, table_text};
 ghost use Rattle.pdgf_run.specs.Plain.{column_rule, row_view, row_views, rules_view, state_view, table_rules};
-ghost use Rattle.pdgf_run.specs.Rows.{cohort, index_in_cohort};
-ghost use Rattle.pdgf_run.specs.Rules.{Rules};
-ghost use Rattle.pdgf_run.specs.Simulation.{empty_tables, simulation, with_insertions};
+ghost use Rattle.life_intervals.specs.Rows.{cohort, index_in_cohort};
+ghost use Rattle.life_intervals.specs.Rules.{Rules};
+ghost use Rattle.life_intervals.specs.Simulation.{empty_tables, simulation, with_insertions};
 ghost use Rattle.std.specs.Prelude.{◌≡◌, ℕ, ◌+◌, ◌*◌, ◌^◌, ◌≤◌, ◌++◌, [], ◌∷◌, ◌==◌, if◌then◌else◌, IfOk, OnOk, flat_map, length, vec_len};
 
 use itoa::Buffer;

@@ -1,12 +1,15 @@
-use Rattle.std.proofs.Common.{◌≡◌, ◌<◌, ◌^◌, ℕ, true, List, length, Result, Some, None, Ok, Err, false, ◌==◌, refl, ap, sym, ◌∙◌, ◌≤◌, arith, rules}
+use Rattle.std.proofs.Common.{◌≡◌, ◌<◌, ◌^◌, ℕ, true, List, length, Result, Option, Some, None, Ok, Err, false, ◌==◌, if◌then◌else◌, refl, ap, sym, ◌∙◌, ◌≤◌, arith, rules}
 use Rattle.std.specs.Char.{is_ascii_digit}
 use Rattle.std.specs.List.{list_all}
 use Rattle.std.specs.Result.{OkIff, result_ok}
 use Rattle.std.specs.Str.Parse.{digits_value}
 use Rattle.std.proofs.lemmas.Bool.Decides.{nat_tests}
 use Rattle.std.proofs.lemmas.Str.Parse.{IsNumeralModel, numerals_by_value, parse_digits}
-use Rattle.pdgf_run.specs.Words.{number}
+use Rattle.pdgf_run.specs.Words.{is_number}
 use Rattle.pdgf_run.proofs.words.read_number.Goals as goal
+
+abbrev number : List ℕ → Option ℕ
+number digits = if is_number digits then Some (digits_value 10 digits) else None
 
 own : IsNumeralModel (λ ds. list_all is_ascii_digit ds ≡ true) (digits_value 10)
 own = numerals_by_value _ (search rules)

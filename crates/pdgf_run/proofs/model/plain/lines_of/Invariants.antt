@@ -1,6 +1,6 @@
 use Rattle.std.proofs.Common.{◌≡◌, ℕ, take}
 use Rattle.std.specs.List.{flat_map}
-use Rattle.pdgf_run.specs.Lines.{line}
+use Rattle.row_lines.specs.Lines.{line}
 use Rattle.pdgf_run.specs.Plain.{row_views, table_rules, rules_view}
 use Rattle.pdgf_run.proofs.model.plain.lines_of.Given as goal
 

@@ -2,9 +2,9 @@ use Rattle.std.proofs.Common.{rules, ◌≡◌, ◌<◌, ◌≤◌, ◌∙◌, �
 use Rattle.std.proofs.lemmas.List.{get_or_default, append_assoc}
 use Rattle.pdgf_run.specs.declared.model.plain.PlainColumn.{PlainColumn}
 use Rattle.pdgf_run.specs.declared.model.plain.PlainColumn.TheVariants.{Key}
-use Rattle.pdgf_run.specs.Lines.{field, field_text}
+use Rattle.row_lines.specs.Lines.{field, field_text}
 use Rattle.pdgf_run.specs.Plain.{column_rule, row_view, table_rules, rules_view}
-use Rattle.pdgf_run.proofs.ListLemmas.{join_with_byte-take_more}
+use Rattle.row_lines.proofs.ListLemmas.{join_with_byte-take_more}
 use Rattle.pdgf_run.proofs.PlainLemmas.{line-fields}
 use Rattle.pdgf_run.proofs.model.plain.push_line.Goals as goal
 

@@ -1,6 +1,6 @@
 use Rattle.std.proofs.Common.{◌≡◌, ◌++◌, ℕ, map, take}
 use Rattle.std.specs.List.{join_with_byte}
-use Rattle.pdgf_run.specs.Lines.{field, field_text}
+use Rattle.row_lines.specs.Lines.{field, field_text}
 use Rattle.pdgf_run.specs.Plain.{column_rule, row_view, table_rules, rules_view}
 use Rattle.pdgf_run.proofs.model.plain.push_line.Given as goal
 

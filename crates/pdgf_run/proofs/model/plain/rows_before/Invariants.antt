@@ -1,5 +1,5 @@
 use Rattle.std.proofs.Common.{◌≡◌, ◌*◌, ◌^◌, ◌≤◌}
-use Rattle.pdgf_run.specs.Cohorts.{first_ordinal}
+use Rattle.life_intervals.specs.Cohorts.{first_ordinal}
 use Rattle.pdgf_run.specs.Plain.{table_rules}
 use Rattle.pdgf_run.proofs.model.plain.rows_before.Given as goal
 

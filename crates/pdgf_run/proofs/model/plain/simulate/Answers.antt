@@ -1,7 +1,7 @@
 use Rattle.std.proofs.Common.{◌∙◌, ◌+◌, ap, sym}
-use Rattle.pdgf_run.specs.Simulation.{simulation, with_insertions}
+use Rattle.life_intervals.specs.Simulation.{simulation, with_insertions}
 use Rattle.pdgf_run.specs.Plain.{rules_view, state_view}
-use Rattle.pdgf_run.proofs.SimulationLemmas.{simulation-add_one}
+use Rattle.life_intervals.proofs.SimulationLemmas.{simulation-add_one}
 use Rattle.pdgf_run.proofs.model.plain.simulate.Goals as goal
 
 pub loop-earlier-init : goal.loop-earlier-init

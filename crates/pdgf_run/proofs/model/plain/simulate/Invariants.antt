@@ -1,5 +1,5 @@
 use Rattle.std.proofs.Common.{◌≡◌, vec_len}
-use Rattle.pdgf_run.specs.Simulation.{simulation}
+use Rattle.life_intervals.specs.Simulation.{simulation}
 use Rattle.pdgf_run.specs.Plain.{state_view, rules_view}
 use Rattle.pdgf_run.proofs.model.plain.simulate.Given as goal
 

@@ -1,7 +1,7 @@
 use Rattle.std.proofs.Common.{◌∙◌, ap, refl}
 use Rattle.pdgf_run.specs.Plain.{row_view, row_views, table_rules}
-use Rattle.pdgf_run.specs.Rows.{new_row}
-use Rattle.pdgf_run.proofs.Ranges.{map-push_range}
+use Rattle.life_intervals.specs.Rows.{new_row}
+use Rattle.life_intervals.proofs.Ranges.{map-push_range}
 use Rattle.pdgf_run.proofs.model.plain.with_cohort.Goals as goal
 
 pub loop-index-preserved : goal.loop-index-preserved

@@ -1,6 +1,6 @@
 use Rattle.std.proofs.Common.{◌≡◌, ◌++◌, map}
 use Rattle.std.specs.List.{range_with_len}
-use Rattle.pdgf_run.specs.Rows.{new_row}
+use Rattle.life_intervals.specs.Rows.{new_row}
 use Rattle.pdgf_run.specs.Plain.{row_views, table_rules}
 use Rattle.pdgf_run.proofs.model.plain.with_cohort.Given as goal
 

@@ -1,7 +1,7 @@
 use Rattle.std.proofs.Common.{rules, ◌∙◌, ◌+◌, ◌++◌, [], ◌∷◌, ℕ, ap, sym, length}
 use Rattle.std.proofs.lemmas.List.{length_push}
 use Rattle.std.proofs.lemmas.Slice.Zip.{zip_turn, zip_end}
-use Rattle.pdgf_run.specs.Rows.{cohort}
+use Rattle.life_intervals.specs.Rows.{cohort}
 use Rattle.pdgf_run.specs.Plain.{row_views, state_view, table_rules}
 use Rattle.pdgf_run.proofs.PlainLemmas.{insertions_from, insertions_from-more, insertions_from-all}
 use Rattle.pdgf_run.proofs.model.plain.with_insertions.Goals as goal

@@ -1,6 +1,6 @@
 use Rattle.std.proofs.Common.{◌≡◌, ◌++◌, map, drop, length, vec_len}
 use Rattle.std.specs.List.{zip}
-use Rattle.pdgf_run.specs.Simulation.{in_turn, with_cohort, with_insertions}
+use Rattle.life_intervals.specs.Simulation.{in_turn, with_cohort, with_insertions}
 use Rattle.pdgf_run.specs.Plain.{state_view, table_rules, rules_view}
 use Rattle.pdgf_run.proofs.model.plain.with_insertions.Given as goal
 

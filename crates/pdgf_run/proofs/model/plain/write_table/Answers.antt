@@ -2,7 +2,7 @@ use Rattle.std.proofs.Common.{rules, ◌∙◌, ◌<◌, ◌≤◌, ap, sym, len
 use Rattle.std.proofs.lemmas.Result.{IfOk-weaker}
 use Rattle.std.specs.List.{flat_map}
 use Rattle.pdgf_run.specs.declared.model.plain.PlainTable.{PlainTable}
-use Rattle.pdgf_run.specs.Lines.{line}
+use Rattle.row_lines.specs.Lines.{line}
 use Rattle.pdgf_run.specs.Plain.{row_views, table_rules, rules_view}
 use Rattle.pdgf_run.proofs.PlainLemmas.{table_text-state, table_text-past}
 use Rattle.pdgf_run.proofs.model.plain.write_table.Goals as goal

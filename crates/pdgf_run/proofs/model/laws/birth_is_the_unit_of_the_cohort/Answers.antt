@@ -1,5 +1,0 @@
-use Rattle.pdgf_run.proofs.CohortLemmas.{birth-first_ordinal}
-use Rattle.pdgf_run.proofs.model.laws.birth_is_the_unit_of_the_cohort.Goals as goal
-
-pub returns : goal.returns
-returns c = birth-first_ordinal

@@ -1,9 +1,0 @@
-use Rattle.std.proofs.Common.{refl}
-use Rattle.std.specs.Fmt.{digits}
-use Rattle.pdgf_run.specs.Simulation.{simulation, rows_at}
-use Rattle.pdgf_run.specs.Lines.{line, table_text}
-use Rattle.pdgf_run.proofs.model.laws.worked_texts.Goals as goal
-
-pub returns : goal.returns
-unfolding simulation rows_at line table_text digits
-returns c = record { row_at_each_unit = refl; scrambled = refl; empty = refl; at_unit_0_alone = refl; past_the_tables = refl }

@@ -1,0 +1,67 @@
+// What mode check tells.
+ghost use Rattle.std.specs.Prelude.{◌≡◌, ◌<◌, ◌∷◌, ◌++◌, [], IfOk, OnOk, codes, decimal, length};
+ghost use Rattle.schema_check.specs.Lives.{sure_life};
+ghost use Rattle.pdgf_run.specs.DueFiles.{check_line, check_lines, life_text, name_at};
+
+use itoa::Buffer;
+use life_intervals::born;
+use pd_outside::Memory;
+use schema_check::Plan;
+use std::alloc::Global;
+
+// Appends a number in decimal, and a byte behind it.
+fn push_number(text: &mut Vec<u8>, number: u64, behind: u8) -> Result<(), Memory>
+    ensures { OnOk result (text.new.items ≡ (text.old.items ++ decimal number) ++ behind ∷ []) }
+{
+    let mut digits = Buffer::new();
+    text.extend_from_slice(digits.format(number).as_bytes())?;
+    text.push(behind)?;
+    Ok(())
+}
+
+// Appends the sure life of a table, and a tab.
+fn push_life(text: &mut Vec<u8>, life: Option<u64>) -> Result<(), Memory>
+    ensures { OnOk result (text.new.items ≡ (text.old.items ++ life_text life) ++ codes "\t") }
+{
+    match life {
+        Some(units) => push_number(text, units, b'\t'),
+        None => {
+            text.extend_from_slice(b"none\t")?;
+            Ok(())
+        }
+    }
+}
+
+/// The name of a table.
+pub(crate) fn name_of(plan: &Plan, table: u32) -> &str
+    requires { table < length plan.now.tables }
+    ensures { result.now ≡ name_at plan.now table }
+{
+    plan.schema().tables.as_slice()[table as usize]
+        .name
+        .as_str()
+}
+
+// Appends what is told of a table.
+fn push_line(text: &mut Vec<u8>, plan: &Plan, table: u32) -> Result<(), Memory>
+    requires { table < length plan.now.tables }
+    ensures { OnOk result (text.new.items ≡ text.old.items ++ check_line plan.now table) }
+{
+    text.extend_from_slice(name_of(plan, table).as_bytes())?;
+    text.push(b'\t')?;
+    push_number(text, born(plan, table, plan.units()), b'\t')?;
+    push_life(text, plan.sure_life(table))?;
+    push_number(text, plan.cost(table), b'\t')?;
+    push_number(text, plan.max_line(table), b'\n')
+}
+
+/// A line for each table: its name, the rows born in all units, its sure life, its cost and its greatest line.
+pub(crate) fn check_text(alloc: Global, plan: &Plan) -> Result<Vec<u8>, Memory>
+    ensures { IfOk result (λ text. text.items ≡ check_lines plan.now (length plan.now.tables)) }
+{
+    let mut text = Vec::new(alloc);
+    for table in 0..plan.tables() {
+        push_line(&mut text, plan, table)?;
+    }
+    Ok(text)
+}

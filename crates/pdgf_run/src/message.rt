@@ -1,0 +1,198 @@
+// The messages, and the words that they are made of.
+ghost use Rattle.std.specs.Prelude.{◌≡◌, ◌≤◌, ◌+◌, ◌++◌, length, codes, decimal};
+ghost use Rattle.pdgf_run.specs.Statuses.{expected_text, key_text, line_of, option_text, place_text, refusal_text, usage_text, wanted_text};
+
+use crate::Refusal;
+use crate::usage::{OptionName, UsageFault};
+use itoa::Buffer;
+use pd_outside::Message;
+use schema_read::{Expected, Place, SchemaKey};
+
+/// The message of these words: the program's name before them, and a line feed behind.
+pub(crate) fn line(words: &[u8]) -> Message
+    requires { length words.now + 7 ≤ Message.ROOM }
+    ensures { result ≡ line_of words.now }
+{
+    let mut message = Message::new();
+    message.put(b"pdgf: ");
+    message.put(words);
+    message.put(b"\n");
+    message
+}
+
+/// Appends the words of a refusal.
+pub(crate) fn put_refusal(message: &mut Message, refusal: Refusal)
+    requires { length message.old + 150 ≤ Message.ROOM }
+    ensures text { message.new ≡ message.old ++ refusal_text refusal }
+    ensures short { length message.new ≤ length message.old + 150 }
+{
+    match refusal {
+        Refusal::Usage(fault) => put_usage(message, fault),
+        Refusal::Syntax => message.put(b"schema: not TOML"),
+        Refusal::Shape {
+            place,
+            key,
+            expected,
+        } => put_shape(message, place, key, expected),
+        Refusal::Rule {
+            number,
+            table,
+            column,
+        } => put_rule(message, number, table, column),
+        Refusal::OutOfRange(name) => put_named(message, b"out of range: ", name),
+        Refusal::SchemaTooLong => message.put(b"too long: schema"),
+        Refusal::NotBuilt => message.put(b"not built"),
+    }
+}
+
+// Appends what is wrong with the words.
+fn put_usage(message: &mut Message, fault: UsageFault)
+    requires { length message.old + 40 ≤ Message.ROOM }
+    ensures text { message.new ≡ message.old ++ usage_text fault }
+    ensures short { length message.new ≤ length message.old + 40 }
+{
+    match fault {
+        UsageFault::Words => message.put(b"usage: bad words"),
+        UsageFault::Mode => message.put(b"usage: unknown mode"),
+        UsageFault::Unwanted(name) => put_named(message, b"usage: unwanted ", name),
+        UsageFault::Missing(name) => put_named(message, b"usage: missing ", name),
+        UsageFault::Number(name) => put_named(message, b"usage: bad number for ", name),
+        UsageFault::EmptyDirectory(name) => put_named(
+            message,
+            b"usage: empty directory for ",
+            name,
+        ),
+        UsageFault::Memory => message.put(b"out of memory"),
+    }
+}
+
+// Appends what is wrong at a key of a schema, with its place.
+fn put_shape(message: &mut Message, place: Place, key: SchemaKey, expected: Expected)
+    requires { length message.old + 150 ≤ Message.ROOM }
+    ensures text { message.new ≡ message.old ++ refusal_text (Refusal.Shape place key expected) }
+    ensures short { length message.new ≤ length message.old + 150 }
+{
+    message.put(b"schema: ");
+    put_place(message, place);
+    put_key(message, key, expected);
+}
+
+// Appends the number of a broken rule and its place.
+fn put_rule(message: &mut Message, number: u32, table: u64, column: u64)
+    requires { length message.old + 150 ≤ Message.ROOM }
+    ensures text { message.new ≡ message.old ++ refusal_text (Refusal.Rule number table column) }
+    ensures short { length message.new ≤ length message.old + 150 }
+{
+    put_counted(message, b"rule V", u64::from(number));
+    message.put(b" at ");
+    put_place(
+        message,
+        Place {
+            table,
+            column,
+            branch: 0,
+        },
+    );
+}
+
+// Appends a place of a schema.
+fn put_place(message: &mut Message, place: Place)
+    requires { length message.old + 82 ≤ Message.ROOM }
+    ensures text { message.new ≡ message.old ++ place_text place.table place.column place.branch }
+    ensures short { length message.new ≤ length message.old + 82 }
+{
+    if place.table == 0 {
+        message.put(b"top");
+        return;
+    }
+    put_counted(message, b"table ", place.table);
+    if place.column == 0 {
+        return;
+    }
+    put_counted(message, b" column ", place.column);
+    if place.branch == 0 {
+        return;
+    }
+    put_counted(message, b" branch ", place.branch);
+}
+
+// Appends what is wrong at a key, behind its place.
+fn put_key(message: &mut Message, key: SchemaKey, expected: Expected)
+    requires { length message.old + 60 ≤ Message.ROOM }
+    ensures text { message.new ≡ message.old ++ key_text key expected }
+    ensures short { length message.new ≤ length message.old + 60 }
+{
+    match key {
+        SchemaKey::Other => message.put(b": no such key"),
+        _ => put_wanted(message, key, expected),
+    }
+}
+
+// Appends a key and what it wants, behind its place.
+fn put_wanted(message: &mut Message, key: SchemaKey, expected: Expected)
+    requires { length message.old + 60 ≤ Message.ROOM }
+    ensures text { message.new ≡ message.old ++ wanted_text key expected }
+    ensures short { length message.new ≤ length message.old + 60 }
+{
+    message.put(b" key ");
+    message.put(key.name().as_bytes());
+    message.put(b": expected ");
+    message.put(expected_words(expected).as_bytes());
+}
+
+// Appends words and an option behind them.
+fn put_named(message: &mut Message, words: &[u8], name: OptionName)
+    requires { length message.old + length words.now + 7 ≤ Message.ROOM }
+    ensures text { message.new ≡ message.old ++ (words.now ++ option_text name) }
+    ensures short { length message.new ≤ length message.old + length words.now + 7 }
+{
+    message.put(words);
+    message.put(option_words(name).as_bytes());
+}
+
+// Appends words and a number behind them.
+fn put_counted(message: &mut Message, words: &[u8], number: u64)
+    requires { length message.old + length words.now + 20 ≤ Message.ROOM }
+    ensures text { message.new ≡ message.old ++ (words.now ++ decimal number) }
+    ensures short { length message.new ≤ length message.old + length words.now + 20 }
+{
+    let mut digits = Buffer::new();
+    message.put(words);
+    message.put(digits.format(number).as_bytes());
+}
+
+// An option as it is written among the words.
+fn option_words(name: OptionName) -> &'static str
+    ensures text { result.now ≡ option_text name }
+    ensures short { length result.now ≤ 7 }
+{
+    match name {
+        OptionName::Schema => "SCHEMA",
+        OptionName::Unit => "--unit",
+        OptionName::Table => "--table",
+        OptionName::Out => "--out",
+    }
+}
+
+// The type of value that a key wants.
+fn expected_words(expected: Expected) -> &'static str
+    ensures text { result.now ≡ expected_text expected }
+    ensures short { length result.now ≤ 31 }
+{
+    match expected {
+        Expected::Whole => "whole number",
+        Expected::TextValue => "text",
+        Expected::Flag => "true or false",
+        Expected::DelimiterName => "\"tab\" or \"bar\"",
+        Expected::TableList => "list of tables",
+        Expected::TwoWholes => "two whole numbers",
+        Expected::KindName => "name of a kind",
+        Expected::LeafName => "name of a leaf kind",
+        Expected::DateText => "date YYYY-MM-DD",
+        Expected::TextList => "list of texts",
+        Expected::Wholes => "list of whole numbers",
+        Expected::PartList => "list of texts and cited columns",
+        Expected::WindowValue => "whole number or \"all\"",
+        Expected::NoSuchKey => "no such key",
+    }
+}
