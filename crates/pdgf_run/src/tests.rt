@@ -143,22 +143,47 @@ fn files_are_written_as_far_as_the_shelf_goes(rt: HostRuntime) -> Result<(), Fai
         (ShelfFail::Begin(2), 1, all_done(&[("-", ONE_AT_2)])),
         (ShelfFail::Begin(1), 1000, write_failed(None, "", &[])),
         (ShelfFail::Write(1), 1000, write_failed(Some("-"), "", &[])),
-        (ShelfFail::Write(2), 1000, write_failed(Some("-"), "1\t0\n", &[])),
-        (ShelfFail::End(1), 1000, write_failed(Some("-"), ONE_AT_2, &[])),
+        (
+            ShelfFail::Write(2),
+            1000,
+            write_failed(Some("-"), "1\t0\n", &[]),
+        ),
+        (
+            ShelfFail::End(1),
+            1000,
+            write_failed(Some("-"), ONE_AT_2, &[]),
+        ),
     ];
     for (fail, step, outcome) in one {
         if 0 < step {
-            run_gives(&rt, alloc, ONE.as_bytes(), &TWO, shelf(alloc, fail, step)?, outcome)?;
+            run_gives(
+                &rt,
+                alloc,
+                ONE.as_bytes(),
+                &TWO,
+                shelf(alloc, fail, step)?,
+                outcome,
+            )?;
         }
     }
     let three: [(ShelfFail, Outcome<'_>); 4] = [
         (ShelfFail::Begin(4), all_done(&[a, b, c])),
         (ShelfFail::Begin(2), write_failed(None, "", &[a])),
         (ShelfFail::Write(4), write_failed(Some("d/b.tbl"), "", &[a])),
-        (ShelfFail::Write(6), write_failed(Some("d/c.tbl"), "0\t1\n", &[a, b])),
+        (
+            ShelfFail::Write(6),
+            write_failed(Some("d/c.tbl"), "0\t1\n", &[a, b]),
+        ),
     ];
     for (fail, outcome) in three {
-        run_gives(&rt, alloc, THREE.as_bytes(), &THREE_OUT, shelf(alloc, fail, 1000)?, outcome)?;
+        run_gives(
+            &rt,
+            alloc,
+            THREE.as_bytes(),
+            &THREE_OUT,
+            shelf(alloc, fail, 1000)?,
+            outcome,
+        )?;
     }
     Ok(())
 }
@@ -167,11 +192,18 @@ fn files_are_written_as_far_as_the_shelf_goes(rt: HostRuntime) -> Result<(), Fai
 fn requests_come_to_their_files(rt: HostRuntime) -> Result<(), Fail> {
     let alloc = rt.alloc();
     let cases: [(&str, &[&str], (&str, &str)); 7] = [
-        (ONE, &["pdgf", "check", "s.toml"], ("-", "t\t3\tnone\t1\t27\n")),
+        (
+            ONE,
+            &["pdgf", "check", "s.toml"],
+            ("-", "t\t3\tnone\t1\t27\n"),
+        ),
         (
             THREE,
             &["pdgf", "check", "s.toml"],
-            ("-", "a\t3\tnone\t1\t21\nb\t1\tnone\t1\t27\nc\t2\tnone\t1\t27\n"),
+            (
+                "-",
+                "a\t3\tnone\t1\t21\nb\t1\tnone\t1\t27\nc\t2\tnone\t1\t27\n",
+            ),
         ),
         (
             THREE,
@@ -185,10 +217,16 @@ fn requests_come_to_their_files(rt: HostRuntime) -> Result<(), Fail> {
         ),
         (
             THREE,
-            &["pdgf", "snapshot", "s.toml", "--out", "d", "--table", "c", "--unit", "1"],
+            &[
+                "pdgf", "snapshot", "s.toml", "--out", "d", "--table", "c", "--unit", "1",
+            ],
             ("d/c.tbl", "0\t1\n1\t1\n"),
         ),
-        (THREE, &["pdgf", "snapshot", "s.toml", "--unit", "0", "--table", "c"], ("-", "")),
+        (
+            THREE,
+            &["pdgf", "snapshot", "s.toml", "--unit", "0", "--table", "c"],
+            ("-", ""),
+        ),
         (
             EMPTY,
             &["pdgf", "snapshot", "s.toml", "--unit", "2", "--out", "out"],
@@ -197,7 +235,14 @@ fn requests_come_to_their_files(rt: HostRuntime) -> Result<(), Fail> {
     ];
     for (schema, given, file) in cases {
         let shelf = shelf(alloc, ShelfFail::Begin(9), 1000)?;
-        run_gives(&rt, alloc, schema.as_bytes(), given, shelf, all_done(&[file]))?;
+        run_gives(
+            &rt,
+            alloc,
+            schema.as_bytes(),
+            given,
+            shelf,
+            all_done(&[file]),
+        )?;
     }
     Ok(())
 }
@@ -214,25 +259,70 @@ fn other_words_and_schemas_are_refused(rt: HostRuntime) -> Result<(), Fail> {
         (&["pdgf"], 2, usage),
         (&["pdgf", "snapshot", "s.toml", "--unit"], 2, usage),
         (&["pdgf", "snapshot", "-", "--unit", "2"], 2, usage),
-        (&["pdgf", "make", "s.toml"], 2, "pdgf: usage: unknown mode\n"),
-        (&["pdgf", "check", "s.toml", "--unit", "1"], 2, "pdgf: usage: unwanted --unit\n"),
-        (&["pdgf", "snapshot", "--unit", "1"], 2, "pdgf: usage: missing SCHEMA\n"),
-        (&["pdgf", "snapshot", "s.toml"], 2, "pdgf: usage: missing --unit\n"),
+        (
+            &["pdgf", "make", "s.toml"],
+            2,
+            "pdgf: usage: unknown mode\n",
+        ),
+        (
+            &["pdgf", "check", "s.toml", "--unit", "1"],
+            2,
+            "pdgf: usage: unwanted --unit\n",
+        ),
+        (
+            &["pdgf", "snapshot", "--unit", "1"],
+            2,
+            "pdgf: usage: missing SCHEMA\n",
+        ),
+        (
+            &["pdgf", "snapshot", "s.toml"],
+            2,
+            "pdgf: usage: missing --unit\n",
+        ),
         (&["pdgf", "snapshot", "s.toml", "--unit", "+2"], 2, number),
-        (&["pdgf", "snapshot", "s.toml", "--unit", "18446744073709551616"], 2, number),
+        (
+            &[
+                "pdgf",
+                "snapshot",
+                "s.toml",
+                "--unit",
+                "18446744073709551616",
+            ],
+            2,
+            number,
+        ),
         (
             &["pdgf", "snapshot", "s.toml", "--unit", "2", "--out", ""],
             2,
             "pdgf: usage: empty directory for --out\n",
         ),
-        (&["pdgf", "snapshot", "two.toml", "--unit", "2"], 5, "pdgf: read failed\n"),
+        (
+            &["pdgf", "snapshot", "two.toml", "--unit", "2"],
+            5,
+            "pdgf: read failed\n",
+        ),
         (&["pdgf", "snapshot", "s.toml", "--unit", "3"], 8, unit),
-        (&["pdgf", "snapshot", "s.toml", "--table", "u", "--unit", "3"], 8, unit),
-        (&["pdgf", "snapshot", "s.toml", "--unit", "2", "--table", "u"], 8, table),
+        (
+            &["pdgf", "snapshot", "s.toml", "--table", "u", "--unit", "3"],
+            8,
+            unit,
+        ),
+        (
+            &["pdgf", "snapshot", "s.toml", "--unit", "2", "--table", "u"],
+            8,
+            table,
+        ),
     ];
     for (given, status, message) in words {
         let shelf = shelf(alloc, ShelfFail::Begin(9), 1000)?;
-        run_gives(&rt, alloc, ONE.as_bytes(), given, shelf, refused(status, message))?;
+        run_gives(
+            &rt,
+            alloc,
+            ONE.as_bytes(),
+            given,
+            shelf,
+            refused(status, message),
+        )?;
     }
     let schemas: [(&str, u8, &str); 4] = [
         ("seed = \"ab", 3, "pdgf: schema: not TOML\n"),
@@ -246,7 +336,14 @@ fn other_words_and_schemas_are_refused(rt: HostRuntime) -> Result<(), Fail> {
     ];
     for (schema, status, message) in schemas {
         let shelf = shelf(alloc, ShelfFail::Begin(9), 1000)?;
-        run_gives(&rt, alloc, schema.as_bytes(), &TWO, shelf, refused(status, message))?;
+        run_gives(
+            &rt,
+            alloc,
+            schema.as_bytes(),
+            &TWO,
+            shelf,
+            refused(status, message),
+        )?;
     }
     Ok(())
 }
@@ -263,8 +360,22 @@ fn a_schema_of_a_byte_too_many_is_refused(rt: HostRuntime) -> Result<(), Fail> {
     let alloc = rt.alloc();
     let fits = padded(alloc, ONE, 1_048_576 - ONE.len())?;
     let shelf_for_fits = shelf(alloc, ShelfFail::Begin(9), 1000)?;
-    run_gives(&rt, alloc, &fits, &TWO, shelf_for_fits, all_done(&[("-", ONE_AT_2)]))?;
+    run_gives(
+        &rt,
+        alloc,
+        &fits,
+        &TWO,
+        shelf_for_fits,
+        all_done(&[("-", ONE_AT_2)]),
+    )?;
     let too_long = padded(alloc, ONE, 1_048_577 - ONE.len())?;
     let shelf_for_too_long = shelf(alloc, ShelfFail::Begin(9), 1000)?;
-    run_gives(&rt, alloc, &too_long, &TWO, shelf_for_too_long, refused(10, "pdgf: too long: schema\n"))
+    run_gives(
+        &rt,
+        alloc,
+        &too_long,
+        &TWO,
+        shelf_for_too_long,
+        refused(10, "pdgf: too long: schema\n"),
+    )
 }
