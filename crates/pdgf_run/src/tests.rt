@@ -166,13 +166,17 @@ fn files_are_written_as_far_as_the_shelf_goes(rt: HostRuntime) -> Result<(), Fai
             )?;
         }
     }
+    let (first, two, all) = ([a], [a, b], [a, b, c]);
     let three: [(ShelfFail, Outcome<'_>); 4] = [
-        (ShelfFail::Begin(4), all_done(&[a, b, c])),
-        (ShelfFail::Begin(2), write_failed(None, "", &[a])),
-        (ShelfFail::Write(4), write_failed(Some("d/b.tbl"), "", &[a])),
+        (ShelfFail::Begin(4), all_done(&all)),
+        (ShelfFail::Begin(2), write_failed(None, "", &first)),
+        (
+            ShelfFail::Write(4),
+            write_failed(Some("d/b.tbl"), "", &first),
+        ),
         (
             ShelfFail::Write(6),
-            write_failed(Some("d/c.tbl"), "0\t1\n", &[a, b]),
+            write_failed(Some("d/c.tbl"), "0\t1\n", &two),
         ),
     ];
     for (fail, outcome) in three {
