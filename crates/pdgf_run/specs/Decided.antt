@@ -12,11 +12,6 @@ abbrev pub stop_of : UsageFault → Stop
 stop_of usage.Memory = stop.Memory
 stop_of fault = stop.Refused (Usage fault)
 
--- a fact of the refusal, where a request is refused
-abbrev pub WhenRefused : Stop → (Refusal → Type 0) → Type 0
-WhenRefused (stop.Refused refusal) Fact = Fact refusal
-WhenRefused _ Fact = ⊤
-
 -- an answer is this one's value, and a refusal is its refusal
 abbrev pub Decides : {A B : Type 0} → (A → B) → Result A Stop → Result B Refusal → Type 0
 Decides view (Ok answer) decided = decided ≡ Ok (view answer)
