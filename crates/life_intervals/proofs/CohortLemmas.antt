@@ -4,20 +4,16 @@ use Rattle.std.specs.Prelude.{if◌then◌else◌}
 use Rattle.std.proofs.lemmas.Bool.{cases_lt, lt-ltb, le-ltb}
 use Rattle.std.proofs.lemmas.Bool.Decides.{nat_tests}
 use Rattle.std.proofs.lemmas.Nat.{div-mul-add, div-add-mod', div_below, mod_below, mul-le}
+use Rattle.schema_check.proofs.CohortLemmas as cohorts
 use Rattle.life_intervals.specs.Rules.{TableRules}
 use Rattle.life_intervals.specs.Cohorts.{born_count, cohort_size, first_ordinal}
 use Rattle.life_intervals.specs.Intervals.{birth}
 
 pub first_ordinal-suc : (table : TableRules) (unit : ℕ) → first_ordinal table (suc unit) ≡ table.rows + unit * table.insert
-first_ordinal-suc table zero = omega arith
-first_ordinal-suc table (suc unit) =
-    let before : first_ordinal table (suc unit) ≡ table.rows + unit * table.insert = first_ordinal-suc table unit in
-    omega (arith, before)
+first_ordinal-suc table unit = cohorts.first_ordinal-suc table.rows table.insert unit
 
 pub first_ordinal-add_one : (table : TableRules) (unit : ℕ) → first_ordinal table (unit + 1) ≡ table.rows + unit * table.insert
-first_ordinal-add_one table unit =
-    let next : unit + 1 ≡ suc unit = omega arith in
-    ap (first_ordinal table) next ∙ first_ordinal-suc table unit
+first_ordinal-add_one table unit = cohorts.born_count-is table.rows table.insert unit
 
 -- the ordinals of a cohort have its unit as their birth
 pub birth-first_ordinal : (table : TableRules) (unit index : ℕ) → index < cohort_size table unit → birth table (first_ordinal table unit + index) ≡ unit

@@ -93,7 +93,7 @@ impl<'a> CohortKeys<'a> {
 }
 
 /// The order of the keys of a cohort.
-pub(crate) fn key_order(plan: &Plan, table: u32, unit: u64, size: u64) -> Shuffle
+fn key_order(plan: &Plan, table: u32, unit: u64, size: u64) -> Shuffle
     requires some { 1 ≤ size }
     requires small { size ≤ 2 ^ 40 }
     ensures size { result.size ≡ size }

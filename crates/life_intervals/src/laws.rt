@@ -14,12 +14,6 @@ ghost use Rattle.life_intervals.specs.Rules.{Rules, TableRules, table_at};
 ghost use Rattle.life_intervals.specs.SchemaRules.{schema_rules};
 ghost use Rattle.life_intervals.specs.Simulation.{rows_at, simulation};
 
-/// The first ordinal of a later cohort, by multiplication.
-pub fn first_ordinal_is_linear()
-    ensures { (table : TableRules) (unit : ℕ) →
-        first_ordinal table (unit + 1) ≡ table.rows + unit * table.insert }
-{}
-
 /// The birth of an ordinal, found by division, is the unit of its cohort.
 pub fn birth_is_the_unit_of_the_cohort()
     ensures { (table : TableRules) (unit index : ℕ) → index < cohort_size table unit →

@@ -1,11 +1,9 @@
 //! Values from outside: cohorts worked out by hand, and keys that an independent program gave, written in Python from the
 //! rules of seeds, permutations and keys, with no shared code (docs/SECOND_PROGRAM.md).
 
-ghost use Rattle.std.specs.Prelude.{◌≡◌, ℕ, ◌<◌, ◌≤◌, length};
-ghost use Rattle.schema_check.specs.Counts.{count};
+ghost use Rattle.std.specs.Prelude.{◌≡◌, ◌<◌, length};
 
 use super::*;
-use crate::keys::key_order;
 use schema_check::{Plan, check, unbuilt};
 use schema_model::{Column, Columns, Delimiter, Kind, Schema, Table, Tables, Text};
 use std::alloc::{AllocError, Global};
@@ -15,12 +13,21 @@ use std::sync::ledger::{Blank, Ledger};
 use std::test::Fail;
 use step_count::Steps;
 
-fn key_table(alloc: Global, rows: i64, insert: i64) -> Result<Table, AllocError> {
+/// A table of one column of keys from 1: how many rows at unit 0 and at each later unit, and the last unit.
+#[derive(Clone, Copy)]
+struct KeyTable {
+    rows: i64,
+    insert: i64,
+    units: i64,
+    scramble: bool,
+}
+
+fn key_table(alloc: Global, keys: KeyTable) -> Result<Table, AllocError> {
     let key = Column {
         name: Text::of(alloc, "id").map_err(|_| AllocError)?,
         kind: Kind::Key {
             base: 1,
-            scramble: false,
+            scramble: keys.scramble,
         },
         changes: false,
         null: 0,
@@ -29,22 +36,22 @@ fn key_table(alloc: Global, rows: i64, insert: i64) -> Result<Table, AllocError>
     columns.push(key).map_err(|_| AllocError)?;
     Ok(Table {
         name: Text::of(alloc, "t").map_err(|_| AllocError)?,
-        rows,
-        insert,
+        rows: keys.rows,
+        insert: keys.insert,
         life: None,
         update: None,
         columns,
     })
 }
 
-/// The plan of one table with keys from 1, with seed 7.
-fn plan(alloc: Global, rows: i64, insert: i64, units: i64) -> Result<Plan, Fail> {
+/// The plan of one such table, with seed 7.
+fn plan(alloc: Global, keys: KeyTable) -> Result<Plan, Fail> {
     let mut tables = Tables::new(alloc);
-    let table = key_table(alloc, rows, insert)?;
+    let table = key_table(alloc, keys)?;
     tables.push(table).map_err(|_| AllocError)?;
     let schema = Schema {
         seed: 7,
-        units,
+        units: keys.units,
         delimiter: Delimiter::Tab,
         tables,
     };
@@ -57,9 +64,19 @@ fn plan(alloc: Global, rows: i64, insert: i64, units: i64) -> Result<Plan, Fail>
     }
 }
 
+/// 1,000 rows at unit 0, and 10 at each of the units 1 to 5.
+const fn thousand(scramble: bool) -> KeyTable {
+    KeyTable {
+        rows: 1000,
+        insert: 10,
+        units: 5,
+        scramble,
+    }
+}
+
 #[test]
 fn cohorts_and_births(rt: HostRuntime) -> Result<(), Fail> {
-    let plan = plan(rt.alloc(), 1000, 10, 5)?;
+    let plan = plan(rt.alloc(), thousand(false))?;
     assert!(rt; plan.tables() == 1);
     for (unit, first, size, all) in [(0, 0, 1000, 1000), (1, 1000, 10, 1010), (5, 1040, 10, 1050)] {
         assert!(rt; unit <= plan.units());
@@ -96,64 +113,75 @@ fn assert_keys<L: Ledger>(
     }
 }
 
-// As many rows as a table may have, in one cohort and in many.
+/// As many rows as a table may have, in one cohort.
+const fn one_large_cohort(scramble: bool) -> KeyTable {
+    KeyTable {
+        rows: 1 << 40,
+        insert: 0,
+        units: 0,
+        scramble,
+    }
+}
+
+/// Cohorts of some rows, one at each unit but 0.
+const fn many_cohorts(insert: i64, scramble: bool) -> KeyTable {
+    KeyTable {
+        rows: 0,
+        insert,
+        units: 10_000,
+        scramble,
+    }
+}
+
+// The keys of scrambled rows are from the Python program.
 #[test]
 fn keys_go_there_and_back(rt: HostRuntime) -> Result<(), Fail> {
     let alloc = rt.alloc();
-    let large = plan(alloc, 1 << 40, 0, 0)?;
     let last = 1_099_511_627_776;
-    assert_keys::<Brand>(
-        &rt,
-        &large,
-        &[(0, 1), (last - 1, last)],
-        &[0, last + 1],
-        Blank::new(1),
-    );
-    let long = plan(alloc, 0, 3, 10_000)?;
-    assert_keys::<Brand>(
-        &rt,
-        &long,
-        &[(0, 1), (29_999, 30_000)],
-        &[0, 30_001],
-        Blank::new(1),
-    );
-    let none = plan(alloc, 0, 0, 10_000)?;
+    let large = plan(alloc, one_large_cohort(false))?;
+    let rows = [(0, 1), (last - 1, last)];
+    assert_keys::<Brand>(&rt, &large, &rows, &[0, last + 1], Blank::new(1));
+    let large = plan(alloc, one_large_cohort(true))?;
+    let rows = [(0, 890_456_380_348), (last - 1, 91_737_330_597)];
+    assert_keys::<Brand>(&rt, &large, &rows, &[0, last + 1], Blank::new(1));
+    let many = plan(alloc, many_cohorts(3, false))?;
+    let rows = [(0, 1), (29_999, 30_000)];
+    assert_keys::<Brand>(&rt, &many, &rows, &[0, 30_001], Blank::new(1));
+    let many = plan(alloc, many_cohorts(3, true))?;
+    let rows = [(0, 3), (2, 1), (3, 6), (29_995, 29_997), (29_996, 29_996)];
+    assert_keys::<Brand>(&rt, &many, &rows, &[0, 30_001], Blank::new(1));
+    let none = plan(alloc, many_cohorts(0, true))?;
     assert_keys::<Brand>(&rt, &none, &[], &[0, 1], Blank::new(1));
     Ok(())
 }
 
-/// The keys of a table of scrambled keys from 1, one after the other, as one number.
+/// The keys of a table, one after the other, as one number.
 fn key_checksum<L: Ledger>(plan: &Plan, blank: Blank) -> u64
     requires table { 0 < length plan.now.tables }
-    requires units { 5 ≤ count plan.now.units }
     requires name { blank.name ≡ L.name }
     requires parts { blank.parts ≡ L.parts }
     requires some { 0 < blank.parts }
 {
     let mut steps = Steps::<L>::new(blank);
     let mut sum = 0u64;
-    for unit in 0..6 {
-        let Cohort { first, size } = cohort(plan, 0, unit);
-        if size > 0 {
-            let order = key_order(plan, 0, unit, size);
-            for index in 0..size {
-                let key = 1 + first + order.place(index, &mut steps);
-                sum = sum.wrapping_mul(1_000_003).wrapping_add(key);
-            }
-        }
+    for row in 0..born(plan, 0, plan.units()) {
+        let key = key(plan, 0, row, &mut steps);
+        sum = sum.wrapping_mul(1_000_003).wrapping_add(key);
     }
     sum
 }
 
-// The checksum is from the Python program.
+// The checksums are from the Python program.
 #[test]
-fn keys_are_scrambled_as_worked_out(rt: HostRuntime) -> Result<(), Fail> {
-    let plan = plan(rt.alloc(), 1000, 10, 5)?;
-    assert!(rt; plan.tables() == 1);
-    assert!(rt; plan.units() == 5);
-    assert_eq!(rt;
-        key_checksum::<Brand>(&plan, Blank::new(1)),
-        6_009_505_196_028_058_877
-    );
+fn keys_of_a_table(rt: HostRuntime) -> Result<(), Fail> {
+    let sums = [
+        (false, 962_663_571_871_257_377),
+        (true, 6_009_505_196_028_058_877),
+    ];
+    for (scramble, sum) in sums {
+        let plan = plan(rt.alloc(), thousand(scramble))?;
+        assert!(rt; plan.tables() == 1);
+        assert_eq!(rt; key_checksum::<Brand>(&plan, Blank::new(1)), sum);
+    }
     Ok(())
 }

@@ -1,5 +1,3 @@
-pub mod Appending
-pub mod Counts
 pub mod Entry
 pub mod Faults
 pub mod Files

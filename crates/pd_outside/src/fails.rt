@@ -1,4 +1,5 @@
-// The failures that a form in memory is told to have.
+//! The failures that a form in memory is told to have.
+
 ghost use Rattle.std.specs.Prelude.{◌≡◌, ◌↔◌, [], ◌∷◌, ◌++◌, Contains, IsTrue, OnOk, OnErr};
 ghost use Rattle.pd_outside.specs.StatedFails.{is_call, states_call};
 

@@ -1,4 +1,5 @@
-// The faults of the outside. Want of memory is a cause of its own everywhere.
+//! The faults of the outside. Want of memory is a cause of its own everywhere.
+
 ghost use Rattle.std.specs.Prelude.{◌≡◌};
 ghost use Rattle.pd_outside.specs.declared.faults.ReadFault.TheVariants as fault;
 

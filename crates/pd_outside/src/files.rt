@@ -1,4 +1,5 @@
-// A list of files in memory.
+//! A list of files in memory.
+
 ghost use Rattle.std.specs.Prelude.{◌≡◌, ◌<◌, ◌↔◌, [], ◌∷◌, ◌++◌, length, IsTrue, IfErr, OnOk, OnErr};
 ghost use Rattle.pd_outside.specs.Files.{file_at};
 

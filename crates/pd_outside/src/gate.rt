@@ -1,4 +1,4 @@
-// The gate that packages pass.
+//! The gate that packages pass.
 
 /// A gate that each package of a job enters before it is made. It says nothing and changes nothing that a clause sees.
 /// Tests hold workers with it.

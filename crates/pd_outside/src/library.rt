@@ -1,4 +1,5 @@
-// The files that are read.
+//! The files that are read.
+
 ghost use Rattle.std.specs.Prelude.{◌≡◌, ◌<◌, ◌≤◌, ◌+◌, ◌^◌, ℕ, List, Bool, Option, length, IsTrue, IfOk, IfSome, OnOk, OnErr, is_ok, is_some};
 ghost use Rattle.std.specs.Option.{option_map};
 ghost use Rattle.std.specs.Result.{result_unwrap_or};

@@ -1,4 +1,5 @@
-// A library in memory.
+//! A library in memory.
+
 ghost use Rattle.std.specs.Prelude.{◌≡◌, ◌<◌, ◌≤◌, ◌+◌, ◌^◌, ◌⊎◌, ◌++◌, [], ◌∷◌, None, Some, false, true, length, min, IsTrue, IfOk, OnOk, OnErr, IfSome, IfNone, is_ok, is_err, is_some, slice_get, map, take, string_bytes, if◌then◌else◌};
 ghost use Rattle.std.proofs.Common.{rules};
 ghost use Rattle.std.specs.Option.{option_map};
@@ -27,7 +28,7 @@ pub struct MemLibrary {
     faults: u64,
 }
 
-// The started file by its number, the place of the first byte that is left, and the calls on it since its start.
+/// The started file by its number, the place of the first byte that is left, and the calls on it since its start.
 #[derive(Clone, Copy)]
 struct Started {
     file: usize,
@@ -80,7 +81,7 @@ impl MemLibrary {
     }
 }
 
-// Adds the name at the end. At `Memory` the list is as before.
+/// Adds the name at the end. At `Memory` the list is as before.
 fn keep_name(asked: &mut Vec<String>, name: &str) -> Result<(), Memory>
     ensures ok { OnOk result (map string_bytes asked.new.items ≡ map string_bytes asked.old.items ++ name.now ∷ []) }
     ensures err { OnErr result (asked.new.items ≡ asked.old.items) }
@@ -91,7 +92,7 @@ fn keep_name(asked: &mut Vec<String>, name: &str) -> Result<(), Memory>
     Ok(())
 }
 
-// The number of the first file of this name.
+/// The number of the first file of this name.
 fn number_of(files: &Files, name: &str) -> Option<usize>
     ensures absent { IfNone result (file_named files.now name.now ≡ None) }
     ensures within { IfSome result (λ i. i < length files.now) }
@@ -196,7 +197,7 @@ impl Library for MemLibrary {
     }
 }
 
-// The bytes that are left from this place on.
+/// The bytes that are left from this place on.
 fn bytes_from(files: &Files, started: Started) -> &[u8]
     requires { IsIn files.now started }
     ensures rest { result.now ≡ (rest_of files.now started).bytes }
@@ -205,7 +206,7 @@ fn bytes_from(files: &Files, started: Started) -> &[u8]
     &files.bytes(started.file)[started.place..]
 }
 
-// Copies what fits to the front of `into`, and tells how many bytes.
+/// Copies what fits to the front of `into`, and tells how many bytes.
 fn copy_front(from: &[u8], into: &mut [u8]) -> usize
     ensures count { result ≡ min (length into.old) (length from.now) }
     ensures front { take result into.new ≡ take result from.now }

@@ -1,4 +1,5 @@
-// A shelf in memory.
+//! A shelf in memory.
+
 ghost use Rattle.std.specs.Prelude.{◌≡◌, ◌<◌, ◌≤◌, ◌+◌, [], None, Some, false, length, min, take, Contains, IsTrue, IsErr, IfOk, OnOk, OnErr, ◌++◌, IsSome, string_bytes, is_ok, is_err, is_some};
 ghost use Rattle.std.proofs.Common.{rules};
 ghost use Rattle.std.specs.Option.{option_map, option_to_list};
@@ -97,7 +98,7 @@ impl MemShelf {
     }
 }
 
-// An empty file of this name.
+/// An empty file of this name.
 fn empty_file(alloc: Global, name: &str) -> Result<Entry, Memory>
     ensures { IfOk result (λ entry. file_of entry ≡ record { name = name.now; bytes = [] }) }
 {
@@ -107,7 +108,7 @@ fn empty_file(alloc: Global, name: &str) -> Result<Entry, Memory>
     })
 }
 
-// Appends the piece to the begun file. At `Memory` all is as before.
+/// Appends the piece to the begun file. At `Memory` all is as before.
 fn append(begun: &mut Option<Entry>, piece: &[u8]) -> Result<(), Memory>
     requires { IsSome begun.old }
     ensures ok { OnOk result (option_map file_of begun.new ≡ option_map (λ entry. record { name = string_bytes entry.name; bytes = entry.bytes.items ++ piece.now }) begun.old) }
@@ -119,7 +120,7 @@ fn append(begun: &mut Option<Entry>, piece: &[u8]) -> Result<(), Memory>
     Ok(())
 }
 
-// Adds the begun file to the finished ones. At `Memory` all is as before.
+/// Adds the begun file to the finished ones. At `Memory` all is as before.
 fn finish(begun: &mut Option<Entry>, finished: &mut Files) -> Result<(), Memory>
     ensures ok { OnOk result (finished.new ≡ finished.old ++ option_to_list (option_map file_of begun.old)) }
     ensures none { OnOk result (option_map file_of begun.new ≡ None) }

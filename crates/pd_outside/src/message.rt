@@ -1,4 +1,5 @@
-// A short text in an array.
+//! A short text in an array.
+
 ghost use Rattle.std.specs.Prelude.{◌≡◌, ◌≤◌, ◌+◌, [], ◌++◌, length};
 
 use std::marker::Model;

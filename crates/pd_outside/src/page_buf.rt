@@ -1,4 +1,5 @@
-// A buffer of a fixed room.
+//! A buffer of a fixed room.
+
 ghost use Rattle.std.specs.Prelude.{◌≡◌, ◌≤◌, ◌+◌, ◌-◌, [], ◌++◌, length, IfOk};
 
 use crate::Memory;

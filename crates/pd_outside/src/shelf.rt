@@ -1,4 +1,5 @@
-// The files that are written.
+//! The files that are written.
+
 ghost use Rattle.std.specs.Prelude.{◌≡◌, ◌<◌, ◌≤◌, ℕ, Bool, true, false, Option, length, take, IsTrue, IfOk, IfSome, OnOk, OnErr, is_ok, is_err, is_some};
 ghost use Rattle.std.specs.Option.{option_map};
 ghost use Rattle.pd_outside.specs.Faults.{Rose};

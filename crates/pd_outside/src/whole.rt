@@ -1,4 +1,5 @@
-// Whole files in, whole texts out.
+//! Whole files in, whole texts out.
+
 ghost use Rattle.std.specs.Prelude.{◌≡◌, ◌<◌, ◌≤◌, ◌⊎◌, ◌+◌, ◌^◌, ◌↔◌, false, length, take, IsTrue, IfOk, IfSome, IsErrOf, IsOk, OnOk, OnErr, vec_len};
 ghost use Rattle.std.specs.Option.{option_map};
 ghost use Rattle.pd_outside.specs.Faults.{Rose};
@@ -9,7 +10,7 @@ ghost use Rattle.pd_outside.specs.Shelf.{append_bytes, AppendedFrontOf};
 use crate::{Failed, Library, ReadFault, Shelf, WriteFailed};
 use std::alloc::{AllocError, Global};
 
-// The most bytes that one call of `read` is asked for.
+/// The most bytes that one call of `read` is asked for.
 const CHUNK: usize = 65536;
 
 /// Reads the whole file of this name, to its end, where it has at most `limit` bytes.
@@ -63,7 +64,7 @@ pub fn read_whole<L: Library>(
     }
 }
 
-// A buffer of n bytes. It is apart from its caller so that no proof there unfolds all its zeros.
+/// A buffer of n bytes. It is apart from its caller so that no proof there unfolds all its zeros.
 fn zeros(alloc: Global, n: usize) -> Result<Vec<u8>, AllocError>
     ensures { IfOk result (λ bytes. vec_len bytes ≡ n) }
 {

@@ -1,4 +1,5 @@
-// How an adapter counts the faults of the system.
+//! How an adapter counts the faults of the system.
+
 ghost use Rattle.std.specs.Prelude.{◌≡◌, ◌≤◌};
 ghost use Rattle.pd_outside.specs.Faults.{counted};
 

@@ -1,4 +1,5 @@
-// The files of the system that are read.
+//! The files of the system that are read.
+
 ghost use Rattle.std.specs.Prelude.{◌≡◌, false, None, is_some};
 
 use crate::faults::fault;

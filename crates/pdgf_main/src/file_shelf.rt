@@ -1,4 +1,5 @@
-// The files of the system that are written, and the standard output.
+//! The files of the system that are written, and the standard output.
+
 ghost use Rattle.std.specs.Prelude.{◌≡◌, false, None, is_some};
 
 use crate::faults::fault;
@@ -9,7 +10,7 @@ use std::io;
 use std::io::{BufWriter, Stdout, Write};
 use std::rt::Files;
 
-// The bytes that are gathered before the system is asked to write them.
+/// The bytes that are gathered before the system is asked to write them.
 const BUFFER: usize = 1 << 18;
 
 /// The files of the system and the standard output, written one after the other. It can't tell what they hold.

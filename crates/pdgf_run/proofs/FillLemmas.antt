@@ -6,7 +6,7 @@ use Rattle.std.specs.Option.{option_map}
 use Rattle.std.proofs.lemmas.List.{append-nil, get_or_past, map-append, take-append-drop, take_more}
 use Rattle.std.proofs.lemmas.Bool.{cases_lt}
 use Rattle.std.proofs.lemmas.List.Concat.{flat_map-append}
-use Rattle.pd_outside.specs.Appending.{files_then_prefix}
+use Rattle.pd_outside.proofs.Appending.{files_then_prefix, nothing_begun}
 use Rattle.pd_outside.specs.Files.{File}
 use Rattle.pd_outside.specs.Shelf.{Held, finish_files, HoldsPrefixOf, IsFrontOfNext}
 use Rattle.schema_model.specs.declared.table.Schema.{Schema}
@@ -181,10 +181,6 @@ next_in_part f files i file before mid now below is first prefix =
     subst (λ (due : List File). HoldsPrefixOf due before now) (parts_at f files i file below is)
     (prefix_of_more (map f (take i files) ++ f file ∷ []) (map f (drop (i + 1) files)) before now
     (files_then_prefix (map f (take i files)) (f file ∷ []) before mid now first prefix))
-
-nothing_begun : (begun : Option File) → is_some begun ≡ false → begun ≡ None
-nothing_begun None is = refl
-nothing_begun (Some file) is = absurd (cc)
 
 -- nothing is finished
 pub finished_nothing : (before : Option Held) → IfSome before (λ h. is_some h.begun ≡ false) → before ≡ option_map (finish_files []) before

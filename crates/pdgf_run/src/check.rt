@@ -1,4 +1,5 @@
-// What mode check tells.
+//! What mode check tells.
+
 ghost use Rattle.std.specs.Prelude.{◌≡◌, ◌<◌, ◌∷◌, ◌++◌, [], IfOk, OnOk, codes, decimal, length};
 ghost use Rattle.schema_check.specs.Lives.{sure_life};
 ghost use Rattle.pdgf_run.specs.DueFiles.{check_line, check_lines, life_text, name_at};
@@ -9,7 +10,7 @@ use pd_outside::Memory;
 use schema_check::Plan;
 use std::alloc::Global;
 
-// Appends a number in decimal, and a byte behind it.
+/// Appends a number in decimal, and a byte behind it.
 fn push_number(text: &mut Vec<u8>, number: u64, behind: u8) -> Result<(), Memory>
     ensures { OnOk result (text.new.items ≡ (text.old.items ++ decimal number) ++ behind ∷ []) }
 {
@@ -19,7 +20,7 @@ fn push_number(text: &mut Vec<u8>, number: u64, behind: u8) -> Result<(), Memory
     Ok(())
 }
 
-// Appends the sure life of a table, and a tab.
+/// Appends the sure life of a table, and a tab.
 fn push_life(text: &mut Vec<u8>, life: Option<u64>) -> Result<(), Memory>
     ensures { OnOk result (text.new.items ≡ (text.old.items ++ life_text life) ++ codes "\t") }
 {
@@ -42,7 +43,7 @@ pub(crate) fn name_of(plan: &Plan, table: u32) -> &str
         .as_str()
 }
 
-// Appends what is told of a table.
+/// Appends what is told of a table.
 fn push_line(text: &mut Vec<u8>, plan: &Plan, table: u32) -> Result<(), Memory>
     requires { table < length plan.now.tables }
     ensures { OnOk result (text.new.items ≡ text.old.items ++ check_line plan.now table) }

@@ -1,4 +1,5 @@
-// From the words to a job: all that is read and all memory that is taken.
+//! From the words to a job: all that is read and all memory that is taken.
+
 ghost use Rattle.std.specs.Prelude.{◌≡◌, ◌≢◌, ◌≤◌, ◌+◌, ◌↔◌, [], false, length, map, string_bytes, Err, IfErr, IfOk, IfSome, OnOk};
 ghost use Rattle.std.specs.Option.{option_map};
 ghost use Rattle.pd_outside.specs.Faults.{Rose};
@@ -32,7 +33,7 @@ pub(crate) enum Stop {
     Memory,
 }
 
-// Why there is no job where the words weren't read.
+/// Why there is no job where the words weren't read.
 fn stop_at(fault: UsageFault) -> Stop
     ensures { result ≡ stop_of fault }
 {
@@ -42,7 +43,7 @@ fn stop_at(fault: UsageFault) -> Stop
     }
 }
 
-// The schema of a text that isn't longer than the limit.
+/// The schema of a text that isn't longer than the limit.
 fn schema_of_text(alloc: Global, bytes: &[u8]) -> Result<Schema, Stop>
     requires { length bytes.now ≤ schema_limit }
     ensures read { Decides (λ schema. schema) result (read_text bytes.now) }
@@ -67,7 +68,7 @@ fn schema_of_text(alloc: Global, bytes: &[u8]) -> Result<Schema, Stop>
     }
 }
 
-// The schema of the file of this name.
+/// The schema of the file of this name.
 fn read_schema_file<L: Library>(alloc: Global, library: &mut L, name: &str) -> Result<Schema, Stop>
     ensures read { IfSome (L.content library.old) (λ c. Decides (λ schema. schema) result (read_text (bytes_of c.files name.now))) }
     ensures too_long { result ≡ Err (Stop.Refused Refusal.SchemaTooLong) ↔ (L.taken library.new ≡ schema_limit + 1) }
@@ -88,7 +89,7 @@ fn read_schema_file<L: Library>(alloc: Global, library: &mut L, name: &str) -> R
     schema_of_text(alloc, &bytes)
 }
 
-// The plan of a schema.
+/// The plan of a schema.
 fn check_schema(alloc: Global, schema: Schema) -> Result<Plan, Stop>
     ensures plan { Decides (λ plan. plan) result (checked schema) }
     ensures no_usage { IsNoUsage result }
@@ -115,7 +116,7 @@ fn check_schema(alloc: Global, schema: Schema) -> Result<Plan, Stop>
     }
 }
 
-// The job of a check of a plan.
+/// The job of a check of a plan.
 fn check_job(alloc: Global, plan: &Plan) -> Result<Job, Stop>
     ensures due { IfOk result (λ job. due_of job ≡ check_files plan.now) }
     ensures can { IfOk result CanFill }
@@ -127,7 +128,7 @@ fn check_job(alloc: Global, plan: &Plan) -> Result<Job, Stop>
     }
 }
 
-// The job of a snapshot of a plan's tables.
+/// The job of a snapshot of a plan's tables.
 fn plan_snapshot(alloc: Global, plan: Plan, request: &Request) -> Result<Job, Stop>
     ensures job { Decides due_of result (in_mode Mode.Snapshot request.now plan) }
     ensures can { IfOk result CanFill }
@@ -148,7 +149,7 @@ fn plan_snapshot(alloc: Global, plan: Plan, request: &Request) -> Result<Job, St
     }
 }
 
-// The job of a request over a plan.
+/// The job of a request over a plan.
 fn make_job(alloc: Global, plan: Plan, request: &Request) -> Result<Job, Stop>
     ensures job { Decides due_of result (in_mode request.now.mode request.now plan) }
     ensures can { IfOk result CanFill }
@@ -162,7 +163,7 @@ fn make_job(alloc: Global, plan: Plan, request: &Request) -> Result<Job, Stop>
     }
 }
 
-// The job of a request over a schema.
+/// The job of a request over a schema.
 fn job_of_schema(alloc: Global, schema: Schema, request: &Request) -> Result<Job, Stop>
     ensures job { Decides due_of result (on_ok (checked schema) (in_mode request.now.mode request.now)) }
     ensures can { IfOk result CanFill }
@@ -176,7 +177,7 @@ fn job_of_schema(alloc: Global, schema: Schema, request: &Request) -> Result<Job
     }
 }
 
-// The job of a request.
+/// The job of a request.
 fn job_of_request<L: Library>(
     alloc: Global,
     library: &mut L,

@@ -1,4 +1,5 @@
-// The files of a job, line by line onto a shelf.
+//! The files of a job, line by line onto a shelf.
+
 ghost use Rattle.std.specs.Prelude.{◌≡◌, ◌<◌, ◌≤◌, ◌+◌, ◌++◌, ◌∷◌, [], false, IsTrue, OnErr, OnOk, length};
 ghost use Rattle.std.specs.Option.{option_map};
 ghost use Rattle.pd_outside.specs.Faults.{Rose};
@@ -22,7 +23,7 @@ use std::marker::Brand;
 use std::sync::ledger::{Blank, Ledger};
 use step_count::Steps;
 
-// Writes the line of the row with this index in its cohort.
+/// Writes the line of the row with this index in its cohort.
 fn write_line<S: Shelf, B: Ledger>(
     shelf: &mut S,
     page: &mut PageBuf,
@@ -44,7 +45,7 @@ fn write_line<S: Shelf, B: Ledger>(
     write_all(shelf, page.text())
 }
 
-// Writes the lines of the rows of a table that are born at a unit.
+/// Writes the lines of the rows of a table that are born at a unit.
 fn write_cohort<S: Shelf, B: Ledger>(
     shelf: &mut S,
     page: &mut PageBuf,
@@ -74,7 +75,7 @@ fn write_cohort<S: Shelf, B: Ledger>(
     Ok(())
 }
 
-// Writes the text of a table at a unit: the lines of the rows that are born by then.
+/// Writes the text of a table at a unit: the lines of the rows that are born by then.
 fn write_table<S: Shelf, B: Ledger>(
     shelf: &mut S,
     page: &mut PageBuf,
@@ -103,7 +104,7 @@ fn write_table<S: Shelf, B: Ledger>(
     Ok(())
 }
 
-// Writes the texts of some tables from a place on, one after the other.
+/// Writes the texts of some tables from a place on, one after the other.
 fn write_tables<S: Shelf, B: Ledger>(
     shelf: &mut S,
     page: &mut PageBuf,
@@ -133,7 +134,7 @@ fn write_tables<S: Shelf, B: Ledger>(
     Ok(())
 }
 
-// Writes a file of a snapshot, from its begin to its end.
+/// Writes a file of a snapshot, from its begin to its end.
 fn write_file<S: Shelf, B: Ledger>(
     shelf: &mut S,
     page: &mut PageBuf,
@@ -169,7 +170,7 @@ fn write_file<S: Shelf, B: Ledger>(
     Ok(())
 }
 
-// Writes the files of a snapshot, in order. Nothing further is begun after a failure.
+/// Writes the files of a snapshot, in order. Nothing further is begun after a failure.
 fn write_snapshot<S: Shelf, B: Ledger>(
     shelf: &mut S,
     job: SnapshotJob,
@@ -201,7 +202,7 @@ fn write_snapshot<S: Shelf, B: Ledger>(
     Ok(())
 }
 
-// Writes bytes to the standard output.
+/// Writes bytes to the standard output.
 fn write_text<S: Shelf>(shelf: &mut S, bytes: &[u8]) -> Result<(), WriteFailed>
     requires none_begun { S.is_begun shelf.old ≡ false }
     ensures file { Finishes result (record { name = standard_output; bytes = bytes.now } ∷ []) (S.held shelf.old) (S.held shelf.new) }

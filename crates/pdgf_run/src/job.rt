@@ -1,4 +1,5 @@
-// What a request comes to, before anything is written.
+//! What a request comes to, before anything is written.
+
 ghost use Rattle.std.specs.Prelude.{◌≡◌, ℕ, ◌≤◌, ◌+◌, ◌∷◌, ◌++◌, [], All, IfOk, IfSome, OnOk, map, length};
 ghost use Rattle.std.specs.Option.{option_map};
 ghost use Rattle.schema_check.specs.Counts.{count};
@@ -60,7 +61,7 @@ pub(crate) fn choose(plan: &Plan, table: &Option<Name>) -> Option<Places>
     }
 }
 
-// The name of a table's file in a directory.
+/// The name of a table's file in a directory.
 fn path(alloc: Global, directory: &str, name: &str) -> Result<Name, Memory>
     ensures { IfOk result (λ made. made ≡ path_of directory.now name.now) }
 {
@@ -81,7 +82,7 @@ fn push(path: &mut Name, piece: &str) -> Result<(), Memory>
     }
 }
 
-// All texts in one file, the standard output.
+/// All texts in one file, the standard output.
 fn one_file(alloc: Global, tables: Places) -> Result<Vec<JobFile>, Memory>
     ensures { IfOk result (λ files. files.items ≡ record { name = standard_output; tables = tables } ∷ []) }
 {
@@ -92,7 +93,7 @@ fn one_file(alloc: Global, tables: Places) -> Result<Vec<JobFile>, Memory>
     Ok(files)
 }
 
-// A file for each table, in a directory.
+/// A file for each table, in a directory.
 fn files_in(
     alloc: Global,
     plan: &Plan,
@@ -114,7 +115,7 @@ fn files_in(
     Ok(files)
 }
 
-// The files of a snapshot of tables.
+/// The files of a snapshot of tables.
 fn job_files(
     alloc: Global,
     plan: &Plan,

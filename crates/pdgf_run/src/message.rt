@@ -1,4 +1,5 @@
-// The messages, and the words that they are made of.
+//! The messages, and the words that they are made of.
+
 ghost use Rattle.std.specs.Prelude.{◌≡◌, ◌≤◌, ◌+◌, ◌++◌, length, codes, decimal};
 ghost use Rattle.pdgf_run.specs.Statuses.{expected_text, key_text, line_of, option_text, place_text, refusal_text, usage_text, wanted_text};
 
@@ -45,7 +46,7 @@ pub(crate) fn put_refusal(message: &mut Message, refusal: Refusal)
     }
 }
 
-// Appends what is wrong with the words.
+/// Appends what is wrong with the words.
 fn put_usage(message: &mut Message, fault: UsageFault)
     requires { length message.old + 40 ≤ Message.ROOM }
     ensures text { message.new ≡ message.old ++ usage_text fault }
@@ -66,7 +67,7 @@ fn put_usage(message: &mut Message, fault: UsageFault)
     }
 }
 
-// Appends what is wrong at a key of a schema, with its place.
+/// Appends what is wrong at a key of a schema, with its place.
 fn put_shape(message: &mut Message, place: Place, key: SchemaKey, expected: Expected)
     requires { length message.old + 150 ≤ Message.ROOM }
     ensures text { message.new ≡ message.old ++ refusal_text (Refusal.Shape place key expected) }
@@ -77,7 +78,7 @@ fn put_shape(message: &mut Message, place: Place, key: SchemaKey, expected: Expe
     put_key(message, key, expected);
 }
 
-// Appends the number of a broken rule and its place.
+/// Appends the number of a broken rule and its place.
 fn put_rule(message: &mut Message, number: u32, table: u64, column: u64)
     requires { length message.old + 150 ≤ Message.ROOM }
     ensures text { message.new ≡ message.old ++ refusal_text (Refusal.Rule number table column) }
@@ -95,7 +96,7 @@ fn put_rule(message: &mut Message, number: u32, table: u64, column: u64)
     );
 }
 
-// Appends a place of a schema.
+/// Appends a place of a schema.
 fn put_place(message: &mut Message, place: Place)
     requires { length message.old + 82 ≤ Message.ROOM }
     ensures text { message.new ≡ message.old ++ place_text place.table place.column place.branch }
@@ -116,7 +117,7 @@ fn put_place(message: &mut Message, place: Place)
     put_counted(message, b" branch ", place.branch);
 }
 
-// Appends what is wrong at a key, behind its place.
+/// Appends what is wrong at a key, behind its place.
 fn put_key(message: &mut Message, key: SchemaKey, expected: Expected)
     requires { length message.old + 60 ≤ Message.ROOM }
     ensures text { message.new ≡ message.old ++ key_text key expected }
@@ -128,7 +129,7 @@ fn put_key(message: &mut Message, key: SchemaKey, expected: Expected)
     }
 }
 
-// Appends a key and what it wants, behind its place.
+/// Appends a key and what it wants, behind its place.
 fn put_wanted(message: &mut Message, key: SchemaKey, expected: Expected)
     requires { length message.old + 60 ≤ Message.ROOM }
     ensures text { message.new ≡ message.old ++ wanted_text key expected }
@@ -140,7 +141,7 @@ fn put_wanted(message: &mut Message, key: SchemaKey, expected: Expected)
     message.put(expected_words(expected).as_bytes());
 }
 
-// Appends words and an option behind them.
+/// Appends words and an option behind them.
 fn put_named(message: &mut Message, words: &[u8], name: OptionName)
     requires { length message.old + length words.now + 7 ≤ Message.ROOM }
     ensures text { message.new ≡ message.old ++ (words.now ++ option_text name) }
@@ -150,7 +151,7 @@ fn put_named(message: &mut Message, words: &[u8], name: OptionName)
     message.put(option_words(name).as_bytes());
 }
 
-// Appends words and a number behind them.
+/// Appends words and a number behind them.
 fn put_counted(message: &mut Message, words: &[u8], number: u64)
     requires { length message.old + length words.now + 20 ≤ Message.ROOM }
     ensures text { message.new ≡ message.old ++ (words.now ++ decimal number) }
@@ -161,7 +162,7 @@ fn put_counted(message: &mut Message, words: &[u8], number: u64)
     message.put(digits.format(number).as_bytes());
 }
 
-// An option as it is written among the words.
+/// An option as it is written among the words.
 fn option_words(name: OptionName) -> &'static str
     ensures text { result.now ≡ option_text name }
     ensures short { length result.now ≤ 7 }
@@ -174,7 +175,7 @@ fn option_words(name: OptionName) -> &'static str
     }
 }
 
-// The type of value that a key wants.
+/// The type of value that a key wants.
 fn expected_words(expected: Expected) -> &'static str
     ensures text { result.now ≡ expected_text expected }
     ensures short { length result.now ≤ 31 }

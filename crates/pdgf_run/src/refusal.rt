@@ -1,4 +1,5 @@
-// Why a request isn't carried out.
+//! Why a request isn't carried out.
+
 ghost use Rattle.std.specs.Prelude.{◌≡◌};
 ghost use Rattle.pdgf_run.specs.Statuses.{status_of, text_of};
 

@@ -1,4 +1,5 @@
-// What a call of the program came to.
+//! What a call of the program came to.
+
 ghost use Rattle.std.specs.Prelude.{◌≡◌, []};
 ghost use Rattle.pdgf_run.specs.Statuses as status;
 

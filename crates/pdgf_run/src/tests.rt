@@ -14,6 +14,10 @@ use std::thread::Threads;
 const ONE: &str =
     "seed = 1\nunits = 2\n[[table]]\nname = \"t\"\nrows = 1\ninsert = 1\n[[table.column]]\nname = \"id\"\nkind = \"key\"\nbase = 1\n[[table.column]]\nname = \"born\"\nkind = \"born\"\n";
 
+// The same with scrambled keys, which are in place in cohorts of one row.
+const ONE_SCRAMBLED: &str =
+    "seed = 1\nunits = 2\n[[table]]\nname = \"t\"\nrows = 1\ninsert = 1\n[[table.column]]\nname = \"id\"\nkind = \"key\"\nbase = 1\nscramble = true\n[[table.column]]\nname = \"born\"\nkind = \"born\"\n";
+
 const ONE_AT_2: &str = "1\t0\n2\t1\n3\t2\n";
 
 const TWO: [&str; 5] = ["pdgf", "snapshot", "s.toml", "--unit", "2"];
@@ -195,12 +199,18 @@ fn files_are_written_as_far_as_the_shelf_goes(rt: HostRuntime) -> Result<(), Fai
 #[test]
 fn requests_come_to_their_files(rt: HostRuntime) -> Result<(), Fail> {
     let alloc = rt.alloc();
-    let cases: [(&str, &[&str], (&str, &str)); 7] = [
+    let cases: [(&str, &[&str], (&str, &str)); 9] = [
         (
             ONE,
             &["pdgf", "check", "s.toml"],
             ("-", "t\t3\tnone\t1\t27\n"),
         ),
+        (
+            ONE_SCRAMBLED,
+            &["pdgf", "check", "s.toml"],
+            ("-", "t\t3\tnone\t2\t27\n"),
+        ),
+        (ONE_SCRAMBLED, &TWO, ("-", ONE_AT_2)),
         (
             THREE,
             &["pdgf", "check", "s.toml"],
@@ -382,4 +392,37 @@ fn a_schema_of_a_byte_too_many_is_refused(rt: HostRuntime) -> Result<(), Fail> {
         shelf_for_too_long,
         refused(10, "pdgf: too long: schema\n"),
     )
+}
+
+// 1,000 rows at unit 0 and 10 at each later one, with scrambled keys from 1 and their birth units.
+const THOUSAND: &str =
+    "seed = 7\nunits = 5\n[[table]]\nname = \"t\"\nrows = 1000\ninsert = 10\n[[table.column]]\nname = \"id\"\nkind = \"key\"\nbase = 1\nscramble = true\n[[table.column]]\nname = \"born\"\nkind = \"born\"\n";
+
+// A text as one number.
+fn checksum(text: &[u8]) -> u64 {
+    let mut sum = 0u64;
+    for byte in text {
+        sum = sum.wrapping_mul(1_000_003).wrapping_add(u64::from(*byte));
+    }
+    sum
+}
+
+// The checksum is that of the text that an independent program wrote, in Python (docs/SECOND_PROGRAM.md).
+#[test]
+fn scrambled_keys_are_as_worked_out(rt: HostRuntime) -> Result<(), Fail> {
+    let alloc = rt.alloc();
+    let mut library = library(alloc, THOUSAND.as_bytes())?;
+    let mut shelf = shelf(alloc, ShelfFail::Begin(9), 1000)?;
+    if shelf.begun().is_some() {
+        return Err(Fail::from("begun"));
+    }
+    let given = words(alloc, &["pdgf", "snapshot", "s.toml", "--unit", "5"])?;
+    let report = pdgf(&rt, alloc, &given, &mut library, &mut shelf, &OpenGate);
+    assert_eq!(rt; report.status, 0);
+    assert!(rt; shelf.finished().len() == 1);
+    assert_eq!(rt;
+        checksum(shelf.finished().bytes(0)),
+        9_490_844_110_043_729_951
+    );
+    Ok(())
 }

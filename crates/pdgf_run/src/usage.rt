@@ -1,4 +1,4 @@
-// What words ask for, and why words ask for nothing.
+//! What words ask for, and why words ask for nothing.
 
 use schema_model::Text;
 

@@ -1,4 +1,5 @@
-// The words of a command line.
+//! The words of a command line.
+
 ghost use Rattle.std.specs.Prelude.{◌≡◌, ◌≢◌, Some, None, Ok, Err, map, string_bytes, option_map, IfOk, IfErr, if◌then◌else◌};
 ghost use Rattle.std.specs.Char.{is_ascii_digit};
 ghost use Rattle.std.specs.List.{list_all};
@@ -35,7 +36,7 @@ pub fn read_words(alloc: Global, words: &[String]) -> Result<Request, UsageFault
     }
 }
 
-// References to the words by what they are given for.
+/// References to the words by what they are given for.
 #[derive(Clone, Copy)]
 struct GivenWords<'a> {
     mode: &'a str,
@@ -152,7 +153,7 @@ fn mode_named(word: &str) -> Option<Mode>
     }
 }
 
-// What is wrong first: the schema, then the unit, the table and the directory.
+/// What is wrong first: the schema, then the unit, the table and the directory.
 fn wrong(mode: Mode, given: GivenWords<'_>) -> Option<UsageFault>
     ensures { result ≡ wrong mode (given_of given.entry) }
 {
@@ -207,7 +208,7 @@ fn directory_wrong(name: OptionName, word: Option<&str>) -> Option<UsageFault>
     }
 }
 
-// The request that is given, for want of memory alone refused.
+/// The request that is given, for want of memory alone refused.
 fn request_of(alloc: Global, mode: Mode, given: GivenWords<'_>) -> Result<Request, UsageFault>
     requires { wrong mode (given_of given) ≡ None }
     ensures made { IfOk result (λ made. made ≡ request_of mode (given_of given.entry)) }
@@ -255,7 +256,7 @@ fn begins_with_hyphen(word: &str) -> bool
     }
 }
 
-// The number that one to twenty decimal digits stand for, where it has 64 bits.
+/// The number that one to twenty decimal digits stand for, where it has 64 bits.
 fn read_number(word: &str) -> Option<u64>
     ensures { result ≡ (if is_number word.now then Some (digits_value 10 word.now) else None) }
 {

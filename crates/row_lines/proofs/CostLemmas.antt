@@ -1,5 +1,5 @@
 -- What the lines of a table of keys and birth units take: bytes and permutations.
-use Rattle.std.proofs.Common.{◌≡◌, ◌≤◌, ℕ, zero, suc, pos, ◌+◌, Bool, false, List, [], ◌∷◌, map, length, get_or, sum, sum_by, max, Some, refl, ap, sym, subst, ◌∙◌, arith, slice_get}
+use Rattle.std.proofs.Common.{◌≡◌, ◌≤◌, ℕ, zero, suc, pos, ◌+◌, Bool, List, [], ◌∷◌, map, length, get_or, sum, sum_by, max, Some, refl, ap, sym, subst, ◌∙◌, arith, slice_get}
 use Rattle.std.specs.List.{All}
 use Rattle.std.proofs.lemmas.Option.{get_or_from_slice_get, slice_get_within}
 use Rattle.std.proofs.lemmas.List.{length-map}
@@ -25,10 +25,6 @@ use Rattle.row_lines.proofs.TurnLemmas.{in_turn-at, in_turn-map}
 abbrev pub AreKindsOf : TableRules → List Column → Type 0
 AreKindsOf rules columns = All (λ (column : Column). IsKindOf rules column.kind) columns
 
--- the kind of a table's first column
-key_kind_is : (columns : List Column) (kinds : IsKeyThenBorn columns) → (base : ℕ) × (scramble : Bool) × (kinds.key.kind ≡ Key (pos base) scramble)
-key_kind_is columns kinds = (kinds.base, false, kinds.key_kind)
-
 IsKindOf-first : (kind : Kind) (base : ℕ) (scramble : Bool) (rules : TableRules) (others : List ColumnRule) → kind ≡ Key (pos base) scramble →
     rules.columns ≡ column_rule kind ∷ others → IsKindOf rules kind
 IsKindOf-first kind base scramble rules others is columns =
@@ -45,9 +41,8 @@ pub AreKindsOf-table : (table : Table) (rules : TableRules) → table_rules tabl
 AreKindsOf-table table rules same kinds =
     let own = λ (column : Column). column_rule column.kind in
     let columns : rules.columns ≡ column_rule kinds.key.kind ∷ map own kinds.others = sym (ap (λ (r : TableRules). r.columns) same) ∙ ap (map own) kinds.are in
-    let is = key_kind_is table.columns kinds in
     subst (AreKindsOf rules) (sym kinds.are)
-    (AreKindsOf-cons rules kinds.key kinds.others (IsKindOf-first kinds.key.kind is.0 is.1 rules (map own kinds.others) is.2 columns) kinds.others_born)
+    (AreKindsOf-cons rules kinds.key kinds.others (IsKindOf-first kinds.key.kind kinds.base kinds.scramble rules (map own kinds.others) kinds.key_kind columns) kinds.others_born)
 
 -- and there is one
 pub some_column : (columns : List Column) → IsKeyThenBorn columns → 1 ≤ length columns

@@ -33,18 +33,27 @@ fn with_column(
     Ok(columns)
 }
 
-/// The plan of one table with keys from 1 and birth units, with seed 7.
-fn plan(alloc: Global, rows: i64, insert: i64, units: i64) -> Result<Plan, Fail> {
+/// A table of keys from 1 and birth units: how many rows at unit 0 and at each later unit, and the last unit.
+#[derive(Clone, Copy)]
+struct Births {
+    rows: i64,
+    insert: i64,
+    units: i64,
+    scramble: bool,
+}
+
+/// The plan of one such table, with seed 7.
+fn plan(alloc: Global, births: Births) -> Result<Plan, Fail> {
     let key = Kind::Key {
         base: 1,
-        scramble: false,
+        scramble: births.scramble,
     };
     let columns = with_column(alloc, Columns::new(alloc), "id", key)?;
     let columns = with_column(alloc, columns, "born", Kind::Born)?;
     let table = Table {
         name: Text::of(alloc, "t").map_err(|_| AllocError)?,
-        rows,
-        insert,
+        rows: births.rows,
+        insert: births.insert,
         life: None,
         update: None,
         columns,
@@ -53,7 +62,7 @@ fn plan(alloc: Global, rows: i64, insert: i64, units: i64) -> Result<Plan, Fail>
     tables.push(table).map_err(|_| AllocError)?;
     let schema = Schema {
         seed: 7,
-        units,
+        units: births.units,
         delimiter: Delimiter::Tab,
         tables,
     };
@@ -102,20 +111,57 @@ fn page_of(alloc: Global, room: usize) -> Result<PageBuf, Fail>
     }
 }
 
+/// A row at each unit, three units long.
+const fn one(scramble: bool) -> Births {
+    Births {
+        rows: 1,
+        insert: 1,
+        units: 2,
+        scramble,
+    }
+}
+
+/// As many rows as a table may have, all at unit 0.
+const fn large(scramble: bool) -> Births {
+    Births {
+        rows: 1 << 40,
+        insert: 0,
+        units: 0,
+        scramble,
+    }
+}
+
+/// A row at each unit but 0, as many units as there may be.
+const fn long() -> Births {
+    Births {
+        rows: 0,
+        insert: 1,
+        units: 10_000,
+        scramble: false,
+    }
+}
+
+// A cohort of one row has its key in place. The last key of the large table, scrambled, is from the Python program.
 #[test]
 fn lines_and_keys(rt: HostRuntime) -> Result<(), Fail> {
     let alloc = rt.alloc();
-    let one = plan(alloc, 1, 1, 2)?;
     let lines = [
         (0, "1\t0\n", "1\n"),
         (1, "2\t1\n", "2\n"),
         (2, "3\t2\n", "3\n"),
     ];
-    assert_lines::<Brand>(&rt, alloc, &one, &lines, Blank::new(1))?;
-    let large = plan(alloc, 1 << 40, 0, 0)?;
-    let lines = [(1_099_511_627_775, "1099511627776\t0\n", "1099511627776\n")];
-    assert_lines::<Brand>(&rt, alloc, &large, &lines, Blank::new(1))?;
-    let long = plan(alloc, 0, 1, 10_000)?;
+    for scramble in [false, true] {
+        let one = plan(alloc, one(scramble))?;
+        assert_lines::<Brand>(&rt, alloc, &one, &lines, Blank::new(1))?;
+    }
+    let last = 1_099_511_627_775;
+    let in_order = plan(alloc, large(false))?;
+    let lines = [(last, "1099511627776\t0\n", "1099511627776\n")];
+    assert_lines::<Brand>(&rt, alloc, &in_order, &lines, Blank::new(1))?;
+    let scrambled = plan(alloc, large(true))?;
+    let lines = [(last, "91737330597\t0\n", "91737330597\n")];
+    assert_lines::<Brand>(&rt, alloc, &scrambled, &lines, Blank::new(1))?;
+    let long = plan(alloc, long())?;
     let lines = [(9_999, "10000\t10000\n", "10000\n")];
     assert_lines::<Brand>(&rt, alloc, &long, &lines, Blank::new(1))
 }
@@ -166,14 +212,25 @@ fn text_checksum<L: Ledger>(alloc: Global, plan: &Plan, blank: Blank) -> Result<
     Ok(sum)
 }
 
-// The checksum of the Python program's text, of 1,050 lines.
+// The checksums of the Python program's texts, each of 1,050 lines.
 #[test]
 fn text_of_a_table(rt: HostRuntime) -> Result<(), Fail> {
     let alloc = rt.alloc();
-    let plan = plan(alloc, 1000, 10, 5)?;
-    assert!(rt; plan.tables() == 1);
-    assert!(rt; plan.units() == 5);
-    let sum = text_checksum::<Brand>(alloc, &plan, Blank::new(1))?;
-    assert_eq!(rt; sum, 9_241_165_838_321_129_305);
+    let sums = [
+        (false, 9_241_165_838_321_129_305),
+        (true, 9_490_844_110_043_729_951),
+    ];
+    for (scramble, sum) in sums {
+        let births = Births {
+            rows: 1000,
+            insert: 10,
+            units: 5,
+            scramble,
+        };
+        let plan = plan(alloc, births)?;
+        assert!(rt; plan.tables() == 1);
+        assert!(rt; plan.units() == 5);
+        assert_eq!(rt; text_checksum::<Brand>(alloc, &plan, Blank::new(1))?, sum);
+    }
     Ok(())
 }

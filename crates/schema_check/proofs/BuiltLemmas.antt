@@ -1,5 +1,5 @@
 -- What the definitions come to for what is built.
-use Rattle.std.proofs.Common.{◌≤◌, ◌≡◌, ℕ, zero, suc, ◌+◌, max, Bool, true, false, ◌||◌, List, [], ◌∷◌, ◌++◌, map, length, get_or, sum, sum_by, Option, Some, None, is_some, refl, sym, ap, ◌∙◌, arith, slice_index}
+use Rattle.std.proofs.Common.{◌≤◌, ◌≡◌, ℕ, zero, suc, ◌+◌, max, Bool, false, ◌||◌, List, [], ◌∷◌, ◌++◌, map, length, get_or, sum, sum_by, Option, Some, None, is_some, refl, sym, ap, ◌∙◌, arith, slice_index}
 use Rattle.std.specs.List.{list_any, fold}
 use Rattle.std.specs.Option.{option_map}
 use Rattle.std.proofs.Math.ListN as N
@@ -21,7 +21,7 @@ use Rattle.schema_check.specs.InTurn.{in_turn, columns_in_turn}
 use Rattle.schema_check.specs.Lives.{lesser_life, life_of_parent, lives_by, sure_life, longest_life}
 use Rattle.schema_check.specs.Costs.{one_if, death_cost_by, death_costs, field_cost, field_costs, cost}
 use Rattle.schema_check.specs.Sizes.{kind_size, field_sizes, line_size, max_line, greatest_by, reach}
-use Rattle.schema_check.specs.Built.{built_size, built_line, built_facts}
+use Rattle.schema_check.specs.Built.{built_size, built_line, built_permutations, built_line_permutations, built_facts}
 use Rattle.schema_check.specs.Planned.{facts_at, facts_of}
 use Rattle.schema_check.proofs.InLimits.{built_kind}
 
@@ -83,11 +83,10 @@ no_draw_for_death schema given (Key base scramble) h = refl
 no_draw_for_death schema given Born h = refl
 no_draw_for_death schema given _ h = cc
 
-no_draw_for_field : (schema : Schema) (tables : List (List ℕ)) (table : Table) (given : List ℕ) (kind : Kind) → is_unbuilt_kind kind ≡ false → field_cost schema tables table given kind ≡ 0
-no_draw_for_field schema tables table given (Key base false) h = refl
-no_draw_for_field schema tables table given (Key base true) h = cc
-no_draw_for_field schema tables table given Born h = refl
-no_draw_for_field schema tables table given _ h = cc
+draws_for_field : (schema : Schema) (tables : List (List ℕ)) (table : Table) (given : List ℕ) (kind : Kind) → is_unbuilt_kind kind ≡ false → field_cost schema tables table given kind ≡ built_permutations kind
+draws_for_field schema tables table given (Key base scramble) h = refl
+draws_for_field schema tables table given Born h = refl
+draws_for_field schema tables table given _ h = cc
 
 -- sizes
 size_of_kind : (schema : Schema) (tables : List (List ℕ)) (table : Table) (given : List ℕ) (kind : Kind) → is_unbuilt_kind kind ≡ false → max 2 (kind_size schema tables table given kind) ≡ built_size kind
@@ -99,9 +98,9 @@ pub built_field_sizes : (schema : Schema) → list_any is_unbuilt_table schema.t
 built_field_sizes schema built =
     columns_in_turn-map _ (λ column. built_size column.kind) (λ tables table given column h. size_of_kind schema tables table given column.kind (built_kind column h)) schema built
 
-pub built_field_costs : (schema : Schema) → list_any is_unbuilt_table schema.tables ≡ false → field_costs schema ≡ map (λ table. map (λ column. 0) table.columns) schema.tables
+pub built_field_costs : (schema : Schema) → list_any is_unbuilt_table schema.tables ≡ false → field_costs schema ≡ map (λ table. map (λ column. built_permutations column.kind) table.columns) schema.tables
 built_field_costs schema built =
-    columns_in_turn-map _ (λ column. 0) (λ tables table given column h. no_draw_for_field schema tables table given column.kind (built_kind column h)) schema built
+    columns_in_turn-map _ (λ column. built_permutations column.kind) (λ tables table given column h. draws_for_field schema tables table given column.kind (built_kind column h)) schema built
 
 built_death_costs : (schema : Schema) → list_any is_unbuilt_table schema.tables ≡ false → death_costs schema ≡ map (λ table. 0) schema.tables
 built_death_costs schema built =
@@ -126,13 +125,6 @@ no_update (t ∷ ts) built zero =
 no_update (t ∷ ts) built (suc place) =
     no_update ts ((or_parts (is_unbuilt_table t) (list_any is_unbuilt_table ts) built).1) place
 
-sum-zeros : (columns : List Column) → sum (map (λ column. 0) columns) ≡ 0
-sum-zeros columns = fold-map ◌+◌ (λ (column : Column). 0) 0 columns ∙ stays columns
-  where
-    stays : (columns : List Column) → fold (λ a (column : Column). a + 0) 0 columns ≡ 0
-    stays [] = refl
-    stays (c ∷ cs) = stays cs
-
 built_sure_life : (schema : Schema) → list_any is_unbuilt_table schema.tables ≡ false → (place : ℕ) → sure_life schema place ≡ None
 unfolding sure_life
 built_sure_life schema built place =
@@ -143,15 +135,14 @@ unfolding longest_life
 built_longest_life schema built place =
     ap (λ lives. get_or lives place None) (built_lives _ _ schema built) ∙ N.get_or-map (λ (table : Table). None) schema.tables place no_table
 
-built_cost : (schema : Schema) → list_any is_unbuilt_table schema.tables ≡ false → (place : ℕ) → cost schema place ≡ 1
+built_cost : (schema : Schema) → list_any is_unbuilt_table schema.tables ≡ false → (place : ℕ) → cost schema place ≡ 1 + built_line_permutations (get_or schema.tables place no_table)
 unfolding cost
 built_cost schema built place =
     let deaths : slice_index (death_costs schema) place ≡ 0 =
     ap (λ costs. get_or costs place 0) (built_death_costs schema built) ∙ N.get_or-map (λ (table : Table). 0) schema.tables place no_table in
-    let fields : sum (get_or (field_costs schema) place []) ≡ 0 =
+    let fields : sum (get_or (field_costs schema) place []) ≡ built_line_permutations (get_or schema.tables place no_table) =
     ap (λ costs. sum (get_or costs place [])) (built_field_costs schema built)
-    ∙ ap sum (N.get_or-map (λ (table : Table). map (λ (column : Column). 0) table.columns) schema.tables place no_table)
-    ∙ sum-zeros (get_or schema.tables place no_table).columns in
+    ∙ ap sum (N.get_or-map (λ (table : Table). map (λ (column : Column). built_permutations column.kind) table.columns) schema.tables place no_table) in
     let updates : one_if (is_some (get_or schema.tables place no_table).update) ≡ 0 = ap one_if (no_update schema.tables built place) in
     omega (arith, deaths, fields, updates)
 

@@ -1,5 +1,5 @@
 -- An accepted schema of which tables can be made is within its limits.
-use Rattle.std.proofs.Common.{◌≡◌, ◌≢◌, ℕ, pos, negsuc, suc, ◌<◌, ◌≤◌, ◌^◌, true, false, not, ◌&&◌, ◌||◌, List, [], ◌∷◌, length, get_or, take, is_some, refl, sym, ap, ◌∙◌, arith, int_le, nat_le, subst}
+use Rattle.std.proofs.Common.{◌≡◌, ◌≢◌, ℕ, pos, negsuc, suc, ◌<◌, ◌≤◌, ◌^◌, Bool, true, false, not, ◌&&◌, ◌||◌, List, [], ◌∷◌, length, get_or, take, is_some, refl, sym, ap, ◌∙◌, arith, int_le, nat_le, subst}
 use Rattle.std.specs.List.{list_any, All}
 use Rattle.std.specs.Ordering.{int_eq}
 use Rattle.std.proofs.lemmas.Bool.{and_parts, or_parts, leb-true, not-true}
@@ -16,7 +16,7 @@ use Rattle.schema_model.specs.declared.column.Kind.TheVariants.{Key, Born}
 use Rattle.schema_check.specs.Names.{same_text, is_name}
 use Rattle.schema_check.specs.Rules.{IsAccepted, is_between, is_key, is_key_in_range, column_keeps_v5, row_count}
 use Rattle.schema_check.specs.Unbuilt.{is_unbuilt, is_unbuilt_table, is_unbuilt_column, is_unbuilt_kind, is_bar}
-use Rattle.schema_check.specs.Limits.{IsPlainKind, IsKeyThenBorn, IsTableInLimits, IsInLimits}
+use Rattle.schema_check.specs.Limits.{IsBuiltKind, IsKeyThenBorn, IsTableInLimits, IsInLimits}
 use Rattle.schema_check.proofs.FromTests.{count_from_test, limit_from_test, count_from_between, fails_each, apart_from_test}
 use Rattle.schema_check.proofs.Accepted.{KeepsAll, keeps_all}
 
@@ -35,9 +35,8 @@ pub built_kind : (column : Column) → is_unbuilt_column column ≡ false → is
 built_kind column h =
     (or_parts (column.changes || not (int_eq column.null (pos 0))) (is_unbuilt_kind column.kind) h).1
 
-key_kind : (kind : Kind) → is_unbuilt_kind kind ≡ false → is_key_in_range kind ≡ true → (base : ℕ) × (kind ≡ Key (pos base) false) × (base ≤ 2 ^ 62)
-key_kind (Key (pos base) false) built h = (base, refl, limit_from_test (pos base) (2 ^ 62) ((and_parts (int_le (pos 0) (pos base)) (int_le (pos base) (pos (2 ^ 62))) h).1))
-key_kind (Key (pos base) true) built h = cc
+key_kind : (kind : Kind) → is_unbuilt_kind kind ≡ false → is_key_in_range kind ≡ true → (base : ℕ) × (scramble : Bool) × (kind ≡ Key (pos base) scramble) × (base ≤ 2 ^ 62)
+key_kind (Key (pos base) scramble) built h = (base, scramble, refl, limit_from_test (pos base) (2 ^ 62) ((and_parts (int_le (pos 0) (pos base)) (int_le (pos base) (pos (2 ^ 62))) h).1))
 key_kind (Key (negsuc n) scramble) built h = cc
 key_kind _ built h = cc
 
@@ -55,17 +54,18 @@ key_then_born (c ∷ cs) some built keeps =
       key = c;
       others = cs;
       base = key.0;
+      scramble = key.1;
       are = refl;
-      key_kind = key.1;
-      base_limit = key.2;
+      key_kind = key.2;
+      base_limit = key.3;
       others_born = λ k d h. born_kind (get_or cs k d).kind (built_kind (get_or cs k d) (fails_each is_unbuilt_column cs k d h parts.1)) (keeps (suc k) d (omega arith));
     }
 
-plain_kinds : (columns : List Column) → IsKeyThenBorn columns → All (λ column. IsPlainKind column.kind) columns
-plain_kinds columns first =
-    let P : Column → Type 0 = λ column. IsPlainKind column.kind in
-    let key : P first.key = subst IsPlainKind (sym first.key_kind) first.base_limit in
-    let others : All P first.others = λ k d h. subst IsPlainKind (sym (first.others_born k d h)) tt in
+built_kinds : (columns : List Column) → IsKeyThenBorn columns → All (λ column. IsBuiltKind column.kind) columns
+built_kinds columns first =
+    let P : Column → Type 0 = λ column. IsBuiltKind column.kind in
+    let key : P first.key = subst IsBuiltKind (sym first.key_kind) first.base_limit in
+    let others : All P first.others = λ k d h. subst IsBuiltKind (sym (first.others_born k d h)) tt in
     All-same P columns (first.key ∷ first.others) first.are (All-cons P first.key first.others key others)
 
 tab : (delimiter : Delimiter) → is_bar delimiter ≡ false → delimiter ≡ Tab
@@ -90,7 +90,7 @@ table_in_limits schema keeps built i d h =
       column_limit = leb-true (length t.columns) 64 v4.1;
       column_names = λ j e lt. (column_name schema keeps i d h j e lt).0;
       columns_apart = λ j k e lt below. names_apart (λ c. c.name) t.columns (λ j e lt. (column_name schema keeps i d h j e lt).1) e j k lt below;
-      kinds = plain_kinds t.columns key_first;
+      kinds = built_kinds t.columns key_first;
       key_first = key_first;
     }
   where

@@ -1,5 +1,5 @@
 -- What the rules give for the numbers and names of a schema, and what it holds while little is built.
-use Rattle.std.specs.Prelude.{◌≡◌, ◌≢◌, ℕ, ℤ, pos, ◌^◌, ◌≤◌, true, false, List, ◌∷◌, length, All, AllPairs, ⊤}
+use Rattle.std.specs.Prelude.{◌≡◌, ◌≢◌, ℕ, ℤ, pos, ◌^◌, ◌≤◌, Bool, true, List, ◌∷◌, length, All, AllPairs, ⊤}
 use Rattle.schema_model.specs.declared.table.Schema.{Schema}
 use Rattle.schema_model.specs.declared.table.Table.{Table}
 use Rattle.schema_model.specs.declared.table.Delimiter.TheVariants.{Tab}
@@ -14,19 +14,20 @@ use Rattle.schema_check.specs.Rules.{row_count}
 abbrev pub IsCount : ℤ → Type 0
 IsCount n = n ≡ pos (count n)
 
--- a key in order and from a base of at most 2^62, or units of birth
-abbrev pub IsPlainKind : Kind → Type 0
-IsPlainKind (Key (pos base) false) = base ≤ 2 ^ 62
-IsPlainKind Born = ⊤
-IsPlainKind _ = ⊥
+-- a key from a base of at most 2^62, or units of birth
+abbrev pub IsBuiltKind : Kind → Type 0
+IsBuiltKind (Key (pos base) scramble) = base ≤ 2 ^ 62
+IsBuiltKind Born = ⊤
+IsBuiltKind _ = ⊥
 
--- columns of which the first is the key, in order and from a base of at most 2^62, and the others are born
+-- columns of which the first is the key, from a base of at most 2^62, and the others are born
 pub record IsKeyThenBorn (columns : List Column) : Type 0 where
   pub key : Column
   pub others : List Column
   pub base : ℕ
+  pub scramble : Bool
   pub are : columns ≡ key ∷ others
-  pub key_kind : key.kind ≡ Key (pos base) false
+  pub key_kind : key.kind ≡ Key (pos base) scramble
   pub base_limit : base ≤ 2 ^ 62
   pub others_born : All (λ column. column.kind ≡ Born) others
 
@@ -39,7 +40,7 @@ pub record IsTableInLimits (units : ℤ) (table : Table) : Type 0 where
   pub column_limit : length table.columns ≤ 64
   pub column_names : All (λ column. is_name column.name ≡ true) table.columns
   pub columns_apart : AllPairs (λ one other. one.name ≢ other.name) table.columns
-  pub kinds : All (λ column. IsPlainKind column.kind) table.columns
+  pub kinds : All (λ column. IsBuiltKind column.kind) table.columns
   pub key_first : IsKeyThenBorn table.columns
 
 -- an accepted schema, of which tables can be made, within its limits

@@ -10,9 +10,9 @@ use Rattle.schema_model.specs.declared.column.Column.{Column}
 use Rattle.schema_model.specs.declared.column.Kind.{Kind}
 use Rattle.schema_model.specs.declared.column.Kind.TheVariants.{Key, Born}
 
--- a scrambled key, and every kind but key and born
+-- every kind but key and born
 abbrev pub is_unbuilt_kind : Kind → Bool
-is_unbuilt_kind (Key base scramble) = scramble
+is_unbuilt_kind (Key base scramble) = false
 is_unbuilt_kind Born = false
 is_unbuilt_kind _ = true
 

@@ -1,9 +1,9 @@
 //! What doesn't change from row to row in a table.
 
-ghost use Rattle.std.specs.Prelude.{◌≡◌, ◌≤◌, false, length, map, All, IfOk};
+ghost use Rattle.std.specs.Prelude.{◌≡◌, ◌≤◌, false, length, map, sum, All, IfOk};
 ghost use Rattle.schema_check.specs.Unbuilt.{is_unbuilt_table, is_unbuilt_kind, is_unbuilt_column};
 ghost use Rattle.schema_check.specs.Sizes.{line_size, greatest_by};
-ghost use Rattle.schema_check.specs.Built.{built_size, built_line, built_facts};
+ghost use Rattle.schema_check.specs.Built.{built_size, built_permutations, built_facts};
 
 use schema_model::{Column, Kind, Table};
 use std::alloc::{AllocError, Global};
@@ -43,8 +43,8 @@ pub(crate) fn facts_of_tables(
     Ok(facts)
 }
 
-/// The facts of a table without life, updates and references, whose key isn't scrambled: its rows have no end, and the
-/// report of a row takes no permutation.
+/// The facts of a table without life, updates and references: its rows have no end, and the report of a row takes no
+/// permutation but those of its fields.
 fn facts_of_table(table: &Table) -> TableFacts
     requires built { is_unbuilt_table table.now ≡ false }
     requires few_columns { length table.now.columns ≤ 64 }
@@ -53,7 +53,7 @@ fn facts_of_table(table: &Table) -> TableFacts
     TableFacts {
         sure_life: None,
         longest_life: None,
-        cost: 1,
+        cost: 1 + line_permutations(table.columns.as_slice()),
         max_line: line_size(table.columns.as_slice()),
     }
 }
@@ -80,6 +80,33 @@ fn field_size(kind: &Kind) -> u64
     match kind {
         Kind::Key { .. } => KEY_SIZE,
         Kind::Born => UNIT_SIZE,
+        _ => unreachable!(),
+    }
+}
+
+/// The permutations that a line takes.
+fn line_permutations(columns: &[Column]) -> u64
+    requires built { All (λ column. is_unbuilt_column column ≡ false) columns.now }
+    requires few { length columns.now ≤ 64 }
+    ensures sum { result ≡ sum (map (λ column. built_permutations column.kind) columns.now) }
+    ensures limit { result ≤ 64 }
+{
+    let mut permutations = 0;
+    for column in columns {
+        permutations += field_permutations(&column.kind);
+    }
+    permutations
+}
+
+/// The permutations that a field takes: one where it is a scrambled key.
+fn field_permutations(kind: &Kind) -> u64
+    requires { is_unbuilt_kind kind.now ≡ false }
+    ensures permutations { result ≡ built_permutations kind.now }
+    ensures limit { result ≤ 1 }
+{
+    match kind {
+        Kind::Key { scramble, .. } => u64::from(*scramble),
+        Kind::Born => 0,
         _ => unreachable!(),
     }
 }

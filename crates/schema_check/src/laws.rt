@@ -30,10 +30,9 @@ pub fn first_broken_is_the_first_rule_at_its_first_place()
 /// The rows of a table are those of unit 0 and as many more for each unit after it: so the rows that are born by the last
 /// unit are those that rule V6 limits.
 pub fn tables_grow_by_their_inserts()
-    ensures born { (table : Table) (unit : ℕ) →
-        born_count table unit ≡ count table.rows + count table.insert * unit }
+    ensures born { (rows insert unit : ℕ) → born_count rows insert unit ≡ rows + unit * insert }
     ensures all { (schema : Schema) (table : Table) →
-        born_count table (count schema.units) ≡ row_count schema.units table }
+        born_count (count table.rows) (count table.insert) (count schema.units) ≡ row_count schema.units table }
 {}
 
 /// Lives worked out by hand: orders may name a customer who is two units older, lines an order of their own unit, and

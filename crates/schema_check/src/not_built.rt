@@ -7,7 +7,7 @@ ghost use Rattle.schema_check.specs.Unbuilt.{is_unbuilt, is_unbuilt_table, is_un
 use schema_model::{Column, Delimiter, Kind, Schema, Table};
 
 /// Whether a schema holds something that isn't built: the bar as delimiter, a table with a life or updates, a column
-/// that changes or is null at times, a scrambled key, or a column that is neither a key nor a unit of birth.
+/// that changes or is null at times, or a column that is neither a key nor a unit of birth.
 pub fn unbuilt(schema: &Schema) -> bool
     ensures { result ≡ is_unbuilt schema.now }
 {
@@ -48,8 +48,7 @@ fn is_unbuilt_kind(kind: &Kind) -> bool
     ensures { result ≡ is_unbuilt_kind kind.now }
 {
     match kind {
-        Kind::Key { scramble, .. } => *scramble,
-        Kind::Born => false,
+        Kind::Key { .. } | Kind::Born => false,
         _ => true,
     }
 }

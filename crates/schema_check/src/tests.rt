@@ -4,14 +4,15 @@ use std::alloc::{AllocError, Global};
 use std::test::Fail;
 use std::thread;
 
-/// A column of a test: a key that counts from a base, or units of birth.
+/// A column of a test: a key that counts from a base, in order or scrambled, or units of birth.
 #[derive(Clone, Copy)]
 enum Holds {
     Key(i64),
+    Scrambled(i64),
     Born,
 }
 
-use Holds::{Born, Key};
+use Holds::{Born, Key, Scrambled};
 
 /// The columns of the table One.
 const ONE: [(&str, Holds); 2] = [("id", Key(1)), ("born", Born)];
@@ -27,6 +28,10 @@ fn columns(alloc: Global, cases: &[(&str, Holds)]) -> Result<Columns, AllocError
             Key(base) => Kind::Key {
                 base: *base,
                 scramble: false,
+            },
+            Scrambled(base) => Kind::Key {
+                base: *base,
+                scramble: true,
             },
             Born => Kind::Born,
         };
@@ -334,14 +339,14 @@ fn columns_that_are_not_built(rt: HostRuntime) -> Result<(), Fail> {
     assert!(rt; is_unbuilt_with(alloc, Kind::Born, false, -1)?);
     for scramble in [false, true] {
         let key = Kind::Key { base: 1, scramble };
-        assert_eq!(rt; is_unbuilt_with(alloc, key, false, 0)?, scramble);
+        assert!(rt; !is_unbuilt_with(alloc, key, false, 0)?);
     }
     Ok(())
 }
 
-/// The plan of three tables of one, two and three columns.
+/// The plan of three tables of one, two and three columns, the keys of the last scrambled.
 fn plan_of_three(alloc: Global) -> Result<Plan, Fail> {
-    let three = [("id", Key(1)), ("born", Born), ("again", Born)];
+    let three = [("id", Scrambled(1)), ("born", Born), ("again", Born)];
     let schema = with_table(alloc, schema(alloc, 1, 2), "one", (1, 1), &[("id", Key(7))])?;
     let schema = with_table(alloc, schema, "two", (0, 3), &ONE)?;
     let schema = with_table(alloc, schema, "three", (5, 0), &three)?;
@@ -354,7 +359,8 @@ fn plan_of_three(alloc: Global) -> Result<Plan, Fail> {
     }
 }
 
-// A line of a key alone has 20 bytes and its line feed; a unit of birth adds 5 and a tab. Two threads share the plan.
+// A line of a key alone has 20 bytes and its line feed; a unit of birth adds 5 and a tab. A scrambled key takes a
+// permutation. Two threads share the plan.
 #[test]
 fn plan(rt: HostRuntime) -> Result<(), Fail> {
     let plan = plan_of_three(rt.alloc())?;
@@ -365,11 +371,11 @@ fn plan(rt: HostRuntime) -> Result<(), Fail> {
     let (two, four) = thread::join(&rt, || plan.table_named("two"), || plan.table_named("four"));
     assert_eq!(rt; two, Some(1));
     assert_eq!(rt; four, None);
-    for (table, max_line) in [(0, 21), (1, 27), (2, 33)] {
+    for (table, cost, max_line) in [(0, 1, 21), (1, 1, 27), (2, 2, 33)] {
         assert!(rt; table < plan.tables());
         assert_eq!(rt; plan.sure_life(table), None);
         assert_eq!(rt; plan.longest_life(table), None);
-        assert_eq!(rt; plan.cost(table), 1);
+        assert_eq!(rt; plan.cost(table), cost);
         assert_eq!(rt; plan.max_line(table), max_line);
     }
     Ok(())

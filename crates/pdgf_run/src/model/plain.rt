@@ -60,14 +60,14 @@ pub struct PlainRow {
     pub changed: u8,
 }
 
-// How many rows of a table are born at a unit.
+/// How many rows of a table are born at a unit.
 fn cohort_len(table: &PlainTable, unit: u8) -> u16
     ensures { result ≡ cohort_size (table_rules table.now) unit }
 {
     if unit == 0 { table.rows } else { table.insert }
 }
 
-// How many rows of a table are born before a unit.
+/// How many rows of a table are born before a unit.
 fn rows_before(table: &PlainTable, unit: u8) -> u32
     ensures value { result ≡ first_ordinal (table_rules table.now) unit }
     ensures bound { result ≤ unit * 2 ^ 16 }
@@ -79,7 +79,7 @@ fn rows_before(table: &PlainTable, unit: u8) -> u32
     count
 }
 
-// A table's rows, and behind them those born at a unit.
+/// A table's rows, and behind them those born at a unit.
 fn with_cohort(
     alloc: Global,
     table: &PlainTable,
@@ -100,7 +100,7 @@ fn with_cohort(
     Ok(all)
 }
 
-// The insertions of a unit, table by table.
+/// The insertions of a unit, table by table.
 fn with_insertions(
     alloc: Global,
     rules: &PlainRules,
@@ -119,7 +119,7 @@ fn with_insertions(
     Ok(next)
 }
 
-// Each table with no row.
+/// Each table with no row.
 fn empty_tables(alloc: Global, rules: &PlainRules) -> Result<Vec<Vec<PlainRow>>, Memory>
     ensures len { IfOk result (λ state. vec_len state ≡ vec_len rules.now.tables) }
     ensures value { IfOk result (λ state. state_view state.items ≡ empty_tables (rules_view rules.now)) }
@@ -144,7 +144,7 @@ pub fn simulate(alloc: Global, rules: &PlainRules, unit: u8) -> Result<Vec<Vec<P
     Ok(state)
 }
 
-// Appends what a row holds in a column.
+/// Appends what a row holds in a column.
 fn push_field(
     text: &mut Vec<u8>,
     table: &PlainTable,
@@ -163,7 +163,7 @@ fn push_field(
     Ok(())
 }
 
-// The key number of a row, in a column that counts from a base.
+/// The key number of a row, in a column that counts from a base.
 fn key_number(table: &PlainTable, row: PlainRow, base: u32) -> u64
     ensures { result ≡ base + first_ordinal (table_rules table.now) row.born
         + index_in_cohort (table_rules table.now) (row_view row) }
@@ -173,7 +173,7 @@ fn key_number(table: &PlainTable, row: PlainRow, base: u32) -> u64
     u64::from(base) + u64::from(first) + u64::from(index)
 }
 
-// Appends the delimiter, but before the first field, number 0.
+/// Appends the delimiter, but before the first field, number 0.
 fn push_delimiter(text: &mut Vec<u8>, delimiter: u8, number: usize) -> Result<(), Memory>
     ensures { OnOk result (text.new.items ≡ text.old.items ++ (if number == 0 then [] else delimiter ∷ [])) }
 {
@@ -183,7 +183,7 @@ fn push_delimiter(text: &mut Vec<u8>, delimiter: u8, number: usize) -> Result<()
     Ok(())
 }
 
-// Appends the line of a row.
+/// Appends the line of a row.
 fn push_line(
     text: &mut Vec<u8>,
     rules: &PlainRules,
@@ -201,7 +201,7 @@ fn push_line(
     Ok(())
 }
 
-// The lines of rows, in order.
+/// The lines of rows, in order.
 fn lines_of(
     alloc: Global,
     rules: &PlainRules,

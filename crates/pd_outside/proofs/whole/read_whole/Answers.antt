@@ -1,6 +1,6 @@
 use Rattle.std.proofs.Common.{◌≡◌, ◌<◌, ◌≤◌, ◌+◌, ◌++◌, take, drop, length-append, List, [], ℕ, length, inl, inr, sym, ap, subst, arith, ◌∙◌}
 use Rattle.std.proofs.lemmas.List.{length-drop}
-use Rattle.pd_outside.specs.Counts.{Rose-earlier}
+use Rattle.pd_outside.proofs.Counts.{Rose-earlier}
 use Rattle.pd_outside.proofs.Pieces.{HasRead, read_nothing, read_more, read_all, read_past, files_stay, files_stay_stopped, files_stay_taken, front_piece}
 use Rattle.pd_outside.proofs.whole.read_whole.Goals as goal
 

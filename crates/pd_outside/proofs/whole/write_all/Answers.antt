@@ -1,6 +1,6 @@
 use Rattle.std.proofs.Common.{◌+◌, ◌≤◌, length, arith}
 use Rattle.std.proofs.lemmas.List.{length-drop, take_rest}
-use Rattle.pd_outside.specs.Appending.{append_more}
+use Rattle.pd_outside.proofs.Appending.{append_more}
 use Rattle.pd_outside.proofs.whole.write_all.Goals as goal
 
 pub loop-at-preserved : goal.loop-at-preserved

@@ -1,6 +1,6 @@
 use Rattle.std.proofs.Common.{◌≡◌, ◌<◌, ℕ, List, refl, ap, sym, subst, ◌∙◌, arith}
 use Rattle.std.specs.Option.{option_map}
-use Rattle.pd_outside.specs.Appending.{append_nothing, append_both, front_after}
+use Rattle.pd_outside.proofs.Appending.{append_nothing, append_both, front_after}
 use Rattle.pd_outside.specs.Shelf.{append_bytes, AppendedFrontOf}
 use Rattle.life_intervals.specs.CohortKeys.{CohortOf}
 use Rattle.life_intervals.specs.Cohorts.{cohort_size}

@@ -2,7 +2,7 @@ use Rattle.std.proofs.Common.{◌≡◌, false, ap, sym, subst, ◌∙◌, List,
 use Rattle.std.specs.Option.{option_map}
 use Rattle.std.specs.Prelude.{IfSome, Option, is_some}
 use Rattle.std.proofs.lemmas.Option.{IfSome_then}
-use Rattle.pd_outside.specs.Appending.{file_as_a_whole, file_in_part, nothing_done}
+use Rattle.pd_outside.proofs.Appending.{file_as_a_whole, file_in_part, nothing_done}
 use Rattle.pd_outside.specs.Shelf.{Held, begin_file, HoldsPrefixOf}
 use Rattle.pdgf_run.specs.Jobs.{file_of}
 use Rattle.pdgf_run.proofs.fill.write_file.Goals as goal

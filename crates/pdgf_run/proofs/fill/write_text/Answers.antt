@@ -1,7 +1,7 @@
 use Rattle.std.proofs.Common.{◌≡◌, false, sym, subst, ◌∙◌, [], ◌∷◌}
 use Rattle.std.specs.Prelude.{IfSome, Option, is_some}
 use Rattle.std.proofs.lemmas.Option.{IfSome_then}
-use Rattle.pd_outside.specs.Appending.{file_as_a_whole, file_in_part, nothing_done}
+use Rattle.pd_outside.proofs.Appending.{file_as_a_whole, file_in_part, nothing_done}
 use Rattle.pd_outside.specs.Files.{File}
 use Rattle.pd_outside.specs.Shelf.{Held, HoldsPrefixOf}
 use Rattle.pdgf_run.specs.DueFiles.{standard_output}

@@ -5,7 +5,7 @@ use Rattle.std.specs.Option.{option_map}
 use Rattle.std.proofs.lemmas.List.{append-nil, take-append-drop, take-append-le}
 use Rattle.std.proofs.Math.Seq.{take-add, take-append-add}
 use Rattle.pd_outside.specs.Files.{File}
-use Rattle.pd_outside.specs.Shelf.{Held, begin_file, append_bytes, end_file, finish_files, AppendedFrontOf, HoldsPrefixOf}
+use Rattle.pd_outside.specs.Shelf.{Held, begin_file, append_bytes, finish_files, AppendedFrontOf, HoldsPrefixOf}
 
 begun_nothing : (begun : Option File) → begun ≡ option_map (λ (file : File). record file { bytes = file.bytes ++ [] }) begun
 begun_nothing None = refl
@@ -89,18 +89,8 @@ file_as_a_whole file before begun now began all = record {
   held = all ∙ ap (option_map (append_bytes file.bytes)) began ∙ begun_in_part file.name file.bytes before;
 }
 
-ended_whole : (file : File) (before : Option Held) →
-    option_map end_file (option_map (append_bytes file.bytes) (option_map (begin_file file.name) before)) ≡ option_map (finish_files (file ∷ [])) before
-ended_whole file None = refl
-ended_whole file (Some h) = refl
-
--- a file that was begun, appended to as a whole and ended
-pub file_finished : (file : File) (before begun all now : Option Held) → begun ≡ option_map (begin_file file.name) before →
-    all ≡ option_map (append_bytes file.bytes) begun → now ≡ option_map end_file all → now ≡ option_map (finish_files (file ∷ [])) before
-file_finished file before begun all now began appended ended =
-    ended ∙ ap (option_map end_file) (appended ∙ ap (option_map (append_bytes file.bytes)) began) ∙ ended_whole file before
-
-nothing_begun : (begun : Option File) → is_some begun ≡ false → begun ≡ None
+-- nothing is begun where nothing is told to be
+pub nothing_begun : (begun : Option File) → is_some begun ≡ false → begun ≡ None
 nothing_begun None is = refl
 nothing_begun (Some file) is = absurd (cc)
 
