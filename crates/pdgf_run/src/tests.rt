@@ -117,7 +117,7 @@ fn run_gives<R: Threads + Sync + Abort>(
 ) -> Result<(), Fail> {
     let mut shelf = shelf;
     if shelf.begun().is_some() {
-        return Ok(());
+        return Err(Fail::from("begun"));
     }
     let mut library = library(alloc, schema)?;
     let given = words(alloc, given)?;
