@@ -97,7 +97,7 @@ fn read_table_members(
     let life = life_if_any(members, place, SchemaKey::Life)?;
     let update = whole_if_any(members, place, SchemaKey::Update)?;
     let items = tables_at(members, place, SchemaKey::Column)?;
-    no_further_key(members, place, &TABLE_KEYS)?;
+    no_further_key(members, place, &TABLE_KEYS, &[])?;
     let columns = read_columns(alloc, items, place)?;
     Ok(Table {
         name,
@@ -147,7 +147,7 @@ pub fn read_document(alloc: Global, members: &toml::Table) -> Result<Schema, Rea
         Delimiter::Tab,
     );
     let items = tables_at(members, place, SchemaKey::Table)?;
-    no_further_key(members, place, &TOP_KEYS)?;
+    no_further_key(members, place, &TOP_KEYS, &[])?;
     let tables = read_tables(alloc, items)?;
     Ok(Schema {
         seed,

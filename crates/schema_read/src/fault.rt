@@ -64,8 +64,11 @@ pub enum Expected {
 /// A wrong key: where it is, which it is and what it wants.
 #[derive(Clone, Copy, Debug, PartialEq, Eq)]
 pub struct Wrong {
+    /// Where it is.
     pub place: Place,
+    /// The key, `Other` where it has no place there.
     pub key: SchemaKey,
+    /// What it wants.
     pub expected: Expected,
 }
 

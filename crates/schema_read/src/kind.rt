@@ -6,26 +6,42 @@ ghost use Rattle.schema_read.specs.Kinds.{kind_named, leaf_named};
 /// A kind of value that is drawn for a field alone; a branch of a case is of one of these.
 #[derive(Clone, Copy, Debug, PartialEq, Eq)]
 pub enum LeafName {
+    /// `int`
     Int,
+    /// `fixed`
     Fixed,
+    /// `date`
     Date,
+    /// `pick`
     Pick,
+    /// `skew`
     Skew,
+    /// `dict`
     Dict,
+    /// `words`
     Words,
+    /// `chars`
     Chars,
 }
 
 /// A kind of column.
 #[derive(Clone, Copy, Debug, PartialEq, Eq)]
 pub enum KindName {
+    /// `key`
     Key,
+    /// `born`
     Born,
+    /// `changed`
     Changed,
+    /// `template`
     Template,
+    /// `case`
     Case,
+    /// `ref`
     Ref,
+    /// `lookup`
     Lookup,
+    /// One of the leaf kinds.
     Leaf(LeafName),
 }
 

@@ -3,7 +3,7 @@
 ghost use Rattle.std.specs.Prelude.{◌≡◌, ◌≢◌, [], ◌∷◌, map, pos, IfOk};
 ghost use Rattle.toml.specs.View.{table_view};
 ghost use Rattle.schema_read.specs.Reading.{Finds, Reads, kind_wrong, table_of, tables_of};
-ghost use Rattle.schema_read.specs.Shape.{kind_keys, kind_value, branch_keys, branch_wrong, branch, column_keys};
+ghost use Rattle.schema_read.specs.Shape.{leaf_keys, kind_keys, kind_value, branch_wrong, branch};
 ghost use Rattle.schema_read.specs.Wanted.{first_of, each_from};
 
 use crate::fault::{Expected, Place, ReadFault, refuse};
@@ -18,44 +18,45 @@ use schema_model::{Kind, Leaf, Leaves, Longs, Memory};
 use std::alloc::Global;
 use toml::{Table, Value};
 
-/// The keys of a branch of this kind.
-fn keys_of_branch(kind: LeafName) -> &'static [SchemaKey]
-    ensures { result.now ≡ map (λ w. w.key) (branch_keys kind) }
+/// The keys of a column of any kind.
+const COLUMN_KEYS: [SchemaKey; 4] = [
+    SchemaKey::Name,
+    SchemaKey::Kind,
+    SchemaKey::Changes,
+    SchemaKey::Null,
+];
+
+/// The keys of a branch of any kind.
+const BRANCH_KEYS: [SchemaKey; 1] = [SchemaKey::Kind];
+
+/// The keys that a column or a branch of this leaf kind has of its own.
+fn keys_of_leaf(kind: LeafName) -> &'static [SchemaKey]
+    ensures { result.now ≡ map (λ w. w.key) (leaf_keys kind) }
 {
     match kind {
-        LeafName::Int => &[
-            SchemaKey::Kind,
-            SchemaKey::Lo,
-            SchemaKey::Hi,
-            SchemaKey::Step,
-        ],
-        LeafName::Fixed => &[
-            SchemaKey::Kind,
-            SchemaKey::Lo,
-            SchemaKey::Hi,
-            SchemaKey::Decimals,
-        ],
-        LeafName::Date => &[SchemaKey::Kind, SchemaKey::Lo, SchemaKey::Hi],
-        LeafName::Pick => &[SchemaKey::Kind, SchemaKey::Entries, SchemaKey::Weights],
-        LeafName::Skew => &[
-            SchemaKey::Kind,
-            SchemaKey::Lo,
-            SchemaKey::Size,
-            SchemaKey::Power,
-        ],
-        LeafName::Dict => &[SchemaKey::Kind, SchemaKey::File],
-        LeafName::Words => &[
-            SchemaKey::Kind,
-            SchemaKey::File,
-            SchemaKey::Lo,
-            SchemaKey::Hi,
-        ],
-        LeafName::Chars => &[
-            SchemaKey::Kind,
-            SchemaKey::Alphabet,
-            SchemaKey::Lo,
-            SchemaKey::Hi,
-        ],
+        LeafName::Int => &[SchemaKey::Lo, SchemaKey::Hi, SchemaKey::Step],
+        LeafName::Fixed => &[SchemaKey::Lo, SchemaKey::Hi, SchemaKey::Decimals],
+        LeafName::Date => &[SchemaKey::Lo, SchemaKey::Hi],
+        LeafName::Pick => &[SchemaKey::Entries, SchemaKey::Weights],
+        LeafName::Skew => &[SchemaKey::Lo, SchemaKey::Size, SchemaKey::Power],
+        LeafName::Dict => &[SchemaKey::File],
+        LeafName::Words => &[SchemaKey::File, SchemaKey::Lo, SchemaKey::Hi],
+        LeafName::Chars => &[SchemaKey::Alphabet, SchemaKey::Lo, SchemaKey::Hi],
+    }
+}
+
+/// The keys that a column of this kind has of its own.
+fn keys_of_kind(kind: KindName) -> &'static [SchemaKey]
+    ensures { result.now ≡ map (λ w. w.key) (kind_keys kind) }
+{
+    match kind {
+        KindName::Key => &[SchemaKey::Base, SchemaKey::Scramble],
+        KindName::Born | KindName::Changed => &[],
+        KindName::Template => &[SchemaKey::Parts],
+        KindName::Case => &[SchemaKey::On, SchemaKey::Branches],
+        KindName::Ref => &[SchemaKey::Table, SchemaKey::Window, SchemaKey::Spread],
+        KindName::Lookup => &[SchemaKey::Via, SchemaKey::Column],
+        KindName::Leaf(leaf) => keys_of_leaf(leaf),
     }
 }
 
@@ -65,7 +66,7 @@ fn read_branch_members(alloc: Global, members: &Table, place: Place) -> Result<L
 {
     let kind = leaf_kind_at(members, place, SchemaKey::Kind)?;
     let leaf = read_leaf(alloc, members, place, kind)?;
-    no_further_key(members, place, keys_of_branch(kind))?;
+    no_further_key(members, place, &BRANCH_KEYS, keys_of_leaf(kind))?;
     Ok(leaf)
 }
 
@@ -93,143 +94,6 @@ fn read_branches(alloc: Global, items: &[Value], place: Place) -> Result<Leaves,
         branches.push(read_branch(alloc, item, at)?)?;
     }
     Ok(branches)
-}
-
-/// The keys of a column of this leaf kind.
-fn keys_of_leaf_column(kind: LeafName) -> &'static [SchemaKey]
-    ensures { result.now ≡ map (λ w. w.key) (column_keys (KindName.Leaf kind)) }
-{
-    match kind {
-        LeafName::Int => &[
-            SchemaKey::Name,
-            SchemaKey::Kind,
-            SchemaKey::Changes,
-            SchemaKey::Null,
-            SchemaKey::Lo,
-            SchemaKey::Hi,
-            SchemaKey::Step,
-        ],
-        LeafName::Fixed => &[
-            SchemaKey::Name,
-            SchemaKey::Kind,
-            SchemaKey::Changes,
-            SchemaKey::Null,
-            SchemaKey::Lo,
-            SchemaKey::Hi,
-            SchemaKey::Decimals,
-        ],
-        LeafName::Date => &[
-            SchemaKey::Name,
-            SchemaKey::Kind,
-            SchemaKey::Changes,
-            SchemaKey::Null,
-            SchemaKey::Lo,
-            SchemaKey::Hi,
-        ],
-        LeafName::Pick => &[
-            SchemaKey::Name,
-            SchemaKey::Kind,
-            SchemaKey::Changes,
-            SchemaKey::Null,
-            SchemaKey::Entries,
-            SchemaKey::Weights,
-        ],
-        LeafName::Skew => &[
-            SchemaKey::Name,
-            SchemaKey::Kind,
-            SchemaKey::Changes,
-            SchemaKey::Null,
-            SchemaKey::Lo,
-            SchemaKey::Size,
-            SchemaKey::Power,
-        ],
-        LeafName::Dict => &[
-            SchemaKey::Name,
-            SchemaKey::Kind,
-            SchemaKey::Changes,
-            SchemaKey::Null,
-            SchemaKey::File,
-        ],
-        LeafName::Words => &[
-            SchemaKey::Name,
-            SchemaKey::Kind,
-            SchemaKey::Changes,
-            SchemaKey::Null,
-            SchemaKey::File,
-            SchemaKey::Lo,
-            SchemaKey::Hi,
-        ],
-        LeafName::Chars => &[
-            SchemaKey::Name,
-            SchemaKey::Kind,
-            SchemaKey::Changes,
-            SchemaKey::Null,
-            SchemaKey::Alphabet,
-            SchemaKey::Lo,
-            SchemaKey::Hi,
-        ],
-    }
-}
-
-/// The keys of a column of this kind.
-fn keys_of_column(kind: KindName) -> &'static [SchemaKey]
-    ensures { result.now ≡ map (λ w. w.key) (column_keys kind) }
-{
-    match kind {
-        KindName::Key => &[
-            SchemaKey::Name,
-            SchemaKey::Kind,
-            SchemaKey::Changes,
-            SchemaKey::Null,
-            SchemaKey::Base,
-            SchemaKey::Scramble,
-        ],
-        KindName::Born => &[
-            SchemaKey::Name,
-            SchemaKey::Kind,
-            SchemaKey::Changes,
-            SchemaKey::Null,
-        ],
-        KindName::Changed => &[
-            SchemaKey::Name,
-            SchemaKey::Kind,
-            SchemaKey::Changes,
-            SchemaKey::Null,
-        ],
-        KindName::Template => &[
-            SchemaKey::Name,
-            SchemaKey::Kind,
-            SchemaKey::Changes,
-            SchemaKey::Null,
-            SchemaKey::Parts,
-        ],
-        KindName::Case => &[
-            SchemaKey::Name,
-            SchemaKey::Kind,
-            SchemaKey::Changes,
-            SchemaKey::Null,
-            SchemaKey::On,
-            SchemaKey::Branches,
-        ],
-        KindName::Ref => &[
-            SchemaKey::Name,
-            SchemaKey::Kind,
-            SchemaKey::Changes,
-            SchemaKey::Null,
-            SchemaKey::Table,
-            SchemaKey::Window,
-            SchemaKey::Spread,
-        ],
-        KindName::Lookup => &[
-            SchemaKey::Name,
-            SchemaKey::Kind,
-            SchemaKey::Changes,
-            SchemaKey::Null,
-            SchemaKey::Via,
-            SchemaKey::Column,
-        ],
-        KindName::Leaf(leaf) => keys_of_leaf_column(leaf),
-    }
 }
 
 fn read_key(members: &Table, place: Place) -> Result<Kind, ReadFault>
@@ -286,7 +150,7 @@ fn read_case(alloc: Global, members: &Table, place: Place) -> Result<Kind, ReadF
 {
     let on = text_at(alloc, members, place, SchemaKey::On)?;
     let items = tables_at(members, place, SchemaKey::Branches)?;
-    no_further_key(members, place, keys_of_column(KindName::Case))?;
+    no_further_key(members, place, &COLUMN_KEYS, keys_of_kind(KindName::Case))?;
     let branches = read_branches(alloc, items, place)?;
     Ok(Kind::Case { on, branches })
 }
@@ -326,6 +190,6 @@ pub fn read_kind(
         return read_case(alloc, members, place);
     }
     let read = read_plain_kind(alloc, members, place, kind)?;
-    no_further_key(members, place, keys_of_column(kind))?;
+    no_further_key(members, place, &COLUMN_KEYS, keys_of_kind(kind))?;
     Ok(read)
 }

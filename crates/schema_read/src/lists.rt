@@ -46,7 +46,7 @@ impl Element for i64 {
 fn cited_column(alloc: Global, members: &Table) -> Result<Option<Part>, Memory>
     ensures { IfOk result (λ found. found ≡ cited (table_view members.now)) }
 {
-    if !has_only(members, &[SchemaKey::Column]) {
+    if !has_only(members, &[SchemaKey::Column], &[]) {
         return Ok(None);
     }
     match member(members, SchemaKey::Column) {

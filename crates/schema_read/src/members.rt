@@ -1,6 +1,6 @@
 //! Reading the members of a table by their keys.
 
-ghost use Rattle.std.specs.Prelude.{◌≡◌, option_map, string_bytes};
+ghost use Rattle.std.specs.Prelude.{◌≡◌, ◌++◌, option_map, string_bytes};
 ghost use Rattle.std.specs.List.{list_all};
 ghost use Rattle.std.specs.BTreeMap.{keys as map_keys};
 ghost use Rattle.toml.specs.Data.{get_member};
@@ -22,30 +22,40 @@ pub fn member(table: &Table, key: SchemaKey) -> Option<&Value>
 }
 
 /// Whether a key is one of these.
-fn is_known(name: &str, keys: &[SchemaKey]) -> bool
-    ensures { result ≡ is_among keys.now name.now }
+fn is_known(name: &str, common: &[SchemaKey], own: &[SchemaKey]) -> bool
+    ensures { result ≡ is_among (common.now ++ own.now) name.now }
 {
-    keys.iter().any(|key| key.name() == name)
+    common
+        .iter()
+        .chain(own.iter())
+        .any(|key| key.name() == name)
 }
 
-fn has_known_keys(table: &Table, keys: &[SchemaKey]) -> bool
-    ensures { result ≡ list_all (λ name. is_among keys.now (string_bytes name)) (map_keys table.now) }
+fn has_known_keys(table: &Table, common: &[SchemaKey], own: &[SchemaKey]) -> bool
+    ensures { result ≡ list_all (λ name. is_among (common.now ++ own.now) (string_bytes name)) (map_keys table.now) }
 {
-    table.keys().all(|name| is_known(name.as_str(), keys))
+    table
+        .keys()
+        .all(|name| is_known(name.as_str(), common, own))
 }
 
-/// Whether a table has no keys beside these.
-pub fn has_only(table: &Table, keys: &[SchemaKey]) -> bool
-    ensures { result ≡ list_all (is_among keys.now) (keys_of (table_view table.now)) }
+/// Whether a table has no keys beside these: the common ones, and those of its own kind.
+pub fn has_only(table: &Table, common: &[SchemaKey], own: &[SchemaKey]) -> bool
+    ensures { result ≡ list_all (is_among (common.now ++ own.now)) (keys_of (table_view table.now)) }
 {
-    has_known_keys(table, keys)
+    has_known_keys(table, common, own)
 }
 
-/// Checks that a table has no further keys beside these.
-pub fn no_further_key(table: &Table, place: Place, keys: &[SchemaKey]) -> Result<(), ReadFault>
-    ensures { Passes result (further_key place keys.now (table_view table.now)) }
+/// Checks that a table has no further keys beside these: the common ones, and those of its own kind.
+pub fn no_further_key(
+    table: &Table,
+    place: Place,
+    common: &[SchemaKey],
+    own: &[SchemaKey],
+) -> Result<(), ReadFault>
+    ensures { Passes result (further_key place (common.now ++ own.now) (table_view table.now)) }
 {
-    if has_only(table, keys) {
+    if has_only(table, common, own) {
         Ok(())
     } else {
         refuse(place, SchemaKey::Other, Expected::NoSuchKey)

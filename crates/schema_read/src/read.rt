@@ -19,8 +19,11 @@ pub enum ReadSchemaFault {
     /// The document has a wrong key, of which this is the first: it is missing, of another type than is expected, or
     /// has no place there. Places go depth first, each with its known keys in order and then any further key.
     Shape {
+        /// Where the key is.
         place: Place,
+        /// The key, `Other` where it has no place there.
         key: SchemaKey,
+        /// What the key wants.
         expected: Expected,
     },
     /// No memory was left.

@@ -23,6 +23,7 @@ fn delimiter_of_name(name: &str) -> Option<Delimiter>
     }
 }
 
+/// The delimiter of the text `tab` or `bar`, and `None` for every other value.
 pub fn delimiter_of(value: &Value) -> Option<Delimiter>
     ensures { result ≡ as_delimiter (view value.now) }
 {
@@ -32,6 +33,7 @@ pub fn delimiter_of(value: &Value) -> Option<Delimiter>
     }
 }
 
+/// The kind that a text names, and `None` for every other value.
 pub fn kind_of(value: &Value) -> Option<KindName>
     ensures { result ≡ as_kind (view value.now) }
 {
@@ -41,6 +43,7 @@ pub fn kind_of(value: &Value) -> Option<KindName>
     }
 }
 
+/// The leaf kind that a text names, and `None` for every other value.
 pub fn leaf_kind_of(value: &Value) -> Option<LeafName>
     ensures { result ≡ as_leaf (view value.now) }
 {
@@ -69,6 +72,7 @@ fn window_of_name(name: &str) -> Option<Window>
     }
 }
 
+/// The window of a whole number or of the text `all`, and `None` for every other value.
 pub fn window_of(value: &Value) -> Option<Window>
     ensures { result ≡ as_window (view value.now) }
 {

@@ -18,10 +18,10 @@ returns-in_err-no_further_key c =
     let (right, is) = c.in_ok-kind.ensures in
     let p = err_from_is_err_and c.from_residual-in_err-no_further_key.result c.from_residual-in_err-no_further_key.ensures.1 in
     let whole = branch_wrong-is c.args.place.table c.args.place.column c.args.place.branch (table_view c.args.members.now) c.in_ok-kind.kind right is in
-    rw (p.1, p.2) (tells_same _ _ _ (sym whole) (tells_second _ _ _ c.in_ok-leaf.ensures.0 (rw (← c.keys_of_branch.ensures) (Tells-IsTold _ _ c.in_err-no_further_key.ensures))))
+    rw (p.1, p.2) (tells_same _ _ _ (sym whole) (tells_second _ _ _ c.in_ok-leaf.ensures.0 (rw (← c.keys_of_leaf.ensures) (Tells-IsTold _ _ c.in_err-no_further_key.ensures))))
 
 pub returns : goal.returns
 returns c =
     let (right, is) = c.in_ok-kind.ensures in
     let whole = branch_wrong-is c.args.place.table c.args.place.column c.args.place.branch (table_view c.args.members.now) c.in_ok-kind.kind right is in
-    (whole ∙ rw (c.in_ok-leaf.ensures.0, ← c.keys_of_branch.ensures) c.in_ok-no_further_key.ensures, c.in_ok-leaf.ensures.1 ∙ ap (λ (k : LeafName). leaf_value k (table_view c.args.members.now)) is)
+    (whole ∙ rw (c.in_ok-leaf.ensures.0, ← c.keys_of_leaf.ensures) c.in_ok-no_further_key.ensures, c.in_ok-leaf.ensures.1 ∙ ap (λ (k : LeafName). leaf_value k (table_view c.args.members.now)) is)
