@@ -1,0 +1,3 @@
+mod PrefixSumLemmas
+mod SelectionLemmas
+mod HarmonicLemmas

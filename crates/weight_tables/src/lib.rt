@@ -1,0 +1,15 @@
+//! Weighted choice: groups that each take as many numbers as their weight says, and the group that a number selects.
+//!
+//! Groups are places in a list, counted from 0. Weights are whole numbers from 1 on, and the sum of a list's is at most 2^40.
+#![tactic(auto)]
+
+mod memory;
+mod weights;
+
+pub mod laws;
+
+pub use memory::Memory;
+pub use weights::Weights;
+
+#[cfg(test)]
+mod tests;

