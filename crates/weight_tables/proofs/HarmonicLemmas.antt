@@ -1,10 +1,9 @@
 -- How harmonic weights fall, and how large their sum is.
-use Rattle.std.proofs.Common.{◌≡◌, ℕ, zero, suc, ◌+◌, ◌*◌, ◌/◌, ◌<◌, ◌≤◌, ◌^◌, inl, inr, List, [], ◌++◌, ◌∷◌, All, get_or, length, map, max, min, sum, refl, ap, subst, ◌∙◌, arith}
-use Rattle.std.proofs.Math.Nat.{le-max_left, le-max_right, max-le, pow-le-pow_left, pow-le-pow_right, one-le-pow, div-mul-le_self, mul-le-mul_left, pow-zero, pow-suc}
+use Rattle.std.proofs.Common.{◌≡◌, ℕ, zero, suc, ◌+◌, ◌*◌, ◌/◌, ◌<◌, ◌≤◌, ◌^◌, inl, inr, [], ◌++◌, ◌∷◌, All, get_or, length, min, sum, refl, ap, subst, ◌∙◌, arith}
+use Rattle.std.proofs.Math.Nat.{le-max_left, pow-le-pow_left, pow-le-pow_right, one-le-pow, div-mul-le_self, mul-le-mul_left, pow-zero, pow-suc}
 use Rattle.std.proofs.lemmas.Nat.{le-div}
 use Rattle.std.proofs.lemmas.Bool.{cases_lt}
 use Rattle.std.proofs.lemmas.List.FromFn.{length-map-range_with_len, get_or-map-range_with_len, map-range_with_len_more, sum_by-map-range_with_len_more}
-use Rattle.std.specs.List.{range_with_len}
 use Rattle.weight_tables.specs.Harmonic.{harmonic_weight, harmonic_weights}
 
 -- a quotient by more is no more

@@ -67,7 +67,7 @@ pub weight_before-all : (weights : List ℕ) (g : ℕ) → length weights ≤ g 
 weight_before-all [] zero all = refl
 weight_before-all [] (suc g) all = refl
 weight_before-all (weight ∷ others) zero all = absurd (omega arith)
-weight_before-all (weight ∷ others) (suc g) all = 
+weight_before-all (weight ∷ others) (suc g) all =
     omega (arith, weight_before-all others g (omega arith), weight_before-later weight others g, sum-cons weight others)
 
 -- a group's prefix sum is what stands before it and its weight

@@ -1,9 +1,9 @@
 -- Which group a number selects, and how many numbers select a group.
-use Rattle.std.proofs.Common.{◌≡◌, ℕ, zero, suc, ◌+◌, ◌-◌, ◌<◌, ◌≤◌, ◌==◌, ◌↔◌, Bool, true, false, inl, inr, List, [], ◌∷◌, ◌++◌, length, get_or, sum, sum_by, count_by, take, cond, refl, ap, sym, ◌∙◌, arith, eq-eqb, leb, leb-true, nat_lt, if◌then◌else◌}
+use Rattle.std.proofs.Common.{◌≡◌, ℕ, zero, suc, ◌+◌, ◌-◌, ◌<◌, ◌≤◌, ◌==◌, ◌↔◌, Bool, true, false, inl, inr, List, [], ◌∷◌, ◌++◌, length, get_or, sum, count_by, cond, refl, ap, ◌∙◌, arith, eq-eqb, leb, leb-true, if◌then◌else◌}
 use Rattle.std.proofs.lemmas.Bool.{cases_lt, cases_Bool, lt-ltb, le-ltb, eqb-true, leb-false}
 use Rattle.std.proofs.lemmas.List.Sums.{sum_by-append, sum_by-cons}
 use Rattle.std.specs.List.{range_with_len}
-use Rattle.std.specs.List.Sorted.{IsNonDecreasingBy, IsPartitionPoint}
+use Rattle.std.specs.List.Sorted.{IsPartitionPoint}
 use Rattle.weight_tables.specs.PrefixSums.{ArePrefixSums, weights_of}
 use Rattle.weight_tables.specs.Weights.{Selects, selected, weight_before, prefix_sum}
 use Rattle.weight_tables.proofs.PrefixSumLemmas.{prefix_sums_length, prefix_sums_at, weight_before-all, sum-cons, prefix_sum-first, prefix_sum-later, prefix_sum-split, weight_before-rises, prefix_sum-le-sum}

@@ -3,10 +3,9 @@
 //! Groups are places in a list, counted from 0. Weights are whole numbers from 1 on, and the sum of a list's is at most 2^40.
 #![tactic(auto)]
 
+pub mod laws;
 mod memory;
 mod weights;
-
-pub mod laws;
 
 pub use memory::Memory;
 pub use weights::Weights;

@@ -1,22 +1,30 @@
 //! Values from outside: small ones worked out by hand, and the totals of 4096 harmonic weights, which a Python program summed
 //! from the rule that a weight is max(1, 10**9 // (i + 1)**power).
 
-ghost use Rattle.std.specs.Prelude.{◌≡◌, ◌<◌, ◌≤◌, length, sum};
-
 use super::*;
 use std::process::Abort;
 use std::test::Fail;
 
-// The sum of the weights of each group, in order, is where the numbers of the next one begin.
+// Each group takes its share of the numbers, from where that of the group before it ends.
 fn assert_shares(rt: &impl Abort, weights: &Weights, shares: &[u64]) {
+    let total = weights.total();
     let mut x = 0u64;
     for (group, share) in shares.iter().enumerate() {
-        assert!(rt; *share > 0 && *share <= weights.total() - x.min(weights.total()));
+        assert!(rt; x < total && *share > 0 && *share <= total - x);
         assert_eq!(rt; weights.select(x), group);
         assert_eq!(rt; weights.select(x + (*share - 1)), group);
         x += *share;
     }
-    assert_eq!(rt; weights.total(), x);
+    assert_eq!(rt; total, x);
+}
+
+// The total, and the weight of the last of 4096 groups.
+fn assert_last(rt: &impl Abort, weights: &Weights, total: u64, last: u64) {
+    assert_eq!(rt; weights.total(), total);
+    assert!(rt; 0 < last && last < total);
+    assert_eq!(rt; weights.select(total - 1), 4095);
+    assert_eq!(rt; weights.select(total - last), 4095);
+    assert_eq!(rt; weights.select(total - last - 1), 4094);
 }
 
 #[test]
@@ -43,6 +51,23 @@ fn harmonic_weights_are_as_worked_out(rt: HostRuntime) -> Result<(), Fail> {
     assert_shares(&rt, &Weights::harmonic(rt.alloc(), 3, 2)?, &shares);
     let shares = [1_000_000_000, 125_000_000];
     assert_shares(&rt, &Weights::harmonic(rt.alloc(), 2, 3)?, &shares);
+    let shares = [1_000_000_000];
+    assert_shares(&rt, &Weights::harmonic(rt.alloc(), 1, 2)?, &shares);
+    Ok(())
+}
+
+// From the Python program.
+#[test]
+fn many_harmonic_weights_are_as_summed(rt: HostRuntime) -> Result<(), Fail> {
+    let alloc = rt.alloc();
+    assert_last(
+        &rt,
+        &Weights::harmonic(alloc, 4096, 1)?,
+        8_895_101_925,
+        244_140,
+    );
+    assert_last(&rt, &Weights::harmonic(alloc, 4096, 2)?, 1_644_687_940, 59);
+    assert_last(&rt, &Weights::harmonic(alloc, 4096, 3)?, 1_202_059_030, 1);
     Ok(())
 }
 

@@ -79,7 +79,8 @@ impl Weights {
         ensures first { (group : ℕ) → group < result → prefix_sum self.now group ≤ x }
         ensures exact { result ≡ selected self.now x }
     {
-        self.prefix_sums.partition_point(|prefix_sum| *prefix_sum <= x)
+        self.prefix_sums
+            .partition_point(|prefix_sum| *prefix_sum <= x)
     }
 }
 

@@ -1,5 +1,4 @@
-use Rattle.std.proofs.Common.{◌≡◌, ℕ, ◌+◌, ◌^◌, ◌/◌, ◌≤◌, ◌<◌, max, ap, ◌∙◌, arith}
-use Rattle.std.proofs.Math.Nat.{max_comm}
+use Rattle.std.proofs.Common.{ℕ, ◌^◌, ◌/◌, max, ap, ◌∙◌, arith}
 use Rattle.weight_tables.specs.Harmonic.{harmonic_weight}
 use Rattle.weight_tables.proofs.HarmonicLemmas.{divisor-some, divisor-fits}
 use Rattle.weight_tables.proofs.weights.harmonic_weight.Goals as goal

@@ -1,4 +1,4 @@
-use Rattle.std.proofs.Common.{◌≡◌, ◌≤◌, ℕ, ◌∙◌, sym, ap, arith}
+use Rattle.std.proofs.Common.{◌≡◌, ℕ, ◌∙◌, ap, arith}
 use Rattle.weight_tables.specs.Harmonic.{harmonic_weights}
 use Rattle.weight_tables.proofs.HarmonicLemmas.{harmonic_weights-none, harmonic_weights-push, length-harmonic_weights, All-harmonic_weights, sum-harmonic_weights}
 use Rattle.weight_tables.proofs.weights.Weights.harmonic.Goals as goal

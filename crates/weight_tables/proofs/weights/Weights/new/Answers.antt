@@ -1,4 +1,4 @@
-use Rattle.std.proofs.Common.{◌≡◌, ◌+◌, ◌<◌, ◌≤◌, ◌++◌, length, sum, take, take_all, ap, sym, ◌∙◌, arith, rules}
+use Rattle.std.proofs.Common.{◌≡◌, sum, take, take_all, ap, ◌∙◌, arith, rules}
 use Rattle.std.proofs.lemmas.List.Sums.{sum_by_more}
 use Rattle.weight_tables.specs.PrefixSums.{prefix_sums, prefix_sums_from}
 use Rattle.weight_tables.proofs.PrefixSumLemmas.{weights_of-made, ArePrefixSums-made, prefix_sums-more}

@@ -5,5 +5,5 @@ use Rattle.weight_tables.proofs.weights.Weights.new.Given as goal
 abbrev pub invariant-loop-weight : goal.invariant-loop-weight
 invariant-loop-weight l = record {
   summed : l.sum ≡ sum (take l.weight-index l.list);
-  pushed : l.prefix_sums.items ≡ prefix_sums (take l.weight-index l.list)
+  pushed : l.prefix_sums.items ≡ prefix_sums (take l.weight-index l.list);
 }

@@ -1,4 +1,4 @@
-use Rattle.std.proofs.Common.{◌≡◌, ◌<◌, ◌≤◌, List, ℕ, length, sum, leb, ap, sym, ◌∙◌, subst, rules}
+use Rattle.std.proofs.Common.{◌≡◌, ◌<◌, ◌≤◌, length, sum, leb, rules}
 use Rattle.std.proofs.lemmas.List.Sorted.{IsPartitionPoint-from_clause, IsPartitionedBy-leb}
 use Rattle.std.specs.List.Sorted.{IsNonDecreasingBy}
 use Rattle.weight_tables.specs.PrefixSums.{weights_of}
@@ -27,5 +27,5 @@ returns c =
       below = one.below;
       first = one.first;
       exact = Selects-unique c.args.self.now c.args.x c.partition_point.result (selected c.args.self.now c.args.x) one
-      (Selects-selected c.args.self.now c.args.x c.requires);
+          (Selects-selected c.args.self.now c.args.x c.requires);
     }
