@@ -1,3 +1,3 @@
-mod PrefixSumLemmas
-mod SelectionLemmas
-mod HarmonicLemmas
+pub mod PrefixSumLemmas
+pub mod SelectionLemmas
+pub mod HarmonicLemmas

@@ -1,6 +1,6 @@
 //! The laws of weights, each the contract of a function that does nothing.
 
-ghost use Rattle.std.specs.Prelude.{◌≡◌, ℕ, ◌+◌, ◌<◌, ◌≤◌, ◌^◌, ◌==◌, ◌↔◌, All, List, count_by, length, slice_index, sum, take};
+ghost use Rattle.std.specs.Prelude.{◌≡◌, ℕ, ◌+◌, ◌/◌, ◌<◌, ◌≤◌, ◌^◌, ◌==◌, ◌↔◌, All, List, count_by, length, max, slice_index, sum, take};
 ghost use Rattle.std.specs.List.{range_with_len};
 ghost use Rattle.weight_tables.specs.Weights.{Selects, selected, weight_before};
 ghost use Rattle.weight_tables.specs.Harmonic.{harmonic_weights};
@@ -20,10 +20,12 @@ pub fn a_group_takes_its_weight_of_the_numbers()
         count_by (λ x. selected weights x == g) (range_with_len 0 (sum weights)) ≡ slice_index weights g }
 {}
 
-/// Harmonic weights are as many as their size says, each at least 1, and none is heavier than one before it. Of up to 4096
-/// the sum is at most 2^40.
+/// Harmonic weights are as many as their size says, each a part of 10^9 or at least 1, and none is heavier than one before
+/// it. Of up to 4096 the sum is at most 2^40.
 pub fn harmonic_weights_fall()
     ensures size { (size power : ℕ) → length (harmonic_weights size power) ≡ size }
+    ensures each { (size power g : ℕ) → g < size →
+        slice_index (harmonic_weights size power) g ≡ max 1 (10 ^ 9 / (g + 1) ^ power) }
     ensures positive { (size power : ℕ) → All (λ weight. 1 ≤ weight) (harmonic_weights size power) }
     ensures falling { (size power g h : ℕ) → g ≤ h → h < size →
         slice_index (harmonic_weights size power) h ≤ slice_index (harmonic_weights size power) g }

@@ -29,7 +29,8 @@ impl Model for Weights {
 }
 
 impl Weights {
-    /// The weights of the list, one a group, in its order. At `Memory` none are made.
+    /// The weights of the list, one a group, in its order. The list has at least one weight, each is at least 1, and their
+    /// sum is at most 2^40. At `Memory` none are made.
     pub fn new(alloc: Global, list: &[u64]) -> Result<Weights, Memory>
         requires some { 0 < length list.now }
         requires positive { All (λ weight. 1 ≤ weight) list.now }
@@ -50,8 +51,8 @@ impl Weights {
     pub fn harmonic(alloc: Global, size: u32, power: u32) -> Result<Weights, Memory>
         requires some { 1 ≤ size }
         requires few { size ≤ 4096 }
-        requires falling { 1 ≤ power }
-        requires low { power ≤ 3 }
+        requires least_power { 1 ≤ power }
+        requires greatest_power { power ≤ 3 }
         ensures { IfOk result (λ weights. weights ≡ harmonic_weights size power) }
     {
         let mut list = Vec::with_capacity(alloc, size as usize)?;
@@ -87,7 +88,7 @@ impl Weights {
 /// The weight of a group of harmonic weights.
 fn harmonic_weight(group: u32, power: u32) -> u64
     requires few { group < 4096 }
-    requires low { power ≤ 3 }
+    requires greatest_power { power ≤ 3 }
     ensures { result ≡ harmonic_weight power group }
 {
     (FIRST_HARMONIC_WEIGHT / u64::from(group + 1).pow(power)).max(1)

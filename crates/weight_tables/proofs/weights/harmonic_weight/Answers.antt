@@ -6,7 +6,7 @@ use Rattle.weight_tables.proofs.weights.harmonic_weight.Goals as goal
 pub pow-requires : goal.pow-requires
 pow-requires c =
     rw c.from.ensures
-    (omega (arith, divisor-fits c.args.group c.args.power c.requires.few c.requires.low))
+    (omega (arith, divisor-fits c.args.group c.args.power c.requires.few c.requires.greatest_power))
 
 pub nonzero_div-pow : goal.nonzero_div-pow
 nonzero_div-pow c = rw (c.pow.ensures, c.from.ensures) (divisor-some c.args.group c.args.power)

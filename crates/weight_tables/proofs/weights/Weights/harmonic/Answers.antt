@@ -23,5 +23,5 @@ new-requires c =
     (record {
       some = omega arith;
       positive = All-harmonic_weights c.args.size c.args.power;
-      small = sum-harmonic_weights c.args.size c.args.power c.requires.few c.requires.falling;
+      small = sum-harmonic_weights c.args.size c.args.power c.requires.few c.requires.least_power;
     })
