@@ -7,25 +7,24 @@ use Rattle.weight_tables.proofs.PrefixSumLemmas.{prefix_sums_rise}
 use Rattle.weight_tables.proofs.SelectionLemmas.{Selects-from_partition, Selects-selected, Selects-unique}
 use Rattle.weight_tables.proofs.weights.Weights.select.Goals as goal
 
-selects : (c : goal.After-partition_point) → Selects c.args.self.now c.args.x c.partition_point.result
-selects c =
-    let sums = c.self.inside.prefix_sums.items in
-    let lent : c.deref.result.now ≡ sums = c.deref.ensures.value in
-    let rises : IsNonDecreasingBy (λ x. x) c.deref.result.now = rw lent (prefix_sums_rise sums c.self.invariant) in
-    let point = IsPartitionPoint-from_clause (λ y. leb y c.args.x) c.deref.result.now c.partition_point.result
-    c.partition_point.ensures.partitioned (IsPartitionedBy-leb (λ y. y) c.deref.result.now c.args.x rises) (λ a r q k. search rules) in
-    let view : weights_of sums ≡ c.args.self.now = c.self.view_is in
-    let below : c.args.x < sum (weights_of sums) = rw view c.requires in
-    let within : c.partition_point.result ≤ length sums = rw lent at c.partition_point.ensures.bound in
-    rw (← view) (Selects-from_partition sums c.args.x c.partition_point.result c.self.invariant below within (rw lent at point))
-
 pub returns : goal.returns
 returns c =
-    let one = selects c in
+    let sums = c.self.inside.prefix_sums.items in
+    let weights = c.args.self.now in
+    let x = c.args.x in
+    let group = c.partition_point.result in
+    let lent : c.deref.result.now ≡ sums = c.deref.ensures.value in
+    let rises : IsNonDecreasingBy (λ y. y) c.deref.result.now = rw lent (prefix_sums_rise sums c.self.invariant) in
+    let point = IsPartitionPoint-from_clause (λ y. leb y x) c.deref.result.now group c.partition_point.ensures.partitioned
+    (IsPartitionedBy-leb (λ y. y) c.deref.result.now x rises) (λ a r q k. search rules) in
+    let within : group ≤ length sums = rw lent at c.partition_point.ensures.bound in
+    let view : weights_of sums ≡ weights = c.self.view_is in
+    let below : x < sum (weights_of sums) = rw view c.requires in
+    let one : Selects weights x group =
+    rw (← view) (Selects-from_partition sums x group c.self.invariant below within (rw lent at point)) in
     record {
       within = one.within;
       below = one.below;
       first = one.first;
-      exact = Selects-unique c.args.self.now c.args.x c.partition_point.result (selected c.args.self.now c.args.x) one
-          (Selects-selected c.args.self.now c.args.x c.requires);
+      exact = Selects-unique weights x group (selected weights x) one (Selects-selected weights x c.requires);
     }
