@@ -1,0 +1,54 @@
+//! A field as it is written into a page.
+
+ghost use Rattle.std.specs.Prelude.{◌≡◌, ◌≤◌, ◌+◌, ◌++◌, length, None, codes, option_copied};
+ghost use Rattle.row_text.specs.Fields.{IsDelimiter, field_text, piece_text};
+
+use crate::escapes::{escape_count, letter_of};
+use pd_outside::PageBuf;
+
+/// Appends a text, or a piece of one, for which its escaped bytes have to be free.
+pub fn put_piece(buf: &mut PageBuf, bytes: &[u8], delimiter: u8)
+    requires delimiter { IsDelimiter delimiter }
+    requires room { length buf.old.text + length (piece_text delimiter bytes.now) ≤ buf.old.room }
+    ensures { buf.new ≡ record buf.old { text = buf.old.text ++ piece_text delimiter bytes.now } }
+{
+    let mut start = 0;
+    for (index, byte) in bytes.iter().enumerate() {
+        if let Some(letter) = letter_of(*byte, delimiter) {
+            buf.put(&bytes[start..index]);
+            buf.put(&[b'\\', letter]);
+            start = index + 1;
+        }
+    }
+    buf.put(&bytes[start..]);
+}
+
+/// Appends a null field, for which 2 bytes have to be free.
+pub fn put_null(buf: &mut PageBuf)
+    requires { length buf.old.text + 2 ≤ buf.old.room }
+    ensures { buf.new ≡ record buf.old { text = buf.old.text ++ codes "\\N" } }
+{
+    buf.put(b"\\N");
+}
+
+/// Appends a field, null where it is None, for which its size has to be free.
+pub fn put_field(buf: &mut PageBuf, field: Option<&[u8]>, delimiter: u8)
+    requires delimiter { IsDelimiter delimiter }
+    requires room { length buf.old.text + length (field_text delimiter (option_copied field)) ≤ buf.old.room }
+    ensures { buf.new ≡ record buf.old { text = buf.old.text ++ field_text delimiter (option_copied field.entry) } }
+{
+    match field {
+        None => put_null(buf),
+        Some(bytes) => put_piece(buf, bytes, delimiter),
+    }
+}
+
+/// The size of a field, null where it is None, as `put_field` appends it.
+pub fn field_size(field: Option<&[u8]>, delimiter: u8) -> usize
+    ensures { result ≡ length (field_text delimiter (option_copied field.entry)) }
+{
+    match field {
+        None => b"\\N".len(),
+        Some(bytes) => bytes.len() + escape_count(bytes, delimiter),
+    }
+}

@@ -1,0 +1,3 @@
+//! Values worked out by hand from the list of escapes.
+
+use super::*;
