@@ -5,6 +5,10 @@ use Rattle.std.specs.Prelude.{◌≡◌, ◌⊎◌, ℕ, ◌==◌, ◌&&◌, if�
 abbrev pub IsDelimiter : ℕ → Type 0
 IsDelimiter delimiter = (delimiter ≡ 9) ⊎ (delimiter ≡ 124)
 
+-- a byte that may stand behind a field: the delimiter, or the line feed that ends the line
+abbrev pub EndsField : ℕ → ℕ → Type 0
+EndsField delimiter byte = (byte ≡ delimiter) ⊎ (byte ≡ 10)
+
 -- a byte of a text as it is written: itself, or a backslash and a byte that tells which one it was
 unfoldable pub escaped : ℕ → ℕ → List ℕ
 escaped delimiter byte =

@@ -1,15 +1,37 @@
 //! The laws of fields as they are written, each the contract of a function that does nothing.
 
 ghost use Rattle.std.specs.Prelude.{◌≡◌, ◌≢◌, ℕ, ◌≤◌, ◌*◌, ◌++◌, List, ◌∷◌, Option, Contains, codes, length};
-ghost use Rattle.row_text.specs.Fields.{IsDelimiter, field_text, piece_text};
+ghost use Rattle.row_text.specs.Fields.{EndsField, IsDelimiter, field_text, piece_text};
 
 /// A text is written piece by piece.
-pub fn pieces_are_written_one_after_the_other()
+pub fn text_is_written_piece_by_piece()
     ensures { (delimiter : ℕ) (xs ys : List ℕ) →
         piece_text delimiter (xs ++ ys) ≡ piece_text delimiter xs ++ piece_text delimiter ys }
 {}
 
-/// A text is written with at most two bytes for one.
+/// A text is written with at most two bytes for each of its own.
 pub fn text_is_at_most_doubled()
     ensures { (delimiter : ℕ) (bytes : List ℕ) → length (piece_text delimiter bytes) ≤ 2 * length bytes }
+{}
+
+/// A field is written with no line feed and no tab, whatever it holds.
+pub fn field_is_within_its_line()
+    ensures line_feed { (delimiter : ℕ) (field : Option (List ℕ)) → ¬ Contains (field_text delimiter field) 10 }
+    ensures tab { (delimiter : ℕ) (field : Option (List ℕ)) → ¬ Contains (field_text delimiter field) 9 }
+{}
+
+/// No two texts are written alike, and none as a null field is.
+pub fn text_can_be_read_back()
+    ensures text { (delimiter : ℕ) (xs ys : List ℕ) →
+        piece_text delimiter xs ≡ piece_text delimiter ys → xs ≡ ys }
+    ensures null { (delimiter : ℕ) (bytes : List ℕ) → piece_text delimiter bytes ≢ codes "\\N" }
+{}
+
+/// A line that goes on with a field can be read in one way: its bytes tell where the field ends, what it holds, and
+/// whether the line ends there.
+pub fn field_can_be_read_back()
+    ensures { (delimiter end other_end : ℕ) (field other : Option (List ℕ)) (rest other_rest : List ℕ) →
+        IsDelimiter delimiter → EndsField delimiter end → EndsField delimiter other_end →
+        field_text delimiter field ++ end ∷ rest ≡ field_text delimiter other ++ other_end ∷ other_rest →
+        (field ≡ other) × (end ≡ other_end) × (rest ≡ other_rest) }
 {}
