@@ -8,8 +8,8 @@ use Rattle.row_text.proofs.EscapeLemmas.{Form, itself, escape, form, byte_of}
 length-escaped-le : (delimiter byte : ℕ) → length (escaped delimiter byte) ≤ 2
 length-escaped-le delimiter byte =
     elim (form delimiter byte) [
-      itself written _ _ _ _ ↦ omega (arith, ap length written)
-    | escape letter written _ _ _ _ ↦ omega (arith, ap length written)
+      itself written _ _ _ _ _ ↦ omega (arith, ap length written)
+    | escape letter written _ _ _ _ _ ↦ omega (arith, ap length written)
     ]
 
 pub length-piece_text-le : (delimiter : ℕ) (bytes : List ℕ) → length (piece_text delimiter bytes) ≤ 2 * length bytes
@@ -34,15 +34,15 @@ lacks delimiter byte none (x ∷ bytes) found =
 escaped-line_feed : (delimiter x : ℕ) → ¬ Contains (escaped delimiter x) 10
 escaped-line_feed delimiter x found =
     elim (form delimiter x) [
-      itself written _ no_line_feed _ _ ↦ grind (arith, subst (λ (bytes : List ℕ). Contains bytes 10) written found)
-    | escape letter written _ _ no_line_feed _ ↦ grind (arith, subst (λ (bytes : List ℕ). Contains bytes 10) written found)
+      itself written _ no_line_feed _ _ _ ↦ grind (arith, subst (λ (bytes : List ℕ). Contains bytes 10) written found)
+    | escape letter written _ _ no_line_feed _ _ ↦ grind (arith, subst (λ (bytes : List ℕ). Contains bytes 10) written found)
     ]
 
 escaped-tab : (delimiter x : ℕ) → ¬ Contains (escaped delimiter x) 9
 escaped-tab delimiter x found =
     elim (form delimiter x) [
-      itself written no_tab _ _ _ ↦ grind (arith, subst (λ (bytes : List ℕ). Contains bytes 9) written found)
-    | escape letter written _ no_tab _ _ ↦ grind (arith, subst (λ (bytes : List ℕ). Contains bytes 9) written found)
+      itself written no_tab _ _ _ _ ↦ grind (arith, subst (λ (bytes : List ℕ). Contains bytes 9) written found)
+    | escape letter written _ no_tab _ _ _ ↦ grind (arith, subst (λ (bytes : List ℕ). Contains bytes 9) written found)
     ]
 
 pub field_text-line_feed : (delimiter : ℕ) (field : Option (List ℕ)) → ¬ Contains (field_text delimiter field) 10
@@ -57,21 +57,21 @@ field_text-tab delimiter (Some bytes) found = lacks delimiter 9 (escaped-tab del
 escaped-same : (delimiter x y : ℕ) (xs ys : List ℕ) → escaped delimiter x ++ xs ≡ escaped delimiter y ++ ys → (x ≡ y) × (xs ≡ ys)
 escaped-same delimiter x y xs ys same =
     elim (form delimiter x) [
-      itself written_x _ _ no_backslash_x _ ↦ elim (form delimiter y) [
-        itself written_y _ _ _ _ ↦
+      itself written_x _ _ no_backslash_x _ _ ↦ elim (form delimiter y) [
+        itself written_y _ _ _ _ _ ↦
           let heads : x ∷ xs ≡ y ∷ ys = sym (ap (λ (t : List ℕ). t ++ xs) written_x) ∙ same ∙ ap (λ (t : List ℕ). t ++ ys) written_y in
           (cc, cc)
-      | escape letter written_y _ _ _ _ ↦
+      | escape letter written_y _ _ _ _ _ ↦
           let heads : x ∷ xs ≡ 92 ∷ letter ∷ ys = sym (ap (λ (t : List ℕ). t ++ xs) written_x) ∙ same ∙ ap (λ (t : List ℕ). t ++ ys) written_y in
           let backslash : x ≡ 92 = cc in
           absurd (no_backslash_x backslash)
       ]
-    | escape letter written_x back_x _ _ _ ↦ elim (form delimiter y) [
-        itself written_y _ _ no_backslash_y _ ↦
+    | escape letter written_x back_x _ _ _ _ ↦ elim (form delimiter y) [
+        itself written_y _ _ no_backslash_y _ _ ↦
           let heads : 92 ∷ letter ∷ xs ≡ y ∷ ys = sym (ap (λ (t : List ℕ). t ++ xs) written_x) ∙ same ∙ ap (λ (t : List ℕ). t ++ ys) written_y in
           let backslash : y ≡ 92 = cc in
           absurd (no_backslash_y backslash)
-      | escape other written_y back_y _ _ _ ↦
+      | escape other written_y back_y _ _ _ _ ↦
           let heads : 92 ∷ letter ∷ xs ≡ 92 ∷ other ∷ ys = sym (ap (λ (t : List ℕ). t ++ xs) written_x) ∙ same ∙ ap (λ (t : List ℕ). t ++ ys) written_y in
           let letters : letter ≡ other = cc in
           let tails : xs ≡ ys = cc in
@@ -90,11 +90,11 @@ apart : (delimiter end : ℕ) → end ≢ 92 → ((x : ℕ) → x ≢ 9 → x �
 apart delimiter end no_backslash no_other = record {
   no_backslash = no_backslash;
   begins_none = λ x xs rest same. elim (form delimiter x) [
-    itself written no_tab no_line_feed _ no_bar ↦
+    itself written no_tab no_line_feed _ no_bar _ ↦
       let heads : x ∷ xs ≡ end ∷ rest = sym (ap (λ (t : List ℕ). t ++ xs) written) ∙ same in
       let is : x ≡ end = cc in
       no_other x no_tab no_line_feed no_bar is
-  | escape letter written _ _ _ _ ↦
+  | escape letter written _ _ _ _ _ ↦
       let heads : 92 ∷ letter ∷ xs ≡ end ∷ rest = sym (ap (λ (t : List ℕ). t ++ xs) written) ∙ same in
       let is : end ≡ 92 = cc in
       no_backslash is
@@ -141,11 +141,11 @@ null-apart delimiter end ends (x ∷ xs) rest other_rest same =
     let whole : escaped delimiter x ++ more ≡ 92 ∷ 78 ∷ other_rest =
     sym (append_assoc (escaped delimiter x) (piece_text delimiter xs) (end ∷ rest)) ∙ same in
     elim (form delimiter x) [
-      itself written _ _ no_backslash _ ↦
+      itself written _ _ no_backslash _ _ ↦
         let heads : x ∷ more ≡ 92 ∷ 78 ∷ other_rest = sym (ap (λ (t : List ℕ). t ++ more) written) ∙ whole in
         let is : x ≡ 92 = cc in
         no_backslash is
-    | escape letter written _ _ _ no_n ↦
+    | escape letter written _ _ _ no_n _ ↦
         let heads : 92 ∷ letter ∷ more ≡ 92 ∷ 78 ∷ other_rest = sym (ap (λ (t : List ℕ). t ++ more) written) ∙ whole in
         let is : letter ≡ 78 = cc in
         no_n is

@@ -1,6 +1,7 @@
 //! The bytes that don't stand for themselves.
 
-ghost use Rattle.std.specs.Prelude.{◌≡◌, ◌≤◌, ◌+◌, [], ◌∷◌, length, IfNone, IfSome};
+ghost use Rattle.std.specs.Prelude.{◌≡◌, ◌<◌, ◌≤◌, ◌+◌, [], ◌∷◌, length, IfNone, IfSome};
+ghost use Rattle.std.specs.Bool.{OnFalse, OnTrue};
 ghost use Rattle.row_text.specs.Fields.{escaped, piece_text};
 
 /// The byte that is written behind a backslash for this byte; None where the byte stands for itself.
@@ -23,6 +24,27 @@ pub(crate) fn letter_of(byte: u8, delimiter: u8) -> Option<u8>
     }
 }
 
+/// Whether the byte doesn't stand for itself.
+#[inline]
+fn is_escaped(byte: u8, delimiter: u8) -> bool
+    ensures itself { OnFalse result (escaped delimiter byte ≡ byte ∷ []) }
+    ensures escape { OnTrue result (length (escaped delimiter byte) ≡ 2) }
+{
+    ((byte >= 8) & (byte <= 13)) | (byte == b'\\') | ((byte == b'|') & (delimiter == b'|'))
+}
+
+/// Whether a byte doesn't stand for itself. Each is looked at, with no branch, so that a processor takes many at once.
+pub(crate) fn has_escape(bytes: &[u8], delimiter: u8) -> bool
+    ensures none { OnFalse result (piece_text delimiter bytes.now ≡ bytes.now) }
+    ensures some { OnTrue result (length bytes.now < length (piece_text delimiter bytes.now)) }
+{
+    let mut found: u8 = 0;
+    for byte in bytes {
+        found = found.max(u8::from(is_escaped(*byte, delimiter)));
+    }
+    found > 0
+}
+
 /// How many of the bytes don't stand for themselves.
 pub(crate) fn escape_count(bytes: &[u8], delimiter: u8) -> usize
     ensures count { length bytes.now + result ≡ length (piece_text delimiter bytes.now) }
@@ -30,9 +52,7 @@ pub(crate) fn escape_count(bytes: &[u8], delimiter: u8) -> usize
 {
     let mut count = 0;
     for byte in bytes {
-        if letter_of(*byte, delimiter).is_some() {
-            count += 1;
-        }
+        count += usize::from(is_escaped(*byte, delimiter));
     }
     count
 }

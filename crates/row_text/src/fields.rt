@@ -3,13 +3,25 @@
 ghost use Rattle.std.specs.Prelude.{◌≡◌, ◌≤◌, ◌+◌, ◌++◌, length, None, codes, option_copied};
 ghost use Rattle.row_text.specs.Fields.{IsDelimiter, field_text, piece_text};
 
-use crate::escapes::{escape_count, letter_of};
+use crate::escapes::{escape_count, has_escape, letter_of};
 use pd_outside::PageBuf;
 
 /// Appends a text, or a piece of one, for which its escaped bytes have to be free.
 pub fn put_piece(buf: &mut PageBuf, bytes: &[u8], delimiter: u8)
     requires delimiter { IsDelimiter delimiter }
     requires room { length buf.old.text + length (piece_text delimiter bytes.now) ≤ buf.old.room }
+    ensures { buf.new ≡ record buf.old { text = buf.old.text ++ piece_text delimiter bytes.now } }
+{
+    if has_escape(bytes, delimiter) {
+        put_runs(buf, bytes, delimiter);
+    } else {
+        buf.put(bytes);
+    }
+}
+
+/// The same, run by run of the bytes that stand for themselves.
+fn put_runs(buf: &mut PageBuf, bytes: &[u8], delimiter: u8)
+    requires { length buf.old.text + length (piece_text delimiter bytes.now) ≤ buf.old.room }
     ensures { buf.new ≡ record buf.old { text = buf.old.text ++ piece_text delimiter bytes.now } }
 {
     let mut start = 0;
@@ -49,6 +61,7 @@ pub fn field_size(field: Option<&[u8]>, delimiter: u8) -> usize
 {
     match field {
         None => b"\\N".len(),
-        Some(bytes) => bytes.len() + escape_count(bytes, delimiter),
+        Some(bytes) if has_escape(bytes, delimiter) => bytes.len() + escape_count(bytes, delimiter),
+        Some(bytes) => bytes.len(),
     }
 }

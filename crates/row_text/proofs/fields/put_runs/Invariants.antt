@@ -1,7 +1,7 @@
 use Rattle.std.proofs.Common.{◌≡◌, ◌≤◌, ◌++◌, take}
 use Rattle.std.specs.List.{slice_range}
 use Rattle.row_text.specs.Fields.{piece_text}
-use Rattle.row_text.proofs.fields.put_piece.Given as goal
+use Rattle.row_text.proofs.fields.put_runs.Given as goal
 
 abbrev pub invariant-loop-index : goal.invariant-loop-index
 invariant-loop-index l = record {

@@ -3,15 +3,15 @@ use Rattle.std.specs.List.{slice_range}
 use Rattle.pd_outside.specs.Pages.{Page}
 use Rattle.row_text.specs.Fields.{escaped}
 use Rattle.row_text.proofs.PieceLemmas.{run_longer, run_fits, last_run_fits, escape_written}
-use Rattle.row_text.proofs.fields.put_piece.Goals as goal
-use Rattle.row_text.proofs.fields.put_piece.Goals.{in-Some, in_default}
+use Rattle.row_text.proofs.fields.put_runs.Goals as goal
+use Rattle.row_text.proofs.fields.put_runs.Goals.{in-Some, in_default}
 
 pub put-requires : goal.put-requires
 put-requires c =
     omega (
       arith,
       run_fits (escaped c.args.delimiter) c.args.bytes.now c.loop-index.start c.loop-index.index c.args.buf.now.room c.args.buf.now.text c.loop-index.buf.text
-      c.loop-index-test.true c.loop-index.invariant.text c.requires.room,
+      c.loop-index-test.true c.loop-index.invariant.text c.requires,
       c.loop-index.invariant.room,
     )
 
@@ -20,7 +20,7 @@ put-requires-in-Some c =
     omega (
       arith,
       run_fits (escaped c.args.delimiter) c.args.bytes.now c.loop-index.start c.loop-index.index c.args.buf.now.room c.args.buf.now.text c.loop-index.buf.text
-      c.loop-index-test.true c.loop-index.invariant.text c.requires.room,
+      c.loop-index-test.true c.loop-index.invariant.text c.requires,
       c.loop-index.invariant.room,
       ap length c.in-Some.ensures.escape,
       ap (λ (page : Page). length page.text) c.put.ensures,
@@ -59,6 +59,6 @@ put-requires-2 c =
     omega (
       arith,
       last_run_fits (escaped c.args.delimiter) c.args.bytes.now c.loop-index.start c.loop-index.index c.args.buf.now.room c.args.buf.now.text c.loop-index.buf.text
-      c.loop-index.auto.index-end c.loop-index-test.false c.loop-index.invariant.text c.requires.room,
+      c.loop-index.auto.index-end c.loop-index-test.false c.loop-index.invariant.text c.requires,
       c.loop-index.invariant.room,
     )
