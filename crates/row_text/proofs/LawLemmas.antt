@@ -1,15 +1,15 @@
 -- The laws of texts as they are written.
-use Rattle.std.proofs.Common.{◌≡◌, ◌≢◌, ◌⊎◌, ℕ, ◌≤◌, ◌+◌, ◌*◌, List, [], ◌∷◌, ◌++◌, Option, None, Some, length, codes, refl, ap, sym, subst, ◌∙◌, inl, inr, arith, length-append, append_assoc}
+use Rattle.std.proofs.Common.{◌≡◌, ◌≢◌, ℕ, ◌≤◌, ◌*◌, List, [], ◌∷◌, ◌++◌, Option, None, Some, length, codes, refl, ap, sym, subst, ◌∙◌, inl, inr, arith, length-append, append_assoc}
 use Rattle.std.specs.List.{Contains}
 use Rattle.std.proofs.lemmas.List.Elements.{Contains-append_cases}
 use Rattle.row_text.specs.Fields.{IsDelimiter, EndsField, escaped, piece_text, field_text}
-use Rattle.row_text.proofs.EscapeLemmas.{Form, itself, escape, form, byte_of}
+use Rattle.row_text.proofs.EscapeLemmas.{itself, escape, form, byte_of}
 
 length-escaped-le : (delimiter byte : ℕ) → length (escaped delimiter byte) ≤ 2
 length-escaped-le delimiter byte =
     elim (form delimiter byte) [
-      itself written _ _ _ _ _ ↦ omega (arith, ap length written)
-    | escape letter written _ _ _ _ _ ↦ omega (arith, ap length written)
+      | itself written _ _ _ _ _ ↦ omega (arith, ap length written)
+      | escape letter written _ _ _ _ _ ↦ omega (arith, ap length written)
     ]
 
 pub length-piece_text-le : (delimiter : ℕ) (bytes : List ℕ) → length (piece_text delimiter bytes) ≤ 2 * length bytes
@@ -27,22 +27,23 @@ lacks : (delimiter byte : ℕ) → ((x : ℕ) → ¬ Contains (escaped delimiter
 lacks delimiter byte none [] found = omega (arith, found.1)
 lacks delimiter byte none (x ∷ bytes) found =
     elim (Contains-append_cases (escaped delimiter x) (piece_text delimiter bytes) byte found) [
-      inl here ↦ none x here
-    | inr later ↦ lacks delimiter byte none bytes later
+      | inl here ↦ none x here
+      | inr later ↦ lacks delimiter byte none bytes later
     ]
 
+-- a line feed and a tab are such bytes
 escaped-line_feed : (delimiter x : ℕ) → ¬ Contains (escaped delimiter x) 10
 escaped-line_feed delimiter x found =
     elim (form delimiter x) [
-      itself written _ no_line_feed _ _ _ ↦ grind (arith, subst (λ (bytes : List ℕ). Contains bytes 10) written found)
-    | escape letter written _ _ no_line_feed _ _ ↦ grind (arith, subst (λ (bytes : List ℕ). Contains bytes 10) written found)
+      | itself written _ no_line_feed _ _ _ ↦ grind (arith, subst (λ (bytes : List ℕ). Contains bytes 10) written found)
+      | escape letter written _ _ no_line_feed _ _ ↦ grind (arith, subst (λ (bytes : List ℕ). Contains bytes 10) written found)
     ]
 
 escaped-tab : (delimiter x : ℕ) → ¬ Contains (escaped delimiter x) 9
 escaped-tab delimiter x found =
     elim (form delimiter x) [
-      itself written no_tab _ _ _ _ ↦ grind (arith, subst (λ (bytes : List ℕ). Contains bytes 9) written found)
-    | escape letter written _ no_tab _ _ _ ↦ grind (arith, subst (λ (bytes : List ℕ). Contains bytes 9) written found)
+      | itself written no_tab _ _ _ _ ↦ grind (arith, subst (λ (bytes : List ℕ). Contains bytes 9) written found)
+      | escape letter written _ no_tab _ _ _ ↦ grind (arith, subst (λ (bytes : List ℕ). Contains bytes 9) written found)
     ]
 
 pub field_text-line_feed : (delimiter : ℕ) (field : Option (List ℕ)) → ¬ Contains (field_text delimiter field) 10
@@ -57,25 +58,25 @@ field_text-tab delimiter (Some bytes) found = lacks delimiter 9 (escaped-tab del
 escaped-same : (delimiter x y : ℕ) (xs ys : List ℕ) → escaped delimiter x ++ xs ≡ escaped delimiter y ++ ys → (x ≡ y) × (xs ≡ ys)
 escaped-same delimiter x y xs ys same =
     elim (form delimiter x) [
-      itself written_x _ _ no_backslash_x _ _ ↦ elim (form delimiter y) [
-        itself written_y _ _ _ _ _ ↦
-          let heads : x ∷ xs ≡ y ∷ ys = sym (ap (λ (t : List ℕ). t ++ xs) written_x) ∙ same ∙ ap (λ (t : List ℕ). t ++ ys) written_y in
-          (cc, cc)
-      | escape letter written_y _ _ _ _ _ ↦
-          let heads : x ∷ xs ≡ 92 ∷ letter ∷ ys = sym (ap (λ (t : List ℕ). t ++ xs) written_x) ∙ same ∙ ap (λ (t : List ℕ). t ++ ys) written_y in
-          let backslash : x ≡ 92 = cc in
-          absurd (no_backslash_x backslash)
+      | itself written_x _ _ no_backslash_x _ _ ↦ elim (form delimiter y) [
+        | itself written_y _ _ _ _ _ ↦
+            let heads : x ∷ xs ≡ y ∷ ys = sym (ap (λ (t : List ℕ). t ++ xs) written_x) ∙ same ∙ ap (λ (t : List ℕ). t ++ ys) written_y in
+            (cc, cc)
+        | escape letter written_y _ _ _ _ _ ↦
+            let heads : x ∷ xs ≡ 92 ∷ letter ∷ ys = sym (ap (λ (t : List ℕ). t ++ xs) written_x) ∙ same ∙ ap (λ (t : List ℕ). t ++ ys) written_y in
+            let backslash : x ≡ 92 = cc in
+            absurd (no_backslash_x backslash)
       ]
-    | escape letter written_x back_x _ _ _ _ ↦ elim (form delimiter y) [
-        itself written_y _ _ no_backslash_y _ _ ↦
-          let heads : 92 ∷ letter ∷ xs ≡ y ∷ ys = sym (ap (λ (t : List ℕ). t ++ xs) written_x) ∙ same ∙ ap (λ (t : List ℕ). t ++ ys) written_y in
-          let backslash : y ≡ 92 = cc in
-          absurd (no_backslash_y backslash)
-      | escape other written_y back_y _ _ _ _ ↦
-          let heads : 92 ∷ letter ∷ xs ≡ 92 ∷ other ∷ ys = sym (ap (λ (t : List ℕ). t ++ xs) written_x) ∙ same ∙ ap (λ (t : List ℕ). t ++ ys) written_y in
-          let letters : letter ≡ other = cc in
-          let tails : xs ≡ ys = cc in
-          (back_x ∙ ap byte_of letters ∙ sym back_y, tails)
+      | escape letter written_x back_x _ _ _ _ ↦ elim (form delimiter y) [
+        | itself written_y _ _ no_backslash_y _ _ ↦
+            let heads : 92 ∷ letter ∷ xs ≡ y ∷ ys = sym (ap (λ (t : List ℕ). t ++ xs) written_x) ∙ same ∙ ap (λ (t : List ℕ). t ++ ys) written_y in
+            let backslash : y ≡ 92 = cc in
+            absurd (no_backslash_y backslash)
+        | escape other written_y back_y _ _ _ _ ↦
+            let heads : 92 ∷ letter ∷ xs ≡ 92 ∷ other ∷ ys = sym (ap (λ (t : List ℕ). t ++ xs) written_x) ∙ same ∙ ap (λ (t : List ℕ). t ++ ys) written_y in
+            let letters : letter ≡ other = cc in
+            let tails : xs ≡ ys = cc in
+            (back_x ∙ ap byte_of letters ∙ sym back_y, tails)
       ]
     ]
 
@@ -84,23 +85,23 @@ record IsEnd (delimiter end : ℕ) : Type 0 where
   no_backslash : end ≢ 92
   begins_none : (x : ℕ) (xs rest : List ℕ) → escaped delimiter x ++ xs ≢ end ∷ rest
 
-
 -- one that can't stand for itself
 apart : (delimiter end : ℕ) → end ≢ 92 → ((x : ℕ) → x ≢ 9 → x ≢ 10 → (delimiter ≡ 124 → x ≢ 124) → x ≢ end) → IsEnd delimiter end
 apart delimiter end no_backslash no_other = record {
   no_backslash = no_backslash;
   begins_none = λ x xs rest same. elim (form delimiter x) [
-    itself written no_tab no_line_feed _ no_bar _ ↦
-      let heads : x ∷ xs ≡ end ∷ rest = sym (ap (λ (t : List ℕ). t ++ xs) written) ∙ same in
-      let is : x ≡ end = cc in
-      no_other x no_tab no_line_feed no_bar is
-  | escape letter written _ _ _ _ _ ↦
-      let heads : 92 ∷ letter ∷ xs ≡ end ∷ rest = sym (ap (λ (t : List ℕ). t ++ xs) written) ∙ same in
-      let is : end ≡ 92 = cc in
-      no_backslash is
+    | itself written no_tab no_line_feed _ no_bar _ ↦
+        let heads : x ∷ xs ≡ end ∷ rest = sym (ap (λ (t : List ℕ). t ++ xs) written) ∙ same in
+        let is : x ≡ end = cc in
+        no_other x no_tab no_line_feed no_bar is
+    | escape letter written _ _ _ _ _ ↦
+        let heads : 92 ∷ letter ∷ xs ≡ end ∷ rest = sym (ap (λ (t : List ℕ). t ++ xs) written) ∙ same in
+        let is : end ≡ 92 = cc in
+        no_backslash is
   ];
 }
 
+-- the line feed and the delimiters are such bytes
 line_feed_ends : (delimiter : ℕ) → IsEnd delimiter 10
 line_feed_ends delimiter = apart delimiter 10 (omega arith) (λ x _ no_line_feed _. no_line_feed)
 
@@ -141,16 +142,17 @@ null-apart delimiter end ends (x ∷ xs) rest other_rest same =
     let whole : escaped delimiter x ++ more ≡ 92 ∷ 78 ∷ other_rest =
     sym (append_assoc (escaped delimiter x) (piece_text delimiter xs) (end ∷ rest)) ∙ same in
     elim (form delimiter x) [
-      itself written _ _ no_backslash _ _ ↦
-        let heads : x ∷ more ≡ 92 ∷ 78 ∷ other_rest = sym (ap (λ (t : List ℕ). t ++ more) written) ∙ whole in
-        let is : x ≡ 92 = cc in
-        no_backslash is
-    | escape letter written _ _ _ no_n _ ↦
-        let heads : 92 ∷ letter ∷ more ≡ 92 ∷ 78 ∷ other_rest = sym (ap (λ (t : List ℕ). t ++ more) written) ∙ whole in
-        let is : letter ≡ 78 = cc in
-        no_n is
+      | itself written _ _ no_backslash _ _ ↦
+          let heads : x ∷ more ≡ 92 ∷ 78 ∷ other_rest = sym (ap (λ (t : List ℕ). t ++ more) written) ∙ whole in
+          let is : x ≡ 92 = cc in
+          no_backslash is
+      | escape letter written _ _ _ no_n _ ↦
+          let heads : 92 ∷ letter ∷ more ≡ 92 ∷ 78 ∷ other_rest = sym (ap (λ (t : List ℕ). t ++ more) written) ∙ whole in
+          let is : letter ≡ 78 = cc in
+          no_n is
     ]
 
+-- the same of texts with nothing behind
 pub piece_text-same : (delimiter : ℕ) (xs ys : List ℕ) → piece_text delimiter xs ≡ piece_text delimiter ys → xs ≡ ys
 piece_text-same delimiter xs ys same =
     (texts-same delimiter 10 10 (line_feed_ends delimiter) (line_feed_ends delimiter) xs ys [] [] (ap (λ (t : List ℕ). t ++ 10 ∷ []) same)).0
@@ -159,6 +161,7 @@ pub piece_text-null : (delimiter : ℕ) (bytes : List ℕ) → piece_text delimi
 piece_text-null delimiter bytes same =
     null-apart delimiter 10 (line_feed_ends delimiter) bytes [] (10 ∷ []) (ap (λ (t : List ℕ). t ++ 10 ∷ []) same)
 
+-- two fields, each with a byte that ends the field behind
 fields-same : (delimiter end other_end : ℕ) → IsEnd delimiter end → IsEnd delimiter other_end → (field other : Option (List ℕ)) (rest other_rest : List ℕ) → field_text delimiter field ++ end ∷ rest ≡ field_text delimiter other ++ other_end ∷ other_rest → (field ≡ other) × (end ≡ other_end) × (rest ≡ other_rest)
 fields-same delimiter end other_end ends other_ends None None rest other_rest same = (refl, cc, cc)
 fields-same delimiter end other_end ends other_ends None (Some ys) rest other_rest same =

@@ -1,6 +1,6 @@
 //! Values worked out by hand from the list of escapes.
 
-ghost use Rattle.std.specs.Prelude.{◌≡◌, ◌≤◌, ◌+◌, [], IfOk, length};
+ghost use Rattle.std.specs.Prelude.{◌≡◌, [], IfOk};
 ghost use Rattle.row_text.specs.Fields.{IsDelimiter};
 
 use super::*;
@@ -64,7 +64,11 @@ fn most_fields_are_written_alike_with_both_delimiters(rt: HostRuntime) -> Result
         (Some(b"a\\\\b"), b"a\\\\\\\\b", 6),
         (Some(b"\t\t"), b"\\t\\t", 4),
         (Some(b"a\tbc\ndef\\ghij"), b"a\\tbc\\ndef\\\\ghij", 16),
-        (Some(b"\x08\x09\x0a\x0b\x0c\x0d\\"), b"\\b\\t\\n\\v\\f\\r\\\\", 14),
+        (
+            Some(b"\x08\x09\x0a\x0b\x0c\x0d\\"),
+            b"\\b\\t\\n\\v\\f\\r\\\\",
+            14,
+        ),
     ];
     for (field, text, size) in cases {
         assert_written(&rt, rt.alloc(), field, 9, text, size)?;
