@@ -2,21 +2,15 @@
 use Rattle.std.specs.Prelude.{ℕ, List, map}
 use Rattle.philox_seeds.specs.SeedTree.{permutation_seed}
 use Rattle.id_permutation.specs.Placement as placement
-use Rattle.schema_model.specs.declared.table.Delimiter.{Delimiter}
-use Rattle.schema_model.specs.declared.table.Delimiter.TheVariants as delimiter
 use Rattle.schema_model.specs.declared.table.Schema.{Schema}
 use Rattle.schema_model.specs.declared.table.Table.{Table}
 use Rattle.schema_model.specs.declared.column.Column.{Column}
 use Rattle.schema_model.specs.declared.column.Kind.{Kind}
 use Rattle.schema_model.specs.declared.column.Kind.TheVariants as kind
 use Rattle.schema_check.specs.Counts.{count}
+use Rattle.schema_check.specs.Delimiters.{delimiter_byte}
 use Rattle.life_intervals.specs.Cohorts.{cohort_size, born_count}
 use Rattle.life_intervals.specs.Rules.{Order, ColumnRule, key_column, born_column, TableRules, Rules, table_of}
-
--- the byte between two fields
-abbrev pub delimiter_byte : Delimiter → ℕ
-delimiter_byte delimiter.Tab = 9
-delimiter_byte delimiter.Bar = 124
 
 -- what a column holds
 abbrev pub column_rule : Kind → ColumnRule

@@ -13,7 +13,8 @@ use Rattle.life_intervals.specs.Rules.{TableRules, table_at, no_table}
 use Rattle.life_intervals.specs.Rows.{Row, cohort}
 use Rattle.life_intervals.specs.Simulation.{State, in_turn, with_cohort, simulation, rows_at}
 use Rattle.pdgf_run.specs.Plain.{column_rule, row_views, state_view, table_rules, rules_view}
-use Rattle.row_lines.specs.Lines.{field, field_text, line, table_text}
+use Rattle.row_text.specs.Fields.{field_text}
+use Rattle.row_lines.specs.Lines.{field, line, table_text}
 use Rattle.life_intervals.proofs.SimulationLemmas.{in_turn-drop_more}
 
 -- the tables that are done, and what comes of the rest
@@ -79,8 +80,8 @@ table_text-past rules state place unit made past =
     ap (flat_map (line (rules_view rules) place (table_at (rules_view rules) place))) none
 
 -- the fields that are joined, and a line feed, are the line
-pub line-fields : (rules : PlainRules) (place : ℕ) (table : PlainTable) (row : Row) (n : ℕ) → length table.columns.items ≤ n → join_with_byte rules.delimiter (map (λ column. field_text (field (rules_view rules) place (table_rules table) row (column_rule column))) (take n table.columns.items)) ++ 10 ∷ [] ≡ line (rules_view rules) place (table_rules table) row
+pub line-fields : (rules : PlainRules) (place : ℕ) (table : PlainTable) (row : Row) (n : ℕ) → length table.columns.items ≤ n → join_with_byte rules.delimiter (map (λ column. field_text rules.delimiter (field (rules_view rules) place (table_rules table) row (column_rule column))) (take n table.columns.items)) ++ 10 ∷ [] ≡ line (rules_view rules) place (table_rules table) row
 unfolding line
 line-fields rules place table row n all =
-    ap (λ columns. join_with_byte rules.delimiter (map (λ column. field_text (field (rules_view rules) place (table_rules table) row (column_rule column))) columns) ++ 10 ∷ []) (take_all n table.columns.items all)
-    ∙ ap (λ pieces. join_with_byte rules.delimiter pieces ++ 10 ∷ []) (sym (map-map (λ rule. field_text (field (rules_view rules) place (table_rules table) row rule)) column_rule table.columns.items))
+    ap (λ columns. join_with_byte rules.delimiter (map (λ column. field_text rules.delimiter (field (rules_view rules) place (table_rules table) row (column_rule column))) columns) ++ 10 ∷ []) (take_all n table.columns.items all)
+    ∙ ap (λ pieces. join_with_byte rules.delimiter pieces ++ 10 ∷ []) (sym (map-map (λ rule. field_text rules.delimiter (field (rules_view rules) place (table_rules table) row rule)) column_rule table.columns.items))

@@ -3,6 +3,7 @@ use Rattle.std.proofs.Common.{◌≡◌, ◌≤◌, ℕ, zero, suc, ◌+◌, ◌
 use Rattle.std.specs.List.{join_with_byte}
 use Rattle.std.proofs.lemmas.Bool.Decides.{nat_tests}
 use Rattle.std.proofs.lemmas.Simd.{map-map}
+use Rattle.row_text.specs.Fields.{field_text}
 use Rattle.schema_model.specs.declared.column.Column.{Column}
 use Rattle.schema_model.specs.declared.table.Table.{Table}
 use Rattle.schema_check.specs.Sizes.{max_line}
@@ -12,7 +13,7 @@ use Rattle.life_intervals.specs.Rules.{ColumnRule, TableRules}
 use Rattle.life_intervals.specs.SchemaRules.{column_rule, schema_rules}
 use Rattle.row_lines.specs.CohortLines.{AreLinesOf, field_room, field_steps, line_in_cohort, table_of, text_in_cohort}
 use Rattle.row_lines.specs.LineSteps.{line_steps}
-use Rattle.row_lines.specs.Lines.{field, field_text, line}
+use Rattle.row_lines.specs.Lines.{field, line}
 use Rattle.row_lines.proofs.CostLemmas.{AreKindsOf, line_steps-kinds, max_line-kinds}
 
 -- the most bytes of some fields, with the byte behind each
@@ -59,6 +60,6 @@ pub line_in_cohort-texts : (cohort : CohortOf) (columns : List Column) → AreCo
     join_with_byte (schema_rules cohort.schema).delimiter (texts_of cohort index columns) ++ codes "\n" ≡ line_in_cohort cohort index
 unfolding line
 line_in_cohort-texts cohort columns are index =
-    let text = λ (column : ColumnRule). field_text (field (schema_rules cohort.schema) cohort.table (table_of cohort) (new_row (table_of cohort) cohort.unit index) column) in
+    let text = λ (column : ColumnRule). field_text (schema_rules cohort.schema).delimiter (field (schema_rules cohort.schema) cohort.table (table_of cohort) (new_row (table_of cohort) cohort.unit index) column) in
     ap (λ (texts : List (List ℕ)). join_with_byte (schema_rules cohort.schema).delimiter texts ++ codes "\n")
     (sym (ap (map text) are.rules ∙ map-map text (λ (column : Column). column_rule column.kind) columns))

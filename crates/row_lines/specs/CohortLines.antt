@@ -1,5 +1,6 @@
 -- The lines of one cohort, and what the code keeps of them.
 use Rattle.std.specs.Prelude.{◌≡◌, ◌≤◌, ℕ, List, ⊤, Some, All, length, slice_get}
+use Rattle.row_text.specs.Fields.{field_text}
 use Rattle.schema_model.specs.declared.column.Column.{Column}
 use Rattle.schema_model.specs.declared.column.Kind.{Kind}
 use Rattle.schema_model.specs.declared.column.Kind.TheVariants.{Key, Born}
@@ -11,7 +12,7 @@ use Rattle.life_intervals.specs.Keys.{key_base, is_scrambled}
 use Rattle.life_intervals.specs.Rows.{new_row}
 use Rattle.life_intervals.specs.Rules.{TableRules}
 use Rattle.life_intervals.specs.SchemaRules.{column_rule, rules_of, schema_rules, table_rules}
-use Rattle.row_lines.specs.Lines.{field, field_text, line}
+use Rattle.row_lines.specs.Lines.{field, line}
 
 -- the rules of the cohort's table
 abbrev pub table_of : CohortOf → TableRules
@@ -25,7 +26,7 @@ line_in_cohort cohort index =
 -- what the row with an index in the cohort holds in a column of this kind, as it is written
 abbrev pub text_in_cohort : CohortOf → ℕ → Kind → List ℕ
 text_in_cohort cohort index kind =
-    field_text (field (schema_rules cohort.schema) cohort.table (table_of cohort) (new_row (table_of cohort) cohort.unit index) (column_rule kind))
+    field_text (schema_rules cohort.schema).delimiter (field (schema_rules cohort.schema) cohort.table (table_of cohort) (new_row (table_of cohort) cohort.unit index) (column_rule kind))
 
 -- a column of this kind is the table's key, or a birth unit
 abbrev pub IsKindOf : TableRules → Kind → Type 0

@@ -1,6 +1,7 @@
 -- The text of a table: a line for each row, in COPY text form (PostgreSQL's manual, "COPY").
-use Rattle.std.specs.Prelude.{ℕ, List, ◌++◌, map, flat_map, Option, Some, None, codes, decimal}
+use Rattle.std.specs.Prelude.{ℕ, List, ◌++◌, map, flat_map, Option, Some, codes, decimal}
 use Rattle.std.specs.List.{join_with_byte, range_with_len}
+use Rattle.row_text.specs.Fields.{field_text}
 use Rattle.life_intervals.specs.Rules.{TableRules, Rules, ColumnRule, key_column, born_column, table_at}
 use Rattle.life_intervals.specs.Cohorts.{cohort_size}
 use Rattle.life_intervals.specs.Intervals.{row_of}
@@ -14,25 +15,20 @@ field rules place table row (key_column base scramble) =
     Some (decimal (key_number rules place table base scramble row.born (index_in_cohort table row)))
 field rules place table row born_column = Some (decimal row.born)
 
--- a field as it is written: null is \N
-abbrev pub field_text : Option (List ℕ) → List ℕ
-field_text None = codes "\\N"
-field_text (Some bytes) = bytes
-
--- the line of a row: its fields, joined by the delimiter, then a line feed
+-- the line of a row: its fields as they are written, joined by the delimiter, then a line feed
 unfoldable pub line : Rules → ℕ → TableRules → Row → List ℕ
 line rules place table row =
     join_with_byte rules.delimiter
-    (map (λ column. field_text (field rules place table row column)) table.columns)
+    (map (λ column. field_text rules.delimiter (field rules place table row column)) table.columns)
     ++ codes "\n"
 
 -- the line of the row with an ordinal in the table at a place of the schema
 abbrev pub line_of : Rules → ℕ → ℕ → List ℕ
 line_of rules place ordinal = line rules place (table_at rules place) (row_of (table_at rules place) ordinal)
 
--- the key line of that row: its key, then a line feed
+-- the key line of that row: its key as it is written, then a line feed
 abbrev pub key_line_of : Rules → ℕ → ℕ → List ℕ
-key_line_of rules place ordinal = decimal (key_of rules place ordinal) ++ codes "\n"
+key_line_of rules place ordinal = field_text rules.delimiter (Some (decimal (key_of rules place ordinal))) ++ codes "\n"
 
 -- the text of the table at a place of the schema, at a unit: the lines of its rows, in order
 unfoldable pub table_text : Rules → ℕ → ℕ → List ℕ

@@ -2,9 +2,9 @@
 
 ghost use Rattle.std.specs.Prelude.{◌≡◌, ◌<◌, ◌≤◌, ◌+◌, ◌++◌, length};
 ghost use Rattle.schema_check.specs.Counts.{count};
+ghost use Rattle.schema_check.specs.Delimiters.{delimiter_byte as byte_of};
 ghost use Rattle.schema_check.specs.Sizes.{max_line};
 ghost use Rattle.life_intervals.specs.Cohorts.{cohort_size};
-ghost use Rattle.life_intervals.specs.SchemaRules.{delimiter_byte as byte_of};
 ghost use Rattle.row_lines.specs.CohortLines.{IsKindOf, field_room, field_steps, line_in_cohort, table_of, text_in_cohort};
 ghost use Rattle.row_lines.specs.LineSteps.{line_steps};
 

@@ -5,12 +5,13 @@
 
 ghost use Rattle.std.specs.Prelude.{◌≡◌, ℕ, ◌+◌, ◌≤◌, ◌++◌, [], Bool, List, Some, codes, decimal, flat_map};
 ghost use Rattle.std.specs.List.{range_with_len};
+ghost use Rattle.row_text.specs.Fields.{field_text};
 ghost use Rattle.life_intervals.specs.Cohorts.{born_count, cohort_size};
 ghost use Rattle.life_intervals.specs.Intervals.{row_of};
 ghost use Rattle.life_intervals.specs.Keys.{is_scrambled, key_base, key_number};
 ghost use Rattle.life_intervals.specs.Rows.{new_row};
 ghost use Rattle.life_intervals.specs.Rules.{Rules, TableRules, born_column, key_column, table_at};
-ghost use Rattle.row_lines.specs.Lines.{cohort_text, field, field_text, first_lines, key_line_of, line, table_text, text_before};
+ghost use Rattle.row_lines.specs.Lines.{cohort_text, field, first_lines, key_line_of, line, table_text, text_before};
 ghost use Rattle.row_lines.specs.Worked.{one, pairs};
 
 /// The text of a table is the lines of the ordinals born by the unit.
@@ -82,7 +83,7 @@ pub fn fields_of_a_new_row()
 pub fn key_line_is_the_key_field()
     ensures { (rules : Rules) (place ordinal : ℕ) →
         key_line_of rules place ordinal
-        ≡ field_text (field rules place (table_at rules place) (row_of (table_at rules place) ordinal)
+        ≡ field_text rules.delimiter (field rules place (table_at rules place) (row_of (table_at rules place) ordinal)
         (key_column (key_base (table_at rules place)) (is_scrambled (table_at rules place)))) ++ codes "\n" }
 {}
 

@@ -2,6 +2,7 @@
 use Rattle.std.proofs.Common.{◌≡◌, ◌≢◌, ℕ, ◌==◌, [], ◌∷◌, length, refl, ap, ◌∙◌, inl, inr, if◌then◌else◌, Bool, true, false, ◌&&◌, ◌||◌, nat_le, arith}
 use Rattle.std.proofs.lemmas.Bool.{ne_eqb, lt-leb, cases_eq, cases_lt, and_left, and_right, or_from, OnFalse_from, OnTrue_from, both_ways}
 use Rattle.std.specs.Bool.{OnFalse, OnTrue}
+use Rattle.std.specs.Int.{IsInRange}
 use Rattle.row_text.specs.Fields.{escaped}
 
 -- a byte that isn't in the list of escapes
@@ -9,6 +10,12 @@ escaped-itself : (delimiter byte : ℕ) → byte ≢ 8 → byte ≢ 9 → byte �
 unfolding escaped
 escaped-itself delimiter byte not_8 not_9 not_10 not_11 not_12 not_13 not_92 no_bar =
     simp (ne_eqb byte 8 not_8, ne_eqb byte 9 not_9, ne_eqb byte 10 not_10, ne_eqb byte 11 not_11, ne_eqb byte 12 not_12, ne_eqb byte 13 not_13, ne_eqb byte 92 not_92, no_bar)
+
+-- a digit
+pub escaped-digit : (delimiter byte : ℕ) → IsInRange 48 57 byte → escaped delimiter byte ≡ byte ∷ []
+escaped-digit delimiter byte digit =
+    escaped-itself delimiter byte (omega arith) (omega arith) (omega arith) (omega arith) (omega arith) (omega arith) (omega arith)
+    (and_left (byte == 124) (delimiter == 124) (ne_eqb byte 124 (omega arith)))
 
 -- the test for one that is
 abbrev pub is_special : ℕ → ℕ → Bool

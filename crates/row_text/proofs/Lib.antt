@@ -1,3 +1,4 @@
 pub mod EscapeLemmas
+pub mod DigitLemmas
 pub mod PieceLemmas
 pub mod LawLemmas

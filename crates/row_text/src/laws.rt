@@ -1,6 +1,6 @@
 //! The laws of fields as they are written, each the contract of a function that does nothing.
 
-ghost use Rattle.std.specs.Prelude.{◌≡◌, ◌≢◌, ℕ, ◌≤◌, ◌*◌, ◌++◌, List, ◌∷◌, Option, Contains, codes, length};
+ghost use Rattle.std.specs.Prelude.{◌≡◌, ◌≢◌, ℕ, ◌<◌, ◌≤◌, ◌*◌, ◌^◌, ◌++◌, List, ◌∷◌, Option, Contains, codes, decimal, length};
 ghost use Rattle.row_text.specs.Fields.{EndsField, IsDelimiter, field_text, piece_text};
 
 /// A text is written piece by piece.
@@ -12,6 +12,11 @@ pub fn text_is_written_piece_by_piece()
 /// A text is written with at most two bytes for each of its own.
 pub fn text_is_at_most_doubled()
     ensures { (delimiter : ℕ) (bytes : List ℕ) → length (piece_text delimiter bytes) ≤ 2 * length bytes }
+{}
+
+/// A number of 64 bits is written as its digits.
+pub fn number_is_written_as_its_digits()
+    ensures { (delimiter number : ℕ) → number < 2 ^ 64 → piece_text delimiter (decimal number) ≡ decimal number }
 {}
 
 /// A field is written with no line feed and no tab, whatever it holds.

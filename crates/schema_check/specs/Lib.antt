@@ -9,6 +9,7 @@ pub mod Places
 pub mod InTurn
 pub mod Lives
 pub mod Costs
+pub mod Delimiters
 pub mod Sizes
 pub mod Faults
 pub mod Built

@@ -1,7 +1,8 @@
 -- How many bytes a field and a line take at most, as they are written.
-use Rattle.std.specs.Prelude.{ℕ, ◌+◌, ◌-◌, ◌*◌, ◌==◌, ◌||◌, ◌&&◌, Bool, if◌then◌else◌, nat_le, max, List, [], sum, sum_by, length, slice_index_or, encode_utf8}
+use Rattle.std.specs.Prelude.{ℕ, ◌+◌, ◌-◌, ◌*◌, max, List, [], sum, sum_by, length, slice_index_or, encode_utf8}
 use Rattle.std.specs.List.{fold}
 use Rattle.std.specs.Str.{chars}
+use Rattle.row_text.specs.Fields.{piece_text}
 use Rattle.schema_model.specs.declared.table.Schema.{Schema}
 use Rattle.schema_model.specs.declared.table.Table.{Table}
 use Rattle.schema_model.specs.declared.table.Delimiter.{Delimiter}
@@ -12,7 +13,7 @@ use Rattle.schema_model.specs.declared.column.Kind.TheVariants.{Key, Born, Chang
 use Rattle.schema_model.specs.declared.column.Part.{Part}
 use Rattle.schema_model.specs.declared.column.Part.TheVariants.{Literal, Cited}
 use Rattle.schema_check.specs.Counts.{count}
-use Rattle.schema_check.specs.Unbuilt.{is_bar}
+use Rattle.schema_check.specs.Delimiters.{delimiter_byte}
 use Rattle.schema_check.specs.InTurn.{columns_in_turn}
 use Rattle.schema_check.specs.Places.{number_of_column, number_of_parent}
 
@@ -20,14 +21,9 @@ use Rattle.schema_check.specs.Places.{number_of_column, number_of_parent}
 abbrev pub greatest_by : {A : Type 0} → (A → ℕ) → List A → ℕ
 greatest_by number xs = fold (λ most x. max most (number x)) 0 xs
 
--- a byte is written as two where it is a backslash, one of 8 to 13, or the bar as the delimiter
--- (PostgreSQL's manual, "COPY", text format)
-abbrev pub is_escaped : Delimiter → ℕ → Bool
-is_escaped delimiter b = b == 92 || (nat_le 8 b && nat_le b 13) || (is_bar delimiter && b == 124)
-
 -- the size of a text as it is written
 abbrev pub written_size : Delimiter → List ℕ → ℕ
-written_size delimiter bytes = sum_by (λ b. if is_escaped delimiter b then 2 else 1) bytes
+written_size delimiter bytes = length (piece_text (delimiter_byte delimiter) bytes)
 
 -- the greatest size of a drawn value. The entries of dictionaries aren't counted: no table can be made of them yet
 abbrev pub leaf_size : Delimiter → Leaf → ℕ

@@ -2,12 +2,13 @@
 //! definition says, and serves to compare texts on small rules. Keys are in place, not scrambled.
 
 ghost use Rattle.life_intervals.specs.Cohorts.{cohort_size, first_ordinal};
-ghost use Rattle.row_lines.specs.Lines.{field, field_text, line, table_text};
+ghost use Rattle.row_text.specs.Fields.{field_text};
+ghost use Rattle.row_lines.specs.Lines.{field, line, table_text};
 ghost use Rattle.pdgf_run.specs.Plain.{column_rule, row_view, row_views, rules_view, state_view, table_rules};
 ghost use Rattle.life_intervals.specs.Rows.{cohort, index_in_cohort};
 ghost use Rattle.life_intervals.specs.Rules.{Rules};
 ghost use Rattle.life_intervals.specs.Simulation.{empty_tables, simulation, with_insertions};
-ghost use Rattle.std.specs.Prelude.{◌≡◌, ℕ, ◌+◌, ◌*◌, ◌^◌, ◌≤◌, ◌++◌, [], ◌∷◌, ◌==◌, if◌then◌else◌, IfOk, OnOk, flat_map, length, vec_len};
+ghost use Rattle.std.specs.Prelude.{◌≡◌, ℕ, ◌+◌, ◌*◌, ◌^◌, ◌≤◌, ◌++◌, [], ◌∷◌, ◌==◌, if◌then◌else◌, IfOk, OnOk, Some, decimal, flat_map, length, vec_len};
 
 use itoa::Buffer;
 use std::alloc::{AllocError, AllocFailed, Global};
@@ -152,15 +153,23 @@ fn push_field(
     column: PlainColumn,
 ) -> Result<(), Memory>
     ensures { OnOk result ((rules : Rules) (place : ℕ) → text.new.items ≡ text.old.items
-        ++ field_text (field rules place (table_rules table.now) (row_view row) (column_rule column))) }
+        ++ field_text rules.delimiter (field rules place (table_rules table.now) (row_view row) (column_rule column))) }
 {
     let mut buffer = Buffer::new();
-    let number = match column {
-        PlainColumn::Key { base } => key_number(table, row, base),
-        PlainColumn::Born => u64::from(row.born),
-    };
+    let number = field_number(table, row, column);
     text.extend_from_slice(buffer.format(number).as_bytes())?;
     Ok(())
+}
+
+/// The number that a row holds in a column.
+fn field_number(table: &PlainTable, row: PlainRow, column: PlainColumn) -> u64
+    ensures { (rules : Rules) (place : ℕ) →
+        field rules place (table_rules table.now) (row_view row) (column_rule column) ≡ Some (decimal result) }
+{
+    match column {
+        PlainColumn::Key { base } => key_number(table, row, base),
+        PlainColumn::Born => u64::from(row.born),
+    }
 }
 
 /// The key number of a row, in a column that counts from a base.

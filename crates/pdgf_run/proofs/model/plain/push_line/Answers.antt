@@ -2,7 +2,8 @@ use Rattle.std.proofs.Common.{rules, ◌≡◌, ◌<◌, ◌≤◌, ◌∙◌, �
 use Rattle.std.proofs.lemmas.List.{get_or_default, append_assoc}
 use Rattle.pdgf_run.specs.declared.model.plain.PlainColumn.{PlainColumn}
 use Rattle.pdgf_run.specs.declared.model.plain.PlainColumn.TheVariants.{Key}
-use Rattle.row_lines.specs.Lines.{field, field_text}
+use Rattle.row_text.specs.Fields.{field_text}
+use Rattle.row_lines.specs.Lines.{field}
 use Rattle.pdgf_run.specs.Plain.{column_rule, row_view, table_rules, rules_view}
 use Rattle.row_lines.proofs.ListLemmas.{join_with_byte-take_more}
 use Rattle.pdgf_run.proofs.PlainLemmas.{line-fields}
@@ -12,7 +13,7 @@ pub loop-number-preserved : goal.loop-number-preserved
 loop-number-preserved c = λ place.
     let columns : List PlainColumn = c.args.table.now.columns.items in
     let n : ℕ = c.loop-number.number in
-    let text_of : PlainColumn → List ℕ = λ column. field_text (field (rules_view c.args.rules.now) place (table_rules c.args.table.now) (row_view c.args.row) (column_rule column)) in
+    let text_of : PlainColumn → List ℕ = λ column. field_text c.args.rules.now.delimiter (field (rules_view c.args.rules.now) place (table_rules c.args.table.now) (row_view c.args.row) (column_rule column)) in
     let below : n < length columns = search rules in
     let column_is : get_or c.deref-column-items.result.now n (Key 0) ≡ get_or columns n (Key 0) =
     ap (λ (list : List PlainColumn). get_or list n (Key 0)) c.deref-column-items.ensures.value in

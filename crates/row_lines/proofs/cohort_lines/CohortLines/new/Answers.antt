@@ -1,7 +1,8 @@
 use Rattle.std.proofs.Common.{refl, ap, sym, subst, ◌∙◌, arith}
 use Rattle.schema_model.specs.declared.table.Schema.{Schema}
 use Rattle.life_intervals.specs.CohortKeys.{CohortOf}
-use Rattle.life_intervals.specs.SchemaRules.{delimiter_byte, rules_of}
+use Rattle.schema_check.specs.Delimiters.{delimiter_byte}
+use Rattle.life_intervals.specs.SchemaRules.{rules_of}
 use Rattle.row_lines.specs.CohortLines.{AreLinesOf}
 use Rattle.row_lines.proofs.CostLemmas.{AreKindsOf-table, some_column}
 use Rattle.row_lines.proofs.cohort_lines.CohortLines.new.Goals as goal
