@@ -1,17 +1,25 @@
--- The rules of a schema, in the order in which they are tried.
-use Rattle.std.specs.Prelude.{◌≡◌, ℕ, ℤ, pos, ◌+◌, ◌*◌, ◌^◌, List, [], ◌∷◌, length, Bool, true, false, not, ◌&&◌, nat_le, int_le, Option, None}
-use Rattle.std.specs.List.{list_any}
+-- The rules of a schema, each at the sites where it asks something, and the first that is broken.
+use Rattle.std.specs.Prelude.{◌≡◌, ℕ, zero, suc, ℤ, pos, ◌^◌, List, [], ◌∷◌, length, map, take, Bool, true, false, not, ◌&&◌, ◌||◌, nat_le, int_le, Option, Some, None, slice_index_or, if◌then◌else◌}
+use Rattle.std.specs.List.{list_any, range_with_len}
+use Rattle.std.specs.Option.{option_or, option_map}
 use Rattle.schema_model.specs.declared.table.Schema.{Schema}
 use Rattle.schema_model.specs.declared.table.Table.{Table}
 use Rattle.schema_model.specs.declared.column.Column.{Column}
 use Rattle.schema_model.specs.declared.column.Kind.{Kind}
-use Rattle.schema_model.specs.declared.column.Kind.TheVariants.{Key}
+use Rattle.schema_model.specs.declared.column.Kind.TheVariants as kind
 use Rattle.schema_check.specs.declared.broken.Broken.{Broken}
-use Rattle.schema_check.specs.declared.rules.RuleName.{RuleName}
-use Rattle.schema_check.specs.declared.rules.RuleName.TheVariants.{V1, V2, V3, V4, V5, V6}
+use Rattle.schema_check.specs.declared.rules.Rule.{Rule}
+use Rattle.schema_check.specs.declared.rules.Rule.TheVariants.{SeedAndUnits, TableCount, TableNames, Columns, KeyColumn, RowCount, RowCost, LineSize}
+use Rattle.schema_check.specs.declared.site.Site.{Site}
+use Rattle.schema_check.specs.declared.site.Site.TheVariants.{Whole, OfTable, OfColumn}
+use Rattle.schema_check.specs.Cohorts.{born_count}
 use Rattle.schema_check.specs.Counts.{count}
+use Rattle.schema_check.specs.Layout.{births_of, layout_of}
 use Rattle.schema_check.specs.Names.{same_text, is_name}
-use Rattle.schema_check.specs.Rule.{Rule, rule_on_schema, rule_on_tables, rule_on_columns, first_broken_of}
+use Rattle.schema_check.specs.Sites.{columns_at, IsSiteOf, IsBefore}
+use Rattle.schema_check.specs.TableFacts.{cost, max_line}
+
+-- ---- what rules ask
 
 -- from lo to hi
 abbrev pub is_between : ℕ → ℕ → ℤ → Bool
@@ -21,90 +29,128 @@ is_between lo hi n = int_le (pos lo) n && int_le n (pos hi)
 abbrev pub is_one_to_64 : ℕ → Bool
 is_one_to_64 n = nat_le 1 n && nat_le n 64
 
--- V1: the seed is at least 0, and the last unit is from 0 to 10,000
-abbrev pub keeps_v1 : Schema → Bool
-keeps_v1 schema = int_le (pos 0) schema.seed && is_between 0 10000 schema.units
+-- a name that none of the earlier ones is
+abbrev pub is_new_name : List (List ℕ) → List ℕ → Bool
+is_new_name earlier name = is_name name && not (list_any (λ other. same_text other name) earlier)
 
--- V2: there are 1 to 64 tables
-abbrev pub keeps_v2 : Schema → Bool
-keeps_v2 schema = is_one_to_64 (length schema.tables)
+-- of some names, the one at a place is a name that none before it is
+abbrev pub is_new_at : List (List ℕ) → ℕ → Bool
+is_new_at names place = is_new_name (take place names) (slice_index_or names place [])
 
--- V3: a table has a name, and no table before it has the same
-abbrev pub keeps_v3 : List Table → Table → Bool
-keeps_v3 before table = is_name table.name && not (list_any (λ other. same_text other.name table.name) before)
+abbrev pub table_names : Schema → List (List ℕ)
+table_names schema = map (λ (table : Table). table.name) schema.tables
 
--- V4: a table has 1 to 64 columns ..
-abbrev pub keeps_v4 : Table → Bool
-keeps_v4 table = is_one_to_64 (length table.columns)
+abbrev pub column_names : Schema → ℕ → List (List ℕ)
+column_names schema table = map (λ (column : Column). column.name) (columns_at schema table)
 
--- .. and a column has a name, and no column of the table before it has the same
-abbrev pub column_keeps_v4 : List Column → Column → Bool
-column_keeps_v4 earlier column =
-    is_name column.name && not (list_any (λ other. same_text other.name column.name) earlier)
+-- the kind of the column at a place of some columns, counted from 0
+abbrev pub kind_at : List Column → ℕ → Kind
+kind_at columns place = slice_index_or (map (λ (column : Column). column.kind) columns) place kind.Born
 
 abbrev pub is_key : Kind → Bool
-is_key (Key base scramble) = true
+is_key (kind.Key base scramble) = true
 is_key _ = false
 
 -- a key whose numbers begin from 0 to 2^62
 abbrev pub is_key_in_range : Kind → Bool
-is_key_in_range (Key base scramble) = is_between 0 (2 ^ 62) base
+is_key_in_range (kind.Key base scramble) = is_between 0 (2 ^ 62) base
 is_key_in_range _ = false
 
+-- the first column is the key, in range, and no other is a key
+abbrev pub is_key_first : ℕ → Kind → Bool
+is_key_first zero kind = is_key_in_range kind
+is_key_first (suc place) kind = not (is_key kind)
+
+-- the table at a place; past the last one, the table without rows and columns
+abbrev pub schema_table : Schema → ℕ → Table
+schema_table schema place =
+    slice_index_or schema.tables place
+    (record { name = []; rows = pos 0; insert = pos 0; life = None; update = None; columns = [] })
+
+-- no negative number of rows, and at most 2^40 by the last unit
+abbrev pub is_row_count : ℤ → Table → Bool
+is_row_count units table =
+    int_le (pos 0) table.rows && int_le (pos 0) table.insert && nat_le (born_count (births_of table) (count units)) (2 ^ 40)
+
+-- ---- the rules
+
+-- whether a rule holds at a site; where a rule asks nothing, it holds
+abbrev pub holds : Rule → Schema → Site → Bool
+-- V1: the seed is at least 0, and the last unit is from 0 to 10,000
+holds SeedAndUnits schema Whole = int_le (pos 0) schema.seed && is_between 0 10000 schema.units
+-- V2: there are 1 to 64 tables
+holds TableCount schema Whole = is_one_to_64 (length schema.tables)
+-- V3: a table has a name that no table before it has
+holds TableNames schema (OfTable table) = is_new_at (table_names schema) table
+-- V4: a table has 1 to 64 columns, and a column has a name that no column of its table before it has
+holds Columns schema (OfTable table) = is_one_to_64 (length (columns_at schema table))
+holds Columns schema (OfColumn table column) = is_new_at (column_names schema table) column
 -- V5: the first column is the key, its base is from 0 to 2^62, and no other column is a key
-abbrev pub column_keeps_v5 : List Column → Column → Bool
-column_keeps_v5 [] column = is_key_in_range column.kind
-column_keeps_v5 (first ∷ others) column = not (is_key column.kind)
+holds KeyColumn schema (OfColumn table column) = is_key_first column (kind_at (columns_at schema table) column)
+-- V6: a table gains no negative number of rows, and at most 2^40 by the last unit
+holds RowCount schema (OfTable table) = is_row_count schema.units (schema_table schema table)
+-- V23: the cost of a row is at most 4,096. Past 64 tables, where an earlier rule is broken, nothing is asked
+holds RowCost schema (OfTable table) = nat_le 64 table || nat_le (cost (layout_of schema) table) 4096
+-- V24: a line has at most 65,536 bytes. The same
+holds LineSize schema (OfTable table) = nat_le 64 table || nat_le (max_line (layout_of schema) table) 65536
+holds _ schema site = true
 
--- how many rows a table gains up to a last unit
-abbrev pub row_count : ℤ → Table → ℕ
-row_count units table = count table.rows + count table.insert * count units
+-- the number of a rule in messages, as 1 for V1
+abbrev pub number_of : Rule → ℕ
+number_of SeedAndUnits = 1
+number_of TableCount = 2
+number_of TableNames = 3
+number_of Columns = 4
+number_of KeyColumn = 5
+number_of RowCount = 6
+number_of RowCost = 23
+number_of LineSize = 24
 
--- V6: a table gains no negative number of rows, and at most 2^40 up to the last unit
-abbrev pub keeps_v6 : ℤ → Table → Bool
-keeps_v6 units table =
-    int_le (pos 0) table.rows && int_le (pos 0) table.insert && nat_le (row_count units table) (2 ^ 40)
+-- the rules in the order in which they are tried, which for all of V1 to V25 is V13, V1 to V12, V14 to V25
+abbrev pub rules : List Rule
+rules = SeedAndUnits ∷ TableCount ∷ TableNames ∷ Columns ∷ KeyColumn ∷ RowCount ∷ RowCost ∷ LineSize ∷ []
 
-abbrev pub rule_v1 : Rule
-rule_v1 = rule_on_schema 1 keeps_v1
+-- ---- the first broken rule
 
-abbrev pub rule_v2 : Rule
-rule_v2 = rule_on_schema 2 keeps_v2
+-- what is found first at some items, in order
+abbrev pub first_found : {A B : Type 0} → (A → Option B) → List A → Option B
+first_found look [] = None
+first_found look (x ∷ xs) = option_or (look x) (first_found look xs)
 
-abbrev pub rule_v3 : Rule
-rule_v3 = rule_on_tables 3 (λ schema before table. keeps_v3 before table)
+-- the site, where the rule is broken there
+abbrev pub break_at : Rule → Schema → Site → Option Site
+break_at rule schema site = if holds rule schema site then None else Some site
 
-abbrev pub rule_v4 : Rule
-rule_v4 = record {
-  number = 4;
-  holds_for_schema = λ schema. true;
-  holds_for_table = λ schema before table. keeps_v4 table;
-  holds_for_column = λ schema before table earlier column. column_keeps_v4 earlier column;
-}
+-- the first site of a table at which a rule is broken: the table itself, then its columns
+abbrev pub break_in_table : Rule → Schema → ℕ → Option Site
+break_in_table rule schema table =
+    option_or (break_at rule schema (OfTable table))
+    (first_found (λ column. break_at rule schema (OfColumn table column)) (range_with_len 0 (length (columns_at schema table))))
 
-abbrev pub rule_v5 : Rule
-rule_v5 = rule_on_columns 5 (λ schema before table earlier column. column_keeps_v5 earlier column)
+-- the first site at which a rule is broken: the whole, then the tables
+abbrev pub first_break : Rule → Schema → Option Site
+first_break rule schema =
+    option_or (break_at rule schema Whole)
+    (first_found (break_in_table rule schema) (range_with_len 0 (length schema.tables)))
 
-abbrev pub rule_v6 : Rule
-rule_v6 = rule_on_tables 6 (λ schema before table. keeps_v6 schema.units table)
+-- a rule with the first site at which it is broken
+abbrev pub broken_rule : Schema → Rule → Option Broken
+broken_rule schema rule = option_map (λ site. record { rule = rule; site = site }) (first_break rule schema)
 
--- the rule that a name stands for
-abbrev pub rule_named : RuleName → Rule
-rule_named V1 = rule_v1
-rule_named V2 = rule_v2
-rule_named V3 = rule_v3
-rule_named V4 = rule_v4
-rule_named V5 = rule_v5
-rule_named V6 = rule_v6
-
--- the rules in their order. The whole list is V13, V1 to V12, V14 to V25
-abbrev pub schema_rules : List Rule
-schema_rules = rule_v1 ∷ rule_v2 ∷ rule_v3 ∷ rule_v4 ∷ rule_v5 ∷ rule_v6 ∷ []
-
--- the first rule that a schema breaks, at the first place
+-- the first rule that a schema breaks, at its first site
 unfoldable pub first_broken : Schema → Option Broken
-first_broken schema = first_broken_of schema_rules schema
+first_broken schema = first_found (broken_rule schema) rules
 
 -- a schema that breaks no rule
 abbrev pub IsAccepted : Schema → Type 0
 IsAccepted schema = first_broken schema ≡ None
+
+-- a rule holds at each site of a schema
+abbrev pub Keeps : Rule → Schema → Type 0
+Keeps rule schema = (site : Site) → IsSiteOf schema site → holds rule schema site ≡ true
+
+-- a rule is broken at a site, and holds at each site before it
+pub record IsFirstBreak (rule : Rule) (schema : Schema) (site : Site) : Type 0 where
+  pub is_site : IsSiteOf schema site
+  pub breaks : holds rule schema site ≡ false
+  pub before : (other : Site) → IsSiteOf schema other → IsBefore other site → holds rule schema other ≡ true

@@ -1,5 +1,5 @@
 -- Schemas whose lives, costs and sizes are worked out by hand.
-use Rattle.std.specs.Prelude.{ℕ, pos, true, false, List, [], ◌∷◌, Some, None, codes}
+use Rattle.std.specs.Prelude.{ℕ, pos, true, false, List, [], ◌∷◌, map, Some, None, codes}
 use Rattle.schema_model.specs.declared.table.Schema.{Schema}
 use Rattle.schema_model.specs.declared.table.Table.{Table}
 use Rattle.schema_model.specs.declared.table.Delimiter.TheVariants.{Tab}
@@ -8,6 +8,9 @@ use Rattle.schema_model.specs.declared.column.Kind.{Kind}
 use Rattle.schema_model.specs.declared.column.Kind.TheVariants.{Key, Born, Changed, Leaf as Drawn, Template, Ref, Lookup}
 use Rattle.schema_model.specs.declared.column.Leaf.TheVariants.{Pick, Chars}
 use Rattle.schema_model.specs.declared.column.Part.TheVariants.{Literal, Cited}
+use Rattle.schema_check.specs.declared.field_bounds.FieldBounds.{FieldBounds}
+use Rattle.schema_check.specs.FieldBounds.{bounds_of_fields}
+use Rattle.schema_check.specs.Layout.{Layout, TableLayout}
 use Rattle.schema_model.specs.declared.column.Window.TheVariants.{Units}
 
 -- a column that neither changes nor is null
@@ -90,3 +93,8 @@ house = record {
 
 abbrev pub places : Schema
 places = record { seed = pos 1; units = pos 0; delimiter = Tab; tables = city ∷ house ∷ [] }
+
+-- the greatest sizes of a table's fields
+abbrev pub sizes_of : Layout → TableLayout → List ℕ
+sizes_of layout table =
+    map (λ (field : FieldBounds). field.size) (bounds_of_fields layout.delimiter layout.tables table)

@@ -1,12 +1,11 @@
 //! A broken rule.
 
-/// The rule that a schema breaks, and where.
+use crate::rules::Rule;
+use crate::site::Site;
+
+/// The rule that a schema breaks, and the first site at which it does.
 #[derive(Clone, Copy, Debug, PartialEq, Eq)]
 pub(crate) struct Broken {
-    /// The rule's number: 1 for V1.
-    pub number: u32,
-    /// The table, counted from 1; 0 where the whole schema breaks the rule.
-    pub table: u64,
-    /// The column, counted from 1; 0 where the table as a whole breaks the rule.
-    pub column: u64,
+    pub rule: Rule,
+    pub site: Site,
 }

@@ -1,12 +1,16 @@
 //! The check of a schema.
 
 ghost use Rattle.std.specs.Prelude.{◌≡◌, false, IfOk, OnOk, IfErr};
+ghost use Rattle.schema_check.specs.Faults.{told, Tells};
+ghost use Rattle.schema_check.specs.Planned.{without_dictionaries};
 ghost use Rattle.schema_check.specs.Rules.{IsAccepted};
+ghost use Rattle.schema_check.specs.Sites.{IsSiteOf};
 ghost use Rattle.schema_check.specs.Unbuilt.{is_unbuilt};
-ghost use Rattle.schema_check.specs.Faults.{Tells};
 
+use crate::broken::Broken;
+use crate::facts::{NO_FACTS, fill_facts};
 use crate::plan::Plan;
-use crate::rules::first_broken;
+use crate::rules::{MAX_ITEMS, first_broken};
 use schema_model::Schema;
 use std::alloc::Global;
 
@@ -20,7 +24,7 @@ pub enum CheckFault {
         table: u64,
         column: u64,
     },
-    /// No memory was left for the plan.
+    /// No memory was left for the plan of an accepted schema.
     Memory,
 }
 
@@ -28,19 +32,31 @@ pub enum CheckFault {
 /// schema is given up.
 pub fn check(alloc: Global, schema: Schema) -> Result<Plan, CheckFault>
     requires built { is_unbuilt schema ≡ false }
-    ensures plan { IfOk result (λ plan. plan ≡ schema) }
+    ensures plan { IfOk result (λ plan. plan ≡ without_dictionaries schema) }
     ensures accepted { OnOk result (IsAccepted schema) }
     ensures refused { IfErr result (λ fault. Tells fault schema) }
 {
-    if let Some(broken) = first_broken(&schema) {
-        return Err(CheckFault::Rule {
-            number: broken.number,
-            table: broken.table,
-            column: broken.column,
-        });
+    let mut facts = [NO_FACTS; MAX_ITEMS];
+    let count = schema.tables.len().min(MAX_ITEMS);
+    fill_facts(&schema, &mut facts[..count]);
+    if let Some(broken) = first_broken(&schema, &facts[..count]) {
+        return Err(fault_of(&schema, broken));
     }
-    match Plan::of_accepted(alloc, schema) {
+    match Plan::of_accepted(alloc, schema, &facts[..count]) {
         Ok(plan) => Ok(plan),
         Err(_) => Err(CheckFault::Memory),
+    }
+}
+
+/// A broken rule of a schema as it is told.
+fn fault_of(schema: &Schema, broken: Broken) -> CheckFault
+    requires { IsSiteOf schema.now broken.site }
+    ensures { result ≡ told broken }
+{
+    let _lengths = schema.tables.len();
+    CheckFault::Rule {
+        number: broken.rule.number(),
+        table: broken.site.table_number(),
+        column: broken.site.column_number(),
     }
 }

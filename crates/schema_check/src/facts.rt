@@ -1,117 +1,110 @@
 //! What doesn't change from row to row in a table.
 
-ghost use Rattle.std.specs.Prelude.{◌≡◌, ◌≤◌, false, length, map, sum, All, IfOk};
-ghost use Rattle.schema_check.specs.Unbuilt.{is_unbuilt_table, is_unbuilt_kind, is_unbuilt_column};
-ghost use Rattle.schema_check.specs.Sizes.{line_size, greatest_by};
-ghost use Rattle.schema_check.specs.Built.{built_size, built_permutations, built_facts};
+ghost use Rattle.std.specs.Prelude.{◌≡◌, ◌<◌, length, map, min};
+ghost use Rattle.std.specs.List.{range_with_len};
+ghost use Rattle.schema_check.specs.Capped.{capped_bounds, capped_facts, first_facts};
+ghost use Rattle.schema_check.specs.Delimiters.{delimiter_byte as byte_of};
+ghost use Rattle.schema_check.specs.FieldBounds.{bounds_of_fields, greatest_by};
+ghost use Rattle.schema_check.specs.Layout.{births_of, layout_of, table_layout, table_layouts};
+ghost use Rattle.schema_check.specs.TableFacts.{facts_at, line_bounds};
 
-use schema_model::{Column, Kind, Table};
-use std::alloc::{AllocError, Global};
+use crate::counts::count;
+use crate::field_bounds::{FieldBounds, bounds_of};
+use crate::layout::{Births, Keys};
+use crate::lineage::{ENDLESS, Lineage, lineage_of};
+use crate::places::keys_of;
+use schema_model::{Delimiter, Schema, Table};
 
-/// The greatest length of a key number, in bytes.
-const KEY_SIZE: u64 = 20;
-
-/// The greatest length of a unit, in bytes.
-const UNIT_SIZE: u64 = 5;
-
-/// What doesn't change from row to row in a table. Lives are in units, None where they have no bound; a line is in bytes.
+/// What doesn't change from row to row in a table.
 #[derive(Clone, Copy, Debug, PartialEq, Eq)]
 pub(crate) struct TableFacts {
-    /// For how many units a row lives at least.
-    pub sure_life: Option<u64>,
-    /// For how many units a row lives at most.
-    pub longest_life: Option<u64>,
-    /// One more than the permutations that the report of a row takes.
+    pub births: Births,
+    pub keys: Keys,
+    pub lineage: Lineage,
+    /// The cost of a row, which bounds the permutations of its report.
     pub cost: u64,
-    /// The greatest length of a line.
+    /// The greatest length of a line, in bytes.
     pub max_line: u64,
 }
 
-/// The facts of each table, in order.
-pub(crate) fn facts_of_tables(
-    alloc: Global,
-    tables: &[Table],
-) -> Result<Vec<TableFacts>, AllocError>
-    requires built { All (λ table. is_unbuilt_table table ≡ false) tables.now }
-    requires few_columns { All (λ table. length table.columns ≤ 64) tables.now }
-    ensures { IfOk result (λ facts. facts.items ≡ map built_facts tables.now) }
+/// Of a table without rows and columns.
+pub(crate) const NO_FACTS: TableFacts = TableFacts {
+    births: Births { rows: 0, insert: 0 },
+    keys: Keys {
+        base: 0,
+        scramble: false,
+    },
+    lineage: ENDLESS,
+    cost: 0,
+    max_line: 0,
+};
+
+/// Puts the facts of the first tables of a schema in place, one for each place that is given. No memory is taken.
+pub(crate) fn fill_facts(schema: &Schema, facts: &mut [TableFacts])
+    requires { length facts.old ≡ min (length schema.now.tables) 64 }
+    ensures { facts.new ≡ first_facts schema.now }
 {
-    let mut facts = Vec::with_capacity(alloc, tables.len())?;
-    for table in tables {
-        facts.push(facts_of_table(table))?;
+    for place in 0..facts.len() {
+        facts[place] = facts_of(schema, &facts[..place], place);
     }
-    Ok(facts)
 }
 
-/// The facts of a table without life, updates and references: its rows have no end, and the report of a row takes no
-/// permutation but those of its fields.
-fn facts_of_table(table: &Table) -> TableFacts
-    requires built { is_unbuilt_table table.now ≡ false }
-    requires few_columns { length table.now.columns ≤ 64 }
-    ensures { result ≡ built_facts table.now }
+/// The facts of the table at a place, by those of the tables before it.
+fn facts_of(schema: &Schema, earlier: &[TableFacts], place: usize) -> TableFacts
+    requires place { place < length schema.now.tables }
+    requires earlier { earlier.now ≡ map (λ p. capped_facts (facts_at (layout_of schema.now) p)) (range_with_len 0 place) }
+    ensures { result ≡ capped_facts (facts_at (layout_of schema.now) place) }
 {
+    let tables = schema.tables.as_slice();
+    let table = &tables[place];
+    let lineage = lineage_of(tables, earlier, table);
+    let line = line_bounds(delimiter_byte(schema.delimiter), tables, table);
+    let death = lineage.death_cost.saturating_add(1);
+    let change = u64::from(table.update.is_some());
     TableFacts {
-        sure_life: None,
-        longest_life: None,
-        cost: 1 + line_permutations(table.columns.as_slice()),
-        max_line: line_size(table.columns.as_slice()),
+        births: births_of(table),
+        keys: keys_of(table.columns.as_slice()),
+        lineage,
+        cost: death.saturating_add(line.permutations.saturating_add(change)),
+        max_line: line.size,
     }
 }
 
-/// The greatest length of a line: of its fields, and one byte behind each.
-fn line_size(columns: &[Column]) -> u64
-    requires built { All (λ column. is_unbuilt_column column ≡ false) columns.now }
-    requires few { length columns.now ≤ 64 }
-    ensures { result ≡ line_size (map (λ column. built_size column.kind) columns.now) }
+/// What the line of a table's rows takes: the sizes of its fields and one byte behind each, and their permutations.
+fn line_bounds(delimiter: u8, tables: &[Table], table: &Table) -> FieldBounds
+    ensures { result ≡ capped_bounds (line_bounds (bounds_of_fields delimiter (table_layouts tables.now) (table_layout tables.now table.now))) }
 {
-    let mut size = 0;
-    for column in columns {
-        size += field_size(&column.kind) + 1;
+    let mut size: u64 = 0;
+    let mut permutations: u64 = 0;
+    for column in table.columns.as_slice() {
+        let taken = bounds_of(delimiter, tables, table, &column.kind);
+        size = size.saturating_add(taken.size.saturating_add(1));
+        permutations = permutations.saturating_add(taken.permutations);
     }
-    size
+    FieldBounds { size, permutations }
 }
 
-/// The greatest length of a field.
-fn field_size(kind: &Kind) -> u64
-    requires { is_unbuilt_kind kind.now ≡ false }
-    ensures size { result ≡ built_size kind.now }
-    ensures limit { result ≤ 20 }
+/// The births of a table.
+fn births_of(table: &Table) -> Births
+    ensures { result ≡ births_of table.now }
 {
-    match kind {
-        Kind::Key { .. } => KEY_SIZE,
-        Kind::Born => UNIT_SIZE,
-        _ => unreachable!(),
+    Births {
+        rows: count(table.rows),
+        insert: count(table.insert),
     }
 }
 
-/// The permutations that a line takes.
-fn line_permutations(columns: &[Column]) -> u64
-    requires built { All (λ column. is_unbuilt_column column ≡ false) columns.now }
-    requires few { length columns.now ≤ 64 }
-    ensures sum { result ≡ sum (map (λ column. built_permutations column.kind) columns.now) }
-    ensures limit { result ≤ 64 }
+/// The byte between two fields.
+fn delimiter_byte(delimiter: Delimiter) -> u8
+    ensures { result ≡ byte_of delimiter }
 {
-    let mut permutations = 0;
-    for column in columns {
-        permutations += field_permutations(&column.kind);
-    }
-    permutations
-}
-
-/// The permutations that a field takes: one where it is a scrambled key.
-fn field_permutations(kind: &Kind) -> u64
-    requires { is_unbuilt_kind kind.now ≡ false }
-    ensures permutations { result ≡ built_permutations kind.now }
-    ensures limit { result ≤ 1 }
-{
-    match kind {
-        Kind::Key { scramble, .. } => u64::from(*scramble),
-        Kind::Born => 0,
-        _ => unreachable!(),
+    match delimiter {
+        Delimiter::Tab => b'\t',
+        Delimiter::Bar => b'|',
     }
 }
 
-/// The greatest line of all.
+/// The greatest line of all, in bytes.
 pub(crate) fn greatest_line(facts: &[TableFacts]) -> u64
     ensures { result ≡ greatest_by (λ fact. fact.max_line) facts.now }
 {

@@ -7,14 +7,21 @@
 
 mod broken;
 mod checker;
+mod counts;
 mod facts;
+mod field_bounds;
+mod layout;
 pub mod laws;
+mod lineage;
 mod names;
 mod not_built;
+mod places;
 mod plan;
 mod rules;
+mod site;
 
 pub use checker::{CheckFault, check};
+pub use layout::{Births, Keys, Span};
 pub use not_built::unbuilt;
 pub use plan::Plan;
 

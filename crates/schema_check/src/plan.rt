@@ -1,25 +1,24 @@
 //! The plan of an accepted schema.
 
-ghost use Rattle.std.specs.Prelude.{◌≡◌, ◌<◌, ◌≤◌, false, length, IfOk};
+ghost use Rattle.std.specs.Prelude.{◌≡◌, ◌<◌, ◌≤◌, false, Some, length, slice_get, IfOk};
 ghost use Rattle.std.specs.List.{position};
-ghost use Rattle.schema_check.specs.Counts.{count};
+ghost use Rattle.schema_check.specs.Capped.{first_facts};
+ghost use Rattle.schema_check.specs.Layout.{layout_of, table_at, table_layout};
+ghost use Rattle.schema_check.specs.Limits.{IsInLimits, IsTableInLimits};
+ghost use Rattle.schema_check.specs.Lineage.{longest_life, sure_life};
 ghost use Rattle.schema_check.specs.Names.{same_text};
+ghost use Rattle.schema_check.specs.Planned.{table_named, without_dictionaries};
 ghost use Rattle.schema_check.specs.Rules.{IsAccepted};
-ghost use Rattle.schema_check.specs.Unbuilt.{is_unbuilt};
-ghost use Rattle.schema_check.specs.Limits.{IsInLimits};
-ghost use Rattle.schema_check.specs.Places.{table_at, table_place};
-ghost use Rattle.schema_check.specs.Lives.{sure_life, longest_life};
-ghost use Rattle.schema_check.specs.Costs.{cost};
-ghost use Rattle.schema_check.specs.Sizes.{max_line, reach};
-ghost use Rattle.schema_check.specs.Planned.{facts_at};
-ghost use Rattle.schema_check.specs.Built.{built_line, built_facts};
+ghost use Rattle.schema_check.specs.TableFacts.{cost, facts_at, max_line, reach};
+ghost use Rattle.schema_check.specs.Unbuilt.{is_unbuilt, is_unbuilt_table};
 
-use crate::facts::{TableFacts, facts_of_tables, greatest_line};
+use crate::facts::{TableFacts, greatest_line};
+use crate::layout::{Births, Keys};
 use schema_model::{Schema, Table};
 use std::alloc::{AllocError, Global};
 use std::marker::Model;
 
-/// An accepted schema, with what doesn't change from row to row. A contract sees a plan as its schema.
+/// An accepted schema with its dictionaries, of which there are none yet, and what doesn't change from row to row.
 ///
 /// A table is named by its place in the schema, counted from 0. Lives are in units, sizes in bytes.
 #[derive(Debug, Drop)]
@@ -30,25 +29,25 @@ pub struct Plan {
 }
 
 impl Model for Plan {
-    ghost use Rattle.schema_model.specs.declared.table.Schema.{Schema};
-    ghost use Rattle.schema_check.specs.Planned.{IsPlan};
+    ghost use Rattle.schema_check.specs.Planned.{IsPlan, Planned, without_dictionaries};
 
-    ghost Value = { Schema };
+    ghost Value = { Planned };
 
-    ghost view = { λ p. p.schema };
+    ghost view = { λ p. without_dictionaries p.schema };
 
     ghost invariant = { λ p. IsPlan p.schema p.facts.items p.reach };
 }
 
 impl Plan {
-    /// The plan of a schema that keeps all rules.
-    pub(crate) fn of_accepted(alloc: Global, schema: Schema) -> Result<Plan, AllocError>
+    /// The plan of a schema that keeps all rules, by the facts of its tables.
+    pub(crate) fn of_accepted(alloc: Global, schema: Schema, facts: &[TableFacts]) -> Result<Plan, AllocError>
         requires built { is_unbuilt schema ≡ false }
         requires accepted { IsAccepted schema }
-        ensures { IfOk result (λ plan. plan ≡ schema) }
+        requires facts { facts.now ≡ first_facts schema }
+        ensures { IfOk result (λ plan. plan ≡ without_dictionaries schema) }
     {
-        let facts = facts_of_tables(alloc, schema.tables.as_slice())?;
-        let reach = greatest_line(facts.as_slice());
+        let reach = greatest_line(facts);
+        let facts = Vec::from_slice(alloc, facts)?;
         Ok(Plan {
             schema,
             facts,
@@ -58,31 +57,38 @@ impl Plan {
 
     /// The schema.
     pub fn schema(&self) -> &Schema
-        ensures value { result.now ≡ self.now }
-        ensures accepted { IsAccepted self.now }
-        ensures built { is_unbuilt self.now ≡ false }
-        ensures limits { IsInLimits self.now }
+        ensures value { result.now ≡ self.now.schema }
+        ensures accepted { IsAccepted self.now.schema }
+        ensures built { is_unbuilt self.now.schema ≡ false }
+        ensures limits { IsInLimits self.now.schema }
     {
         &self.schema
     }
 
+    /// The number that all draws begin from.
+    pub fn seed(&self) -> u64
+        ensures { result ≡ (layout_of self.now.schema).seed }
+    {
+        self.schema.seed as u64
+    }
+
     /// The last unit.
     pub fn units(&self) -> u64
-        ensures { result ≡ count self.now.units }
+        ensures { result ≡ (layout_of self.now.schema).units }
     {
         self.schema.units as u64
     }
 
     /// The number of tables.
     pub fn tables(&self) -> u32
-        ensures { result ≡ length self.now.tables }
+        ensures { result ≡ length self.now.schema.tables }
     {
         self.schema.tables.len() as u32
     }
 
     /// The table with a name; None exactly where no table has it.
     pub fn table_named(&self, name: &str) -> Option<u32>
-        ensures { result ≡ table_place self.now name.now }
+        ensures { result ≡ table_named self.now.schema name.now }
     {
         match place_of(self.schema.tables.as_slice(), name) {
             Some(place) => Some(place as u32),
@@ -90,52 +96,78 @@ impl Plan {
         }
     }
 
+    /// The table at a place, as the schema has it.
+    pub fn table(&self, table: u32) -> &Table
+        requires { table < length self.now.schema.tables }
+        ensures found { slice_get self.now.schema.tables table ≡ Some result.now }
+        ensures layout { table_layout self.now.schema.tables result.now ≡ table_at (layout_of self.now.schema).tables table }
+        ensures limits { IsTableInLimits (layout_of self.now.schema).units (table_at (layout_of self.now.schema).tables table) }
+        ensures built { is_unbuilt_table result.now ≡ false }
+    {
+        self.schema.tables.get(table as usize)
+    }
+
+    /// How many rows of a table are born at each unit.
+    pub fn births(&self, table: u32) -> Births
+        requires { table < length self.now.schema.tables }
+        ensures { result ≡ (table_at (layout_of self.now.schema).tables table).births }
+    {
+        self.facts_of(table).births
+    }
+
+    /// The keys of a table.
+    pub fn keys(&self, table: u32) -> Keys
+        requires { table < length self.now.schema.tables }
+        ensures { result ≡ (table_at (layout_of self.now.schema).tables table).key }
+    {
+        self.facts_of(table).keys
+    }
+
     /// For how many units the rows of a table live at least; None exactly where that is unbounded.
     pub fn sure_life(&self, table: u32) -> Option<u64>
-        requires { table < length self.now.tables }
-        ensures { result ≡ sure_life self.now table }
+        requires { table < length self.now.schema.tables }
+        ensures { result ≡ sure_life (layout_of self.now.schema).tables table }
     {
-        self.facts_of(table).sure_life
+        self.facts_of(table).lineage.sure_life
     }
 
     /// For how many units the rows of a table live at most; None exactly where that is unbounded.
     pub fn longest_life(&self, table: u32) -> Option<u64>
-        requires { table < length self.now.tables }
-        ensures { result ≡ longest_life self.now table }
+        requires { table < length self.now.schema.tables }
+        ensures { result ≡ longest_life (layout_of self.now.schema).tables table }
     {
-        self.facts_of(table).longest_life
+        self.facts_of(table).lineage.longest_life
     }
 
-    /// What a row of a table costs: one more than the permutations that its report takes at most.
+    /// The cost of a row of a table. It bounds the permutations that the report of a row asks: one to find the row by its key,
+    /// and those of its death and of its line.
     pub fn cost(&self, table: u32) -> u64
-        requires { table < length self.now.tables }
-        ensures { result ≡ cost self.now table }
+        requires { table < length self.now.schema.tables }
+        ensures { result ≡ cost (layout_of self.now.schema) table }
     {
         self.facts_of(table).cost
     }
 
     /// The greatest length of a line of a table, in bytes, with its line feed.
     pub fn max_line(&self, table: u32) -> u64
-        requires { table < length self.now.tables }
-        ensures size { result ≡ max_line self.now table }
-        ensures built { result ≡ built_line (table_at self.now table) }
-        ensures within_reach { result ≤ reach self.now }
+        requires { table < length self.now.schema.tables }
+        ensures size { result ≡ max_line (layout_of self.now.schema) table }
+        ensures within_reach { result ≤ reach (layout_of self.now.schema) }
     {
         self.facts_of(table).max_line
     }
 
     /// The greatest length of a line of any table, in bytes.
     pub fn reach(&self) -> u64
-        ensures { result ≡ reach self.now }
+        ensures { result ≡ reach (layout_of self.now.schema) }
     {
         self.reach
     }
 
     fn facts_of(&self, table: u32) -> &TableFacts
-        requires { table < length self.now.tables }
-        ensures facts { result.now ≡ facts_at self.now table }
-        ensures built { result.now ≡ built_facts (table_at self.now table) }
-        ensures within_reach { result.now.max_line ≤ reach self.now }
+        requires { table < length self.now.schema.tables }
+        ensures facts { result.now ≡ facts_at (layout_of self.now.schema) table }
+        ensures within_reach { result.now.max_line ≤ reach (layout_of self.now.schema) }
     {
         &self.facts[table as usize]
     }

@@ -1,23 +1,24 @@
-//! The rules, each as tests of the schema, of a table and of a column, and the search for the first that is broken.
+//! The rules of a schema as tests of its sites, and the search for the first that is broken.
 
-ghost use Rattle.std.specs.Prelude.{◌≡◌, List, map};
-ghost use Rattle.schema_model.specs.declared.table.Schema.{Schema};
-ghost use Rattle.schema_model.specs.declared.table.Table.{Table};
+ghost use Rattle.std.specs.Prelude.{◌≡◌, ◌<◌, IfSome, length, map};
 ghost use Rattle.std.specs.List.{list_any};
-ghost use Rattle.schema_check.specs.Counts.{count};
+ghost use Rattle.schema_check.specs.Capped.{first_facts, is_known_at_most};
 ghost use Rattle.schema_check.specs.Names.{same_text};
-ghost use Rattle.schema_check.specs.Rule.{first_break, first_broken_of, break_in_table};
-ghost use Rattle.schema_check.specs.Rules.{rule_named, first_broken, keeps_v1, keeps_v3, column_keeps_v4, column_keeps_v5, is_one_to_64, keeps_v6, row_count};
+ghost use Rattle.schema_check.specs.Rules.{break_in_table, first_break, first_broken, holds, is_key_first, is_new_at, is_one_to_64, is_row_count, number_of};
+ghost use Rattle.schema_check.specs.Sites.{IsSiteOf};
 
 use crate::broken::Broken;
+use crate::counts::count;
+use crate::facts::TableFacts;
 use crate::names::is_name;
+use crate::site::Site;
 use schema_model::{Column, Kind, Schema, Table, Text};
 
 /// The greatest last unit.
 const MAX_UNITS: i64 = 10_000;
 
 /// The most tables of a schema, and the most columns of a table.
-const MAX_ITEMS: usize = 64;
+pub(crate) const MAX_ITEMS: usize = 64;
 
 /// The greatest number that the keys of a table may begin from.
 const MAX_BASE: i64 = 1 << 62;
@@ -25,148 +26,144 @@ const MAX_BASE: i64 = 1 << 62;
 /// The most rows that a table may gain up to the last unit.
 const MAX_ROWS: u64 = 1 << 40;
 
-/// A rule of a schema, by its number.
+/// The greatest cost of a row.
+const MAX_COST: u64 = 4_096;
+
+/// The most bytes of a line.
+const MAX_LINE: u64 = 65_536;
+
+/// A rule of a schema, with its number in messages.
 #[derive(Clone, Copy, Debug, PartialEq, Eq)]
-pub(crate) enum RuleName {
-    V1,
-    V2,
-    V3,
-    V4,
-    V5,
-    V6,
+pub(crate) enum Rule {
+    /// V1
+    SeedAndUnits,
+    /// V2
+    TableCount,
+    /// V3
+    TableNames,
+    /// V4
+    Columns,
+    /// V5
+    KeyColumn,
+    /// V6
+    RowCount,
+    /// V23
+    RowCost,
+    /// V24
+    LineSize,
 }
 
 /// The rules in the order in which they are tried.
-const ORDER: [RuleName; 6] = [
-    RuleName::V1,
-    RuleName::V2,
-    RuleName::V3,
-    RuleName::V4,
-    RuleName::V5,
-    RuleName::V6,
+const ORDER: [Rule; 8] = [
+    Rule::SeedAndUnits,
+    Rule::TableCount,
+    Rule::TableNames,
+    Rule::Columns,
+    Rule::KeyColumn,
+    Rule::RowCount,
+    Rule::RowCost,
+    Rule::LineSize,
 ];
 
-/// The first rule that a schema breaks, at its first place: the whole before the tables, in their order, and a table
-/// before its columns, in their order.
+/// The first rule that a schema breaks, at its first site: the whole before the tables, in their order, and a table
+/// before its columns, in their order. `facts` are those of its first tables.
 #[tactic(auto, unfolding(crate::specs::Rules::first_broken))]
-pub(crate) fn first_broken(schema: &Schema) -> Option<Broken>
-    ensures { result ≡ first_broken schema.now }
+pub(crate) fn first_broken(schema: &Schema, facts: &[TableFacts]) -> Option<Broken>
+    requires { facts.now ≡ first_facts schema.now }
+    ensures first { result ≡ first_broken schema.now }
+    ensures site { IfSome result (λ broken. IsSiteOf schema.now broken.site) }
 {
-    first_broken_of(&ORDER, schema)
-}
-
-/// The first of some rules that a schema breaks, at its first place.
-fn first_broken_of(rules: &[RuleName], schema: &Schema) -> Option<Broken>
-    ensures { result ≡ first_broken_of (map rule_named rules.now) schema.now }
-{
-    for rule in rules {
-        if let Some(broken) = first_break(*rule, schema) {
-            return Some(broken);
+    for rule in &ORDER {
+        if let Some(site) = first_break(*rule, schema, facts) {
+            return Some(Broken { rule: *rule, site });
         }
     }
     None
 }
 
-/// The first place at which a schema breaks a rule.
-fn first_break(rule: RuleName, schema: &Schema) -> Option<Broken>
-    ensures { result ≡ first_break (rule_named rule) schema.now }
+/// The first site at which a schema breaks a rule.
+fn first_break(rule: Rule, schema: &Schema, facts: &[TableFacts]) -> Option<Site>
+    requires { facts.now ≡ first_facts schema.now }
+    ensures first { result ≡ first_break rule schema.now }
+    ensures site { IfSome result (IsSiteOf schema.now) }
 {
-    if !rule.holds_for_schema(schema) {
-        return Some(rule.broken_at(0, 0));
+    if !rule.holds(schema, facts, Site::Whole) {
+        return Some(Site::Whole);
     }
-    let tables = schema.tables.as_slice();
-    for place in 0..tables.len() {
-        if let Some(broken) = break_in_table(rule, schema, &tables[..place], &tables[place]) {
-            return Some(broken);
+    for table in 0..schema.tables.len() {
+        if let Some(site) = break_in_table(rule, schema, facts, table) {
+            return Some(site);
         }
     }
     None
 }
 
-/// The first place at which a table breaks a rule.
-fn break_in_table(
-    rule: RuleName,
-    schema: &Schema,
-    before: &[Table],
-    table: &Table,
-) -> Option<Broken>
-    ensures { result ≡ break_in_table (rule_named rule) schema.now before.now table.now }
+/// The first site of a table at which a schema breaks a rule.
+fn break_in_table(rule: Rule, schema: &Schema, facts: &[TableFacts], table: usize) -> Option<Site>
+    requires facts { facts.now ≡ first_facts schema.now }
+    requires table { IsSiteOf schema.now (Site.OfTable table) }
+    ensures first { result ≡ break_in_table rule schema.now table }
+    ensures site { IfSome result (IsSiteOf schema.now) }
 {
-    let number = before.len() as u64 + 1;
-    if !rule.holds_for_table(schema, before, table) {
-        return Some(rule.broken_at(number, 0));
+    if !rule.holds(schema, facts, Site::OfTable(table)) {
+        return Some(Site::OfTable(table));
     }
-    let columns = table.columns.as_slice();
-    for place in 0..columns.len() {
-        if !rule.holds_for_column(&columns[..place], &columns[place]) {
-            return Some(rule.broken_at(number, place as u64 + 1));
+    for column in 0..schema.tables.get(table).columns.len() {
+        let site = Site::OfColumn(table, column);
+        if !rule.holds(schema, facts, site) {
+            return Some(site);
         }
     }
     None
 }
 
-impl RuleName {
-    fn number(self) -> u32
-        ensures { result ≡ (rule_named self).number }
+impl Rule {
+    /// The number in messages, 1 for V1.
+    pub(crate) fn number(self) -> u32
+        ensures { result ≡ number_of self }
     {
         match self {
-            RuleName::V1 => 1,
-            RuleName::V2 => 2,
-            RuleName::V3 => 3,
-            RuleName::V4 => 4,
-            RuleName::V5 => 5,
-            RuleName::V6 => 6,
+            Rule::SeedAndUnits => 1,
+            Rule::TableCount => 2,
+            Rule::TableNames => 3,
+            Rule::Columns => 4,
+            Rule::KeyColumn => 5,
+            Rule::RowCount => 6,
+            Rule::RowCost => 23,
+            Rule::LineSize => 24,
         }
     }
 
-    fn broken_at(self, table: u64, column: u64) -> Broken
-        ensures { result ≡ record { number = (rule_named self).number; table = table; column = column } }
+    /// Whether the rule holds at a site. Where it asks nothing there, it holds.
+    fn holds(self, schema: &Schema, facts: &[TableFacts], site: Site) -> bool
+        requires facts { facts.now ≡ first_facts schema.now }
+        requires site { IsSiteOf schema.now site }
+        ensures { result ≡ holds self schema.now site }
     {
-        Broken {
-            number: self.number(),
-            table,
-            column,
-        }
-    }
-
-    fn holds_for_schema(self, schema: &Schema) -> bool
-        ensures { result ≡ (rule_named self).holds_for_schema schema.now }
-    {
-        match self {
-            RuleName::V1 => keeps_v1(schema),
-            RuleName::V2 => is_one_to_64(schema.tables.len()),
-            RuleName::V3 | RuleName::V4 | RuleName::V5 | RuleName::V6 => true,
-        }
-    }
-
-    fn holds_for_table(self, schema: &Schema, before: &[Table], table: &Table) -> bool
-        ensures { result ≡ (rule_named self).holds_for_table schema.now before.now table.now }
-    {
-        match self {
-            RuleName::V3 => keeps_v3(before, table),
-            RuleName::V4 => is_one_to_64(table.columns.len()),
-            RuleName::V6 => keeps_v6(schema.units, table),
-            RuleName::V1 | RuleName::V2 | RuleName::V5 => true,
-        }
-    }
-
-    fn holds_for_column(self, earlier: &[Column], column: &Column) -> bool
-        ensures { (schema : Schema) (before : List Table) (table : Table) →
-            result ≡ (rule_named self).holds_for_column schema before table earlier.now column.now }
-    {
-        match self {
-            RuleName::V4 => column_keeps_v4(earlier, column),
-            RuleName::V5 => column_keeps_v5(earlier, column),
-            RuleName::V1 | RuleName::V2 | RuleName::V3 | RuleName::V6 => true,
+        let tables = schema.tables.as_slice();
+        match (self, site) {
+            (Rule::SeedAndUnits, Site::Whole) => is_seed_and_units(schema),
+            (Rule::TableCount, Site::Whole) => is_one_to_64(tables.len()),
+            (Rule::TableNames, Site::OfTable(table)) => is_new_table(tables, table),
+            (Rule::Columns, Site::OfTable(table)) => is_one_to_64(tables[table].columns.len()),
+            (Rule::Columns, Site::OfColumn(table, column)) => {
+                is_new_column(tables[table].columns.as_slice(), column)
+            }
+            (Rule::KeyColumn, Site::OfColumn(table, column)) => {
+                is_key_first(column, &tables[table].columns.as_slice()[column].kind)
+            }
+            (Rule::RowCount, Site::OfTable(table)) => is_row_count(schema.units, &tables[table]),
+            (Rule::RowCost, Site::OfTable(table)) => is_row_cost(facts, table),
+            (Rule::LineSize, Site::OfTable(table)) => is_line_size(facts, table),
+            _ => true,
         }
     }
 }
 
-/// The count that a number of a schema stands for.
-fn count(number: i64) -> u64
-    ensures { result ≡ count number }
+fn is_seed_and_units(schema: &Schema) -> bool
+    ensures { result ≡ holds Rule.SeedAndUnits schema.now Site.Whole }
 {
-    if number < 0 { 0 } else { number as u64 }
+    0 <= schema.seed && 0 <= schema.units && schema.units <= MAX_UNITS
 }
 
 fn is_one_to_64(items: usize) -> bool
@@ -175,16 +172,13 @@ fn is_one_to_64(items: usize) -> bool
     1 <= items && items <= MAX_ITEMS
 }
 
-fn keeps_v1(schema: &Schema) -> bool
-    ensures { result ≡ keeps_v1 schema.now }
+/// Whether the table at a place has a name that no table before it has.
+fn is_new_table(tables: &[Table], place: usize) -> bool
+    requires { place < length tables.now }
+    ensures { result ≡ is_new_at (map (λ table. table.name) tables.now) place }
 {
-    0 <= schema.seed && 0 <= schema.units && schema.units <= MAX_UNITS
-}
-
-fn keeps_v3(before: &[Table], table: &Table) -> bool
-    ensures { result ≡ keeps_v3 before.now table.now }
-{
-    is_name(&table.name) && !is_table_named(before, &table.name)
+    let name = &tables[place].name;
+    is_name(name) && !is_table_named(&tables[..place], name)
 }
 
 /// Whether one of some tables has a name.
@@ -194,10 +188,13 @@ fn is_table_named(tables: &[Table], name: &Text) -> bool
     tables.iter().any(|table| table.name == *name)
 }
 
-fn column_keeps_v4(earlier: &[Column], column: &Column) -> bool
-    ensures { result ≡ column_keeps_v4 earlier.now column.now }
+/// Whether the column at a place has a name that no column before it has.
+fn is_new_column(columns: &[Column], place: usize) -> bool
+    requires { place < length columns.now }
+    ensures { result ≡ is_new_at (map (λ column. column.name) columns.now) place }
 {
-    is_name(&column.name) && !is_column_named(earlier, &column.name)
+    let name = &columns[place].name;
+    is_name(name) && !is_column_named(&columns[..place], name)
 }
 
 /// Whether one of some columns has a name.
@@ -207,20 +204,33 @@ fn is_column_named(columns: &[Column], name: &Text) -> bool
     columns.iter().any(|column| column.name == *name)
 }
 
-fn column_keeps_v5(earlier: &[Column], column: &Column) -> bool
-    ensures { result ≡ column_keeps_v5 earlier.now column.now }
+/// Whether the first column, at place 0, is a key in range, and any other none.
+fn is_key_first(place: usize, kind: &Kind) -> bool
+    ensures { result ≡ is_key_first place kind.now }
 {
-    match &column.kind {
-        Kind::Key { base, .. } => earlier.is_empty() && 0 <= *base && *base <= MAX_BASE,
-        _ => !earlier.is_empty(),
+    match kind {
+        Kind::Key { base, .. } => place == 0 && 0 <= *base && *base <= MAX_BASE,
+        _ => place > 0,
     }
 }
 
-fn keeps_v6(units: i64, table: &Table) -> bool
-    ensures { result ≡ keeps_v6 units table.now }
+fn is_row_count(units: i64, table: &Table) -> bool
+    ensures { result ≡ is_row_count units table.now }
 {
     let rows = count(table.insert)
         .saturating_mul(count(units))
         .saturating_add(count(table.rows));
     0 <= table.rows && 0 <= table.insert && rows <= MAX_ROWS
+}
+
+fn is_row_cost(facts: &[TableFacts], table: usize) -> bool
+    ensures { result ≡ is_known_at_most (map (λ fact. fact.cost) facts.now) table 4096 }
+{
+    facts.get(table).is_none_or(|known| known.cost <= MAX_COST)
+}
+
+fn is_line_size(facts: &[TableFacts], table: usize) -> bool
+    ensures { result ≡ is_known_at_most (map (λ fact. fact.max_line) facts.now) table 65536 }
+{
+    facts.get(table).is_none_or(|known| known.max_line <= MAX_LINE)
 }

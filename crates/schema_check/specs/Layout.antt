@@ -1,0 +1,232 @@
+-- The layout of a schema: its tables and columns with each name resolved to the place of what it names, counted from 0. It is
+-- total: a name that nothing has stands for the place past the last one, and a number below 0 counts as 0.
+use Rattle.std.specs.Prelude.{ℕ, ℤ, Bool, false, if◌then◌else◌, List, [], ◌∷◌, ◌++◌, map, flat_map, length, Option, Some, None, slice_index_or}
+use Rattle.std.specs.List.{fold, list_any, position_or_len}
+use Rattle.std.specs.Option.{option_map}
+use Rattle.schema_model.specs.declared.table.Schema.{Schema}
+use Rattle.schema_model.specs.declared.table.Table.{Table}
+use Rattle.schema_model.specs.declared.table.Life.{Life}
+use Rattle.schema_model.specs.declared.column.Column.{Column}
+use Rattle.schema_model.specs.declared.column.Kind.{Kind}
+use Rattle.schema_model.specs.declared.column.Kind.TheVariants as kind
+use Rattle.schema_model.specs.declared.column.Leaf.{Leaf}
+use Rattle.schema_model.specs.declared.column.Leaf.TheVariants as drawn
+use Rattle.schema_model.specs.declared.column.Part.{Part}
+use Rattle.schema_model.specs.declared.column.Part.TheVariants as part
+use Rattle.schema_model.specs.declared.column.Window.{Window}
+use Rattle.schema_model.specs.declared.column.Window.TheVariants as window
+use Rattle.schema_check.specs.declared.layout.Births.{Births}
+use Rattle.schema_check.specs.declared.layout.Keys.{Keys}
+use Rattle.schema_check.specs.declared.layout.Span.{Span}
+use Rattle.schema_check.specs.Counts.{count}
+use Rattle.schema_check.specs.Delimiters.{delimiter_byte}
+use Rattle.schema_check.specs.Names.{same_text}
+
+-- ---- the types
+
+-- a value that is drawn for a field alone; a dictionary is named by its place among those of the schema
+pub data LeafLayout : Type 0 where
+  int_leaf : ℤ → ℤ → ℕ → LeafLayout
+  fixed_leaf : ℤ → ℤ → ℕ → LeafLayout
+  date_leaf : ℤ → ℤ → LeafLayout
+  pick_leaf : List (List ℕ) → List ℕ → LeafLayout
+  skew_leaf : ℤ → ℕ → ℕ → LeafLayout
+  dict_leaf : ℕ → LeafLayout
+  words_leaf : ℕ → ℕ → ℕ → LeafLayout
+  chars_leaf : List ℕ → ℕ → ℕ → LeafLayout
+
+-- a part of a template: a text, or the place of a column of the same table
+pub data PartLayout : Type 0 where
+  literal_part : List ℕ → PartLayout
+  cited_part : ℕ → PartLayout
+
+-- what a column holds. A case has the place of its pick column; a reference the place of its parent's table, the units by which
+-- a parent may be older (None: any) and its spread; a lookup the places of its reference column, of that one's parent and of the
+-- parent's column
+pub data KindLayout : Type 0 where
+  key_kind : KindLayout
+  born_kind : KindLayout
+  changed_kind : KindLayout
+  leaf_kind : LeafLayout → KindLayout
+  template_kind : List PartLayout → KindLayout
+  case_kind : ℕ → List LeafLayout → KindLayout
+  reference_kind : ℕ → Option ℕ → List ℕ → KindLayout
+  lookup_kind : ℕ → ℕ → ℕ → KindLayout
+
+-- a column: what it holds, whether it is drawn anew where a row changes, and how many of a thousand fields are null
+pub record ColumnLayout : Type 0 where
+  pub kind : KindLayout
+  pub changes : Bool
+  pub null : ℕ
+
+-- a table: its births, how long a row lives (None: for good), every how many units it changes (None: never), its keys and columns
+pub record TableLayout : Type 0 where
+  pub births : Births
+  pub life : Option Span
+  pub update : Option ℕ
+  pub key : Keys
+  pub columns : List ColumnLayout
+
+-- a schema: its seed, its last unit, the byte between two fields, and its tables in order
+pub record Layout : Type 0 where
+  pub seed : ℕ
+  pub units : ℕ
+  pub delimiter : ℕ
+  pub tables : List TableLayout
+
+-- ---- what stands at a place
+
+-- the table without rows and columns, which stands past the last table
+abbrev pub no_table : TableLayout
+no_table = record {
+  births = record { rows = 0; insert = 0 };
+  life = None;
+  update = None;
+  key = record { base = 0; scramble = false };
+  columns = [];
+}
+
+-- the table at a place
+abbrev pub table_at : List TableLayout → ℕ → TableLayout
+table_at tables place = slice_index_or tables place no_table
+
+-- the column past the last one holds the empty text
+abbrev pub no_column : ColumnLayout
+no_column = record { kind = template_kind []; changes = false; null = 0 }
+
+-- the column at a place
+abbrev pub column_at : List ColumnLayout → ℕ → ColumnLayout
+column_at columns place = slice_index_or columns place no_column
+
+-- ---- names to places
+
+-- the place of the table with a name
+abbrev pub place_of_table : List Table → List ℕ → ℕ
+place_of_table tables name = position_or_len (λ table. same_text table.name name) tables
+
+-- the place of the column with a name
+abbrev pub place_of_column : List Column → List ℕ → ℕ
+place_of_column columns name = position_or_len (λ column. same_text column.name name) columns
+
+-- the columns of the table at a place
+abbrev pub columns_of : List Table → ℕ → List Column
+columns_of tables place = slice_index_or (map (λ table. table.columns) tables) place []
+
+-- the place of the table that a kind names as its parent; the place past the last one where it names none
+abbrev pub parent_of : List Table → Kind → ℕ
+parent_of tables (kind.Ref table window spread) = place_of_table tables table
+parent_of tables _ = length tables
+
+-- the kinds of some columns
+abbrev pub kinds_of : List Column → List Kind
+kinds_of columns = map (λ column. column.kind) columns
+
+-- the place of the table that the column with a name refers to
+abbrev pub parent_via : List Table → List Column → List ℕ → ℕ
+parent_via tables columns via =
+    parent_of tables (slice_index_or (kinds_of columns) (place_of_column columns via) kind.Born)
+
+-- ---- dictionaries
+
+-- the dictionaries that a drawn value names
+abbrev pub names_in_leaf : Leaf → List (List ℕ)
+names_in_leaf (drawn.Dict file) = file ∷ []
+names_in_leaf (drawn.Words file lo hi) = file ∷ []
+names_in_leaf _ = []
+
+-- the dictionaries that a column names, in order
+abbrev pub names_in_kind : Kind → List (List ℕ)
+names_in_kind (kind.Leaf leaf) = names_in_leaf leaf
+names_in_kind (kind.Case on branches) = flat_map names_in_leaf branches
+names_in_kind _ = []
+
+-- some names with one more, where it isn't among them
+abbrev pub with_name : List (List ℕ) → List ℕ → List (List ℕ)
+with_name names file = if list_any (λ name. same_text name file) names then names else names ++ file ∷ []
+
+-- the dictionaries that tables name, each once, in the order of their first citations
+abbrev pub dictionary_names : List Table → List (List ℕ)
+dictionary_names tables =
+    fold with_name [] (flat_map (λ table. flat_map (λ column. names_in_kind column.kind) table.columns) tables)
+
+-- the place of the dictionary with a name
+abbrev pub place_of_dictionary : List (List ℕ) → List ℕ → ℕ
+place_of_dictionary names file = position_or_len (λ name. same_text name file) names
+
+-- ---- the layout of a schema
+
+abbrev pub leaf_layout : List (List ℕ) → Leaf → LeafLayout
+leaf_layout names (drawn.Int lo hi step) = int_leaf lo hi (count step)
+leaf_layout names (drawn.Fixed lo hi decimals) = fixed_leaf lo hi (count decimals)
+leaf_layout names (drawn.Date lo hi) = date_leaf lo hi
+leaf_layout names (drawn.Pick entries weights) = pick_leaf entries (map count weights)
+leaf_layout names (drawn.Skew lo size power) = skew_leaf lo (count size) (count power)
+leaf_layout names (drawn.Dict file) = dict_leaf (place_of_dictionary names file)
+leaf_layout names (drawn.Words file lo hi) = words_leaf (place_of_dictionary names file) (count lo) (count hi)
+leaf_layout names (drawn.Chars alphabet lo hi) = chars_leaf alphabet (count lo) (count hi)
+
+abbrev pub part_layout : List Column → Part → PartLayout
+part_layout columns (part.Literal bytes) = literal_part bytes
+part_layout columns (part.Cited name) = cited_part (place_of_column columns name)
+
+abbrev pub window_layout : Window → Option ℕ
+window_layout (window.Units units) = Some (count units)
+window_layout window.All = None
+
+abbrev pub kind_layout : List Table → List Column → Kind → KindLayout
+kind_layout tables columns (kind.Key base scramble) = key_kind
+kind_layout tables columns kind.Born = born_kind
+kind_layout tables columns kind.Changed = changed_kind
+kind_layout tables columns (kind.Leaf drawn) = leaf_kind (leaf_layout (dictionary_names tables) drawn)
+kind_layout tables columns (kind.Template parts) = template_kind (map (part_layout columns) parts)
+kind_layout tables columns (kind.Case on branches) =
+    case_kind (place_of_column columns on) (map (leaf_layout (dictionary_names tables)) branches)
+kind_layout tables columns (kind.Ref table window spread) =
+    reference_kind (place_of_table tables table) (window_layout window) (map count spread)
+kind_layout tables columns (kind.Lookup via column) =
+    lookup_kind (place_of_column columns via) (parent_via tables columns via)
+    (place_of_column (columns_of tables (parent_via tables columns via)) column)
+
+abbrev pub column_layout : List Table → List Column → Column → ColumnLayout
+column_layout tables columns column = record {
+  kind = kind_layout tables columns column.kind;
+  changes = column.changes;
+  null = count column.null;
+}
+
+-- the keys that a column of some kind holds
+abbrev pub keys_of_kind : Kind → Keys
+keys_of_kind (kind.Key base scramble) = record { base = count base; scramble = scramble }
+keys_of_kind _ = record { base = 0; scramble = false }
+
+-- the keys of a table, which its first column holds
+abbrev pub keys_of : List Column → Keys
+keys_of columns = keys_of_kind (slice_index_or (kinds_of columns) 0 kind.Born)
+
+abbrev pub births_of : Table → Births
+births_of table = record { rows = count table.rows; insert = count table.insert }
+
+abbrev pub span_of : Life → Span
+span_of life = record { least = count life.lo; most = count life.hi }
+
+abbrev pub table_layout : List Table → Table → TableLayout
+table_layout tables table = record {
+  births = births_of table;
+  life = option_map span_of table.life;
+  update = option_map count table.update;
+  key = keys_of table.columns;
+  columns = map (column_layout tables table.columns) table.columns;
+}
+
+-- the tables of a schema, in order
+abbrev pub table_layouts : List Table → List TableLayout
+table_layouts tables = map (table_layout tables) tables
+
+-- the layout of a schema
+abbrev pub layout_of : Schema → Layout
+layout_of schema = record {
+  seed = count schema.seed;
+  units = count schema.units;
+  delimiter = delimiter_byte schema.delimiter;
+  tables = table_layouts schema.tables;
+}
