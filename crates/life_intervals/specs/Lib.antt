@@ -1,8 +1,7 @@
-pub mod Rules
-pub mod Cohorts
+pub mod Generator
 pub mod Rows
 pub mod Simulation
 pub mod Intervals
 pub mod Keys
-pub mod SchemaRules
+pub mod KeyOrders
 pub mod CohortKeys

@@ -1,35 +1,34 @@
 //! How many rows are born, and when.
 
-ghost use Rattle.std.specs.Prelude.{◌≡◌, ◌<◌, ◌≤◌, ◌+◌, ◌^◌, length};
-ghost use Rattle.schema_check.specs.Counts.{count};
-ghost use Rattle.life_intervals.specs.Cohorts.{born_count, cohort_size, first_ordinal};
-ghost use Rattle.life_intervals.specs.Intervals.{birth};
-ghost use Rattle.life_intervals.specs.SchemaRules.{rows_in_all, rules_of};
+ghost use Rattle.std.specs.Prelude.{◌≡◌, ◌<◌, ◌≤◌, ◌^◌, length};
+ghost use Rattle.schema_check.specs.Cohorts.{born_count};
+ghost use Rattle.life_intervals.specs.CohortKeys.{IsCohort};
+ghost use Rattle.life_intervals.specs.Generator.{last_unit, rows_in_all, table_of};
+ghost use Rattle.life_intervals.specs.Intervals.{LiesIn, birth};
 
 use crate::cohorts::Cohort;
-use crate::tables::birth_rule;
 use schema_check::Plan;
 
 /// How many rows of a table are born in the units 0 to `t`.
 pub fn born(plan: &Plan, table: u32, t: u64) -> u64
-    requires table { table < length plan.now.tables }
-    requires unit { t ≤ count plan.now.units }
-    ensures count { result ≡ born_count (rules_of plan.now table) t }
+    requires table { table < length plan.now.schema.tables }
+    requires unit { t ≤ last_unit plan.now.schema }
+    ensures count { result ≡ born_count (table_of plan.now.schema table).births t }
     ensures limit { result ≤ 2 ^ 40 }
 {
-    let births = birth_rule(plan, table);
+    let _limits = plan.table(table); // the rows of all units are at most 2^40
+    let births = plan.births(table);
     births.rows + births.insert * t
 }
 
 /// The rows of a table that are born at unit `b`.
 pub fn cohort(plan: &Plan, table: u32, b: u64) -> Cohort
-    requires table { table < length plan.now.tables }
-    requires unit { b ≤ count plan.now.units }
-    ensures first { result.first ≡ first_ordinal (rules_of plan.now table) b }
-    ensures size { result.size ≡ cohort_size (rules_of plan.now table) b }
-    ensures limit { result.first + result.size ≤ 2 ^ 40 }
+    requires table { table < length plan.now.schema.tables }
+    requires unit { b ≤ last_unit plan.now.schema }
+    ensures { IsCohort plan.now table b result }
 {
-    let births = birth_rule(plan, table);
+    let _limits = plan.table(table);
+    let births = plan.births(table);
     if b == 0 {
         Cohort {
             first: 0,
@@ -45,14 +44,14 @@ pub fn cohort(plan: &Plan, table: u32, b: u64) -> Cohort
 
 /// The unit at which the row of ordinal `j` is born: the one whose cohort has it.
 pub fn birth(plan: &Plan, table: u32, j: u64) -> u64
-    requires table { table < length plan.now.tables }
-    requires row { j < rows_in_all plan.now table }
-    ensures unit { result ≡ birth (rules_of plan.now table) j }
-    ensures within { result ≤ count plan.now.units }
-    ensures begun { first_ordinal (rules_of plan.now table) result ≤ j }
-    ensures not_ended { j < first_ordinal (rules_of plan.now table) result + cohort_size (rules_of plan.now table) result }
+    requires table { table < length plan.now.schema.tables }
+    requires row { j < rows_in_all plan.now.schema table }
+    ensures unit { result ≡ birth (table_of plan.now.schema table).births (last_unit plan.now.schema) j }
+    ensures within { result ≤ last_unit plan.now.schema }
+    ensures lies { LiesIn (table_of plan.now.schema table).births result j }
 {
-    let births = birth_rule(plan, table);
+    let _limits = plan.table(table);
+    let births = plan.births(table);
     if j < births.rows {
         0
     } else {

@@ -1,25 +1,23 @@
 //! Keys: numbers that the rows of a table hold from a base on, cohort by cohort, in a drawn order within each cohort
 //! where they are scrambled.
 
-ghost use Rattle.std.specs.Prelude.{◌≡◌, ◌≢◌, ◌<◌, ◌≤◌, ◌↔◌, ℕ, ◌+◌, ◌^◌, Some, IfSome, IsNone, length};
-ghost use Rattle.philox_seeds.specs.SeedTree as seeds;
-ghost use Rattle.schema_check.specs.Counts.{count};
-ghost use Rattle.schema_check.specs.Costs.{one_if};
-ghost use Rattle.life_intervals.specs.Cohorts.{cohort_size};
-ghost use Rattle.life_intervals.specs.Keys.{is_scrambled, key_base, key_in_cohort, key_of, place_in_cohort};
-ghost use Rattle.life_intervals.specs.SchemaRules.{rows_in_all, rules_of, schema_rules};
+ghost use Rattle.std.specs.Prelude.{◌≡◌, ◌≢◌, ◌<◌, ◌≤◌, ◌↔◌, ℕ, ◌+◌, Some, IfSome, IsNone, length};
+ghost use Rattle.schema_check.specs.Cohorts.{cohort_size};
+ghost use Rattle.schema_check.specs.Lineage.{one_if};
+ghost use Rattle.life_intervals.specs.Generator.{generator_of, last_unit, rows_in_all, table_of};
+ghost use Rattle.life_intervals.specs.KeyOrders.{key_order};
+ghost use Rattle.life_intervals.specs.Keys.{key_in_cohort, key_of, place_in_cohort};
 
 use crate::births::{birth, born, cohort};
 use crate::cohorts::Cohort;
-use crate::tables::{KeyRule, key_rule};
-use id_permutation::Shuffle;
-use philox_seeds::{KEY_COLUMN, permutation_seed};
+use crate::orders::key_order;
+use id_permutation::Order;
 use schema_check::Plan;
 use std::marker::Model;
 use std::sync::ledger::Ledger;
 use step_count::Steps;
 
-/// The keys of a cohort, with what doesn't change from row to row. A contract sees the schema, the table and the unit.
+/// The keys of a cohort, with what doesn't change from row to row. A contract sees the plan, the table and the unit.
 #[derive(Drop)]
 pub struct CohortKeys<'a> {
     plan: &'a Plan,
@@ -27,7 +25,7 @@ pub struct CohortKeys<'a> {
     unit: u64,
     base: u64,
     cohort: Cohort,
-    order: Option<Shuffle>,
+    order: &'a Order,
 }
 
 impl<'a> Model for CohortKeys<'a> {
@@ -35,106 +33,85 @@ impl<'a> Model for CohortKeys<'a> {
 
     ghost Value = { CohortOf };
 
-    ghost view = { λ k. record { schema = k.plan.now; table = k.table; unit = k.unit } };
+    ghost view = { λ k. record { plan = k.plan.now; table = k.table; unit = k.unit } };
 
-    ghost invariant = { λ k. AreKeysOf k.plan.now k.table k.unit k.base k.cohort k.order };
+    ghost invariant = { λ k. AreKeysOf k.plan.now k.table k.unit k.base k.cohort k.order.now };
 }
 
 impl<'a> CohortKeys<'a> {
-    /// The keys of the rows of a table that are born at a unit.
-    pub fn new(plan: &'a Plan, table: u32, unit: u64) -> CohortKeys<'a>
-        requires table { table < length plan.now.tables }
-        requires unit { unit ≤ count plan.now.units }
-        ensures { result ≡ record { schema = plan.now; table = table; unit = unit } }
+    /// The keys of the rows of a table that are born at a unit, by their order.
+    pub fn new(plan: &'a Plan, table: u32, unit: u64, order: &'a Order) -> CohortKeys<'a>
+        requires table { table < length plan.now.schema.tables }
+        requires unit { unit ≤ last_unit plan.now.schema }
+        requires order { order.now ≡ key_order plan.now.schema table unit }
+        ensures { result ≡ record { plan = plan.now; table = table; unit = unit } }
     {
-        let KeyRule { base, scramble } = key_rule(plan, table);
-        let cohort = cohort(plan, table, unit);
-        let order = if scramble && cohort.size > 0 {
-            Some(key_order(plan, table, unit, cohort.size))
-        } else {
-            None
-        };
+        let _limits = plan.table(table);
         CohortKeys {
             plan,
             table,
             unit,
-            base,
-            cohort,
+            base: plan.keys(table).base,
+            cohort: cohort(plan, table, unit),
             order,
         }
     }
 
     /// The key of the row with this index in the cohort. It takes one step where the keys are scrambled, else none.
+    #[inline]
     pub fn key<L: Ledger>(&self, index: u64, steps: &mut Steps<L>) -> u64
-        requires { index < cohort_size (rules_of self.now.schema self.now.table) self.now.unit }
-        ensures key { result ≡ key_in_cohort (schema_rules self.now.schema) self.now.table self.now.unit index }
-        ensures steps { steps.new ≡ steps.old + one_if (is_scrambled (rules_of self.now.schema self.now.table)) }
+        requires { index < cohort_size (table_of self.now.plan.schema self.now.table).births self.now.unit }
+        ensures key { result ≡ key_in_cohort (generator_of self.now.plan.schema) self.now.table self.now.unit index }
+        ensures steps { steps.new ≡ steps.old + one_if (table_of self.now.plan.schema self.now.table).key.scramble }
     {
-        let place = match &self.order {
-            Some(order) => order.place(index, steps),
-            None => index,
-        };
-        self.base + self.cohort.first + place
+        self.base + self.cohort.first + self.order.place(index, steps)
     }
 
-    /// The index of the row whose key has this place among the cohort's. It takes at most one step, and none where the
-    /// keys aren't scrambled.
+    /// The index of the row whose key has this place among the cohort's. It takes one step where the keys are scrambled, else
+    /// none.
     fn index_of<L: Ledger>(&self, place: u64, steps: &mut Steps<L>) -> u64
-        requires { place < cohort_size (rules_of self.now.schema self.now.table) self.now.unit }
-        ensures below { result < cohort_size (rules_of self.now.schema self.now.table) self.now.unit }
-        ensures has_it { place_in_cohort (schema_rules self.now.schema) self.now.table self.now.unit result ≡ place }
-        ensures steps { steps.new ≤ steps.old + one_if (is_scrambled (rules_of self.now.schema self.now.table)) }
+        requires { place < cohort_size (table_of self.now.plan.schema self.now.table).births self.now.unit }
+        ensures below { result < cohort_size (table_of self.now.plan.schema self.now.table).births self.now.unit }
+        ensures has_it { place_in_cohort (generator_of self.now.plan.schema) self.now.table self.now.unit result ≡ place }
+        ensures steps { steps.new ≡ steps.old + one_if (table_of self.now.plan.schema self.now.table).key.scramble }
     {
-        match &self.order {
-            Some(order) => order.unplace(place, steps),
-            None => place,
-        }
+        self.order.unplace(place, steps)
     }
-}
-
-/// The order of the keys of a cohort.
-fn key_order(plan: &Plan, table: u32, unit: u64, size: u64) -> Shuffle
-    requires some { 1 ≤ size }
-    requires small { size ≤ 2 ^ 40 }
-    ensures size { result.size ≡ size }
-    ensures seed { result.seed ≡ seeds.permutation_seed (count plan.now.seed) table seeds.key_column unit }
-{
-    let seed = permutation_seed(plan.schema().seed as u64, table, KEY_COLUMN, unit);
-    Shuffle::new(size, seed)
 }
 
 /// The key of the row of ordinal `j`, which no other row of its table has. It takes one step where the keys are
 /// scrambled, else none.
 pub fn key<L: Ledger>(plan: &Plan, table: u32, j: u64, steps: &mut Steps<L>) -> u64
-    requires table { table < length plan.now.tables }
-    requires row { j < rows_in_all plan.now table }
-    ensures key { result ≡ key_of (schema_rules plan.now) table j }
-    ensures from_base { key_base (rules_of plan.now table) ≤ result }
-    ensures within { result < key_base (rules_of plan.now table) + rows_in_all plan.now table }
-    ensures its_own { (i : ℕ) → i < rows_in_all plan.now table → key_of (schema_rules plan.now) table i ≡ result → i ≡ j }
-    ensures steps { steps.new ≡ steps.old + one_if (is_scrambled (rules_of plan.now table)) }
+    requires table { table < length plan.now.schema.tables }
+    requires row { j < rows_in_all plan.now.schema table }
+    ensures key { result ≡ key_of (generator_of plan.now.schema) table (last_unit plan.now.schema) j }
+    ensures steps { steps.new ≡ steps.old + one_if (table_of plan.now.schema table).key.scramble }
 {
     let unit = birth(plan, table, j);
     let index = j - cohort(plan, table, unit).first;
-    CohortKeys::new(plan, table, unit).key(index, steps)
+    let order = key_order(plan, table, unit);
+    CohortKeys::new(plan, table, unit, &order).key(index, steps)
 }
 
 /// The ordinal of the row of the units 0 to the last that has a key; None exactly where no row has it. It takes at most
 /// one step, and none where the keys aren't scrambled.
 pub fn row_of_key<L: Ledger>(plan: &Plan, table: u32, key: u64, steps: &mut Steps<L>) -> Option<u64>
-    requires { table < length plan.now.tables }
-    ensures within { IfSome result (λ j. j < rows_in_all plan.now table) }
-    ensures has_it { IfSome result (λ j. key_of (schema_rules plan.now) table j ≡ key) }
-    ensures found { (j : ℕ) → j < rows_in_all plan.now table → key_of (schema_rules plan.now) table j ≡ key → result ≡ Some j }
-    ensures none { IsNone result ↔ ((j : ℕ) → j < rows_in_all plan.now table → key_of (schema_rules plan.now) table j ≢ key) }
-    ensures steps { steps.new ≤ steps.old + one_if (is_scrambled (rules_of plan.now table)) }
+    requires { table < length plan.now.schema.tables }
+    ensures within { IfSome result (λ j. j < rows_in_all plan.now.schema table) }
+    ensures has_it { IfSome result (λ j. key_of (generator_of plan.now.schema) table (last_unit plan.now.schema) j ≡ key) }
+    ensures found { (j : ℕ) → j < rows_in_all plan.now.schema table →
+        key_of (generator_of plan.now.schema) table (last_unit plan.now.schema) j ≡ key → result ≡ Some j }
+    ensures none { IsNone result ↔ ((j : ℕ) → j < rows_in_all plan.now.schema table →
+        key_of (generator_of plan.now.schema) table (last_unit plan.now.schema) j ≢ key) }
+    ensures steps { steps.new ≤ steps.old + one_if (table_of plan.now.schema table).key.scramble }
 {
-    let base = key_rule(plan, table).base;
+    let base = plan.keys(table).base;
     if key < base || key - base >= born(plan, table, plan.units()) {
         return None;
     }
     let unit = birth(plan, table, key - base);
     let first = cohort(plan, table, unit).first;
-    let place = key - base - first;
-    Some(first + CohortKeys::new(plan, table, unit).index_of(place, steps))
+    let order = key_order(plan, table, unit);
+    let keys = CohortKeys::new(plan, table, unit, &order);
+    Some(first + keys.index_of(key - base - first, steps))
 }

@@ -5,19 +5,21 @@
 //! `specs/`, beside the simulation that defines the generated data, lists of rows stepped unit by unit; `laws` has its
 //! laws.
 //!
-//! A table is named by its place in the schema, counted from 0. No call takes memory.
+//! A table is named by its place in the schema, counted from 0. Only `key_orders` takes memory.
 #![tactic(auto)]
 
 mod births;
 mod cohorts;
 mod keys;
 pub mod laws;
-mod tables;
+mod memory;
+mod orders;
 
 pub use births::{birth, born, cohort};
 pub use cohorts::Cohort;
 pub use keys::{CohortKeys, key, row_of_key};
-pub use tables::table_of;
+pub use memory::Memory;
+pub use orders::{key_order, key_orders};
 
 #[cfg(test)]
 mod tests;

@@ -1,0 +1,61 @@
+-- What generated data follow: the tables, the order of places in each cohort, the draws, and the byte between two fields.
+use Rattle.std.specs.Prelude.{ℕ, List}
+use Rattle.philox_seeds.specs.SeedTree.{table_seed, column_seed, unit_seed, row_seed, draw, permutation_seed}
+use Rattle.id_permutation.specs.Placement as placement
+use Rattle.schema_model.specs.declared.table.Schema.{Schema}
+use Rattle.schema_check.specs.Cohorts.{born_count, cohort_size}
+use Rattle.schema_check.specs.Layout.{Layout, layout_of, TableLayout, table_at}
+
+-- the place of an index, for a table, a purpose, a unit and an index in the unit's cohort
+abbrev pub Order : Type 0
+Order = ℕ → ℕ → ℕ → ℕ → ℕ
+
+-- a draw, for a table, a column, a unit, an ordinal and the draw's number
+abbrev pub Draw : Type 0
+Draw = ℕ → ℕ → ℕ → ℕ → ℕ → ℕ
+
+-- the tables in schema order, and what is drawn. The last unit is no part of it: data of a unit don't depend on how many follow
+pub record Generator : Type 0 where
+  pub tables : List TableLayout
+  pub order : Order
+  pub draw : Draw
+  pub delimiter : ℕ
+
+-- the order in which each index is its own place
+abbrev pub in_place : Order
+in_place table purpose unit index = index
+
+-- the place of an index among those of its cohort, by the permutation that the project's seed gives the cohort
+abbrev pub seeded_order : ℕ → List TableLayout → Order
+seeded_order seed tables table purpose unit index =
+    placement.place (cohort_size (table_at tables table).births unit) (permutation_seed seed table purpose unit) index
+
+-- a draw of a row's seed, down the tree of seeds from the project's
+abbrev pub seeded_draw : ℕ → Draw
+seeded_draw seed table column unit ordinal number =
+    draw (row_seed (unit_seed (column_seed (table_seed seed table) column) unit) ordinal) number
+
+-- the generator of a layout
+abbrev pub generator_by : Layout → Generator
+generator_by layout = record {
+  tables = layout.tables;
+  order = seeded_order layout.seed layout.tables;
+  draw = seeded_draw layout.seed;
+  delimiter = layout.delimiter;
+}
+
+-- the generator of a schema
+abbrev pub generator_of : Schema → Generator
+generator_of schema = generator_by (layout_of schema)
+
+-- the layout of the table at a place of a schema, counted from 0
+abbrev pub table_of : Schema → ℕ → TableLayout
+table_of schema place = table_at (layout_of schema).tables place
+
+-- the last unit of a schema
+abbrev pub last_unit : Schema → ℕ
+last_unit schema = (layout_of schema).units
+
+-- how many rows of the table at a place are born in all units of a schema
+abbrev pub rows_in_all : Schema → ℕ → ℕ
+rows_in_all schema place = born_count (table_of schema place).births (last_unit schema)

@@ -1,0 +1,73 @@
+//! The orders of the keys of cohorts.
+
+ghost use Rattle.std.specs.Prelude.{◌≡◌, ◌<◌, ◌≤◌, IfOk, length};
+ghost use Rattle.life_intervals.specs.Generator.{last_unit};
+ghost use Rattle.life_intervals.specs.KeyOrders.{key_order, key_orders};
+
+use crate::births::cohort;
+use crate::memory::Memory;
+use id_permutation::Order;
+use philox_seeds::key_order_seed;
+use schema_check::Plan;
+use std::alloc::Global;
+
+/// The most entries that the tables of a table's key orders have together. Of 4 bytes each, they take at most 4 MiB.
+const MOST_ENTRIES: u64 = 1 << 20;
+
+/// The order of the keys of the rows of a table that are born at a unit, in no memory.
+pub fn key_order(plan: &Plan, table: u32, unit: u64) -> Order
+    requires table { table < length plan.now.schema.tables }
+    requires unit { unit ≤ last_unit plan.now.schema }
+    ensures { result ≡ key_order plan.now.schema table unit }
+{
+    let size = cohort(plan, table, unit).size;
+    if plan.keys(table).scramble && size > 0 {
+        Order::by_rounds(size, key_order_seed(plan.seed(), table, unit))
+    } else {
+        Order::in_place(size)
+    }
+}
+
+/// The same, by tables where they pay for all rows of the cohort and have at most this many entries.
+fn key_order_within(
+    alloc: Global,
+    plan: &Plan,
+    table: u32,
+    unit: u64,
+    entries: u64,
+) -> Result<Order, Memory>
+    requires table { table < length plan.now.schema.tables }
+    requires unit { unit ≤ last_unit plan.now.schema }
+    ensures { IfOk result (λ order. order ≡ key_order plan.now.schema table unit) }
+{
+    let size = cohort(plan, table, unit).size;
+    if plan.keys(table).scramble && size > 0 && table_entries(size) <= entries {
+        let seed = key_order_seed(plan.seed(), table, unit);
+        Ok(Order::for_rows(alloc, size, seed, size)?)
+    } else {
+        Ok(key_order(plan, table, unit))
+    }
+}
+
+/// At least as many entries as the tables of an order of so many numbers have.
+fn table_entries(size: u64) -> u64 {
+    6 * (size.isqrt() + 1)
+}
+
+/// The orders of the keys of a table's cohorts, unit by unit from 0 to `last`. Where they are scrambled, they take up to 4 MiB for
+/// tables by which places are found in a tenth of the time. At `Memory` none are made.
+pub fn key_orders(alloc: Global, plan: &Plan, table: u32, last: u64) -> Result<Vec<Order>, Memory>
+    requires table { table < length plan.now.schema.tables }
+    requires unit { last ≤ last_unit plan.now.schema }
+    ensures { IfOk result (λ orders. orders.items ≡ key_orders plan.now.schema table last) }
+{
+    let _limits = plan.schema();
+    let mut orders = Vec::new(alloc);
+    let mut entries = MOST_ENTRIES;
+    for unit in 0..last + 1 {
+        let order = key_order_within(alloc, plan, table, unit, entries)?;
+        entries = entries.saturating_sub(table_entries(order.size()));
+        orders.push(order)?;
+    }
+    Ok(orders)
+}
