@@ -42,15 +42,15 @@ impl RoundPair {
         requires few { index < 6 }
         ensures { IfOk result (λ pair. IsPair network.now index pair) }
     {
+        let Network {
+            seed,
+            height,
+            width,
+            ..
+        } = *network;
         Ok(RoundPair {
-            even: round_values(alloc, network.seed, index, network.height, network.width)?,
-            odd: round_values(
-                alloc,
-                network.seed,
-                index + 1,
-                network.width,
-                network.height,
-            )?,
+            even: round_values(alloc, seed, index, height, width)?,
+            odd: round_values(alloc, seed, index + 1, width, height)?,
         })
     }
 
@@ -64,14 +64,10 @@ impl RoundPair {
             (round network.now.height network.now.width network.now.seed index halves) }
         ensures within { IsWithin network.now.height network.now.width result }
     {
-        let left = reduce(
-            halves.left + self.even_value(network, index, halves.right),
-            network.height,
-        );
-        let right = reduce(
-            halves.right + self.odd_value(network, index, left),
-            network.width,
-        );
+        let added = self.even_value(network, index, halves.right);
+        let left = reduce(halves.left + added, network.height);
+        let added = self.odd_value(network, index, left);
+        let right = reduce(halves.right + added, network.width);
         Halves { left, right }
     }
 
