@@ -5,4 +5,7 @@ pub mod ModuloLaws
 pub mod SideLaws
 pub mod RoundLaws
 pub mod PlacementLaws
+pub mod OrderLaws
+pub mod TableLaws
+pub mod LoopLaws
 pub mod WorkedValues

@@ -1,6 +1,6 @@
 -- Adding a number modulo m, and taking it away again.
 use Rattle.std.proofs.Common.{◌≡◌, ℕ, ◌+◌, ◌-◌, ◌*◌, ◌/◌, ◌%◌, ◌<◌, ◌≤◌, sym, ap, ◌∙◌, arith}
-use Rattle.std.proofs.Math.Nat.{add-mod-mod, mod-add-mod, mod-eq-sub-mod, mod-eq_of_lt, div-add-mod, add-mul-mod_self_left}
+use Rattle.std.proofs.Math.Nat.{mod-add-mod, mod-eq_of_lt, div-add-mod, add-mul-mod_self_left}
 use Rattle.std.proofs.lemmas.Nat.{mod_below}
 
 -- c and what it lacks of a multiple of m leave a number below m alone
@@ -19,22 +19,13 @@ add_modulo-undone x c m h =
     ∙ add_and_rest x c m h
 
 -- taken away, with m lent, and added
-pub rest_and_add : (x c m : ℕ) → x < m → (x + (m - c % m) + c) % m ≡ x
-rest_and_add x c m h =
-    ap (λ (k : ℕ). k % m) (let regrouped : x + (m - c % m) + c ≡ x + (c + (m - c % m)) = omega arith in regrouped)
+pub lacking_and_add : (x c m : ℕ) → x < m → ((x + (m - c % m)) % m + c) % m ≡ x
+lacking_and_add x c m h =
+    mod-add-mod (x + (m - c % m)) m c
+    ∙ ap (λ (k : ℕ). k % m) (let regrouped : x + (m - c % m) + c ≡ x + (c + (m - c % m)) = omega arith in regrouped)
     ∙ add_and_rest x c m h
 
 -- adding is one-to-one
 pub add_modulo-one : (x y c m : ℕ) → x < m → y < m → (x + c) % m ≡ (y + c) % m → x ≡ y
 add_modulo-one x y c m hx hy e =
     sym (add_modulo-undone x c m hx) ∙ ap (λ (k : ℕ). (k + (m - c % m)) % m) e ∙ add_modulo-undone y c m hy
-
--- the sum of two numbers below m, by at most one subtraction
-pub add_modulo-small : (x c m : ℕ) → x < m → x + c % m < m → x + c % m ≡ (x + c) % m
-add_modulo-small x c m hx h = sym (mod-eq_of_lt h) ∙ add-mod-mod x c m
-
-pub add_modulo-large : (x c m : ℕ) → x < m → m ≤ x + c % m → x + c % m - m ≡ (x + c) % m
-add_modulo-large x c m hx h =
-    let low : c % m < m = mod_below c m (omega arith) in
-    let rest : x + c % m - m < m = omega arith in
-    sym (mod-eq_of_lt rest) ∙ sym (mod-eq-sub-mod h) ∙ add-mod-mod x c m

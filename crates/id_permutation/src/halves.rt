@@ -1,12 +1,23 @@
 //! The two halves of a number, and addition modulo a side.
 
-ghost use Rattle.std.specs.Prelude.{◌≡◌, ◌+◌, ◌-◌, ◌%◌, ◌<◌, ◌≤◌, ◌^◌};
+ghost use Rattle.std.specs.Prelude.{◌≡◌, ◌+◌, ◌*◌, ◌%◌, ◌<◌, ◌≤◌, ◌^◌};
 
 /// The halves of a number of a rectangle: the row that it lies in, and its place in that row.
 #[derive(Clone, Copy)]
 pub struct Halves {
     pub left: u64,
     pub right: u64,
+}
+
+/// `x` modulo `modulus`. It takes no branch, which in a round would be guessed wrong half of the time.
+#[inline(always)]
+pub fn reduce(x: u64, modulus: u64) -> u64
+    requires below_twice { x < 2 * modulus }
+    requires small { modulus ≤ 2 ^ 32 }
+    ensures exact { result ≡ x % modulus }
+    ensures below { result < modulus }
+{
+    x.min(x.wrapping_sub(modulus)) // which wraps to a larger number where `x` is below `modulus`
 }
 
 /// `x + addend` modulo `modulus`.
@@ -16,8 +27,7 @@ pub fn add_modulo(x: u64, addend: u64, modulus: u64) -> u64
     requires small { modulus ≤ 2 ^ 32 }
     ensures { result ≡ (x + addend) % modulus }
 {
-    let sum = x + addend % modulus;
-    if sum < modulus { sum } else { sum - modulus }
+    reduce(x + addend % modulus, modulus)
 }
 
 /// The number that gives `x` when `subtrahend` is added to it modulo `modulus`.
@@ -28,10 +38,5 @@ pub fn subtract_modulo(x: u64, subtrahend: u64, modulus: u64) -> u64
     ensures below { result < modulus }
     ensures undone { (result + subtrahend) % modulus ≡ x }
 {
-    let taken = subtrahend % modulus;
-    if taken <= x {
-        x - taken
-    } else {
-        x + (modulus - taken)
-    }
+    reduce(x + (modulus - subtrahend % modulus), modulus)
 }

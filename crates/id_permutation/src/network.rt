@@ -19,12 +19,15 @@ pub struct Network {
     ghost small: { size ≤ 2 ^ 40 },
     ghost tall: { height ≡ height_of size },
     ghost wide: { width ≡ width_of size },
+    ghost rows: { 0 < height },
+    ghost columns: { 0 < width },
     ghost low: { height ≤ 2 ^ 20 },
     ghost narrow: { width ≤ 2 ^ 20 },
 }
 
+/// The number of the function of round `index` at `half`.
 #[inline(always)]
-fn round_number(seed: u64, index: u32, half: u64) -> u64
+pub fn round_number(seed: u64, index: u32, half: u64) -> u64
     requires { half < 2 ^ 32 }
     ensures { result ≡ round_number seed index half }
 {
@@ -113,8 +116,9 @@ impl Network {
         }
     }
 
+    /// The number of two halves.
     #[inline(always)]
-    fn join(&self, halves: Halves) -> u64
+    pub fn join(&self, halves: Halves) -> u64
         requires { IsWithin self.now.height self.now.width halves }
         ensures exact { result ≡ number_of self.now.width halves }
         ensures within { result < self.now.height * self.now.width }

@@ -1,6 +1,6 @@
 //! A permutation as its callers see it: its size, its seed, and the steps that it takes.
 
-ghost use Rattle.std.specs.Prelude.{◌≡◌, ◌+◌, ◌<◌, ◌≤◌, ◌^◌};
+ghost use Rattle.std.specs.Prelude.{◌≡◌, ◌+◌, ◌<◌, ◌≤◌, ◌^◌, All, length, map};
 ghost use Rattle.id_permutation.specs.Walk.{IsBijectionBelow, AreInversesBelow};
 ghost use Rattle.id_permutation.specs.Placement.{Permutation, IsFoundWithinHeight, place, unplace};
 
@@ -60,5 +60,23 @@ impl Shuffle {
     {
         steps.tick(); // the one step of an inverse
         self.network.unplace(y)
+    }
+
+    /// Puts the place of each number over it, both from 0 to n - 1. Each counts as one step.
+    pub fn places<L: Ledger>(&self, numbers: &mut [u64], steps: &mut Steps<L>)
+        requires below { All (λ x. x < self.now.size) numbers.old }
+        ensures exact { numbers.new ≡ map (λ x. place self.now.size self.now.seed x) numbers.old }
+        ensures steps { steps.new ≡ steps.old + length numbers.old }
+    {
+        for number in numbers.iter_mut() {
+            *number = self.place(*number, steps);
+        }
+    }
+
+    /// How many numbers it permutes.
+    pub fn size(&self) -> u64
+        ensures { result ≡ self.now.size }
+    {
+        self.network.size
     }
 }
