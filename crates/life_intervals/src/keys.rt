@@ -13,7 +13,7 @@ use crate::births::{birth, born, cohort};
 use crate::cohorts::Cohort;
 use crate::tables::{KeyRule, key_rule};
 use id_permutation::Shuffle;
-use philox_seeds::{KEY_COLUMN, permutation_seed};
+use philox_seeds::key_order_seed;
 use schema_check::Plan;
 use std::marker::Model;
 use std::sync::ledger::Ledger;
@@ -99,7 +99,7 @@ fn key_order(plan: &Plan, table: u32, unit: u64, size: u64) -> Shuffle
     ensures size { result.size ≡ size }
     ensures seed { result.seed ≡ seeds.permutation_seed (count plan.now.seed) table seeds.key_column unit }
 {
-    let seed = permutation_seed(plan.schema().seed as u64, table, KEY_COLUMN, unit);
+    let seed = key_order_seed(plan.schema().seed as u64, table, unit);
     Shuffle::new(size, seed)
 }
 
