@@ -70,3 +70,19 @@ update_column = 66
 abbrev pub permutation_seed : ℕ → ℕ → ℕ → ℕ → ℕ
 permutation_seed project table column unit =
     unit_seed (column_seed (table_seed project table) column) unit
+
+-- the seed of the order of the keys of a cohort: of a table's rows that are born at a unit
+abbrev pub key_order_seed : ℕ → ℕ → ℕ → ℕ
+key_order_seed project table unit = permutation_seed project table key_column unit
+
+-- the seed of the order of the lives of a cohort
+abbrev pub life_order_seed : ℕ → ℕ → ℕ → ℕ
+life_order_seed project table unit = permutation_seed project table life_column unit
+
+-- the seed of the order of the updates of a cohort
+abbrev pub update_order_seed : ℕ → ℕ → ℕ → ℕ
+update_order_seed project table unit = permutation_seed project table update_column unit
+
+-- the seed of the order in which the references of a cohort, in this column, find their rows
+abbrev pub reference_order_seed : ℕ → ℕ → ℕ → ℕ → ℕ
+reference_order_seed project table column unit = permutation_seed project table column unit

@@ -4,13 +4,15 @@
 //! Every call is a pure function of its arguments: it is total, keeps no state and takes no memory.
 #![tactic(auto)]
 
+mod batches;
 mod block;
 mod tree;
 
+pub use batches::{draws, row_seeds, run_row_seeds, run_row_seeds_by_unit};
 pub use block::philox4x32_10;
 pub use tree::{
-    KEY_COLUMN, LIFE_COLUMN, UPDATE_COLUMN, child, column_seed, draw, keyed_number,
-    permutation_seed, row_seed, table_seed, unit_seed,
+    child, column_seed, draw, key_order_seed, keyed_number, life_order_seed, reference_order_seed,
+    row_seed, table_seed, unit_seed, update_order_seed,
 };
 
 #[cfg(test)]

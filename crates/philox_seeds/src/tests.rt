@@ -54,12 +54,69 @@ fn seeds_go_down_the_tree(rt: HostRuntime) {
     );
     let table = table_seed(project, 3);
     assert_eq!(rt; table, 0x88d7_e3d6_d20f_49ea);
-    let column = column_seed(table, KEY_COLUMN);
-    assert_eq!(rt; column, 0x7f7a_84a6_13f1_7c18);
-    let unit = unit_seed(column, 12);
+    let unit = unit_seed(column_seed(table, 64), 12);
     assert_eq!(rt; unit, 0x0663_a25b_d675_e282);
-    assert_eq!(rt; permutation_seed(project, 3, KEY_COLUMN, 12), unit);
     let row = row_seed(unit, 0xff_ffff_ffff);
     assert_eq!(rt; row, 0xc4c7_f065_1b9b_c3b9);
     assert_eq!(rt; draw(row, 9), 0x0cbb_3f4c_aaac_6a7f);
+    assert_eq!(rt; key_order_seed(project, 3, 12), unit);
+    assert_eq!(rt; life_order_seed(project, 3, 12), 0x2297_dcb2_4ed2_5178);
+    assert_eq!(rt; update_order_seed(project, 3, 12), 0x5192_c3a7_7e94_d38c);
+    assert_eq!(rt;
+        reference_order_seed(project, 3, 2, 12),
+        0x9630_41f1_8317_0b97
+    );
+}
+
+// The Python program.
+#[test]
+fn slices_hold_the_single_values(rt: HostRuntime) {
+    let unit = 0x0663_a25b_d675_e282;
+    let mut seeds = [0, 1, u64::MAX, unit];
+    draws(&mut seeds, 9);
+    assert_eq!(rt;
+        seeds,
+        [
+            0xce73_25a7_5884_3c5a,
+            0xe002_1e48_db30_2758,
+            0x60e2_88f5_ec05_5ef1,
+            0xcd45_ac78_f0ec_9fed
+        ]
+    );
+    let mut seeds = [0, 1, 1 << 32, 0xff_ffff_ffff];
+    row_seeds(unit, &mut seeds);
+    assert_eq!(rt;
+        seeds,
+        [
+            0xe576_ac76_8ff7_465f,
+            0x1a37_41bd_e5cc_a547,
+            0xc020_354a_520b_624a,
+            0xc4c7_f065_1b9b_c3b9
+        ]
+    );
+    // The ordinals of a run pass 2^32, or end with the last one.
+    run_row_seeds(unit, 0xffff_fffe, &mut seeds);
+    assert_eq!(rt;
+        seeds,
+        [
+            0xb11a_8af5_a66d_f11b,
+            0xf18a_12e7_9852_a7f7,
+            0xc020_354a_520b_624a,
+            0x1f72_76c7_f35d_e3ab
+        ]
+    );
+    let mut last = [0; 2];
+    run_row_seeds(unit, u64::MAX - 1, &mut last);
+    assert_eq!(rt; last, [0xadd6_db25_0ab8_5c34, 0xd068_a4a7_b63c_f1bd]);
+    let mut seeds = [unit, 0x88d7_e3d6_d20f_49ea, 0, unit];
+    run_row_seeds_by_unit(0xffff_fffe, &mut seeds);
+    assert_eq!(rt;
+        seeds,
+        [
+            0xb11a_8af5_a66d_f11b,
+            0x8428_cb75_31b6_d8a4,
+            0x5ca1_de91_0fae_8d51,
+            0x1f72_76c7_f35d_e3ab
+        ]
+    );
 }

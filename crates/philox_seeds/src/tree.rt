@@ -2,16 +2,18 @@
 
 ghost use Rattle.std.specs.Prelude.{◌≡◌, ℕ, slice_index};
 ghost use Rattle.philox_seeds.specs.Philox.{high_word, low_word};
-ghost use Rattle.philox_seeds.specs.SeedTree.{joined, keyed_number, child, table_seed, column_seed, unit_seed, row_seed, draw, permutation_seed};
+ghost use Rattle.philox_seeds.specs.SeedTree.{joined, keyed_number, child, table_seed, column_seed, unit_seed, row_seed, draw, permutation_seed, key_order_seed, life_order_seed, update_order_seed, reference_order_seed};
 
 use crate::block::{Key, Words, block, high_word, low_word};
 
-/// The column number that stands for the permutation of a table's keys, 64.
-pub const KEY_COLUMN: u32 = 64;
-/// The column number that stands for the permutation of a table's lives, 65.
-pub const LIFE_COLUMN: u32 = 65;
-/// The column number that stands for the permutation of a table's updates, 66.
-pub const UPDATE_COLUMN: u32 = 66;
+/// The column that stands for the order of a table's keys.
+const KEY_COLUMN: u32 = 64;
+
+/// The column that stands for the order of a table's lives.
+const LIFE_COLUMN: u32 = 65;
+
+/// The column that stands for the order of a table's updates.
+const UPDATE_COLUMN: u32 = 66;
 
 const TABLE_LEVEL: u32 = 1;
 
@@ -80,7 +82,7 @@ pub fn table_seed(seed: u64, table: u32) -> u64
     child(seed, TABLE_LEVEL, u64::from(table))
 }
 
-/// The seed of the column with this place in its table, from 0, or of a purpose column, below the table's seed.
+/// The seed of the column with this place in its table, from 0, below the table's seed.
 #[inline]
 pub fn column_seed(seed: u64, column: u32) -> u64
     ensures seed { result ≡ column_seed seed column }
@@ -89,7 +91,7 @@ pub fn column_seed(seed: u64, column: u32) -> u64
 }
 
 /// The seed of a time unit, below a column's seed.
-#[inline]
+#[inline(always)]
 pub fn unit_seed(seed: u64, unit: u64) -> u64
     ensures seed { result ≡ unit_seed seed unit }
 {
@@ -119,11 +121,43 @@ pub fn draw(seed: u64, n: u32) -> u64
     number_at(seed, counter)
 }
 
-/// The seed of a permutation of a cohort: of the table, of the purpose column or the reference's own, and of the time unit
-/// that the cohort was born at, below the project's seed.
+/// The seed of the order of the keys of a cohort: of the table with this place, born at this time unit, below the project's
+/// seed.
 #[inline]
-pub fn permutation_seed(seed: u64, table: u32, column: u32, unit: u64) -> u64
-    ensures seed { result ≡ permutation_seed seed table column unit }
+pub fn key_order_seed(seed: u64, table: u32, unit: u64) -> u64
+    ensures seed { result ≡ key_order_seed seed table unit }
+{
+    order_seed(seed, table, KEY_COLUMN, unit)
+}
+
+/// The seed of the order of the lives of a cohort.
+#[inline]
+pub fn life_order_seed(seed: u64, table: u32, unit: u64) -> u64
+    ensures seed { result ≡ life_order_seed seed table unit }
+{
+    order_seed(seed, table, LIFE_COLUMN, unit)
+}
+
+/// The seed of the order of the updates of a cohort.
+#[inline]
+pub fn update_order_seed(seed: u64, table: u32, unit: u64) -> u64
+    ensures seed { result ≡ update_order_seed seed table unit }
+{
+    order_seed(seed, table, UPDATE_COLUMN, unit)
+}
+
+/// The seed of the order in which the references of a cohort, in the column with this place, find their rows.
+#[inline]
+pub fn reference_order_seed(seed: u64, table: u32, column: u32, unit: u64) -> u64
+    ensures seed { result ≡ reference_order_seed seed table column unit }
+{
+    order_seed(seed, table, column, unit)
+}
+
+/// The seed of an order of a cohort, of a column or of one that stands for a purpose.
+#[inline]
+fn order_seed(seed: u64, table: u32, column: u32, unit: u64) -> u64
+    ensures { result ≡ permutation_seed seed table column unit }
 {
     unit_seed(column_seed(table_seed(seed, table), column), unit)
 }
