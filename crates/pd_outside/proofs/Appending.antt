@@ -5,17 +5,17 @@ use Rattle.std.specs.Option.{option_map}
 use Rattle.std.proofs.lemmas.List.{append-nil, take-append-drop, take-append-le}
 use Rattle.std.proofs.Math.Seq.{take-add, take-append-add}
 use Rattle.pd_outside.specs.Files.{File}
-use Rattle.pd_outside.specs.Shelf.{Held, begin_file, append_bytes, finish_files, AppendedFrontOf, HoldsPrefixOf}
+use Rattle.pd_outside.specs.Shelf.{Held, begin_file, append_bytes, finish_files, AppendedPrefixOf, HoldsPrefixOf}
 
 begun_nothing : (begun : Option File) → begun ≡ option_map (λ (file : File). record file { bytes = file.bytes ++ [] }) begun
 begun_nothing None = refl
 begun_nothing (Some file) = ap (λ (bytes : List ℕ). Some (record file { bytes = bytes })) (sym (append-nil file.bytes))
 
-begun_both : (front back : List ℕ) (begun : Option File) →
-    option_map (λ (file : File). record file { bytes = file.bytes ++ back }) (option_map (λ (file : File). record file { bytes = file.bytes ++ front }) begun)
-    ≡ option_map (λ (file : File). record file { bytes = file.bytes ++ (front ++ back) }) begun
-begun_both front back None = refl
-begun_both front back (Some file) = ap (λ (bytes : List ℕ). Some (record file { bytes = bytes })) (append_assoc file.bytes front back)
+begun_both : (first second : List ℕ) (begun : Option File) →
+    option_map (λ (file : File). record file { bytes = file.bytes ++ second }) (option_map (λ (file : File). record file { bytes = file.bytes ++ first }) begun)
+    ≡ option_map (λ (file : File). record file { bytes = file.bytes ++ (first ++ second) }) begun
+begun_both first second None = refl
+begun_both first second (Some file) = ap (λ (bytes : List ℕ). Some (record file { bytes = bytes })) (append_assoc file.bytes first second)
 
 -- no byte changes nothing
 pub append_nothing : (held : Option Held) → held ≡ option_map (append_bytes []) held
@@ -23,12 +23,12 @@ append_nothing None = refl
 append_nothing (Some held) = ap (λ (begun : Option File). Some (record held { begun = begun })) (begun_nothing held.begun)
 
 -- a piece and then another are both at once
-pub append_both : (front back : List ℕ) (held : Option Held) → option_map (append_bytes back) (option_map (append_bytes front) held) ≡ option_map (append_bytes (front ++ back)) held
-append_both front back None = refl
-append_both front back (Some held) =
-    ap (λ (begun : Option File). Some (record held { begun = begun })) (begun_both front back held.begun)
+pub append_both : (first second : List ℕ) (held : Option Held) → option_map (append_bytes second) (option_map (append_bytes first) held) ≡ option_map (append_bytes (first ++ second)) held
+append_both first second None = refl
+append_both first second (Some held) =
+    ap (λ (begun : Option File). Some (record held { begun = begun })) (begun_both first second held.begun)
 
--- after a front of the bytes, the next n of them
+-- after a prefix of the bytes, the next n of them
 pub append_more : (bytes : List ℕ) (at n : ℕ) (before now next : Option Held) → now ≡ option_map (append_bytes (take at bytes)) before →
     next ≡ option_map (append_bytes (take n (drop at bytes))) now → next ≡ option_map (append_bytes (take (at + n) bytes)) before
 append_more bytes at n before now next sofar step =
@@ -36,24 +36,24 @@ append_more bytes at n before now next sofar step =
     ∙ append_both (take at bytes) (take n (drop at bytes)) before
     ∙ ap (λ (piece : List ℕ). option_map (append_bytes piece) before) (sym (take-add at n bytes))
 
--- a front of the second part, after all of the first
-pub front_after : (whole first second rest : List ℕ) (before mid now : Option Held) → whole ≡ first ++ (second ++ rest) →
-    mid ≡ option_map (append_bytes first) before → AppendedFrontOf second mid now → AppendedFrontOf whole before now
-front_after whole first second rest before mid now parts appended front =
-    let within : length first + front.count ≤ length whole =
-    omega (arith, ap length parts, length-append first (second ++ rest), length-append second rest, front.within)
+-- a prefix of the second part, after all of the first
+pub prefix_after : (whole first second rest : List ℕ) (before mid now : Option Held) → whole ≡ first ++ (second ++ rest) →
+    mid ≡ option_map (append_bytes first) before → AppendedPrefixOf second mid now → AppendedPrefixOf whole before now
+prefix_after whole first second rest before mid now parts appended prefix =
+    let within : length first + prefix.count ≤ length whole =
+    omega (arith, ap length parts, length-append first (second ++ rest), length-append second rest, prefix.within)
     in
-    let taken : take (length first + front.count) whole ≡ first ++ take front.count second =
-    ap (take (length first + front.count)) parts
-    ∙ take-append-add first (second ++ rest) front.count
-    ∙ ap (λ (piece : List ℕ). first ++ piece) (take-append-le front.count second rest front.within)
+    let taken : take (length first + prefix.count) whole ≡ first ++ take prefix.count second =
+    ap (take (length first + prefix.count)) parts
+    ∙ take-append-add first (second ++ rest) prefix.count
+    ∙ ap (λ (piece : List ℕ). first ++ piece) (take-append-le prefix.count second rest prefix.within)
     in
     record {
-      count = length first + front.count;
+      count = length first + prefix.count;
       within = within;
       appended =
-          front.appended ∙ ap (option_map (append_bytes (take front.count second))) appended
-          ∙ append_both first (take front.count second) before
+          prefix.appended ∙ ap (option_map (append_bytes (take prefix.count second))) appended
+          ∙ append_both first (take prefix.count second) before
           ∙ ap (λ (piece : List ℕ). option_map (append_bytes piece) before) (sym taken);
     }
 
@@ -65,16 +65,16 @@ begun_in_part name piece (Some h) =
 
 -- a file that was begun, where none was, and appended to in part
 pub file_in_part : (file : File) (before begun now : Option Held) → begun ≡ option_map (begin_file file.name) before →
-    AppendedFrontOf file.bytes begun now → HoldsPrefixOf (file ∷ []) before now
-file_in_part file before begun now began front = record {
+    AppendedPrefixOf file.bytes begun now → HoldsPrefixOf (file ∷ []) before now
+file_in_part file before begun now began prefix = record {
   done = [];
   rest = file ∷ [];
-  begun = Some (record { name = file.name; bytes = take front.count file.bytes });
+  begun = Some (record { name = file.name; bytes = take prefix.count file.bytes });
   parts = refl;
-  front = (refl, (drop front.count file.bytes, sym (take-append-drop front.count file.bytes)));
+  prefix = (refl, (drop prefix.count file.bytes, sym (take-append-drop prefix.count file.bytes)));
   held =
-      front.appended ∙ ap (option_map (append_bytes (take front.count file.bytes))) began
-      ∙ begun_in_part file.name (take front.count file.bytes) before;
+      prefix.appended ∙ ap (option_map (append_bytes (take prefix.count file.bytes))) began
+      ∙ begun_in_part file.name (take prefix.count file.bytes) before;
 }
 
 -- a file that was begun and appended to as a whole
@@ -85,7 +85,7 @@ file_as_a_whole file before begun now began all = record {
   rest = file ∷ [];
   begun = Some file;
   parts = refl;
-  front = (refl, ([], sym (append-nil file.bytes)));
+  prefix = (refl, ([], sym (append-nil file.bytes)));
   held = all ∙ ap (option_map (append_bytes file.bytes)) began ∙ begun_in_part file.name file.bytes before;
 }
 
@@ -103,7 +103,7 @@ as_it_is (Some h) none =
 
 -- nothing was done, and nothing is begun
 pub nothing_done : (due : List File) (before : Option Held) → IfSome before (λ h. is_some h.begun ≡ false) → HoldsPrefixOf due before before
-nothing_done due before none = record { done = []; rest = due; begun = None; parts = refl; front = tt; held = as_it_is before none }
+nothing_done due before none = record { done = []; rest = due; begun = None; parts = refl; prefix = tt; held = as_it_is before none }
 
 finished_twice : (done more : List File) (begun : Option File) (before : Option Held) →
     option_map {U = Held} (λ (h : Held). record { finished = h.finished ++ more; begun = begun }) (option_map (finish_files done) before)
@@ -120,6 +120,6 @@ files_then_prefix done rest before mid now finished prefix = record {
   rest = prefix.rest;
   begun = prefix.begun;
   parts = ap (λ (files : List File). done ++ files) prefix.parts ∙ sym (append_assoc done prefix.done prefix.rest);
-  front = prefix.front;
+  prefix = prefix.prefix;
   held = prefix.held ∙ ap (option_map (λ (h : Held). record { finished = h.finished ++ prefix.done; begun = prefix.begun })) finished ∙ finished_twice done prefix.done prefix.begun before;
 }

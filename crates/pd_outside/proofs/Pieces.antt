@@ -5,7 +5,7 @@ use Rattle.std.specs.Option.{option_map}
 use Rattle.std.proofs.lemmas.List.{append-nil, drop-drop, length-drop, length-take-le, take-append-drop, take-append-le}
 use Rattle.std.proofs.Math.Seq.{take-add}
 use Rattle.pd_outside.specs.Files.{bytes_of}
-use Rattle.pd_outside.specs.Library.{Content, left, start_file, take_bytes, read_out, stop, ReadsFront}
+use Rattle.pd_outside.specs.Library.{Content, left, start_file, take_bytes, read_out, stop, ReadsPrefix}
 
 -- the file of this name was started and its first n bytes were taken
 abbrev pub read_up_to : List ℕ → ℕ → Content → Content
@@ -34,15 +34,15 @@ drop_past_ended m n xs ended = sym (drop-drop m n xs) ∙ ap (drop m) ended ∙ 
 
 -- one more piece
 pub read_more : (name bytes piece into : List ℕ) (n : ℕ) (before now next : Option Content) → HasRead name bytes before now →
-    next ≡ option_map (take_bytes n) now → IfSome now (λ c. ReadsFront (left c) n into) → piece ≡ take n into → length piece ≡ n →
+    next ≡ option_map (take_bytes n) now → IfSome now (λ c. ReadsPrefix (left c) n into) → piece ≡ take n into → length piece ≡ n →
     HasRead name (bytes ++ piece) before next
-read_more name bytes piece into n None now next sofar step front is len =
+read_more name bytes piece into n None now next sofar step prefix is len =
     record { content = step ∙ ap (option_map (take_bytes n)) sofar.content; told = tt }
-read_more name bytes piece into n (Some c) now next sofar step front is len =
-    let told_now : IfSome (Some (read_up_to name (length bytes) c)) (λ d. ReadsFront (left d) n into) =
-    subst (λ (o : Option Content). IfSome o (λ d. ReadsFront (left d) n into)) sofar.content front
+read_more name bytes piece into n (Some c) now next sofar step prefix is len =
+    let told_now : IfSome (Some (read_up_to name (length bytes) c)) (λ d. ReadsPrefix (left d) n into) =
+    subst (λ (o : Option Content). IfSome o (λ d. ReadsPrefix (left d) n into)) sofar.content prefix
     in
-    let here : piece ≡ take n (drop (length bytes) (bytes_of c.files name)) = is ∙ told_now.front in
+    let here : piece ≡ take n (drop (length bytes) (bytes_of c.files name)) = is ∙ told_now.prefix in
     let long : length (bytes ++ piece) ≡ length bytes + n = length-append bytes piece ∙ ap (λ (k : ℕ). length bytes + k) len in
     record {
       content =
@@ -50,7 +50,7 @@ read_more name bytes piece into n (Some c) now next sofar step front is len =
           ∙ ap (λ (rest : List ℕ). Some (record c { started = Some (record { name = name; bytes = rest }) }))
           (drop-drop n (length bytes) (bytes_of c.files name) ∙ ap (λ (k : ℕ). drop k (bytes_of c.files name)) (sym long));
       told =
-          ap (λ (front' : List ℕ). front' ++ piece) sofar.told
+          ap (λ (prefix' : List ℕ). prefix' ++ piece) sofar.told
           ∙ ap (λ (back : List ℕ). take (length bytes) (bytes_of c.files name) ++ back) here
           ∙ sym (take-add (length bytes) n (bytes_of c.files name))
           ∙ ap (λ (k : ℕ). take k (bytes_of c.files name)) (sym long);
@@ -58,12 +58,12 @@ read_more name bytes piece into n (Some c) now next sofar step front is len =
 
 -- a read that gave nothing was at the end of the file
 pub read_all : (name bytes into : List ℕ) (n : ℕ) (before now next : Option Content) → HasRead name bytes before now → n ≡ 0 →
-    next ≡ option_map (take_bytes n) now → IfSome now (λ c. ReadsFront (left c) n into) →
+    next ≡ option_map (take_bytes n) now → IfSome now (λ c. ReadsPrefix (left c) n into) →
     IfSome before (λ c. bytes ≡ bytes_of c.files name) × (next ≡ option_map (read_out name) before)
-read_all name bytes into n None now next sofar none step front = (tt, step ∙ ap (option_map (take_bytes n)) sofar.content)
-read_all name bytes into n (Some c) now next sofar none step front =
-    let told_now : IfSome (Some (read_up_to name (length bytes) c)) (λ d. ReadsFront (left d) n into) =
-    subst (λ (o : Option Content). IfSome o (λ d. ReadsFront (left d) n into)) sofar.content front
+read_all name bytes into n None now next sofar none step prefix = (tt, step ∙ ap (option_map (take_bytes n)) sofar.content)
+read_all name bytes into n (Some c) now next sofar none step prefix =
+    let told_now : IfSome (Some (read_up_to name (length bytes) c)) (λ d. ReadsPrefix (left d) n into) =
+    subst (λ (o : Option Content). IfSome o (λ d. ReadsPrefix (left d) n into)) sofar.content prefix
     in
     let ended : drop (length bytes) (bytes_of c.files name) ≡ [] = told_now.none_at_end none in (
       sofar.told ∙ take_all_of_ended (length bytes) (bytes_of c.files name) ended,
@@ -74,12 +74,12 @@ read_all name bytes into n (Some c) now next sofar none step front =
 
 -- a read past the limit shows a longer file
 pub read_past : (name bytes into : List ℕ) (n limit : ℕ) (before now : Option Content) → HasRead name bytes before now →
-    IfSome now (λ c. ReadsFront (left c) n into) → limit < length bytes + n → 0 < n →
+    IfSome now (λ c. ReadsPrefix (left c) n into) → limit < length bytes + n → 0 < n →
     IfSome before (λ c. limit < length (bytes_of c.files name))
-read_past name bytes into n limit None now sofar front over some = tt
-read_past name bytes into n limit (Some c) now sofar front over some =
-    let told_now : IfSome (Some (read_up_to name (length bytes) c)) (λ d. ReadsFront (left d) n into) =
-    subst (λ (o : Option Content). IfSome o (λ d. ReadsFront (left d) n into)) sofar.content front
+read_past name bytes into n limit None now sofar prefix over some = tt
+read_past name bytes into n limit (Some c) now sofar prefix over some =
+    let told_now : IfSome (Some (read_up_to name (length bytes) c)) (λ d. ReadsPrefix (left d) n into) =
+    subst (λ (o : Option Content). IfSome o (λ d. ReadsPrefix (left d) n into)) sofar.content prefix
     in
     omega (arith, told_now.within, length-drop (length bytes) (bytes_of c.files name))
 
@@ -101,8 +101,8 @@ pub files_stay_taken : (n : ℕ) (before now next : Option Content) → option_m
 files_stay_taken n before None next same taken = ap (option_map (λ (c : Content). c.files)) taken ∙ same
 files_stay_taken n before (Some c) next same taken = ap (option_map (λ (d : Content). d.files)) taken ∙ same
 
--- the front of a buffer whose own front was read
-pub front_piece : (n : ℕ) (into rest : List ℕ) → n ≤ length into → (take n (into ++ rest) ≡ take n into) × (length (take n (into ++ rest)) ≡ n)
-front_piece n into rest within =
+-- the prefix of a buffer whose own prefix was read
+pub prefix_piece : (n : ℕ) (into rest : List ℕ) → n ≤ length into → (take n (into ++ rest) ≡ take n into) × (length (take n (into ++ rest)) ≡ n)
+prefix_piece n into rest within =
     let same : take n (into ++ rest) ≡ take n into = take-append-le n into rest within in
     (same, ap length same ∙ length-take-le n into within)

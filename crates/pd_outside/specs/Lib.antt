@@ -7,5 +7,6 @@ pub mod MemLibrary
 pub mod MemShelf
 pub mod NamedCall
 pub mod Pages
+pub mod Pieces
 pub mod Shelf
 pub mod StatedFails

@@ -31,9 +31,9 @@ abbrev pub read_out : List ℕ → Content → Content
 read_out name content = record content { started = Some (record { name = name; bytes = [] }) }
 
 -- a read gave the first n of the bytes left, and gave none at their end alone
-pub record ReadsFront (bytes : List ℕ) (n : ℕ) (into : List ℕ) : Type 0 where
+pub record ReadsPrefix (bytes : List ℕ) (n : ℕ) (into : List ℕ) : Type 0 where
   pub within : n ≤ length bytes
-  pub front : take n into ≡ take n bytes
+  pub prefix : take n into ≡ take n bytes
   pub none_at_end : n ≡ 0 → bytes ≡ []
 
 -- one more name was asked
@@ -45,6 +45,6 @@ abbrev pub AskedAtMost : List ℕ → Option (List (List ℕ)) → Option (List 
 AskedAtMost name before now = (now ≡ ask name before) ⊎ (now ≡ before)
 
 -- the names asked meanwhile are the first ones of this list, in order
-pub record AskedFrontOf (list : List (List ℕ)) (before now : Option (List (List ℕ))) : Type 0 where
+pub record AskedPrefixOf (list : List (List ℕ)) (before now : Option (List (List ℕ))) : Type 0 where
   pub count : ℕ
   pub asked : now ≡ option_map (λ names. names ++ take count list) before

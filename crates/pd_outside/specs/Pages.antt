@@ -1,12 +1,12 @@
 -- What a page buffer holds.
-use Rattle.std.specs.Prelude.{◌≤◌, ℕ, List}
+use Rattle.std.specs.Prelude.{◌≡◌, ◌≤◌, ◌+◌, ℕ, List}
 
 -- its text so far, and the most bytes that it can hold
 pub record Page : Type 0 where
   pub text : List ℕ
   pub room : ℕ
 
--- the text is within the room, and the room within the memory that was taken
-pub record Fits (len room capacity : ℕ) : Type 0 where
+-- the text is within the room, behind which lie the bytes that a piece may overwrite
+pub record Fits (len room size : ℕ) : Type 0 where
   pub text : len ≤ room
-  pub room_is_there : room ≤ capacity
+  pub slack : size ≡ room + 16

@@ -29,24 +29,24 @@ end_file held = record { finished = held.finished ++ option_to_list held.begun; 
 abbrev pub finish_files : List File → Held → Held
 finish_files files held = record { finished = held.finished ++ files; begun = None }
 
--- a front of these bytes was appended
-pub record AppendedFrontOf (bytes : List ℕ) (before now : Option Held) : Type 0 where
+-- a prefix of these bytes was appended
+pub record AppendedPrefixOf (bytes : List ℕ) (before now : Option Held) : Type 0 where
   pub count : ℕ
   pub within : count ≤ length bytes
   pub appended : now ≡ option_map (append_bytes (take count bytes)) before
 
--- what is begun is a front of the next file that is due
-abbrev pub IsFrontOfNext : List File → Option File → Type 0
-IsFrontOfNext due None = ⊤
-IsFrontOfNext [] (Some file) = ⊥
-IsFrontOfNext (next ∷ due) (Some file) = (file.name ≡ next.name) × ((rest : List ℕ) × (next.bytes ≡ file.bytes ++ rest))
+-- what is begun is a prefix of the next file that is due
+abbrev pub IsPrefixOfNext : List File → Option File → Type 0
+IsPrefixOfNext due None = ⊤
+IsPrefixOfNext [] (Some file) = ⊥
+IsPrefixOfNext (next ∷ due) (Some file) = (file.name ≡ next.name) × ((rest : List ℕ) × (next.bytes ≡ file.bytes ++ rest))
 
 -- The shelf holds a prefix of the due files: those finished meanwhile are the first of them, in order, and what is
--- begun is a front of the next.
+-- begun is a prefix of the next.
 pub record HoldsPrefixOf (due : List File) (before now : Option Held) : Type 0 where
   pub done : List File
   pub rest : List File
   pub begun : Option File
   pub parts : due ≡ done ++ rest
-  pub front : IsFrontOfNext rest begun
+  pub prefix : IsPrefixOfNext rest begun
   pub held : now ≡ option_map (λ (h : Held). record { finished = h.finished ++ done; begun = begun }) before

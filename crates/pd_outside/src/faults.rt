@@ -10,7 +10,7 @@ use thiserror::Error;
 #[derive(Clone, Copy, Debug, PartialEq, Eq)]
 pub struct Failed;
 
-/// A write failed: the shelf's count of faults rose, and a front of the bytes was written.
+/// A write failed: the shelf's count of faults rose, and a prefix of the bytes was written.
 #[derive(Clone, Copy, Debug, PartialEq, Eq)]
 pub struct WriteFailed;
 

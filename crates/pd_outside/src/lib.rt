@@ -10,7 +10,9 @@ mod library;
 mod mem_library;
 mod mem_shelf;
 mod message;
+mod numbers;
 mod page_buf;
+mod piece;
 mod shelf;
 mod whole;
 
@@ -23,6 +25,7 @@ pub use mem_library::MemLibrary;
 pub use mem_shelf::MemShelf;
 pub use message::Message;
 pub use page_buf::PageBuf;
+pub use piece::Piece;
 pub use shelf::Shelf;
 pub use whole::{read_whole, write_all};
 

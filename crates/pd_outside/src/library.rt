@@ -4,7 +4,7 @@ ghost use Rattle.std.specs.Prelude.{◌≡◌, ◌<◌, ◌≤◌, ◌+◌, ◌^
 ghost use Rattle.std.specs.Option.{option_map};
 ghost use Rattle.std.specs.Result.{result_unwrap_or};
 ghost use Rattle.pd_outside.specs.Faults.{Rose};
-ghost use Rattle.pd_outside.specs.Library.{Content, left, start_file, take_bytes, stop, ReadsFront, ask, AskedAtMost};
+ghost use Rattle.pd_outside.specs.Library.{Content, left, start_file, take_bytes, stop, ReadsPrefix, ask, AskedAtMost};
 
 use crate::Failed;
 
@@ -25,7 +25,8 @@ pub trait Library {
     /// The number of bytes that were taken since the last `start`.
     ghost taken: { Self → ℕ };
 
-    /// How often a call failed: a count of 64 bits that never falls and stops at the end of its type.
+    /// How often a call failed: a count of 64 bits that rises where a call fails and nowhere else, and stops at the end of
+    /// its type.
     ghost faults: { Self → ℕ };
 
     /// Starts the first file of this name, at its first byte. Of a name that no file has, it starts an empty file, or
@@ -38,9 +39,10 @@ pub trait Library {
         ensures asked_at_most { AskedAtMost name.now (asked self.old) (asked self.new) }
         ensures taken { taken self.new ≡ 0 }
         ensures never_falls { faults self.old ≤ faults self.new }
-        ensures cause { OnErr result (Rose (faults self.old) (faults self.new)) };
+        ensures cause { OnErr result (Rose (faults self.old) (faults self.new)) }
+        ensures no_fault { OnOk result (faults self.new ≡ faults self.old) };
 
-    /// Takes bytes of the started file into the front of `into`, and tells how many: at least one, but at the end of the
+    /// Takes bytes of the started file into the beginning of `into`, and tells how many: at least one, but at the end of the
     /// file. At `Failed` no file is started.
     fn read(&mut self, into: &mut [u8]) -> Result<usize, Failed>
         requires started { IsTrue (is_started self.old) }
@@ -48,14 +50,15 @@ pub trait Library {
         requires countable { taken self.old + length into.old < 2 ^ 64 }
 
         ensures within { IfOk result (λ n. n ≤ length into.old) }
-        ensures front { IfOk result (λ n. IfSome (content self.old) (λ c. ReadsFront (left c) n into.new)) }
+        ensures prefix { IfOk result (λ n. IfSome (content self.old) (λ c. ReadsPrefix (left c) n into.new)) }
         ensures content { IfOk result (λ n. content self.new ≡ option_map (take_bytes n) (content self.old)) }
         ensures started { is_started self.new ≡ is_ok result }
         ensures stopped { OnErr result (content self.new ≡ option_map stop (content self.old)) }
         ensures taken { taken self.new ≡ taken self.old + result_unwrap_or result 0 }
         ensures asked { asked self.new ≡ asked self.old }
         ensures never_falls { faults self.old ≤ faults self.new }
-        ensures cause { OnErr result (Rose (faults self.old) (faults self.new)) };
+        ensures cause { OnErr result (Rose (faults self.old) (faults self.new)) }
+        ensures no_fault { OnOk result (faults self.new ≡ faults self.old) };
 
     /// A file is told as started exactly where one is started.
     ghost told_alike: { (library : Self) → IfSome (content library) (λ c. is_some c.started ≡ is_started library) };

@@ -6,7 +6,7 @@ ghost use Rattle.std.specs.Option.{option_map};
 ghost use Rattle.std.specs.Result.{result_unwrap_or};
 ghost use Rattle.pd_outside.specs.Faults.{Rose, counted};
 ghost use Rattle.pd_outside.specs.Files.{file_named, file_at};
-ghost use Rattle.pd_outside.specs.Library.{left, start_file, take_bytes, stop, ReadsFront, ask, AskedAtMost};
+ghost use Rattle.pd_outside.specs.Library.{left, start_file, take_bytes, stop, ReadsPrefix, ask, AskedAtMost};
 ghost use Rattle.pd_outside.specs.InMemory.{Reading, start_fails, read_fails};
 ghost use Rattle.pd_outside.specs.MemLibrary.{IsIn, rest_of};
 
@@ -48,11 +48,13 @@ impl Model for MemLibrary {
 }
 
 impl MemLibrary {
-    /// A library that holds these files and has these failures. Nothing was asked, and no call failed.
+    /// A library that holds these files and has these failures. Nothing was asked, started or taken, and no call was made.
     pub fn new(alloc: Global, files: Files, fails: LibraryFails) -> Self
         ensures files { result.content ≡ record { files = files; started = None } }
         ensures fails { result.fails ≡ fails }
         ensures asked { result.asked ≡ [] }
+        ensures calls { result.calls ≡ 0 }
+        ensures taken { result.taken ≡ 0 }
         ensures faults { result.faults ≡ 0 }
     {
         MemLibrary {
@@ -129,6 +131,7 @@ impl Library for MemLibrary {
         ensures taken { self.new.taken ≡ 0 }
         ensures never_falls { self.old.faults ≤ self.new.faults }
         ensures cause { OnErr result (Rose self.old.faults self.new.faults) }
+        ensures no_fault { OnOk result (self.new.faults ≡ self.old.faults) }
 
         // It fails where it is stated to and where the name is absent, and else for want of memory alone.
         ensures stated { OnOk result (start_fails self.old name.now ≡ false) }
@@ -160,7 +163,7 @@ impl Library for MemLibrary {
         requires countable { self.old.taken + length into.old < 2 ^ 64 }
 
         ensures within { IfOk result (λ n. n ≤ length into.old) }
-        ensures front { IfOk result (λ n. IfSome (Some self.old.content) (λ c. ReadsFront (left c) n into.new)) }
+        ensures prefix { IfOk result (λ n. IfSome (Some self.old.content) (λ c. ReadsPrefix (left c) n into.new)) }
         ensures content { IfOk result (λ n. Some self.new.content ≡ option_map (take_bytes n) (Some self.old.content)) }
         ensures started { is_some self.new.content.started ≡ is_ok result }
         ensures stopped { OnErr result (Some self.new.content ≡ option_map stop (Some self.old.content)) }
@@ -168,6 +171,7 @@ impl Library for MemLibrary {
         ensures asked { Some self.new.asked ≡ Some self.old.asked }
         ensures never_falls { self.old.faults ≤ self.new.faults }
         ensures cause { OnErr result (Rose self.old.faults self.new.faults) }
+        ensures no_fault { OnOk result (self.new.faults ≡ self.old.faults) }
 
         // It fails where it is stated to and nowhere else, and it gives all that fits.
         ensures stated { is_err result ≡ read_fails self.old }
@@ -186,7 +190,7 @@ impl Library for MemLibrary {
             self.faults = self.faults.saturating_add(1);
             return Err(Failed);
         }
-        let n = copy_front(bytes_from(&self.files, started), into);
+        let n = copy_prefix(bytes_from(&self.files, started), into);
         self.started = Some(Started {
             file: started.file,
             place: started.place + n,
@@ -206,10 +210,10 @@ fn bytes_from(files: &Files, started: Started) -> &[u8]
     &files.bytes(started.file)[started.place..]
 }
 
-/// Copies what fits to the front of `into`, and tells how many bytes.
-fn copy_front(from: &[u8], into: &mut [u8]) -> usize
+/// Copies what fits to the beginning of `into`, and tells how many bytes.
+fn copy_prefix(from: &[u8], into: &mut [u8]) -> usize
     ensures count { result ≡ min (length into.old) (length from.now) }
-    ensures front { take result into.new ≡ take result from.now }
+    ensures prefix { take result into.new ≡ take result from.now }
 {
     let n = into.len().min(from.len());
     into[..n].copy_from_slice(&from[..n]);

@@ -152,6 +152,7 @@ impl Shelf for MemShelf {
         ensures unchanged { OnErr result (Some self.new.held ≡ Some self.old.held) }
         ensures never_falls { self.old.faults ≤ self.new.faults }
         ensures cause { OnErr result (Rose self.old.faults self.new.faults) }
+        ensures no_fault { OnOk result (self.new.faults ≡ self.old.faults) }
 
         // It fails where it is stated to, and else for want of memory alone.
         ensures stated { Contains self.old.fails (fail.Begin (counted self.old.begins)) → IsErr result }
@@ -181,6 +182,7 @@ impl Shelf for MemShelf {
         ensures begun { IsTrue (is_some self.new.held.begun) }
         ensures never_falls { self.old.faults ≤ self.new.faults }
         ensures cause { OnErr result (Rose self.old.faults self.new.faults) }
+        ensures no_fault { OnOk result (self.new.faults ≡ self.old.faults) }
 
         // It takes all that its step lets through. It fails where it is stated to, and else for want of memory alone.
         ensures most { IfOk result (λ n. n ≡ min self.old.step (length piece.now)) }
@@ -207,6 +209,7 @@ impl Shelf for MemShelf {
         ensures unchanged { OnErr result (Some self.new.held ≡ Some self.old.held) }
         ensures never_falls { self.old.faults ≤ self.new.faults }
         ensures cause { OnErr result (Rose self.old.faults self.new.faults) }
+        ensures no_fault { OnOk result (self.new.faults ≡ self.old.faults) }
 
         // It fails where it is stated to, and else for want of memory alone.
         ensures stated { Contains self.old.fails (fail.End (counted self.old.ends)) → IsErr result }

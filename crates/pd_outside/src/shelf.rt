@@ -18,7 +18,8 @@ pub trait Shelf {
     /// Whether a file is begun.
     ghost is_begun: { Self → Bool };
 
-    /// How often a call failed: a count of 64 bits that never falls and stops at the end of its type.
+    /// How often a call failed: a count of 64 bits that rises where a call fails and nowhere else, and stops at the end of
+    /// its type.
     ghost faults: { Self → ℕ };
 
     /// Begins an empty file of this name. At `Failed` no file is begun.
@@ -28,7 +29,8 @@ pub trait Shelf {
         ensures held { OnOk result (held self.new ≡ option_map (begin_file name.now) (held self.old)) }
         ensures unchanged { OnErr result (held self.new ≡ held self.old) }
         ensures never_falls { faults self.old ≤ faults self.new }
-        ensures cause { OnErr result (Rose (faults self.old) (faults self.new)) };
+        ensures cause { OnErr result (Rose (faults self.old) (faults self.new)) }
+        ensures no_fault { OnOk result (faults self.new ≡ faults self.old) };
 
     /// Appends the first bytes of the piece to the begun file, and tells how many: at least one. At `Failed` the file is
     /// as before. It stays begun.
@@ -42,7 +44,8 @@ pub trait Shelf {
         ensures unchanged { OnErr result (held self.new ≡ held self.old) }
         ensures begun { IsTrue (is_begun self.new) }
         ensures never_falls { faults self.old ≤ faults self.new }
-        ensures cause { OnErr result (Rose (faults self.old) (faults self.new)) };
+        ensures cause { OnErr result (Rose (faults self.old) (faults self.new)) }
+        ensures no_fault { OnOk result (faults self.new ≡ faults self.old) };
 
     /// Finishes the begun file. At `Failed` it stays begun, as it was.
     fn end(&mut self) -> Result<(), Failed>
@@ -51,7 +54,8 @@ pub trait Shelf {
         ensures held { OnOk result (held self.new ≡ option_map end_file (held self.old)) }
         ensures unchanged { OnErr result (held self.new ≡ held self.old) }
         ensures never_falls { faults self.old ≤ faults self.new }
-        ensures cause { OnErr result (Rose (faults self.old) (faults self.new)) };
+        ensures cause { OnErr result (Rose (faults self.old) (faults self.new)) }
+        ensures no_fault { OnOk result (faults self.new ≡ faults self.old) };
 
     /// A file is told as begun exactly where one is begun.
     ghost told_alike: { (shelf : Self) → IfSome (held shelf) (λ h. is_some h.begun ≡ is_begun shelf) };

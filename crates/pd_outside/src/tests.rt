@@ -122,6 +122,73 @@ fn read_gives(
     Ok(())
 }
 
+// How long the name and the file are, the limit, and whether the file is read.
+#[test]
+fn sizes_at_their_edges(rt: HostRuntime) -> Result<(), Fail> {
+    let cases: [(usize, usize, u64, bool); 9] = [
+        (1, 0, 0, true),
+        (1, 1, 1, true),
+        (1, 1, 0, false),
+        (300, 65_535, 65_535, true),
+        (1, 65_536, 65_536, true),
+        (1, 65_536, 65_535, false),
+        (300, 65_537, 65_537, true),
+        (1, 65_537, 65_536, false),
+        (1, 131_073, 131_072, false),
+    ];
+    for (name, size, limit, is_read) in cases {
+        file_is_read(&rt, rt.alloc(), name, size, limit, is_read)?;
+    }
+    for text in [b"".as_slice(), b"a", b"sixteen bytes ab"] {
+        page_is_filled(&rt, rt.alloc(), text)?;
+    }
+    Ok(())
+}
+
+fn dots(alloc: Global, count: usize) -> Result<String, Memory> {
+    let mut dots = String::new(alloc);
+    for _ in 0..count {
+        dots.push('.')?;
+    }
+    Ok(dots)
+}
+
+fn file_is_read(
+    rt: &impl Abort,
+    alloc: Global,
+    name: usize,
+    size: usize,
+    limit: u64,
+    is_read: bool,
+) -> Result<(), Memory>
+    requires { limit < 2 ^ 32 }
+{
+    let name = dots(alloc, name)?;
+    let text = dots(alloc, size)?;
+    let mut files = Files::new(alloc);
+    files.push(name.as_str(), text.as_str().as_bytes())?;
+    let mut library = MemLibrary::new(alloc, files, LibraryFails::new(alloc));
+    match read_whole(alloc, &mut library, name.as_str(), limit) {
+        Ok(bytes) => assert!(rt; is_read && bytes.len() == size),
+        Err(fault) => assert!(rt; !is_read && fault == ReadFault::TooLong),
+    }
+    Ok(())
+}
+
+// A page of the text's size takes the text as bytes and as a piece.
+fn page_is_filled(rt: &impl Abort, alloc: Global, text: &[u8]) -> Result<(), Memory> {
+    let mut page = PageBuf::with_room(alloc, text.len())?;
+    page.put(text);
+    assert_eq!(rt; page.text(), text);
+    assert_eq!(rt; page.free(), 0);
+    page.clear();
+    if text.len() <= Piece::ROOM {
+        page.put_piece(&Piece::of(text));
+    }
+    assert_eq!(rt; page.text(), text);
+    Ok(())
+}
+
 // A call's number is counted anew from each start, and a byte at a time makes more calls.
 #[test]
 fn short_reads_are_joined(rt: HostRuntime) -> Result<(), Fail> {

@@ -5,7 +5,7 @@ ghost use Rattle.std.specs.Option.{option_map};
 ghost use Rattle.pd_outside.specs.Faults.{Rose};
 ghost use Rattle.pd_outside.specs.Files.{bytes_of};
 ghost use Rattle.pd_outside.specs.Library.{Content, read_out, ask, AskedAtMost};
-ghost use Rattle.pd_outside.specs.Shelf.{append_bytes, AppendedFrontOf};
+ghost use Rattle.pd_outside.specs.Shelf.{append_bytes, AppendedPrefixOf};
 
 use crate::{Failed, Library, ReadFault, Shelf, WriteFailed};
 use std::alloc::{AllocError, Global};
@@ -15,8 +15,8 @@ const CHUNK: usize = 65536;
 
 /// Reads the whole file of this name, to its end, where it has at most `limit` bytes.
 ///
-/// `Failed` comes only where the library's count of faults rose, and no file is started then. `TooLong` comes exactly
-/// where `limit` + 1 bytes of the file were taken.
+/// `Failed` comes only where the library's count of faults rose, and no file is started then; any other answer leaves
+/// the count as it was. `TooLong` comes exactly where `limit` + 1 bytes of the file were taken.
 pub fn read_whole<L: Library>(
     alloc: Global,
     library: &mut L,
@@ -40,6 +40,7 @@ pub fn read_whole<L: Library>(
     ensures asked_at_most { AskedAtMost name.now (L.asked library.old) (L.asked library.new) }
     ensures files { option_map (λ (c : Content). c.files) (L.content library.new) ≡ option_map (λ (c : Content). c.files) (L.content library.old) }
     ensures never_falls { L.faults library.old ≤ L.faults library.new }
+    ensures no_fault { IsErrOf result ReadFault.Failed ⊎ (L.faults library.new ≡ L.faults library.old) }
 {
     match library.start(name) {
         Ok(()) => {}
@@ -72,14 +73,15 @@ fn zeros(alloc: Global, n: usize) -> Result<Vec<u8>, AllocError>
 }
 
 /// Appends all the bytes to the begun file, which stays begun. `WriteFailed` comes only where the shelf's count of faults
-/// rose; a front of the bytes was appended then.
+/// rose; a prefix of the bytes was appended then.
 pub fn write_all<S: Shelf>(shelf: &mut S, bytes: &[u8]) -> Result<(), WriteFailed>
     requires { IsTrue (S.is_begun shelf.old) }
     ensures all { OnOk result (S.held shelf.new ≡ option_map (append_bytes bytes.now) (S.held shelf.old)) }
-    ensures front { OnErr result (AppendedFrontOf bytes.now (S.held shelf.old) (S.held shelf.new)) }
+    ensures prefix { OnErr result (AppendedPrefixOf bytes.now (S.held shelf.old) (S.held shelf.new)) }
     ensures cause { OnErr result (Rose (S.faults shelf.old) (S.faults shelf.new)) }
     ensures begun { IsTrue (S.is_begun shelf.new) }
     ensures never_falls { S.faults shelf.old ≤ S.faults shelf.new }
+    ensures no_fault { OnOk result (S.faults shelf.new ≡ S.faults shelf.old) }
 {
     let mut at = 0;
     while at < bytes.len() {

@@ -4,7 +4,7 @@ use Rattle.std.specs.Prelude.{⊤, if◌then◌else◌, IfErr, IfSome}
 use Rattle.std.specs.Option.{option_map, option_or}
 use Rattle.std.proofs.lemmas.List.{append-nil}
 use Rattle.pd_outside.specs.Files.{File, bytes_of}
-use Rattle.pd_outside.specs.Library.{Content, AskedAtMost, AskedFrontOf}
+use Rattle.pd_outside.specs.Library.{Content, AskedAtMost, AskedPrefixOf}
 use Rattle.pdgf_run.specs.Decided.{stop_of, Decides}
 use Rattle.pdgf_run.specs.Jobs.{due_of}
 use Rattle.pdgf_run.specs.Verdict.{asked_by, of_request, of_text, reading_list, verdict, WhereTold}
@@ -140,9 +140,9 @@ asked_nothing : (before : Option (List (List ℕ))) → before ≡ option_map (�
 asked_nothing None = refl
 asked_nothing (Some names) = ap Some (sym (append-nil names))
 
--- one name, asked once or not at all, is a front of the reading list
+-- one name, asked once or not at all, is a prefix of the reading list
 pub asked_one : (words : List (List ℕ)) (r : Request) (before now : Option (List (List ℕ))) → request words ≡ Ok r →
-    AskedAtMost r.schema before now → AskedFrontOf (reading_list words) before now
+    AskedAtMost r.schema before now → AskedPrefixOf (reading_list words) before now
 asked_one words r before now is (inl once) = record {
   count = 1;
   asked = once ∙ ap (λ (list : List (List ℕ)). option_map (λ names. names ++ take 1 list) before) (sym (ap asked_by is));

@@ -8,7 +8,7 @@ use Rattle.std.proofs.lemmas.Bool.{cases_lt}
 use Rattle.std.proofs.lemmas.List.Concat.{flat_map-append}
 use Rattle.pd_outside.proofs.Appending.{files_then_prefix, nothing_begun}
 use Rattle.pd_outside.specs.Files.{File}
-use Rattle.pd_outside.specs.Shelf.{Held, finish_files, HoldsPrefixOf, IsFrontOfNext}
+use Rattle.pd_outside.specs.Shelf.{Held, finish_files, HoldsPrefixOf, IsPrefixOfNext}
 use Rattle.schema_model.specs.declared.table.Schema.{Schema}
 use Rattle.schema_check.specs.Sizes.{field_sizes, line_size, max_line, reach}
 use Rattle.life_intervals.specs.Cohorts.{cohort_size}
@@ -46,10 +46,10 @@ first_lines-all rules place table unit count all = ap (first_lines rules place t
 abbrev pub cohorts_after : Rules → ℕ → TableRules → ℕ → ℕ → List ℕ
 cohorts_after rules place table unit last = flat_map (cohort_text rules place table) (range_with_len (unit + 1) (last + 1 - (unit + 1)))
 
-text_before-front : (rules : Rules) (place : ℕ) (table : TableRules) (unit last : ℕ) → unit ≤ last →
+text_before-prefix : (rules : Rules) (place : ℕ) (table : TableRules) (unit last : ℕ) → unit ≤ last →
     text_before rules place table (last + 1) ≡ text_before rules place table (unit + 1) ++ cohorts_after rules place table unit last
 unfolding text_before
-text_before-front rules place table unit last within =
+text_before-prefix rules place table unit last within =
     flat_map-range_with_len_front (cohort_text rules place table) (unit + 1) (last + 1) (omega arith)
 
 -- a table's text: the cohorts before a unit, the unit's own, and the rest
@@ -58,7 +58,7 @@ pub table_text-at : (rules : Rules) (place unit last : ℕ) → unit ≤ last �
     ≡ text_before rules place (table_at rules place) unit ++ (cohort_text rules place (table_at rules place) unit ++ cohorts_after rules place (table_at rules place) unit last)
 table_text-at rules place unit last within =
     table_text-text_before rules place last
-    ∙ text_before-front rules place (table_at rules place) unit last within
+    ∙ text_before-prefix rules place (table_at rules place) unit last within
     ∙ ap (λ (text : List ℕ). text ++ cohorts_after rules place (table_at rules place) unit last) (text_before-add_one rules place (table_at rules place) unit)
     ∙ append_assoc (text_before rules place (table_at rules place) unit) (cohort_text rules place (table_at rules place) unit) (cohorts_after rules place (table_at rules place) unit last)
 
@@ -122,10 +122,10 @@ pub finished_then : (done more : List File) (before mid now : Option Held) → m
     now ≡ option_map (finish_files (done ++ more)) before
 finished_then done more before mid now first then = then ∙ ap (option_map (finish_files more)) first ∙ finished_both done more before
 
-front_of_more : (rest more : List File) (begun : Option File) → IsFrontOfNext rest begun → IsFrontOfNext (rest ++ more) begun
-front_of_more rest more None front = tt
-front_of_more [] more (Some file) front = absurd front
-front_of_more (next ∷ rest) more (Some file) front = front
+begins_next_of_more : (rest more : List File) (begun : Option File) → IsPrefixOfNext rest begun → IsPrefixOfNext (rest ++ more) begun
+begins_next_of_more rest more None prefix = tt
+begins_next_of_more [] more (Some file) prefix = absurd prefix
+begins_next_of_more (next ∷ rest) more (Some file) prefix = prefix
 
 -- a prefix of some files is one of these and more
 pub prefix_of_more : (due more : List File) (before now : Option Held) → HoldsPrefixOf due before now → HoldsPrefixOf (due ++ more) before now
@@ -134,7 +134,7 @@ prefix_of_more due more before now prefix = record {
   rest = prefix.rest ++ more;
   begun = prefix.begun;
   parts = ap (λ (files : List File). files ++ more) prefix.parts ∙ append_assoc prefix.done prefix.rest more;
-  front = front_of_more prefix.rest more prefix.begun prefix.front;
+  prefix = begins_next_of_more prefix.rest more prefix.begun prefix.prefix;
   held = prefix.held;
 }
 

@@ -4,7 +4,7 @@ ghost use Rattle.std.specs.Prelude.{◌≡◌, ◌≢◌, ◌≤◌, ◌+◌, �
 ghost use Rattle.std.specs.Option.{option_map};
 ghost use Rattle.pd_outside.specs.Faults.{Rose};
 ghost use Rattle.pd_outside.specs.Files.{bytes_of};
-ghost use Rattle.pd_outside.specs.Library.{Content, left, AskedAtMost, AskedFrontOf};
+ghost use Rattle.pd_outside.specs.Library.{Content, left, AskedAtMost, AskedPrefixOf};
 ghost use Rattle.pdgf_run.specs.Decided.{stop_of, Decides, IsNoUsage, IsNotLong};
 ghost use Rattle.pdgf_run.specs.DueFiles.{check_files};
 ghost use Rattle.pdgf_run.specs.Jobs.{due_of, CanFill};
@@ -215,7 +215,7 @@ pub(crate) fn decide<L: Library>(
     ensures read_failed { result ≡ Err Stop.ReadFailed → Rose (L.faults library.old) (L.faults library.new) }
     ensures stopped { result ≡ Err Stop.ReadFailed → L.is_started library.new ≡ false }
     ensures read_out { OnOk result (option_map left (L.content library.new) ≡ option_map (λ (c : Content). []) (L.content library.old)) }
-    ensures asked { AskedFrontOf (reading_list (map string_bytes words.now)) (L.asked library.old) (L.asked library.new) }
+    ensures asked { AskedPrefixOf (reading_list (map string_bytes words.now)) (L.asked library.old) (L.asked library.new) }
     ensures files { option_map (λ (c : Content). c.files) (L.content library.new) ≡ option_map (λ (c : Content). c.files) (L.content library.old) }
     ensures never_falls { L.faults library.old ≤ L.faults library.new }
 {

@@ -3,7 +3,7 @@
 ghost use Rattle.std.specs.Prelude.{◌≡◌, ◌≢◌, ◌≤◌, ◌+◌, ◌↔◌, [], false, map, string_bytes, IfErr, IfSome, IsErr, IsOkAnd, IsTrue, OnOk};
 ghost use Rattle.std.specs.Option.{option_map};
 ghost use Rattle.pd_outside.specs.Faults.{Rose};
-ghost use Rattle.pd_outside.specs.Library.{Content, left, AskedFrontOf};
+ghost use Rattle.pd_outside.specs.Library.{Content, left, AskedPrefixOf};
 ghost use Rattle.pd_outside.specs.Shelf.{HoldsPrefixOf};
 ghost use Rattle.pdgf_run.specs.Statuses.{fixed_text, is_status, text_of};
 ghost use Rattle.pdgf_run.specs.TopCall.{Carries};
@@ -63,7 +63,7 @@ pub fn pdgf<R: Threads + Sync, L: Library, S: Shelf, G: Gate + Sync>(
     ensures none_begun { result.status ≢ 6 → S.is_begun shelf.new ≡ false }
 
     // No other name is started than those of the reading list, in its order, and at a clean end the last is read to its end.
-    ensures asked { AskedFrontOf (reading_list (map string_bytes words.now)) (L.asked library.old) (L.asked library.new) }
+    ensures asked { AskedPrefixOf (reading_list (map string_bytes words.now)) (L.asked library.old) (L.asked library.new) }
     ensures read_out { result.status ≡ 0 →
         option_map left (L.content library.new) ≡ option_map (λ (c : Content). []) (L.content library.old) }
     ensures files { option_map (λ (c : Content). c.files) (L.content library.new) ≡ option_map (λ (c : Content). c.files) (L.content library.old) }

@@ -1,7 +1,7 @@
 use Rattle.std.proofs.Common.{◌≡◌, ◌<◌, ◌≤◌, ◌+◌, ◌++◌, take, drop, length-append, List, [], ℕ, length, inl, inr, sym, ap, subst, arith, ◌∙◌}
 use Rattle.std.proofs.lemmas.List.{length-drop}
 use Rattle.pd_outside.proofs.Counts.{Rose-earlier}
-use Rattle.pd_outside.proofs.Pieces.{HasRead, read_nothing, read_more, read_all, read_past, files_stay, files_stay_stopped, files_stay_taken, front_piece}
+use Rattle.pd_outside.proofs.Pieces.{HasRead, read_nothing, read_more, read_all, read_past, files_stay, files_stay_stopped, files_stay_taken, prefix_piece}
 use Rattle.pd_outside.proofs.whole.read_whole.Goals as goal
 
 pub loop-n-init : goal.loop-n-init
@@ -15,12 +15,12 @@ loop-n-init g c =
       started = c.in-Ok.ensures.started;
       taken = c.in-Ok.ensures.taken ∙ sym (ap length none);
       within = omega (arith, ap length none);
-      faults = c.in-Ok.ensures.never_falls;
+      faults = c.in-Ok.ensures.no_fault;
       chunk = omega (arith, c.as_mut_slice-chunk.ensures.len, c.in_ok-buffer.ensures);
     }
 
 pub returns-in-Err-read-clause-cause : goal.returns-in-Err-read-clause-cause
-returns-in-Err-read-clause-cause g c = λ _. Rose-earlier _ _ _ c.loop-n.invariant.faults c.in-Err-read.ensures.cause
+returns-in-Err-read-clause-cause g c = λ _. Rose-earlier _ _ _ (omega (arith, c.loop-n.invariant.faults)) c.in-Err-read.ensures.cause
 
 pub returns-in-Err-read-clause-started : goal.returns-in-Err-read-clause-started
 returns-in-Err-read-clause-started g c = λ answer. elim answer [ inl ok ↦ absurd (cc) | inr other ↦ absurd (cc) ]
@@ -31,11 +31,11 @@ returns-in-Err-read-clause-files g c =
 
 pub returns-then-n-eq0-clause-whole : goal.returns-then-n-eq0-clause-whole
 returns-then-n-eq0-clause-whole g c =
-    (read_all _ _ _ _ _ _ _ c.loop-n.invariant.read c.if-n-eq0.true c.in-Ok-read.ensures.content c.in-Ok-read.ensures.front).0
+    (read_all _ _ _ _ _ _ _ c.loop-n.invariant.read c.if-n-eq0.true c.in-Ok-read.ensures.content c.in-Ok-read.ensures.prefix).0
 
 pub returns-then-n-eq0-clause-read_out : goal.returns-then-n-eq0-clause-read_out
 returns-then-n-eq0-clause-read_out g c =
-    (read_all _ _ _ _ _ _ _ c.loop-n.invariant.read c.if-n-eq0.true c.in-Ok-read.ensures.content c.in-Ok-read.ensures.front).1
+    (read_all _ _ _ _ _ _ _ c.loop-n.invariant.read c.if-n-eq0.true c.in-Ok-read.ensures.content c.in-Ok-read.ensures.prefix).1
 
 pub returns-then-n-eq0-clause-files : goal.returns-then-n-eq0-clause-files
 returns-then-n-eq0-clause-files g c =
@@ -44,7 +44,7 @@ returns-then-n-eq0-clause-files g c =
 pub returns-then-limit-len-clause-longer : goal.returns-then-limit-len-clause-longer
 returns-then-limit-len-clause-longer g c =
     λ _. let past : c.args.limit < length c.loop-n.bytes.items + c.in-Ok-read.n = omega arith in
-    read_past _ _ _ _ _ _ _ c.loop-n.invariant.read c.in-Ok-read.ensures.front past (omega arith)
+    read_past _ _ _ _ _ _ _ c.loop-n.invariant.read c.in-Ok-read.ensures.prefix past (omega arith)
 
 pub returns-then-limit-len-clause-files : goal.returns-then-limit-len-clause-files
 returns-then-limit-len-clause-files g c =
@@ -54,7 +54,7 @@ pub loop-n-preserved : goal.loop-n-preserved
 loop-n-preserved g c =
     let inv = c.loop-n.invariant in
     let within : c.in-Ok-read.n ≤ length c.read.new.into = omega (arith, c.in-Ok-read.ensures.within, c.read.auto.into) in
-    let piece = front_piece c.in-Ok-read.n c.read.new.into (drop c.min-wanted.result c.loop-n.chunk) within in
+    let piece = prefix_piece c.in-Ok-read.n c.read.new.into (drop c.min-wanted.result c.loop-n.chunk) within in
     let grown : ◌≡◌ {A = List ℕ} c.extend_from_slice.new.self.items
     (c.loop-n.bytes.items ++ take c.in-Ok-read.n (c.read.new.into ++ drop c.min-wanted.result c.loop-n.chunk)) =
     c.in_ok-extend_from_slice.ensures.items
@@ -65,15 +65,24 @@ loop-n-preserved g c =
     record {
       read =
           subst (λ (bytes : List ℕ). HasRead c.args.name.now bytes (g.L.Library.content c.args.library.now) (g.L.Library.content c.read.new.self)) (sym grown)
-          (read_more _ _ _ c.read.new.into c.in-Ok-read.n _ _ _ inv.read c.in-Ok-read.ensures.content c.in-Ok-read.ensures.front piece.0 piece.1);
+          (read_more _ _ _ c.read.new.into c.in-Ok-read.n _ _ _ inv.read c.in-Ok-read.ensures.content c.in-Ok-read.ensures.prefix piece.0 piece.1);
       asked = c.in-Ok-read.ensures.asked ∙ inv.asked;
       started = c.in-Ok-read.ensures.started;
       taken = c.in-Ok-read.ensures.taken ∙ ap (λ (k : ℕ). k + c.in-Ok-read.n) inv.taken ∙ sym longer;
       within = omega (arith, longer);
-      faults = omega (arith, inv.faults, c.in-Ok-read.ensures.never_falls);
+      faults = c.in-Ok-read.ensures.no_fault ∙ inv.faults;
       chunk = omega (arith, length-append c.read.new.into (drop c.min-wanted.result c.loop-n.chunk), length-drop c.min-wanted.result c.loop-n.chunk, c.read.auto.into, inv.chunk);
     }
 
 pub returns-in_err-extend_from_slice-clause-files : goal.returns-in_err-extend_from_slice-clause-files
 returns-in_err-extend_from_slice-clause-files g c =
     files_stay_taken _ _ _ _ (files_stay _ _ _ _ c.loop-n.invariant.read) c.in-Ok-read.ensures.content
+
+pub returns-then-n-eq0-clause-no_fault : goal.returns-then-n-eq0-clause-no_fault
+returns-then-n-eq0-clause-no_fault g c = inr (c.in-Ok-read.ensures.no_fault ∙ c.loop-n.invariant.faults)
+
+pub returns-then-limit-len-clause-no_fault : goal.returns-then-limit-len-clause-no_fault
+returns-then-limit-len-clause-no_fault g c = inr (c.in-Ok-read.ensures.no_fault ∙ c.loop-n.invariant.faults)
+
+pub returns-in_err-extend_from_slice-clause-no_fault : goal.returns-in_err-extend_from_slice-clause-no_fault
+returns-in_err-extend_from_slice-clause-no_fault g c = inr (c.in-Ok-read.ensures.no_fault ∙ c.loop-n.invariant.faults)

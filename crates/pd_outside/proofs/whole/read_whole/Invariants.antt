@@ -10,7 +10,7 @@ invariant-loop-n g l = record {
   started : g.L.Library.is_started l.library ≡ true;
   taken : g.L.Library.taken l.library ≡ length l.bytes.items;
   within : length l.bytes.items ≤ l.limit;
-  faults : g.L.Library.faults l.fn.library ≤ g.L.Library.faults l.library;
+  faults : g.L.Library.faults l.library ≡ g.L.Library.faults l.fn.library;
   chunk : length l.chunk ≡ 65536;
 }
 

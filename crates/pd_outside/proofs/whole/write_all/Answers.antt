@@ -1,4 +1,4 @@
-use Rattle.std.proofs.Common.{◌+◌, ◌≤◌, length, arith}
+use Rattle.std.proofs.Common.{◌+◌, ◌≤◌, length, arith, ◌∙◌}
 use Rattle.std.proofs.lemmas.List.{length-drop, take_rest}
 use Rattle.pd_outside.proofs.Appending.{append_more}
 use Rattle.pd_outside.proofs.whole.write_all.Goals as goal
@@ -12,5 +12,5 @@ loop-at-preserved g c =
       within,
       append_more _ _ _ _ _ _ inv.1 (rw take_rest at c.in-Ok.ensures.held),
       c.in-Ok.ensures.begun,
-      omega (arith, inv.3, c.in-Ok.ensures.never_falls),
+      c.in-Ok.ensures.no_fault ∙ inv.3,
     )

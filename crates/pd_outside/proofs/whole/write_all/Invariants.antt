@@ -5,7 +5,7 @@ use Rattle.pd_outside.proofs.whole.write_all.Given as goal
 
 abbrev pub invariant-loop-at : goal.invariant-loop-at
 invariant-loop-at g l =
-    (l.at ≤ length l.bytes) × (g.S.Shelf.held l.shelf ≡ option_map (append_bytes (take l.at l.bytes)) (g.S.Shelf.held l.fn.shelf)) × (g.S.Shelf.is_begun l.shelf ≡ true) × (g.S.Shelf.faults l.fn.shelf ≤ g.S.Shelf.faults l.shelf)
+    (l.at ≤ length l.bytes) × (g.S.Shelf.held l.shelf ≡ option_map (append_bytes (take l.at l.bytes)) (g.S.Shelf.held l.fn.shelf)) × (g.S.Shelf.is_begun l.shelf ≡ true) × (g.S.Shelf.faults l.shelf ≡ g.S.Shelf.faults l.fn.shelf)
 
 abbrev pub decreases-loop-at : goal.decreases-loop-at
 decreases-loop-at g l = length l.bytes - l.at

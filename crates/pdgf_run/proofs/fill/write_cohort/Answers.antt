@@ -1,7 +1,7 @@
 use Rattle.std.proofs.Common.{◌≡◌, ◌<◌, ℕ, List, refl, ap, sym, subst, ◌∙◌, arith}
 use Rattle.std.specs.Option.{option_map}
-use Rattle.pd_outside.proofs.Appending.{append_nothing, append_both, front_after}
-use Rattle.pd_outside.specs.Shelf.{append_bytes, AppendedFrontOf}
+use Rattle.pd_outside.proofs.Appending.{append_nothing, append_both, prefix_after}
+use Rattle.pd_outside.specs.Shelf.{append_bytes, AppendedPrefixOf}
 use Rattle.life_intervals.specs.CohortKeys.{CohortOf}
 use Rattle.life_intervals.specs.Cohorts.{cohort_size}
 use Rattle.life_intervals.specs.Rows.{new_row}
@@ -45,9 +45,9 @@ returns-in-Err-clause-lines g c =
     let rules = schema_rules c.args.plan.now in
     let table = rules_of c.args.plan.now c.args.table in
     let below : c.loop-index.index < cohort_size table c.args.unit = omega (arith, c.cohort-size.ensures.size, c.loop-index-test.true) in
-    front_after _ _ _ _ _ _ _ (cohort_text-at rules c.args.table table c.args.unit c.loop-index.index below)
+    prefix_after _ _ _ _ _ _ _ (cohort_text-at rules c.args.table table c.args.unit c.loop-index.index below)
     c.loop-index.invariant.lines
-    (subst (λ (lines : CohortOf). AppendedFrontOf (line_in_cohort lines c.loop-index.index) (g.S.Shelf.held c.loop-index.shelf) (g.S.Shelf.held c.write_line.new.shelf))
+    (subst (λ (lines : CohortOf). AppendedPrefixOf (line_in_cohort lines c.loop-index.index) (g.S.Shelf.held c.loop-index.shelf) (g.S.Shelf.held c.write_line.new.shelf))
     c.new-lines.ensures c.in-Err.ensures.line)
 
 pub returns-clause-lines : goal.returns-clause-lines

@@ -1,6 +1,6 @@
 use Rattle.std.proofs.Common.{◌≡◌, ◌≤◌, ◌+◌, ℕ, List, refl, ap, sym, ◌∙◌, arith}
 use Rattle.std.specs.Option.{option_map}
-use Rattle.pd_outside.proofs.Appending.{append_nothing, append_both, front_after}
+use Rattle.pd_outside.proofs.Appending.{append_nothing, append_both, prefix_after}
 use Rattle.pd_outside.specs.Shelf.{append_bytes}
 use Rattle.life_intervals.specs.SchemaRules.{rules_of, schema_rules}
 use Rattle.row_lines.proofs.LineLemmas.{table_text-text_before, text_before-add_one}
@@ -37,7 +37,7 @@ loop-unit-preserved g c =
 pub returns-in-Err-clause-text : goal.returns-in-Err-clause-text
 returns-in-Err-clause-text g c =
     let within : c.loop-unit.unit ≤ c.args.last = omega arith in
-    front_after _ _ _ _ _ _ _ (table_text-at (schema_rules c.args.plan.now) c.args.table c.loop-unit.unit c.args.last within)
+    prefix_after _ _ _ _ _ _ _ (table_text-at (schema_rules c.args.plan.now) c.args.table c.loop-unit.unit c.args.last within)
     c.loop-unit.invariant.text c.in-Err.ensures.lines
 
 pub write_cohort-requires-clause-room : goal.write_cohort-requires-clause-room

@@ -1,6 +1,6 @@
 use Rattle.std.proofs.Common.{◌+◌, ℕ, List, refl, ap, sym, ◌∙◌, arith}
 use Rattle.std.specs.Option.{option_map}
-use Rattle.pd_outside.proofs.Appending.{append_nothing, append_both, front_after}
+use Rattle.pd_outside.proofs.Appending.{append_nothing, append_both, prefix_after}
 use Rattle.pd_outside.specs.Shelf.{append_bytes}
 use Rattle.life_intervals.specs.SchemaRules.{schema_rules}
 use Rattle.row_lines.specs.Lines.{table_text}
@@ -36,5 +36,5 @@ loop-number-preserved g c =
 
 pub returns-in-Err-clause-text : goal.returns-in-Err-clause-text
 returns-in-Err-clause-text g c =
-    front_after _ _ _ _ _ _ _ (texts_from-at c.args.plan.now c.args.last c.args.file.now.tables.from c.loop-number.number c.args.file.now.tables.count c.loop-number-test.true)
+    prefix_after _ _ _ _ _ _ _ (texts_from-at c.args.plan.now c.args.last c.args.file.now.tables.from c.loop-number.number c.args.file.now.tables.count c.loop-number-test.true)
     c.loop-number.invariant.text c.in-Err.ensures.text

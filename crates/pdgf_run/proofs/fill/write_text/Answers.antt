@@ -18,7 +18,7 @@ returns-in-Err-clause-file g c =
 
 pub returns-in-Err-write_all-clause-file : goal.returns-in-Err-write_all-clause-file
 returns-in-Err-write_all-clause-file g c =
-    file_in_part (record { name = standard_output; bytes = c.args.bytes.now }) _ _ _ c.in-Ok.ensures.held c.in-Err-write_all.ensures.front
+    file_in_part (record { name = standard_output; bytes = c.args.bytes.now }) _ _ _ c.in-Ok.ensures.held c.in-Err-write_all.ensures.prefix
 
 pub returns-in-Err-end-clause-file : goal.returns-in-Err-end-clause-file
 returns-in-Err-end-clause-file g c =
