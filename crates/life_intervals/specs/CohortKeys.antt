@@ -20,8 +20,8 @@ pub record IsCohort (plan : Planned) (table unit : ℕ) (cohort : Cohort) : Type
   pub limit : cohort.first + cohort.size ≤ 2 ^ 40
 
 -- what is kept is of the cohort's keys
-pub record AreKeysOf (plan : Planned) (table unit start : ℕ) (rows : Cohort) (order : Arrangement) : Type 0 where
+pub record AreKeysOf (plan : Planned) (table unit start : ℕ) (rows : Cohort) (placed : Arrangement) : Type 0 where
   pub base : start ≡ (table_of plan.schema table).key.base
   pub base_limit : start ≤ 2 ^ 62
   pub cohort : IsCohort plan table unit rows
-  pub order : order ≡ key_order plan.schema table unit
+  pub order : placed ≡ key_order plan.schema table unit

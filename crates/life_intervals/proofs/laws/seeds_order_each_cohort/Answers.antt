@@ -1,5 +1,0 @@
-use Rattle.life_intervals.proofs.KeyLemmas.{OrdersCohorts-schema_rules}
-use Rattle.life_intervals.proofs.laws.seeds_order_each_cohort.Goals as goal
-
-pub returns : goal.returns
-returns c = OrdersCohorts-schema_rules
