@@ -1,4 +1,0 @@
-pub mod DecideLemmas
-pub mod FillLemmas
-pub mod JobLemmas
-pub mod PlainLemmas

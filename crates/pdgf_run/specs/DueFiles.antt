@@ -5,11 +5,11 @@ use Rattle.std.specs.Option.{option_map}
 use Rattle.pd_outside.specs.Files.{File}
 use Rattle.schema_model.specs.declared.table.Schema.{Schema}
 use Rattle.schema_model.specs.declared.table.Table.{Table}
-use Rattle.schema_check.specs.Costs.{cost}
-use Rattle.schema_check.specs.Places.{table_place}
-use Rattle.schema_check.specs.Lives.{sure_life}
-use Rattle.schema_check.specs.Sizes.{max_line}
-use Rattle.life_intervals.specs.SchemaRules.{rows_in_all, schema_rules}
+use Rattle.schema_check.specs.Layout.{layout_of}
+use Rattle.schema_check.specs.Lineage.{sure_life}
+use Rattle.schema_check.specs.Planned.{Planned, table_named}
+use Rattle.schema_check.specs.TableFacts.{cost, max_line}
+use Rattle.life_intervals.specs.Generator.{generator_of, rows_in_all}
 use Rattle.row_lines.specs.Lines.{table_text}
 
 -- the name of the standard output
@@ -23,21 +23,25 @@ name_at schema place = slice_index_or (map (λ (table : Table). table.name) sche
 -- the places of the tables that are chosen: all in order, or the one of a name, where there is one
 abbrev pub chosen : Schema → Option (List ℕ) → Option (List ℕ)
 chosen schema None = Some (range_with_len 0 (length schema.tables))
-chosen schema (Some name) = option_map (λ place. place ∷ []) (table_place schema name)
+chosen schema (Some name) = option_map (λ place. place ∷ []) (table_named schema name)
 
 -- the texts of the tables at these places at a unit, one after the other
-abbrev pub texts_at : Schema → ℕ → List ℕ → List ℕ
-texts_at schema unit places = flat_map (λ place. table_text (schema_rules schema) place unit) places
+unfoldable pub texts_at : Planned → ℕ → List ℕ → List ℕ
+texts_at plan unit places = flat_map (table_text (generator_of plan.schema) unit) places
 
 -- the file of a table in a directory
 abbrev pub path_of : List ℕ → List ℕ → List ℕ
 path_of directory name = directory ++ codes "/" ++ name ++ codes ".tbl"
 
+-- a file of the texts of tables at a unit
+abbrev pub file_of : Planned → ℕ → List ℕ → List ℕ → File
+file_of plan unit name places = record { name = name; bytes = texts_at plan unit places }
+
 -- the files of a snapshot of tables at a unit: one each in a directory, or all texts on the standard output
-abbrev pub snapshot_files : Schema → ℕ → List ℕ → Option (List ℕ) → List File
-snapshot_files schema unit places None = record { name = standard_output; bytes = texts_at schema unit places } ∷ []
-snapshot_files schema unit places (Some directory) =
-    map (λ place. record { name = path_of directory (name_at schema place); bytes = table_text (schema_rules schema) place unit }) places
+abbrev pub snapshot_files : Planned → ℕ → List ℕ → Option (List ℕ) → List File
+snapshot_files plan unit places None = file_of plan unit standard_output places ∷ []
+snapshot_files plan unit places (Some directory) =
+    map (λ place. file_of plan unit (path_of directory (name_at plan.schema place)) (place ∷ [])) places
 
 -- how long the rows of a table live for sure, as it is told
 abbrev pub life_text : Option ℕ → List ℕ
@@ -49,9 +53,9 @@ abbrev pub check_line : Schema → ℕ → List ℕ
 check_line schema place =
     name_at schema place ++ codes "\t"
     ++ decimal (rows_in_all schema place) ++ codes "\t"
-    ++ life_text (sure_life schema place) ++ codes "\t"
-    ++ decimal (cost schema place) ++ codes "\t"
-    ++ decimal (max_line schema place) ++ codes "\n"
+    ++ life_text (sure_life (layout_of schema).tables place) ++ codes "\t"
+    ++ decimal (cost (layout_of schema) place) ++ codes "\t"
+    ++ decimal (max_line (layout_of schema) place) ++ codes "\n"
 
 -- the lines of the first tables of a schema, as many as `count`
 unfoldable pub check_lines : Schema → ℕ → List ℕ

@@ -1,8 +1,7 @@
 pub mod Appends
-pub mod Decided
+pub mod Stages
 pub mod DueFiles
 pub mod Jobs
-pub mod Plain
 pub mod Statuses
 pub mod TopCall
 pub mod Verdict

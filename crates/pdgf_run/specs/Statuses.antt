@@ -1,5 +1,5 @@
 -- The program's exit statuses, and its messages on the standard error.
-use Rattle.std.specs.Prelude.{◌≡◌, refl, ℕ, zero, Bool, ◌==◌, List, [], ◌∷◌, ◌++◌, codes, decimal, if◌then◌else◌, Option, Some, None}
+use Rattle.std.specs.Prelude.{◌≡◌, refl, ℕ, zero, Bool, ◌==◌, ◌||◌, List, [], ◌∷◌, ◌++◌, codes, decimal, if◌then◌else◌, Option, Some, None}
 use Rattle.std.specs.Fmt.{digits}
 use Rattle.std.specs.List.{list_any}
 use Rattle.schema_read.specs.Keys.{key_name}
@@ -7,8 +7,21 @@ use Rattle.schema_read.specs.declared.fault.Expected.{Expected}
 use Rattle.schema_read.specs.declared.fault.Expected.TheVariants.{Whole, TextValue, Flag, DelimiterName, TableList, TwoWholes, KindName, LeafName, DateText, TextList, Wholes, PartList, WindowValue, NoSuchKey}
 use Rattle.schema_read.specs.declared.key.SchemaKey.{SchemaKey}
 use Rattle.schema_read.specs.declared.key.SchemaKey.TheVariants.{Units, Window, Other}
+use Rattle.pd_outside.specs.declared.faults.ReadFault.{ReadFault}
+use Rattle.pd_outside.specs.declared.faults.ReadFault.TheVariants as reading
+use Rattle.schema_check.specs.declared.checker.CheckFault.{CheckFault}
+use Rattle.schema_check.specs.declared.checker.CheckFault.TheVariants as check
+use Rattle.schema_read.specs.declared.fault.Place.{Place}
+use Rattle.schema_read.specs.declared.read.ReadSchemaFault.{ReadSchemaFault}
+use Rattle.schema_read.specs.declared.read.ReadSchemaFault.TheVariants as schema
 use Rattle.pdgf_run.specs.declared.refusal.Refusal.{Refusal}
-use Rattle.pdgf_run.specs.declared.refusal.Refusal.TheVariants.{Usage, SchemaTooLong, Syntax, Shape, NotBuilt, Rule, OutOfRange}
+use Rattle.pdgf_run.specs.declared.refusal.Refusal.TheVariants.{Words, Job}
+use Rattle.pdgf_run.specs.declared.refusal.JobFault.{JobFault}
+use Rattle.pdgf_run.specs.declared.refusal.JobFault.TheVariants as job
+use Rattle.pdgf_run.specs.declared.refusal.TextFault.{TextFault}
+use Rattle.pdgf_run.specs.declared.refusal.TextFault.TheVariants as text
+use Rattle.pdgf_run.specs.declared.refusal.PlanFault.{PlanFault}
+use Rattle.pdgf_run.specs.declared.refusal.PlanFault.TheVariants as plan
 use Rattle.pdgf_run.specs.declared.usage.OptionName.{OptionName}
 use Rattle.pdgf_run.specs.declared.usage.OptionName.TheVariants as option
 use Rattle.pdgf_run.specs.declared.usage.UsageFault.{UsageFault}
@@ -16,31 +29,49 @@ use Rattle.pdgf_run.specs.declared.usage.UsageFault.TheVariants as usage
 
 -- ---- statuses
 
+-- the status of a schema without a plan
+abbrev pub plan_status : PlanFault → ℕ
+plan_status plan.NotBuilt = 11
+plan_status (plan.Check check.Memory) = 7
+plan_status (plan.Check (check.Rule number table column)) = 4
+
+-- the status of a text that is no schema
+abbrev pub schema_status : ReadSchemaFault → ℕ
+schema_status schema.Memory = 7
+schema_status schema.Syntax = 3
+schema_status (schema.Shape place key expected) = 3
+
+-- the status of a text that gives no job
+abbrev pub text_status : TextFault → ℕ
+text_status (text.Schema fault) = schema_status fault
+text_status (text.Plan fault) = plan_status fault
+text_status (text.Range name) = 8
+text_status text.Memory = 7
+
+-- the status of a request that gives no job
+abbrev pub job_status : JobFault → ℕ
+job_status (job.Reading reading.Failed) = 5
+job_status (job.Reading reading.TooLong) = 10
+job_status (job.Reading reading.Memory) = 7
+job_status (job.Text fault) = text_status fault
+
 -- the status of a refusal
 abbrev pub status_of : Refusal → ℕ
-status_of (Usage fault) = 2
-status_of Syntax = 3
-status_of (Shape place key expected) = 3
-status_of (Rule number table column) = 4
-status_of (OutOfRange name) = 8
-status_of SchemaTooLong = 10
-status_of NotBuilt = 11
+status_of (Words usage.Memory) = 7
+status_of (Words fault) = 2
+status_of (Job fault) = job_status fault
+
+-- whether no definition gives what a status tells: that a read failed, or that memory ran out
+abbrev pub is_free : ℕ → Bool
+is_free status = status == 5 || status == 7
 
 -- all is done
 abbrev pub done_status : ℕ
 done_status = 0
 
--- a read failed
-abbrev pub read_failed_status : ℕ
-read_failed_status = 5
-
 -- a write failed
 abbrev pub write_failed_status : ℕ
 write_failed_status = 6
-
--- memory ran out
-abbrev pub memory_status : ℕ
-memory_status = 7
 
 -- whether a number is a status of the program
 abbrev pub is_status : ℕ → Bool
@@ -100,17 +131,42 @@ abbrev pub key_text : SchemaKey → Expected → List ℕ
 key_text Other expected = codes ": no such key"
 key_text key expected = wanted_text key expected
 
+-- a wrong key at its place
+abbrev pub shape_text : Place → SchemaKey → Expected → List ℕ
+shape_text place key expected =
+    codes "schema: " ++ place_text place.table place.column place.branch ++ key_text key expected
+
+-- a broken rule at its place
+abbrev pub rule_text : ℕ → ℕ → ℕ → List ℕ
+rule_text number table column = codes "rule V" ++ decimal number ++ codes " at " ++ place_text table column 0
+
+-- the words of each stage's faults
+abbrev pub schema_fault_text : ReadSchemaFault → List ℕ
+schema_fault_text schema.Syntax = codes "schema: not TOML"
+schema_fault_text (schema.Shape place key expected) = shape_text place key expected
+schema_fault_text schema.Memory = codes "out of memory"
+
+abbrev pub plan_fault_text : PlanFault → List ℕ
+plan_fault_text plan.NotBuilt = codes "not built"
+plan_fault_text (plan.Check (check.Rule number table column)) = rule_text number table column
+plan_fault_text (plan.Check check.Memory) = codes "out of memory"
+
+abbrev pub text_fault_text : TextFault → List ℕ
+text_fault_text (text.Schema fault) = schema_fault_text fault
+text_fault_text (text.Plan fault) = plan_fault_text fault
+text_fault_text (text.Range name) = codes "out of range: " ++ option_text name
+text_fault_text text.Memory = codes "out of memory"
+
+abbrev pub reading_text : ReadFault → List ℕ
+reading_text reading.Failed = codes "read failed"
+reading_text reading.TooLong = codes "too long: schema"
+reading_text reading.Memory = codes "out of memory"
+
 -- the words of a refusal
 abbrev pub refusal_text : Refusal → List ℕ
-refusal_text (Usage fault) = usage_text fault
-refusal_text Syntax = codes "schema: not TOML"
-refusal_text (Shape place key expected) =
-    codes "schema: " ++ place_text place.table place.column place.branch ++ key_text key expected
-refusal_text (Rule number table column) =
-    codes "rule V" ++ decimal number ++ codes " at " ++ place_text table column 0
-refusal_text (OutOfRange name) = codes "out of range: " ++ option_text name
-refusal_text SchemaTooLong = codes "too long: schema"
-refusal_text NotBuilt = codes "not built"
+refusal_text (Words fault) = usage_text fault
+refusal_text (Job (job.Reading fault)) = reading_text fault
+refusal_text (Job (job.Text fault)) = text_fault_text fault
 
 -- ---- messages
 
@@ -122,49 +178,41 @@ line_of words = codes "pdgf: " ++ words ++ codes "\n"
 abbrev pub text_of : Refusal → List ℕ
 text_of refusal = line_of (refusal_text refusal)
 
--- the message of a failed read
-abbrev pub read_failed_text : List ℕ
-read_failed_text = line_of (codes "read failed")
-
 -- the message of a failed write
 abbrev pub write_failed_text : List ℕ
 write_failed_text = line_of (codes "write failed")
-
--- the message that memory ran out
-abbrev pub memory_text : List ℕ
-memory_text = line_of (codes "out of memory")
 
 -- the message of a status that has only one
 abbrev pub fixed_text : ℕ → Option (List ℕ)
 fixed_text status =
     if status == 0 then Some [] else
-    (if status == 5 then Some read_failed_text else
+    (if status == 5 then Some (line_of (codes "read failed")) else
     (if status == 6 then Some write_failed_text else
-    (if status == 7 then Some memory_text else None)))
+    (if status == 7 then Some (line_of (codes "out of memory")) else None)))
 
 -- ---- worked messages
 
-worked_usage : text_of (Usage (usage.Missing option.Unit)) ≡ codes "pdgf: usage: missing --unit\n"
+worked_usage : text_of (Words (usage.Missing option.Unit)) ≡ codes "pdgf: usage: missing --unit\n"
 worked_usage = refl
 
-worked_top : text_of (Shape (record { table = 0; column = 0; branch = 0 }) Units Whole) ≡ codes "pdgf: schema: top key units: expected whole number\n"
+worked_top : text_of (Job (job.Text (text.Schema (schema.Shape (record { table = 0; column = 0; branch = 0 }) Units Whole)))) ≡ codes "pdgf: schema: top key units: expected whole number\n"
 worked_top = refl
 
-worked_column : text_of (Shape (record { table = 2; column = 2; branch = 0 }) Window WindowValue) ≡ codes "pdgf: schema: table 2 column 2 key window: expected whole number or \"all\"\n"
+worked_column : text_of (Job (job.Text (text.Schema (schema.Shape (record { table = 2; column = 2; branch = 0 }) Window WindowValue)))) ≡ codes "pdgf: schema: table 2 column 2 key window: expected whole number or \"all\"\n"
 unfolding digits
 worked_column = refl
 
-worked_branch : text_of (Shape (record { table = 1; column = 12; branch = 3 }) Other NoSuchKey) ≡ codes "pdgf: schema: table 1 column 12 branch 3: no such key\n"
+worked_branch : text_of (Job (job.Text (text.Schema (schema.Shape (record { table = 1; column = 12; branch = 3 }) Other NoSuchKey)))) ≡ codes "pdgf: schema: table 1 column 12 branch 3: no such key\n"
 unfolding digits
 worked_branch = refl
 
-worked_rule : text_of (Rule 19 2 2) ≡ codes "pdgf: rule V19 at table 2 column 2\n"
+worked_rule : text_of (Job (job.Text (text.Plan (plan.Check (check.Rule 19 2 2))))) ≡ codes "pdgf: rule V19 at table 2 column 2\n"
 unfolding digits
 worked_rule = refl
 
-worked_rule_of_a_table : text_of (Rule 3 2 0) ≡ codes "pdgf: rule V3 at table 2\n"
+worked_rule_of_a_table : text_of (Job (job.Text (text.Plan (plan.Check (check.Rule 3 2 0))))) ≡ codes "pdgf: rule V3 at table 2\n"
 unfolding digits
 worked_rule_of_a_table = refl
 
-worked_range : text_of (OutOfRange option.Unit) ≡ codes "pdgf: out of range: --unit\n"
+worked_range : text_of (Job (job.Text (text.Range option.Unit))) ≡ codes "pdgf: out of range: --unit\n"
 worked_range = refl

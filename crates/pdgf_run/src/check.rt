@@ -1,7 +1,6 @@
 //! What mode check tells.
 
 ghost use Rattle.std.specs.Prelude.{◌≡◌, ◌<◌, ◌∷◌, ◌++◌, [], IfOk, OnOk, codes, decimal, length};
-ghost use Rattle.schema_check.specs.Lives.{sure_life};
 ghost use Rattle.pdgf_run.specs.DueFiles.{check_line, check_lines, life_text, name_at};
 
 use itoa::Buffer;
@@ -35,18 +34,16 @@ fn push_life(text: &mut Vec<u8>, life: Option<u64>) -> Result<(), Memory>
 
 /// The name of a table.
 pub(crate) fn name_of(plan: &Plan, table: u32) -> &str
-    requires { table < length plan.now.tables }
-    ensures { result.now ≡ name_at plan.now table }
+    requires { table < length plan.now.schema.tables }
+    ensures { result.now ≡ name_at plan.now.schema table }
 {
-    plan.schema().tables.as_slice()[table as usize]
-        .name
-        .as_str()
+    plan.table(table).name.as_str()
 }
 
 /// Appends what is told of a table.
 fn push_line(text: &mut Vec<u8>, plan: &Plan, table: u32) -> Result<(), Memory>
-    requires { table < length plan.now.tables }
-    ensures { OnOk result (text.new.items ≡ text.old.items ++ check_line plan.now table) }
+    requires { table < length plan.now.schema.tables }
+    ensures { OnOk result (text.new.items ≡ text.old.items ++ check_line plan.now.schema table) }
 {
     text.extend_from_slice(name_of(plan, table).as_bytes())?;
     text.push(b'\t')?;
@@ -58,7 +55,7 @@ fn push_line(text: &mut Vec<u8>, plan: &Plan, table: u32) -> Result<(), Memory>
 
 /// A line for each table: its name, the rows born in all units, its sure life, its cost and its greatest line.
 pub(crate) fn check_text(alloc: Global, plan: &Plan) -> Result<Vec<u8>, Memory>
-    ensures { IfOk result (λ text. text.items ≡ check_lines plan.now (length plan.now.tables)) }
+    ensures { IfOk result (λ text. text.items ≡ check_lines plan.now.schema (length plan.now.schema.tables)) }
 {
     let mut text = Vec::new(alloc);
     for table in 0..plan.tables() {

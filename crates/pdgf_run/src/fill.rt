@@ -1,20 +1,19 @@
 //! The files of a job, line by line onto a shelf.
 
-ghost use Rattle.std.specs.Prelude.{◌≡◌, ◌<◌, ◌≤◌, ◌+◌, ◌++◌, ◌∷◌, [], false, IsTrue, OnErr, OnOk, length};
-ghost use Rattle.std.specs.Option.{option_map};
+ghost use Rattle.std.specs.Prelude.{◌≡◌, ◌<◌, ◌≤◌, ◌∷◌, [], false, true, IsTrue, OnErr, OnOk, length};
 ghost use Rattle.pd_outside.specs.Faults.{Rose};
-ghost use Rattle.pd_outside.specs.Shelf.{finish_files, HoldsPrefixOf};
-ghost use Rattle.schema_check.specs.Counts.{count};
-ghost use Rattle.schema_check.specs.Sizes.{max_line, reach};
-ghost use Rattle.life_intervals.specs.Cohorts.{cohort_size};
-ghost use Rattle.life_intervals.specs.SchemaRules.{rules_of, schema_rules};
-ghost use Rattle.row_lines.specs.CohortLines.{line_in_cohort, table_of};
+ghost use Rattle.schema_check.specs.Cohorts.{cohort_size};
+ghost use Rattle.schema_check.specs.Layout.{layout_of};
+ghost use Rattle.schema_check.specs.TableFacts.{max_line, reach};
+ghost use Rattle.life_intervals.specs.Generator.{generator_of, last_unit};
+ghost use Rattle.life_intervals.specs.Intervals.{is_live};
+ghost use Rattle.row_lines.specs.CohortLines.{layout_for, line_in_cohort, ordinal_of};
 ghost use Rattle.row_lines.specs.Lines.{cohort_text, table_text};
 ghost use Rattle.pdgf_run.specs.Appends.{Appends, Finishes};
-ghost use Rattle.pdgf_run.specs.DueFiles.{standard_output};
-ghost use Rattle.pdgf_run.specs.Jobs.{CanFill, CanWrite, due_of, file_of, snapshot_due, texts_from};
+ghost use Rattle.pdgf_run.specs.DueFiles.{standard_output, texts_at};
+ghost use Rattle.pdgf_run.specs.Jobs.{CanFill, CanWrite, IsFileOf, IsTableOf, due_file, due_of, places_in, snapshot_due};
 
-use crate::job::{Job, JobFile, SnapshotJob};
+use crate::job::{Job, JobFile, JobTable, SnapshotJob};
 use life_intervals::cohort;
 use pd_outside::{Failed, PageBuf, Shelf, WriteFailed, write_all};
 use row_lines::CohortLines;
@@ -32,12 +31,14 @@ fn write_line<S: Shelf, B: Ledger>(
     steps: &mut Steps<B>,
 ) -> Result<(), WriteFailed>
     requires begun { IsTrue (S.is_begun shelf.old) }
-    requires row { index < cohort_size (table_of lines.now) lines.now.unit }
-    requires room { max_line lines.now.schema lines.now.table ≤ page.old.room }
+    requires row { index < cohort_size (layout_for lines.now).births lines.now.born }
+    requires alive { is_live (layout_for lines.now) lines.now.unit (ordinal_of lines.now index) ≡ true }
+    requires room { max_line (layout_of lines.now.plan.schema) lines.now.table ≤ page.old.room }
     ensures line { Appends result (line_in_cohort lines.now index) (S.held shelf.old) (S.held shelf.new) }
     ensures cause { OnErr result (Rose (S.faults shelf.old) (S.faults shelf.new)) }
-    ensures begun { IsTrue (S.is_begun shelf.new) }
+    ensures no_fault { OnOk result (S.faults shelf.new ≡ S.faults shelf.old) }
     ensures never_falls { S.faults shelf.old ≤ S.faults shelf.new }
+    ensures begun { IsTrue (S.is_begun shelf.new) }
     ensures room { page.new.room ≡ page.old.room }
 {
     page.clear();
@@ -45,28 +46,31 @@ fn write_line<S: Shelf, B: Ledger>(
     write_all(shelf, page.text())
 }
 
-/// Writes the lines of the rows of a table that are born at a unit.
+/// Writes the lines at a unit of the rows of a table that are born at another.
 fn write_cohort<S: Shelf, B: Ledger>(
     shelf: &mut S,
     page: &mut PageBuf,
     plan: &Plan,
-    table: u32,
+    table: &JobTable,
+    born: u64,
     unit: u64,
     steps: &mut Steps<B>,
 ) -> Result<(), WriteFailed>
     requires begun { IsTrue (S.is_begun shelf.old) }
-    requires table { table < length plan.now.tables }
-    requires unit { unit ≤ count plan.now.units }
-    requires room { max_line plan.now table ≤ page.old.room }
-    ensures lines { Appends result (cohort_text (schema_rules plan.now) table (rules_of plan.now table) unit) (S.held shelf.old) (S.held shelf.new) }
+    requires table { IsTableOf plan.now unit table.now }
+    requires born { born ≤ unit }
+    requires unit { unit ≤ last_unit plan.now.schema }
+    requires room { max_line (layout_of plan.now.schema) table.now.place ≤ page.old.room }
+    ensures lines { Appends result (cohort_text (generator_of plan.now.schema) unit table.now.place born) (S.held shelf.old) (S.held shelf.new) }
     ensures cause { OnErr result (Rose (S.faults shelf.old) (S.faults shelf.new)) }
-    ensures begun { IsTrue (S.is_begun shelf.new) }
+    ensures no_fault { OnOk result (S.faults shelf.new ≡ S.faults shelf.old) }
     ensures never_falls { S.faults shelf.old ≤ S.faults shelf.new }
+    ensures begun { IsTrue (S.is_begun shelf.new) }
     ensures room { page.new.room ≡ page.old.room }
 {
-    let lines = CohortLines::new(plan, table, unit);
-    let size = cohort(plan, table, unit).size;
-    for index in 0..size {
+    let order = &table.orders[born as usize];
+    let lines = CohortLines::new(plan, table.place, born, unit, order);
+    for index in 0..cohort(plan, table.place, born).size {
         match write_line(shelf, page, &lines, index, steps) {
             Ok(()) => {}
             Err(WriteFailed) => return Err(WriteFailed),
@@ -80,23 +84,24 @@ fn write_table<S: Shelf, B: Ledger>(
     shelf: &mut S,
     page: &mut PageBuf,
     plan: &Plan,
-    table: u32,
-    last: u64,
+    table: &JobTable,
+    unit: u64,
     steps: &mut Steps<B>,
 ) -> Result<(), WriteFailed>
     requires begun { IsTrue (S.is_begun shelf.old) }
-    requires table { table < length plan.now.tables }
-    requires unit { last ≤ count plan.now.units }
-    requires small { count plan.now.units ≤ 10000 }
-    requires room { reach plan.now ≤ page.old.room }
-    ensures text { Appends result (table_text (schema_rules plan.now) table last) (S.held shelf.old) (S.held shelf.new) }
+    requires table { IsTableOf plan.now unit table.now }
+    requires unit { unit ≤ last_unit plan.now.schema }
+    requires small { last_unit plan.now.schema ≤ 10000 }
+    requires room { reach (layout_of plan.now.schema) ≤ page.old.room }
+    ensures text { Appends result (table_text (generator_of plan.now.schema) unit table.now.place) (S.held shelf.old) (S.held shelf.new) }
     ensures cause { OnErr result (Rose (S.faults shelf.old) (S.faults shelf.new)) }
-    ensures begun { IsTrue (S.is_begun shelf.new) }
+    ensures no_fault { OnOk result (S.faults shelf.new ≡ S.faults shelf.old) }
     ensures never_falls { S.faults shelf.old ≤ S.faults shelf.new }
+    ensures begun { IsTrue (S.is_begun shelf.new) }
     ensures room { page.new.room ≡ page.old.room }
 {
-    for unit in 0..last + 1 {
-        match write_cohort(shelf, page, plan, table, unit, steps) {
+    for born in 0..unit + 1 {
+        match write_cohort(shelf, page, plan, table, born, unit, steps) {
             Ok(()) => {}
             Err(WriteFailed) => return Err(WriteFailed),
         }
@@ -104,29 +109,29 @@ fn write_table<S: Shelf, B: Ledger>(
     Ok(())
 }
 
-/// Writes the texts of some tables from a place on, one after the other.
+/// Writes the texts of a file's tables, one after the other.
 fn write_tables<S: Shelf, B: Ledger>(
     shelf: &mut S,
     page: &mut PageBuf,
     plan: &Plan,
-    last: u64,
+    unit: u64,
     file: &JobFile,
     steps: &mut Steps<B>,
 ) -> Result<(), WriteFailed>
     requires begun { IsTrue (S.is_begun shelf.old) }
-    requires tables { file.now.tables.from + file.now.tables.count ≤ length plan.now.tables }
-    requires few { length plan.now.tables ≤ 64 }
-    requires unit { last ≤ count plan.now.units }
-    requires small { count plan.now.units ≤ 10000 }
-    requires room { reach plan.now ≤ page.old.room }
-    ensures text { Appends result (texts_from plan.now last file.now.tables.from file.now.tables.count) (S.held shelf.old) (S.held shelf.new) }
+    requires file { IsFileOf plan.now unit file.now }
+    requires unit { unit ≤ last_unit plan.now.schema }
+    requires small { last_unit plan.now.schema ≤ 10000 }
+    requires room { reach (layout_of plan.now.schema) ≤ page.old.room }
+    ensures text { Appends result (texts_at plan.now unit (places_in file.now)) (S.held shelf.old) (S.held shelf.new) }
     ensures cause { OnErr result (Rose (S.faults shelf.old) (S.faults shelf.new)) }
-    ensures begun { IsTrue (S.is_begun shelf.new) }
+    ensures no_fault { OnOk result (S.faults shelf.new ≡ S.faults shelf.old) }
     ensures never_falls { S.faults shelf.old ≤ S.faults shelf.new }
+    ensures begun { IsTrue (S.is_begun shelf.new) }
     ensures room { page.new.room ≡ page.old.room }
 {
-    for number in 0..file.tables.count {
-        match write_table(shelf, page, plan, file.tables.from + number, last, steps) {
+    for table in &file.tables {
+        match write_table(shelf, page, plan, table, unit, steps) {
             Ok(()) => {}
             Err(WriteFailed) => return Err(WriteFailed),
         }
@@ -139,19 +144,19 @@ fn write_file<S: Shelf, B: Ledger>(
     shelf: &mut S,
     page: &mut PageBuf,
     plan: &Plan,
-    last: u64,
+    unit: u64,
     file: &JobFile,
     steps: &mut Steps<B>,
 ) -> Result<(), WriteFailed>
     requires none_begun { S.is_begun shelf.old ≡ false }
-    requires tables { file.now.tables.from + file.now.tables.count ≤ length plan.now.tables }
-    requires few { length plan.now.tables ≤ 64 }
-    requires unit { last ≤ count plan.now.units }
-    requires small { count plan.now.units ≤ 10000 }
-    requires room { reach plan.now ≤ page.old.room }
-    ensures file { Finishes result (file_of plan.now last file.now ∷ []) (S.held shelf.old) (S.held shelf.new) }
+    requires file { IsFileOf plan.now unit file.now }
+    requires unit { unit ≤ last_unit plan.now.schema }
+    requires small { last_unit plan.now.schema ≤ 10000 }
+    requires room { reach (layout_of plan.now.schema) ≤ page.old.room }
+    ensures file { Finishes result (due_file plan.now unit file.now ∷ []) (S.held shelf.old) (S.held shelf.new) }
     ensures none_begun { OnOk result (S.is_begun shelf.new ≡ false) }
     ensures cause { OnErr result (Rose (S.faults shelf.old) (S.faults shelf.new)) }
+    ensures no_fault { OnOk result (S.faults shelf.new ≡ S.faults shelf.old) }
     ensures never_falls { S.faults shelf.old ≤ S.faults shelf.new }
     ensures room { page.new.room ≡ page.old.room }
 {
@@ -159,15 +164,14 @@ fn write_file<S: Shelf, B: Ledger>(
         Ok(()) => {}
         Err(Failed) => return Err(WriteFailed),
     }
-    match write_tables(shelf, page, plan, last, file, steps) {
+    match write_tables(shelf, page, plan, unit, file, steps) {
         Ok(()) => {}
         Err(WriteFailed) => return Err(WriteFailed),
     }
     match shelf.end() {
-        Ok(()) => {}
-        Err(Failed) => return Err(WriteFailed),
+        Ok(()) => Ok(()),
+        Err(Failed) => Err(WriteFailed),
     }
-    Ok(())
 }
 
 /// Writes the files of a snapshot, in order. Nothing further is begun after a failure.
@@ -184,6 +188,7 @@ fn write_snapshot<S: Shelf, B: Ledger>(
     ensures files { Finishes result (snapshot_due job) (S.held shelf.old) (S.held shelf.new) }
     ensures none_begun { OnOk result (S.is_begun shelf.new ≡ false) }
     ensures cause { OnErr result (Rose (S.faults shelf.old) (S.faults shelf.new)) }
+    ensures no_fault { OnOk result (S.faults shelf.new ≡ S.faults shelf.old) }
     ensures never_falls { S.faults shelf.old ≤ S.faults shelf.new }
 {
     let SnapshotJob {
@@ -208,6 +213,7 @@ fn write_text<S: Shelf>(shelf: &mut S, bytes: &[u8]) -> Result<(), WriteFailed>
     ensures file { Finishes result (record { name = standard_output; bytes = bytes.now } ∷ []) (S.held shelf.old) (S.held shelf.new) }
     ensures none_begun { OnOk result (S.is_begun shelf.new ≡ false) }
     ensures cause { OnErr result (Rose (S.faults shelf.old) (S.faults shelf.new)) }
+    ensures no_fault { OnOk result (S.faults shelf.new ≡ S.faults shelf.old) }
     ensures never_falls { S.faults shelf.old ≤ S.faults shelf.new }
 {
     match shelf.begin("-") {
@@ -219,10 +225,9 @@ fn write_text<S: Shelf>(shelf: &mut S, bytes: &[u8]) -> Result<(), WriteFailed>
         Err(WriteFailed) => return Err(WriteFailed),
     }
     match shelf.end() {
-        Ok(()) => {}
-        Err(Failed) => return Err(WriteFailed),
+        Ok(()) => Ok(()),
+        Err(Failed) => Err(WriteFailed),
     }
-    Ok(())
 }
 
 /// Writes the files that a job is due. At `WriteFailed` a prefix of them stands, and nothing further was begun.
@@ -232,6 +237,7 @@ pub(crate) fn fill<S: Shelf>(shelf: &mut S, job: Job) -> Result<(), WriteFailed>
     ensures files { Finishes result (due_of job) (S.held shelf.old) (S.held shelf.new) }
     ensures none_begun { OnOk result (S.is_begun shelf.new ≡ false) }
     ensures cause { OnErr result (Rose (S.faults shelf.old) (S.faults shelf.new)) }
+    ensures no_fault { OnOk result (S.faults shelf.new ≡ S.faults shelf.old) }
     ensures never_falls { S.faults shelf.old ≤ S.faults shelf.new }
 {
     match job {

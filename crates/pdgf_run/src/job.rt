@@ -1,12 +1,14 @@
 //! What a request comes to, before anything is written.
 
-ghost use Rattle.std.specs.Prelude.{◌≡◌, ℕ, ◌≤◌, ◌+◌, ◌∷◌, ◌++◌, [], All, IfOk, IfSome, OnOk, map, length};
+ghost use Rattle.std.specs.Prelude.{◌≡◌, ◌<◌, ◌≤◌, ◌+◌, ◌∷◌, ◌++◌, [], All, IfOk, IfSome, OnOk, map, length, None, Some};
 ghost use Rattle.std.specs.Option.{option_map};
-ghost use Rattle.schema_check.specs.Counts.{count};
+ghost use Rattle.life_intervals.specs.Generator.{last_unit};
 ghost use Rattle.pdgf_run.specs.DueFiles.{chosen, path_of, snapshot_files, standard_output};
-ghost use Rattle.pdgf_run.specs.Jobs.{file_in, file_of, places_of, snapshot_due, CanWrite, IsWithin};
+ghost use Rattle.pdgf_run.specs.Jobs.{due_file, places_in, places_of, snapshot_due, CanWrite, IsFileOf, IsTableOf};
 
 use crate::check::name_of;
+use id_permutation::Order;
+use life_intervals::key_orders;
 use pd_outside::{Memory, PageBuf};
 use schema_check::Plan;
 use schema_model::Text as Name;
@@ -34,7 +36,14 @@ pub(crate) struct SnapshotJob {
 #[derive(Drop)]
 pub(crate) struct JobFile {
     pub(crate) name: Name,
-    pub(crate) tables: Places,
+    pub(crate) tables: Vec<JobTable>,
+}
+
+/// A table by its place, with the orders of its cohorts' keys.
+#[derive(Drop)]
+pub(crate) struct JobTable {
+    pub(crate) place: u32,
+    pub(crate) orders: Vec<Order>,
 }
 
 /// The places of `count` tables from the one at place `from` on.
@@ -46,8 +55,8 @@ pub(crate) struct Places {
 
 /// The tables that are chosen: all, or the one of a name; None where no table has the name.
 pub(crate) fn choose(plan: &Plan, table: &Option<Name>) -> Option<Places>
-    ensures places { chosen plan.now table.now ≡ option_map places_of result }
-    ensures within { IfSome result (λ places. places.from + places.count ≤ length plan.now.tables) }
+    ensures places { chosen plan.now.schema table.now ≡ option_map places_of result }
+    ensures within { IfSome result (λ places. places.from + places.count ≤ length plan.now.schema.tables) }
 {
     match table {
         None => Some(Places {
@@ -82,14 +91,52 @@ fn push(path: &mut Name, piece: &str) -> Result<(), Memory>
     }
 }
 
+/// A table of a job.
+fn job_table(alloc: Global, plan: &Plan, place: u32, unit: u64) -> Result<JobTable, Memory>
+    requires place { place < length plan.now.schema.tables }
+    requires unit { unit ≤ last_unit plan.now.schema }
+    ensures place { IfOk result (λ table. table.place ≡ place) }
+    ensures is { IfOk result (IsTableOf plan.now unit) }
+{
+    match key_orders(alloc, plan, place, unit) {
+        Ok(orders) => Ok(JobTable { place, orders }),
+        Err(_) => Err(Memory),
+    }
+}
+
+/// A file of some tables.
+fn job_file(
+    alloc: Global,
+    plan: &Plan,
+    unit: u64,
+    name: Name,
+    places: Places,
+) -> Result<JobFile, Memory>
+    requires unit { unit ≤ last_unit plan.now.schema }
+    requires within { places.from + places.count ≤ length plan.now.schema.tables }
+    ensures name { IfOk result (λ file. file.name ≡ name) }
+    ensures places { IfOk result (λ file. places_in file ≡ places_of places) }
+    ensures is { IfOk result (IsFileOf plan.now unit) }
+{
+    let _limits = plan.schema(); // there are at most 64 tables
+    let mut tables = Vec::new(alloc);
+    for number in 0..places.count {
+        tables.push(job_table(alloc, plan, places.from + number, unit)?)?;
+    }
+    Ok(JobFile { name, tables })
+}
+
 /// All texts in one file, the standard output.
-fn one_file(alloc: Global, tables: Places) -> Result<Vec<JobFile>, Memory>
-    ensures { IfOk result (λ files. files.items ≡ record { name = standard_output; tables = tables } ∷ []) }
+fn one_file(alloc: Global, plan: &Plan, unit: u64, places: Places) -> Result<Vec<JobFile>, Memory>
+    requires unit { unit ≤ last_unit plan.now.schema }
+    requires within { places.from + places.count ≤ length plan.now.schema.tables }
+    ensures due { IfOk result (λ files. map (due_file plan.now unit) files.items ≡ snapshot_files plan.now unit (places_of places) None) }
+    ensures are { IfOk result (λ files. All (IsFileOf plan.now unit) files.items) }
 {
     let mut name = Name::new(alloc);
     push(&mut name, "-")?;
     let mut files = Vec::new(alloc);
-    files.push(JobFile { name, tables })?;
+    files.push(job_file(alloc, plan, unit, name, places)?)?;
     Ok(files)
 }
 
@@ -97,20 +144,21 @@ fn one_file(alloc: Global, tables: Places) -> Result<Vec<JobFile>, Memory>
 fn files_in(
     alloc: Global,
     plan: &Plan,
-    tables: Places,
+    unit: u64,
+    places: Places,
     directory: &str,
 ) -> Result<Vec<JobFile>, Memory>
-    requires within { tables.from + tables.count ≤ length plan.now.tables }
-    requires few { length plan.now.tables ≤ 64 }
-    ensures { IfOk result (λ files. files.items ≡ map (file_in plan.now directory.now) (places_of tables)) }
+    requires unit { unit ≤ last_unit plan.now.schema }
+    requires within { places.from + places.count ≤ length plan.now.schema.tables }
+    ensures due { IfOk result (λ files. map (due_file plan.now unit) files.items ≡ snapshot_files plan.now unit (places_of places) (Some directory.now)) }
+    ensures are { IfOk result (λ files. All (IsFileOf plan.now unit) files.items) }
 {
+    let _limits = plan.schema(); // there are at most 64 tables
     let mut files = Vec::new(alloc);
-    for number in 0..tables.count {
-        let from = tables.from + number;
-        files.push(JobFile {
-            name: path(alloc, directory, name_of(plan, from))?,
-            tables: Places { from, count: 1 },
-        })?;
+    for number in 0..places.count {
+        let from = places.from + number;
+        let name = path(alloc, directory, name_of(plan, from))?;
+        files.push(job_file(alloc, plan, unit, name, Places { from, count: 1 })?)?;
     }
     Ok(files)
 }
@@ -119,18 +167,18 @@ fn files_in(
 fn job_files(
     alloc: Global,
     plan: &Plan,
-    tables: Places,
+    unit: u64,
+    places: Places,
     out: &Option<Name>,
 ) -> Result<Vec<JobFile>, Memory>
-    requires within { tables.from + tables.count ≤ length plan.now.tables }
-    requires few { length plan.now.tables ≤ 64 }
-    ensures files { IfOk result (λ files. (unit : ℕ) →
-        map (file_of plan.now unit) files.items ≡ snapshot_files plan.now unit (places_of tables) out.now) }
-    ensures within { IfOk result (λ files. All (IsWithin (length plan.now.tables)) files.items) }
+    requires unit { unit ≤ last_unit plan.now.schema }
+    requires within { places.from + places.count ≤ length plan.now.schema.tables }
+    ensures due { IfOk result (λ files. map (due_file plan.now unit) files.items ≡ snapshot_files plan.now unit (places_of places) out.now) }
+    ensures are { IfOk result (λ files. All (IsFileOf plan.now unit) files.items) }
 {
     match out {
-        None => one_file(alloc, tables),
-        Some(directory) => files_in(alloc, plan, tables, directory.as_str()),
+        None => one_file(alloc, plan, unit, places),
+        Some(directory) => files_in(alloc, plan, unit, places, directory.as_str()),
     }
 }
 
@@ -139,16 +187,16 @@ pub(crate) fn snapshot_job(
     alloc: Global,
     plan: Plan,
     unit: u64,
-    tables: Places,
+    places: Places,
     out: &Option<Name>,
 ) -> Result<SnapshotJob, Memory>
-    requires unit { unit ≤ count plan.units }
-    requires within { tables.from + tables.count ≤ length plan.tables }
-    ensures due { IfOk result (λ job. snapshot_due job ≡ snapshot_files plan unit (places_of tables) out.now) }
+    requires unit { unit ≤ last_unit plan.schema }
+    requires within { places.from + places.count ≤ length plan.schema.tables }
+    ensures due { IfOk result (λ job. snapshot_due job ≡ snapshot_files plan unit (places_of places) out.now) }
     ensures can { IfOk result CanWrite }
 {
-    let _limits = plan.schema();
-    let files = job_files(alloc, &plan, tables, out)?;
+    let _limits = plan.schema(); // there are at most 10,000 units
+    let files = job_files(alloc, &plan, unit, places, out)?;
     let page = PageBuf::with_room(alloc, plan.reach() as usize)?;
     Ok(SnapshotJob {
         plan,

@@ -6,14 +6,13 @@ mod decide;
 mod fill;
 mod job;
 mod message;
-pub mod model;
 mod refusal;
 mod report;
 mod run;
 mod usage;
 mod words;
 
-pub use refusal::Refusal;
+pub use refusal::{JobFault, PlanFault, Refusal, TextFault};
 pub use report::Report;
 pub use run::pdgf;
 pub use usage::{Mode, OptionName, Request, UsageFault};

@@ -1,13 +1,14 @@
 //! The messages, and the words that they are made of.
 
 ghost use Rattle.std.specs.Prelude.{◌≡◌, ◌≤◌, ◌+◌, ◌++◌, length, codes, decimal};
-ghost use Rattle.pdgf_run.specs.Statuses.{expected_text, key_text, line_of, option_text, place_text, refusal_text, usage_text, wanted_text};
+ghost use Rattle.pdgf_run.specs.Statuses.{expected_text, key_text, line_of, option_text, place_text, plan_fault_text, reading_text, refusal_text, rule_text, schema_fault_text, shape_text, text_fault_text, usage_text, wanted_text};
 
-use crate::Refusal;
+use crate::refusal::{JobFault, PlanFault, Refusal, TextFault};
 use crate::usage::{OptionName, UsageFault};
 use itoa::Buffer;
-use pd_outside::Message;
-use schema_read::{Expected, Place, SchemaKey};
+use pd_outside::{Message, ReadFault};
+use schema_check::CheckFault;
+use schema_read::{Expected, Place, ReadSchemaFault, SchemaKey};
 
 /// The message of these words: the program's name before them, and a line feed behind.
 pub(crate) fn line(words: &[u8]) -> Message
@@ -28,21 +29,59 @@ pub(crate) fn put_refusal(message: &mut Message, refusal: Refusal)
     ensures short { length message.new ≤ length message.old + 150 }
 {
     match refusal {
-        Refusal::Usage(fault) => put_usage(message, fault),
-        Refusal::Syntax => message.put(b"schema: not TOML"),
-        Refusal::Shape {
+        Refusal::Words(fault) => put_usage(message, fault),
+        Refusal::Job(JobFault::Reading(fault)) => message.put(reading_words(fault).as_bytes()),
+        Refusal::Job(JobFault::Text(fault)) => put_text_fault(message, fault),
+    }
+}
+
+/// Appends what is wrong with a schema's text, or with what is asked of it.
+fn put_text_fault(message: &mut Message, fault: TextFault)
+    requires { length message.old + 150 ≤ Message.ROOM }
+    ensures text { message.new ≡ message.old ++ text_fault_text fault }
+    ensures short { length message.new ≤ length message.old + 150 }
+{
+    match fault {
+        TextFault::Schema(fault) => put_schema_fault(message, fault),
+        TextFault::Plan(fault) => put_plan_fault(message, fault),
+        TextFault::Range(name) => put_named(message, b"out of range: ", name),
+        TextFault::Memory => message.put(b"out of memory"),
+    }
+}
+
+/// Appends why a text is no schema.
+fn put_schema_fault(message: &mut Message, fault: ReadSchemaFault)
+    requires { length message.old + 150 ≤ Message.ROOM }
+    ensures text { message.new ≡ message.old ++ schema_fault_text fault }
+    ensures short { length message.new ≤ length message.old + 150 }
+{
+    match fault {
+        ReadSchemaFault::Syntax => message.put(b"schema: not TOML"),
+        ReadSchemaFault::Shape {
             place,
             key,
             expected,
         } => put_shape(message, place, key, expected),
-        Refusal::Rule {
-            number,
-            table,
-            column,
-        } => put_rule(message, number, table, column),
-        Refusal::OutOfRange(name) => put_named(message, b"out of range: ", name),
-        Refusal::SchemaTooLong => message.put(b"too long: schema"),
-        Refusal::NotBuilt => message.put(b"not built"),
+        ReadSchemaFault::Memory => message.put(b"out of memory"),
+    }
+}
+
+/// Appends why a schema has no plan.
+fn put_plan_fault(message: &mut Message, fault: PlanFault)
+    requires { length message.old + 150 ≤ Message.ROOM }
+    ensures text { message.new ≡ message.old ++ plan_fault_text fault }
+    ensures short { length message.new ≤ length message.old + 150 }
+{
+    match fault {
+        PlanFault::NotBuilt => message.put(b"not built"),
+        PlanFault::Check(
+            CheckFault::Rule {
+                number,
+                table,
+                column,
+            },
+        ) => put_rule(message, number, table, column),
+        PlanFault::Check(CheckFault::Memory) => message.put(b"out of memory"),
     }
 }
 
@@ -70,7 +109,7 @@ fn put_usage(message: &mut Message, fault: UsageFault)
 /// Appends what is wrong at a key of a schema, with its place.
 fn put_shape(message: &mut Message, place: Place, key: SchemaKey, expected: Expected)
     requires { length message.old + 150 ≤ Message.ROOM }
-    ensures text { message.new ≡ message.old ++ refusal_text (Refusal.Shape place key expected) }
+    ensures text { message.new ≡ message.old ++ shape_text place key expected }
     ensures short { length message.new ≤ length message.old + 150 }
 {
     message.put(b"schema: ");
@@ -81,7 +120,7 @@ fn put_shape(message: &mut Message, place: Place, key: SchemaKey, expected: Expe
 /// Appends the number of a broken rule and its place.
 fn put_rule(message: &mut Message, number: u32, table: u64, column: u64)
     requires { length message.old + 150 ≤ Message.ROOM }
-    ensures text { message.new ≡ message.old ++ refusal_text (Refusal.Rule number table column) }
+    ensures text { message.new ≡ message.old ++ rule_text number table column }
     ensures short { length message.new ≤ length message.old + 150 }
 {
     put_counted(message, b"rule V", u64::from(number));
@@ -160,6 +199,18 @@ fn put_counted(message: &mut Message, words: &[u8], number: u64)
     let mut digits = Buffer::new();
     message.put(words);
     message.put(digits.format(number).as_bytes());
+}
+
+/// Why a schema's text wasn't read.
+fn reading_words(fault: ReadFault) -> &'static str
+    ensures text { result.now ≡ reading_text fault }
+    ensures short { length result.now ≤ 16 }
+{
+    match fault {
+        ReadFault::Failed => "read failed",
+        ReadFault::TooLong => "too long: schema",
+        ReadFault::Memory => "out of memory",
+    }
 }
 
 /// An option as it is written among the words.

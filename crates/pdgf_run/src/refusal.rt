@@ -1,62 +1,173 @@
-//! Why a request isn't carried out.
+//! Why a request isn't carried out, by the stage that found it. Each stage's fault stays as it came.
 
 ghost use Rattle.std.specs.Prelude.{◌≡◌};
 ghost use Rattle.pdgf_run.specs.Statuses.{status_of, text_of};
+ghost use Rattle.pdgf_run.specs.declared.refusal.PlanFault.TheVariants as plan_fault;
+ghost use Rattle.pdgf_run.specs.declared.refusal.TextFault.TheVariants as text_fault;
+ghost use Rattle.pdgf_run.specs.declared.refusal.JobFault.TheVariants as job_fault;
+ghost use Rattle.pdgf_run.specs.declared.refusal.Refusal.TheVariants as refusal;
 
 use crate::message::{line, put_refusal};
 use crate::usage::{OptionName, UsageFault};
-use pd_outside::Message;
-use schema_read::{Expected, Place, SchemaKey};
+use pd_outside::{Memory, Message, ReadFault};
+use schema_check::CheckFault;
+use schema_read::ReadSchemaFault;
 
-/// Why a request isn't carried out, with the place.
+/// Why a request isn't carried out.
 #[derive(Clone, Copy, Debug, PartialEq, Eq)]
 pub enum Refusal {
     /// The words give no request.
-    Usage(UsageFault),
-    /// The schema's text is longer than its limit.
-    SchemaTooLong,
-    /// The schema's text is no TOML document.
-    Syntax,
-    /// The first wrong key of the schema's document, and what was expected of it.
-    Shape {
-        place: Place,
-        key: SchemaKey,
-        expected: Expected,
-    },
-    /// The schema holds something that isn't built.
+    Words(UsageFault),
+    /// The request gives no job.
+    Job(JobFault),
+}
+
+/// Why a request gives no job.
+#[derive(Clone, Copy, Debug, PartialEq, Eq)]
+pub enum JobFault {
+    /// The schema's text wasn't read.
+    Reading(ReadFault),
+    /// The schema's text was read, and gives no job.
+    Text(TextFault),
+}
+
+/// Why a schema's text gives no job.
+#[derive(Clone, Copy, Debug, PartialEq, Eq)]
+pub enum TextFault {
+    /// The text is no schema.
+    Schema(ReadSchemaFault),
+    /// The schema has no plan.
+    Plan(PlanFault),
+    /// What the option names isn't in the schema.
+    Range(OptionName),
+    /// Memory ran out.
+    Memory,
+}
+
+/// Why a schema has no plan.
+#[derive(Clone, Copy, Debug, PartialEq, Eq)]
+pub enum PlanFault {
+    /// It holds something that isn't built.
     NotBuilt,
-    /// The first rule that the schema breaks, at its first place: a table and a column, counted from 1, or 0 where there
-    /// is none.
-    Rule {
-        number: u32,
-        table: u64,
-        column: u64,
-    },
-    /// What the request names isn't in the schema.
-    OutOfRange(OptionName),
+    /// It breaks a rule, or memory ran out.
+    Check(CheckFault),
 }
 
 impl Refusal {
-    /// The exit status of the refusal.
+    /// The exit status.
     pub fn status(self) -> u8
         ensures { result ≡ status_of self }
     {
         match self {
-            Refusal::Usage(_) => 2,
-            Refusal::Syntax | Refusal::Shape { .. } => 3,
-            Refusal::Rule { .. } => 4,
-            Refusal::OutOfRange(_) => 8,
-            Refusal::SchemaTooLong => 10,
-            Refusal::NotBuilt => 11,
+            Refusal::Words(UsageFault::Memory) => 7,
+            Refusal::Words(_) => 2,
+            Refusal::Job(fault) => fault.status(),
         }
     }
 
-    /// The message of the refusal: one line, with its line feed.
+    /// The message: one line, with its line feed.
     pub fn message(self) -> Message
         ensures { result ≡ text_of self }
     {
         let mut words = Message::new();
         put_refusal(&mut words, self);
         line(words.text())
+    }
+}
+
+impl JobFault {
+    ghost use Rattle.pdgf_run.specs.Statuses.{job_status};
+
+    fn status(self) -> u8
+        ensures { result ≡ job_status self }
+    {
+        match self {
+            JobFault::Reading(ReadFault::Failed) => 5,
+            JobFault::Reading(ReadFault::TooLong) => 10,
+            JobFault::Reading(ReadFault::Memory) => 7,
+            JobFault::Text(fault) => fault.status(),
+        }
+    }
+}
+
+impl TextFault {
+    ghost use Rattle.pdgf_run.specs.Statuses.{text_status};
+
+    fn status(self) -> u8
+        ensures { result ≡ text_status self }
+    {
+        match self {
+            TextFault::Schema(ReadSchemaFault::Memory)
+            | TextFault::Plan(PlanFault::Check(CheckFault::Memory))
+            | TextFault::Memory => 7,
+            TextFault::Schema(_) => 3,
+            TextFault::Plan(PlanFault::NotBuilt) => 11,
+            TextFault::Plan(PlanFault::Check(_)) => 4,
+            TextFault::Range(_) => 8,
+        }
+    }
+}
+
+impl From<UsageFault> for Refusal {
+    ghost from_gives = { λ fault made. made ≡ refusal.Words fault };
+
+    fn from(fault: UsageFault) -> Refusal {
+        Refusal::Words(fault)
+    }
+}
+
+impl From<JobFault> for Refusal {
+    ghost from_gives = { λ fault made. made ≡ refusal.Job fault };
+
+    fn from(fault: JobFault) -> Refusal {
+        Refusal::Job(fault)
+    }
+}
+
+impl From<ReadFault> for JobFault {
+    ghost from_gives = { λ fault made. made ≡ job_fault.Reading fault };
+
+    fn from(fault: ReadFault) -> JobFault {
+        JobFault::Reading(fault)
+    }
+}
+
+impl From<TextFault> for JobFault {
+    ghost from_gives = { λ fault made. made ≡ job_fault.Text fault };
+
+    fn from(fault: TextFault) -> JobFault {
+        JobFault::Text(fault)
+    }
+}
+
+impl From<ReadSchemaFault> for TextFault {
+    ghost from_gives = { λ fault made. made ≡ text_fault.Schema fault };
+
+    fn from(fault: ReadSchemaFault) -> TextFault {
+        TextFault::Schema(fault)
+    }
+}
+
+impl From<PlanFault> for TextFault {
+    ghost from_gives = { λ fault made. made ≡ text_fault.Plan fault };
+
+    fn from(fault: PlanFault) -> TextFault {
+        TextFault::Plan(fault)
+    }
+}
+
+impl From<Memory> for TextFault {
+    ghost from_gives = { λ fault made. made ≡ text_fault.Memory };
+
+    fn from(_: Memory) -> TextFault {
+        TextFault::Memory
+    }
+}
+
+impl From<CheckFault> for PlanFault {
+    ghost from_gives = { λ fault made. made ≡ plan_fault.Check fault };
+
+    fn from(fault: CheckFault) -> PlanFault {
+        PlanFault::Check(fault)
     }
 }

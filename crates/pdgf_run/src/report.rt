@@ -26,16 +26,6 @@ pub(crate) fn done() -> Report
     }
 }
 
-/// A read failed.
-pub(crate) fn read_failed() -> Report
-    ensures { result ≡ record { status = status.read_failed_status; message = status.read_failed_text } }
-{
-    Report {
-        status: 5,
-        message: line(b"read failed"),
-    }
-}
-
 /// A write failed.
 pub(crate) fn write_failed() -> Report
     ensures { result ≡ record { status = status.write_failed_status; message = status.write_failed_text } }
@@ -43,16 +33,6 @@ pub(crate) fn write_failed() -> Report
     Report {
         status: 6,
         message: line(b"write failed"),
-    }
-}
-
-/// Memory ran out.
-pub(crate) fn out_of_memory() -> Report
-    ensures { result ≡ record { status = status.memory_status; message = status.memory_text } }
-{
-    Report {
-        status: 7,
-        message: line(b"out of memory"),
     }
 }
 

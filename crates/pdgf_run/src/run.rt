@@ -10,9 +10,9 @@ ghost use Rattle.pdgf_run.specs.TopCall.{Carries};
 ghost use Rattle.pdgf_run.specs.Verdict.{reading_list, schema_limit, WhereTold};
 ghost use Rattle.pdgf_run.specs.Words.{request};
 
-use crate::decide::{Stop, decide};
+use crate::decide::decide;
 use crate::fill::fill;
-use crate::report::{done, out_of_memory, read_failed, refused, write_failed};
+use crate::report::{done, refused, write_failed};
 use crate::{Refusal, Report};
 use pd_outside::{Gate, Library, Shelf, WriteFailed};
 use std::alloc::Global;
@@ -45,13 +45,15 @@ pub fn pdgf<R: Threads + Sync, L: Library, S: Shelf, G: Gate + Sync>(
     ensures known { IsTrue (is_status result.status) }
     ensures message { IfSome (fixed_text result.status) (λ text. result.message ≡ text) }
     ensures usage { (result.status ≡ 2) ↔ IsErr (request (map string_bytes words.now)) }
-    ensures usage_text { IfErr (request (map string_bytes words.now)) (λ fault. result.message ≡ text_of (Refusal.Usage fault)) }
+    ensures usage_text { IfErr (request (map string_bytes words.now)) (λ fault. result.message ≡ text_of (Refusal.Words fault)) }
     ensures too_long { result.status ≡ 10 → L.taken library.new ≡ schema_limit + 1 }
     ensures longer { OnOk (request (map string_bytes words.now))
         (result.status ≢ 7 → L.taken library.new ≡ schema_limit + 1 → result.status ≡ 10) }
     ensures read_failed { result.status ≡ 5 → Rose (L.faults library.old) (L.faults library.new) }
     ensures stopped { result.status ≡ 5 → L.is_started library.new ≡ false }
     ensures write_failed { result.status ≡ 6 → Rose (S.faults shelf.old) (S.faults shelf.new) }
+    ensures library_faults { result.status ≢ 5 → L.faults library.new ≡ L.faults library.old }
+    ensures shelf_faults { result.status ≢ 6 → S.faults shelf.new ≡ S.faults shelf.old }
 
     // After a failed write a prefix of the due files stands, and they were due.
     ensures prefix { result.status ≡ 6 → WhereTold (map string_bytes words.now) (L.content library.old)
@@ -59,7 +61,6 @@ pub fn pdgf<R: Threads + Sync, L: Library, S: Shelf, G: Gate + Sync>(
 
     // Any other status but 0 leaves the shelf as it was.
     ensures held { result.status ≢ 0 → result.status ≢ 6 → S.held shelf.new ≡ S.held shelf.old }
-    ensures shelf_faults { result.status ≢ 0 → result.status ≢ 6 → S.faults shelf.new ≡ S.faults shelf.old }
     ensures none_begun { result.status ≢ 6 → S.is_begun shelf.new ≡ false }
 
     // No other name is started than those of the reading list, in its order, and at a clean end the last is read to its end.
@@ -72,9 +73,7 @@ pub fn pdgf<R: Threads + Sync, L: Library, S: Shelf, G: Gate + Sync>(
 {
     let job = match decide(alloc, words, library) {
         Ok(job) => job,
-        Err(Stop::Refused(refusal)) => return refused(refusal),
-        Err(Stop::ReadFailed) => return read_failed(),
-        Err(Stop::Memory) => return out_of_memory(),
+        Err(refusal) => return refused(refusal),
     };
     match fill(shelf, job) {
         Ok(()) => done(),

@@ -1,55 +1,62 @@
 -- The lines of one cohort, and what the code keeps of them.
-use Rattle.std.specs.Prelude.{◌≡◌, ◌≤◌, ℕ, List, ⊤, Some, All, length, slice_get}
+use Rattle.std.specs.Prelude.{◌≡◌, ◌≤◌, ℕ, ◌+◌, List, decimal, false, Some, slice_get}
 use Rattle.row_text.specs.Fields.{field_text}
-use Rattle.schema_model.specs.declared.column.Column.{Column}
-use Rattle.schema_model.specs.declared.column.Kind.{Kind}
-use Rattle.schema_model.specs.declared.column.Kind.TheVariants.{Key, Born}
 use Rattle.schema_model.specs.declared.table.Table.{Table}
-use Rattle.schema_check.specs.Costs.{one_if}
-use Rattle.schema_check.specs.Counts.{count}
+use Rattle.schema_check.specs.Cohorts.{first_ordinal}
+use Rattle.schema_check.specs.declared.field_bounds.FieldBounds.{FieldBounds}
+use Rattle.schema_check.specs.FieldBounds.{bounds_of}
+use Rattle.schema_check.specs.Layout.{layout_of, table_layout, TableLayout, column_at}
+use Rattle.schema_check.specs.Limits.{IsTableInLimits}
+use Rattle.schema_check.specs.Planned.{Planned}
+use Rattle.schema_check.specs.Unbuilt.{is_unbuilt_table}
 use Rattle.life_intervals.specs.CohortKeys.{CohortOf}
-use Rattle.life_intervals.specs.Keys.{key_base, is_scrambled}
-use Rattle.life_intervals.specs.Rows.{new_row}
-use Rattle.life_intervals.specs.Rules.{TableRules}
-use Rattle.life_intervals.specs.SchemaRules.{column_rule, rules_of, schema_rules, table_rules}
-use Rattle.row_lines.specs.Lines.{field, line}
+use Rattle.life_intervals.specs.Generator.{generator_of, last_unit, table_of}
+use Rattle.life_intervals.specs.Intervals.{row_at}
+use Rattle.pd_outside.specs.declared.piece.Piece.{Piece}
+use Rattle.pd_outside.specs.Pieces.{piece_text}
+use Rattle.row_lines.specs.Lines.{field, line_of}
 
--- the rules of the cohort's table
-abbrev pub table_of : CohortOf → TableRules
-table_of cohort = rules_of cohort.schema cohort.table
+-- the lines at a unit of the rows that are born at one, in the table at a place
+pub record LinesOf : Type 0 where
+  pub plan : Planned
+  pub table : ℕ
+  pub born : ℕ
+  pub unit : ℕ
+
+-- the layout of the table
+abbrev pub layout_for : LinesOf → TableLayout
+layout_for lines = table_of lines.plan.schema lines.table
+
+-- the ordinal of the row with an index in the cohort
+abbrev pub ordinal_of : LinesOf → ℕ → ℕ
+ordinal_of lines index = first_ordinal (layout_for lines).births lines.born + index
 
 -- the line of the row with an index in the cohort
-abbrev pub line_in_cohort : CohortOf → ℕ → List ℕ
-line_in_cohort cohort index =
-    line (schema_rules cohort.schema) cohort.table (table_of cohort) (new_row (table_of cohort) cohort.unit index)
+abbrev pub line_in_cohort : LinesOf → ℕ → List ℕ
+line_in_cohort lines index =
+    line_of (generator_of lines.plan.schema) lines.unit lines.table (ordinal_of lines index)
 
--- what the row with an index in the cohort holds in a column of this kind, as it is written
-abbrev pub text_in_cohort : CohortOf → ℕ → Kind → List ℕ
-text_in_cohort cohort index kind =
-    field_text (schema_rules cohort.schema).delimiter (field (schema_rules cohort.schema) cohort.table (table_of cohort) (new_row (table_of cohort) cohort.unit index) (column_rule kind))
+-- what the row with an index in the cohort holds in the column at a place, as it is written
+abbrev pub text_in_cohort : LinesOf → ℕ → ℕ → List ℕ
+text_in_cohort lines index column =
+    field_text (layout_of lines.plan.schema).delimiter
+    (field (generator_of lines.plan.schema) lines.unit lines.table (row_at (layout_for lines) lines.unit (ordinal_of lines index)) column)
 
--- a column of this kind is the table's key, or a birth unit
-abbrev pub IsKindOf : TableRules → Kind → Type 0
-IsKindOf table (Key base scramble) = (count base ≡ key_base table) × (scramble ≡ is_scrambled table)
-IsKindOf table Born = ⊤
-IsKindOf table _ = ⊥
+-- the keys are the cohort's, and what is kept beside is what the schema says
+pub record AreLinesOf (lines : LinesOf) (keys : CohortOf) (table : Table) (byte : ℕ) (birth : Piece) : Type 0 where
+  pub keys_are : keys ≡ record { plan = lines.plan; table = lines.table; unit = lines.born }
+  pub found : slice_get lines.plan.schema.tables lines.table ≡ Some table
+  pub layout : table_layout lines.plan.schema.tables table ≡ layout_for lines
+  pub limits : IsTableInLimits (last_unit lines.plan.schema) (layout_for lines)
+  pub built : is_unbuilt_table table ≡ false
+  pub birth_text : piece_text birth ≡ decimal lines.born
+  pub delimiter : byte ≡ (layout_of lines.plan.schema).delimiter
+  pub born : lines.born ≤ lines.unit
+  pub unit : lines.unit ≤ last_unit lines.plan.schema
+  pub unit_limit : last_unit lines.plan.schema ≤ 10000
 
--- the table, the delimiter and the unit of the cohort are known, and each column is of the table's kinds
-pub record AreLinesOf (cohort : CohortOf) (table : Table) (byte birth : ℕ) : Type 0 where
-  pub found : slice_get cohort.schema.tables cohort.table ≡ Some table
-  pub rules : table_rules table ≡ table_of cohort
-  pub some : 1 ≤ length table.columns
-  pub kinds : All (λ (column : Column). IsKindOf (table_of cohort) column.kind) table.columns
-  pub delimiter : byte ≡ (schema_rules cohort.schema).delimiter
-  pub unit : birth ≡ cohort.unit
-  pub unit_limit : birth ≤ 10000
-
--- the most bytes of a field of this kind
-abbrev pub field_room : Kind → ℕ
-field_room Born = 5
-field_room _ = 20
-
--- the permutations that a field of this kind takes
-abbrev pub field_steps : Kind → ℕ
-field_steps (Key base scramble) = one_if scramble
-field_steps _ = 0
+-- what the field of the column at a place takes at most
+abbrev pub bounds_for : LinesOf → ℕ → FieldBounds
+bounds_for lines column =
+    bounds_of (layout_of lines.plan.schema).delimiter (layout_of lines.plan.schema).tables (layout_for lines)
+    (column_at (layout_for lines).columns column).kind

@@ -1,4 +1,3 @@
 pub mod Lines
 pub mod CohortLines
-pub mod LineSteps
 pub mod Worked

@@ -1,49 +1,74 @@
 -- The text of a table: a line for each row, in COPY text form (PostgreSQL's manual, "COPY").
-use Rattle.std.specs.Prelude.{ℕ, List, ◌++◌, map, flat_map, Option, Some, codes, decimal}
+use Rattle.std.specs.Prelude.{ℕ, ◌+◌, List, ◌++◌, filter, map, flat_map, length, Option, Some, None, codes, decimal}
 use Rattle.std.specs.List.{join_with_byte, range_with_len}
 use Rattle.row_text.specs.Fields.{field_text}
-use Rattle.life_intervals.specs.Rules.{TableRules, Rules, ColumnRule, key_column, born_column, table_at}
-use Rattle.life_intervals.specs.Cohorts.{cohort_size}
-use Rattle.life_intervals.specs.Intervals.{row_of}
-use Rattle.life_intervals.specs.Keys.{key_number, key_of}
-use Rattle.life_intervals.specs.Rows.{Row, new_row, index_in_cohort}
+use Rattle.schema_check.specs.Cohorts.{cohort_size, first_ordinal}
+use Rattle.schema_check.specs.Layout.{KindLayout, key_kind, born_kind, changed_kind, leaf_kind, template_kind, case_kind, reference_kind, lookup_kind, TableLayout, table_at, column_at}
+use Rattle.life_intervals.specs.Generator.{Generator}
+use Rattle.life_intervals.specs.Intervals.{is_live, row_at}
+use Rattle.life_intervals.specs.Keys.{key_in_cohort, key_of}
+use Rattle.life_intervals.specs.Rows.{Row, index_in_cohort}
 use Rattle.life_intervals.specs.Simulation.{rows_at}
 
--- what a row of the table at a place holds in a column, None where it is null
-abbrev pub field : Rules → ℕ → TableRules → Row → ColumnRule → Option (List ℕ)
-field rules place table row (key_column base scramble) =
-    Some (decimal (key_number rules place table base scramble row.born (index_in_cohort table row)))
-field rules place table row born_column = Some (decimal row.born)
+-- what a row holds in a column of a kind that no table can be made of yet: schemas with such a column are refused as unbuilt, so no
+-- promise speaks of it
+abbrev pub not_served : Option (List ℕ)
+not_served = None
 
--- the line of a row: its fields as they are written, joined by the delimiter, then a line feed
-unfoldable pub line : Rules → ℕ → TableRules → Row → List ℕ
-line rules place table row =
-    join_with_byte rules.delimiter
-    (map (λ column. field_text rules.delimiter (field rules place table row column)) table.columns)
-    ++ codes "\n"
+-- what a row of the table at a place holds in a column of this kind, None where it is null
+abbrev pub value : Generator → ℕ → Row → KindLayout → Option (List ℕ)
+value generator place row key_kind =
+    Some (decimal (key_in_cohort generator place row.born (index_in_cohort (table_at generator.tables place) row)))
+value generator place row born_kind = Some (decimal row.born)
+value generator place row changed_kind = not_served
+value generator place row (leaf_kind leaf) = not_served
+value generator place row (template_kind parts) = not_served
+value generator place row (case_kind on branches) = not_served
+value generator place row (reference_kind parent window spread) = not_served
+value generator place row (lookup_kind via parent column) = not_served
 
--- the line of the row with an ordinal in the table at a place of the schema
-abbrev pub line_of : Rules → ℕ → ℕ → List ℕ
-line_of rules place ordinal = line rules place (table_at rules place) (row_of (table_at rules place) ordinal)
+-- what a row of the table at a place holds at a unit in the column at a place, None where it is null. Columns that are null at times
+-- or change aren't served yet, and no value that is speaks of other rows: so the unit isn't asked yet
+abbrev pub field : Generator → ℕ → ℕ → Row → ℕ → Option (List ℕ)
+field generator unit place row column =
+    value generator place row (column_at (table_at generator.tables place).columns column).kind
 
--- the key line of that row: its key as it is written, then a line feed
-abbrev pub key_line_of : Rules → ℕ → ℕ → List ℕ
-key_line_of rules place ordinal = field_text rules.delimiter (Some (decimal (key_of rules place ordinal))) ++ codes "\n"
+-- the fields of a row at a unit, as they are written
+abbrev pub field_texts : Generator → ℕ → ℕ → Row → List (List ℕ)
+field_texts generator unit place row =
+    map (λ column. field_text generator.delimiter (field generator unit place row column))
+    (range_with_len 0 (length (table_at generator.tables place).columns))
 
--- the text of the table at a place of the schema, at a unit: the lines of its rows, in order
-unfoldable pub table_text : Rules → ℕ → ℕ → List ℕ
-table_text rules place unit = flat_map (line rules place (table_at rules place)) (rows_at rules place unit)
+-- the line of a row at a unit: its fields as they are written, joined by the delimiter, then a line feed
+unfoldable pub line : Generator → ℕ → ℕ → Row → List ℕ
+line generator unit place row = join_with_byte generator.delimiter (field_texts generator unit place row) ++ codes "\n"
 
--- the lines of the first rows of a unit's cohort, as many as `count`
-unfoldable pub first_lines : Rules → ℕ → TableRules → ℕ → ℕ → List ℕ
-first_lines rules place table unit count =
-    flat_map (λ index. line rules place table (new_row table unit index)) (range_with_len 0 count)
+-- the line at a unit of the row with an ordinal in the table at a place of the schema
+abbrev pub line_of : Generator → ℕ → ℕ → ℕ → List ℕ
+line_of generator unit place ordinal =
+    line generator unit place (row_at (table_at generator.tables place) unit ordinal)
 
--- the lines of a unit's cohort
-unfoldable pub cohort_text : Rules → ℕ → TableRules → ℕ → List ℕ
-cohort_text rules place table unit = first_lines rules place table unit (cohort_size table unit)
+-- the key line of the row with an ordinal that is born by a last unit: its key as it is written, then a line feed
+abbrev pub key_line_of : Generator → ℕ → ℕ → ℕ → List ℕ
+key_line_of generator last place ordinal =
+    field_text generator.delimiter (Some (decimal (key_of generator place last ordinal))) ++ codes "\n"
 
--- the text of the cohorts before a unit
-unfoldable pub text_before : Rules → ℕ → TableRules → ℕ → List ℕ
-text_before rules place table unit =
-    flat_map (cohort_text rules place table) (range_with_len 0 unit)
+-- the text at a unit of the table at a place of the schema: the lines of its rows, in order
+unfoldable pub table_text : Generator → ℕ → ℕ → List ℕ
+table_text generator unit place = flat_map (line generator unit place) (rows_at generator place unit)
+
+-- the lines at a unit of the living among the first rows of a cohort, as many rows as `count`
+unfoldable pub first_lines : Generator → ℕ → ℕ → ℕ → ℕ → List ℕ
+first_lines generator unit place born count =
+    flat_map (line_of generator unit place)
+    (filter (is_live (table_at generator.tables place) unit)
+    (range_with_len (first_ordinal (table_at generator.tables place).births born) count))
+
+-- the lines at a unit of the living of a cohort
+unfoldable pub cohort_text : Generator → ℕ → ℕ → ℕ → List ℕ
+cohort_text generator unit place born =
+    first_lines generator unit place born (cohort_size (table_at generator.tables place).births born)
+
+-- the text at a unit of the cohorts that are born before another
+unfoldable pub text_before : Generator → ℕ → ℕ → ℕ → List ℕ
+text_before generator unit place born = flat_map (cohort_text generator unit place) (range_with_len 0 born)

@@ -1,12 +1,32 @@
--- Small rules, whose tables can be worked out by hand.
-use Rattle.std.specs.Prelude.{◌-◌, false, true, [], ◌∷◌}
-use Rattle.life_intervals.specs.Rules.{Order, in_place, key_column, born_column, Rules}
+-- Small generators, whose tables can be worked out by hand.
+use Rattle.std.specs.Prelude.{ℕ, ◌-◌, Bool, false, true, List, [], ◌∷◌, None}
+use Rattle.schema_check.specs.Layout.{KindLayout, key_kind, born_kind, ColumnLayout, TableLayout}
+use Rattle.life_intervals.specs.Generator.{Order, Draw, in_place, Generator}
+
+-- a column that neither changes nor is null
+abbrev pub plain : KindLayout → ColumnLayout
+plain kind = record { kind = kind; changes = false; null = 0 }
+
+-- a table of keys from a base and birth units, as many columns of these as are given
+abbrev pub table : ℕ → ℕ → ℕ → Bool → List ColumnLayout → TableLayout
+table rows insert base scramble births = record {
+  births = record { rows = rows; insert = insert };
+  life = None;
+  update = None;
+  key = record { base = base; scramble = scramble };
+  columns = plain key_kind ∷ births;
+}
+
+-- nothing is drawn
+abbrev pub no_draw : Draw
+no_draw table column unit ordinal number = 0
 
 -- one table, with a row at each unit: its key, counted from 1, and its birth unit; tabs between
-abbrev pub one : Rules
+abbrev pub one : Generator
 one = record {
-  tables = record { rows = 1; insert = 1; columns = key_column 1 false ∷ born_column ∷ [] } ∷ [];
+  tables = table 1 1 1 false (plain born_kind ∷ []) ∷ [];
   order = in_place;
+  draw = no_draw;
   delimiter = 9;
 }
 
@@ -16,12 +36,10 @@ swapped table purpose unit index = 1 - index
 
 -- a table of two rows at each unit but 0, with scrambled keys from 10; and a table of two rows
 -- at unit 0 alone, with keys in place; bars between
-abbrev pub pairs : Rules
+abbrev pub pairs : Generator
 pairs = record {
-  tables =
-      record { rows = 0; insert = 2; columns = key_column 10 true ∷ born_column ∷ born_column ∷ [] }
-      ∷ record { rows = 2; insert = 0; columns = key_column 0 false ∷ [] }
-      ∷ [];
+  tables = table 0 2 10 true (plain born_kind ∷ plain born_kind ∷ []) ∷ table 2 0 0 false [] ∷ [];
   order = swapped;
+  draw = no_draw;
   delimiter = 124;
 }

@@ -1,86 +1,107 @@
 //! The lines of the rows of a cohort, with what doesn't change from row to row taken once.
 
-ghost use Rattle.std.specs.Prelude.{◌≡◌, ◌<◌, ◌≤◌, ◌+◌, ◌++◌, length};
-ghost use Rattle.schema_check.specs.Counts.{count};
+ghost use Rattle.std.specs.Prelude.{◌≡◌, ◌<◌, ◌≤◌, ◌+◌, ◌++◌, true, length};
+ghost use Rattle.schema_check.specs.Cohorts.{cohort_size};
 ghost use Rattle.schema_check.specs.Delimiters.{delimiter_byte as byte_of};
-ghost use Rattle.schema_check.specs.Sizes.{max_line};
-ghost use Rattle.life_intervals.specs.Cohorts.{cohort_size};
-ghost use Rattle.row_lines.specs.CohortLines.{IsKindOf, field_room, field_steps, line_in_cohort, table_of, text_in_cohort};
-ghost use Rattle.row_lines.specs.LineSteps.{line_steps};
+ghost use Rattle.schema_check.specs.Layout.{layout_of};
+ghost use Rattle.schema_check.specs.TableFacts.{line_cost, max_line};
+ghost use Rattle.life_intervals.specs.Generator.{last_unit};
+ghost use Rattle.life_intervals.specs.Intervals.{is_live};
+ghost use Rattle.life_intervals.specs.KeyOrders.{key_order};
+ghost use Rattle.row_lines.specs.CohortLines.{bounds_for, layout_for, line_in_cohort, ordinal_of, text_in_cohort};
 
-use crate::fields::{put_delimiter, put_number};
-use life_intervals::{CohortKeys, table_of};
-use pd_outside::PageBuf;
+use id_permutation::Order;
+use life_intervals::CohortKeys;
+use pd_outside::{PageBuf, Piece};
 use schema_check::Plan;
 use schema_model::{Delimiter, Kind, Table};
 use std::marker::Model;
 use std::sync::ledger::Ledger;
 use step_count::Steps;
 
-/// The lines of a cohort's rows. A contract sees the schema, the table and the unit.
+/// The lines at a unit of a cohort's rows. A contract sees the plan, the table, the unit of birth and the unit.
 #[derive(Drop)]
 pub struct CohortLines<'a> {
+    plan: &'a Plan,
+    place: u32,
+    born: u64,
+    unit: u64,
     keys: CohortKeys<'a>,
     table: &'a Table,
     delimiter: u8,
-    unit: u64,
+    birth: Piece,
 }
 
 impl<'a> Model for CohortLines<'a> {
-    ghost use Rattle.life_intervals.specs.CohortKeys.{CohortOf};
-    ghost use Rattle.row_lines.specs.CohortLines.{AreLinesOf};
+    ghost use Rattle.row_lines.specs.CohortLines.{AreLinesOf, LinesOf};
 
-    ghost Value = { CohortOf };
+    ghost Value = { LinesOf };
 
-    ghost view = { λ l. l.keys };
+    ghost view = { λ l. record { plan = l.plan.now; table = l.place; born = l.born; unit = l.unit } };
 
-    ghost invariant = { λ l. AreLinesOf l.keys l.table.now l.delimiter l.unit };
+    ghost invariant = { λ l. AreLinesOf (record { plan = l.plan.now; table = l.place; born = l.born; unit = l.unit }) l.keys l.table.now l.delimiter l.birth };
 }
 
 impl<'a> CohortLines<'a> {
-    /// The lines of the rows of a table that are born at a unit.
-    pub fn new(plan: &'a Plan, table: u32, unit: u64) -> CohortLines<'a>
-        requires table { table < length plan.now.tables }
-        requires unit { unit ≤ count plan.now.units }
-        ensures { result ≡ record { schema = plan.now; table = table; unit = unit } }
+    /// The lines at `unit` of the rows of a table that are born at unit `born`, with the order of their keys.
+    pub fn new(
+        plan: &'a Plan,
+        table: u32,
+        born: u64,
+        unit: u64,
+        order: &'a Order,
+    ) -> CohortLines<'a>
+        requires table { table < length plan.now.schema.tables }
+        requires born { born ≤ unit }
+        requires unit { unit ≤ last_unit plan.now.schema }
+        requires order { order.now ≡ key_order plan.now.schema table born }
+        ensures { result ≡ record { plan = plan.now; table = table; born = born; unit = unit } }
     {
         CohortLines {
-            keys: CohortKeys::new(plan, table, unit),
-            table: table_of(plan, table),
-            delimiter: delimiter_byte(plan.schema().delimiter),
+            plan,
+            place: table,
+            born,
             unit,
+            keys: CohortKeys::new(plan, table, born, order),
+            table: plan.table(table),
+            delimiter: delimiter_byte(plan.schema().delimiter),
+            birth: Piece::of_number(born),
         }
     }
 
-    /// Appends the line of the row with this index in the cohort, for which the greatest line of the table has to be
-    /// free. It takes at most as many steps as the row's cost without the row itself and its death.
+    /// Appends the line of the row with this index in the cohort, which is alive at the unit and for which the greatest line
+    /// of the table has to be free. It asks at most as many permutations as the cost of a row counts for its line.
+    #[inline]
     pub fn put_line<L: Ledger>(&self, index: u64, buf: &mut PageBuf, steps: &mut Steps<L>)
-        requires row { index < cohort_size (table_of self.now) self.now.unit }
-        requires room { length buf.old.text + max_line self.now.schema self.now.table ≤ buf.old.room }
+        requires row { index < cohort_size (layout_for self.now).births self.now.born }
+        requires alive { is_live (layout_for self.now) self.now.unit (ordinal_of self.now index) ≡ true }
+        requires room { length buf.old.text + max_line (layout_of self.now.plan.schema) self.now.table ≤ buf.old.room }
         ensures line { buf.new ≡ record buf.old { text = buf.old.text ++ line_in_cohort self.now index } }
-        ensures size { length (line_in_cohort self.now index) ≤ max_line self.now.schema self.now.table }
-        ensures steps { steps.new ≤ steps.old + line_steps self.now.schema self.now.table }
+        ensures size { length (line_in_cohort self.now index) ≤ max_line (layout_of self.now.plan.schema) self.now.table }
+        ensures steps { steps.new ≤ steps.old + line_cost (layout_of self.now.plan.schema) self.now.table }
     {
-        let columns = self.table.columns.as_slice();
-        for (number, column) in columns.iter().enumerate() {
-            put_delimiter(buf, self.delimiter, number);
-            self.put_field(&column.kind, index, buf, steps);
+        for column in 0..self.table.columns.len() {
+            if column > 0 {
+                buf.put_piece(&Piece::of_byte(self.delimiter));
+            }
+            self.put_field(column, index, buf, steps);
         }
-        buf.put(b"\n");
+        buf.put_piece(&Piece::of_byte(b'\n'));
     }
 
-    /// Appends the field of a column of this kind.
-    fn put_field<L: Ledger>(&self, kind: &Kind, index: u64, buf: &mut PageBuf, steps: &mut Steps<L>)
-        requires kind { IsKindOf (table_of self.now) kind.now }
-        requires row { index < cohort_size (table_of self.now) self.now.unit }
-        requires room { length buf.old.text + field_room kind.now ≤ buf.old.room }
-        ensures text { buf.new ≡ record buf.old { text = buf.old.text ++ text_in_cohort self.now index kind.now } }
-        ensures size { length buf.new.text ≤ length buf.old.text + field_room kind.now }
-        ensures steps { steps.new ≤ steps.old + field_steps kind.now }
+    /// Appends the field of the column at a place.
+    #[inline(always)]
+    fn put_field<L: Ledger>(&self, column: usize, index: u64, buf: &mut PageBuf, steps: &mut Steps<L>)
+        requires column { column < length (layout_for self.now).columns }
+        requires row { index < cohort_size (layout_for self.now).births self.now.born }
+        requires room { length buf.old.text + (bounds_for self.now column).size ≤ buf.old.room }
+        ensures text { buf.new ≡ record buf.old { text = buf.old.text ++ text_in_cohort self.now index column } }
+        ensures size { length (text_in_cohort self.now index column) ≤ (bounds_for self.now column).size }
+        ensures steps { steps.new ≤ steps.old + (bounds_for self.now column).permutations }
     {
-        match kind {
-            Kind::Key { .. } => put_number(buf, self.keys.key(index, steps)),
-            Kind::Born => put_number(buf, self.unit),
+        match &self.table.columns.get(column).kind {
+            Kind::Key { .. } => buf.put_number(self.keys.key(index, steps)),
+            Kind::Born => buf.put_piece(&self.birth),
             _ => unreachable!(),
         }
     }

@@ -3,96 +3,84 @@
 //! A table is named by its place in the schema from 0. Units and ordinals count from 0, and so do the indices of a
 //! cohort's rows.
 
-ghost use Rattle.std.specs.Prelude.{◌≡◌, ℕ, ◌+◌, ◌≤◌, ◌++◌, [], Bool, List, Some, codes, decimal, flat_map};
-ghost use Rattle.std.specs.List.{range_with_len};
+ghost use Rattle.std.specs.Prelude.{◌≡◌, ℕ, ◌+◌, ◌<◌, ◌≤◌, ◌++◌, [], List, Some, codes, decimal, flat_map, if◌then◌else◌};
 ghost use Rattle.row_text.specs.Fields.{field_text};
-ghost use Rattle.life_intervals.specs.Cohorts.{born_count, cohort_size};
-ghost use Rattle.life_intervals.specs.Intervals.{row_of};
-ghost use Rattle.life_intervals.specs.Keys.{is_scrambled, key_base, key_number};
-ghost use Rattle.life_intervals.specs.Rows.{new_row};
-ghost use Rattle.life_intervals.specs.Rules.{Rules, TableRules, born_column, key_column, table_at};
-ghost use Rattle.row_lines.specs.Lines.{cohort_text, field, first_lines, key_line_of, line, table_text, text_before};
+ghost use Rattle.schema_check.specs.Cohorts.{born_count, cohort_size, first_ordinal};
+ghost use Rattle.schema_check.specs.Layout.{born_kind, column_at, key_kind, table_at};
+ghost use Rattle.life_intervals.specs.Generator.{Generator};
+ghost use Rattle.life_intervals.specs.Intervals.{is_live, living, row_at};
+ghost use Rattle.life_intervals.specs.Keys.{key_of};
+ghost use Rattle.row_lines.specs.Lines.{cohort_text, field, first_lines, key_line_of, line_of, table_text, text_before};
 ghost use Rattle.row_lines.specs.Worked.{one, pairs};
 
-/// The text of a table is the lines of the ordinals born by the unit.
-pub fn text_is_the_ordinals_lines()
-    ensures { (rules : Rules) (place unit : ℕ) →
-        table_text rules place unit
-        ≡ flat_map (λ ordinal. line rules place (table_at rules place) (row_of (table_at rules place) ordinal))
-        (range_with_len 0 (born_count (table_at rules place) unit)) }
+/// The text of a table at a unit is the lines of the ordinals that are born by then and alive.
+pub fn text_is_the_lines_of_the_living()
+    ensures { (generator : Generator) (unit place : ℕ) →
+        table_text generator unit place
+        ≡ flat_map (line_of generator unit place) (living (table_at generator.tables place) unit) }
 {}
 
-/// The text of a table is that of its cohorts, one after the other.
+/// The text of a table at a unit is that of its cohorts up to the unit's own, one after the other, as a loop over the units
+/// of birth writes it.
 pub fn text_is_the_cohorts_texts()
-    ensures { (rules : Rules) (place unit : ℕ) →
-        table_text rules place unit
-        ≡ flat_map (cohort_text rules place (table_at rules place)) (range_with_len 0 (unit + 1)) }
+    ensures none { (generator : Generator) (unit place : ℕ) → text_before generator unit place 0 ≡ [] }
+    ensures next { (generator : Generator) (unit place born : ℕ) →
+        text_before generator unit place (born + 1)
+        ≡ text_before generator unit place born ++ cohort_text generator unit place born }
+    ensures all { (generator : Generator) (unit place : ℕ) →
+        table_text generator unit place ≡ text_before generator unit place (unit + 1) }
 {}
 
-/// A unit adds the text of its cohort to that of the table.
-pub fn text_grows_by_a_cohort()
-    ensures first { (rules : Rules) (place : ℕ) →
-        table_text rules place 0 ≡ cohort_text rules place (table_at rules place) 0 }
-    ensures next { (rules : Rules) (place unit : ℕ) →
-        table_text rules place (unit + 1)
-        ≡ table_text rules place unit ++ cohort_text rules place (table_at rules place) (unit + 1) }
+/// A row adds its line to the text of its cohort where it is alive, and nothing where it isn't.
+pub fn cohort_text_grows_by_the_living()
+    ensures none { (generator : Generator) (unit place born : ℕ) → first_lines generator unit place born 0 ≡ [] }
+    ensures next { (generator : Generator) (unit place born count : ℕ) →
+        first_lines generator unit place born (count + 1)
+        ≡ first_lines generator unit place born count
+        ++ (if is_live (table_at generator.tables place) unit (first_ordinal (table_at generator.tables place).births born + count)
+        then line_of generator unit place (first_ordinal (table_at generator.tables place).births born + count) else []) }
+    ensures all { (generator : Generator) (unit place born : ℕ) →
+        first_lines generator unit place born (cohort_size (table_at generator.tables place).births born)
+        ≡ cohort_text generator unit place born }
 {}
 
-/// The same from nothing on, as a loop over the units up to and with one writes the text.
-pub fn text_before_a_unit_grows_by_a_cohort()
-    ensures none { (rules : Rules) (place : ℕ) (table : TableRules) →
-        text_before rules place table 0 ≡ [] }
-    ensures next { (rules : Rules) (place : ℕ) (table : TableRules) (unit : ℕ) →
-        text_before rules place table (unit + 1)
-        ≡ text_before rules place table unit ++ cohort_text rules place table unit }
-    ensures all { (rules : Rules) (place unit : ℕ) →
-        table_text rules place unit ≡ text_before rules place (table_at rules place) (unit + 1) }
-{}
-
-/// A row adds its line to the text of its cohort.
-pub fn cohort_text_grows_by_a_line()
-    ensures none { (rules : Rules) (place : ℕ) (table : TableRules) (unit : ℕ) →
-        first_lines rules place table unit 0 ≡ [] }
-    ensures next { (rules : Rules) (place : ℕ) (table : TableRules) (unit count : ℕ) →
-        first_lines rules place table unit (count + 1)
-        ≡ first_lines rules place table unit count ++ line rules place table (new_row table unit count) }
-    ensures all { (rules : Rules) (place : ℕ) (table : TableRules) (unit : ℕ) →
-        first_lines rules place table unit (cohort_size table unit) ≡ cohort_text rules place table unit }
-{}
-
-/// What a loop over units and rows has made so far begins the text of the table: the text of the
-/// cohorts before a unit, and the lines of the first rows of its cohort.
+/// What a loop over units of birth and rows has made so far begins the text of the table: the text of the cohorts before
+/// one, and the lines of its first rows.
 pub fn text_so_far_begins_the_text()
-    ensures { (rules : Rules) (place last unit count : ℕ) →
-        unit ≤ last → count ≤ cohort_size (table_at rules place) unit →
-        (rest : List ℕ) × (table_text rules place last
-        ≡ (text_before rules place (table_at rules place) unit
-        ++ first_lines rules place (table_at rules place) unit count) ++ rest) }
+    ensures { (generator : Generator) (unit place born count : ℕ) →
+        born ≤ unit → count ≤ cohort_size (table_at generator.tables place).births born →
+        (rest : List ℕ) × (table_text generator unit place
+        ≡ (text_before generator unit place born ++ first_lines generator unit place born count) ++ rest) }
 {}
 
-/// What a new row holds in its columns: its key number, and the unit.
-pub fn fields_of_a_new_row()
-    ensures key { (rules : Rules) (place : ℕ) (table : TableRules) (unit index base : ℕ) (scramble : Bool) →
-        field rules place table (new_row table unit index) (key_column base scramble)
-        ≡ Some (decimal (key_number rules place table base scramble unit index)) }
-    ensures born { (rules : Rules) (place : ℕ) (table : TableRules) (unit index : ℕ) →
-        field rules place table (new_row table unit index) born_column ≡ Some (decimal unit) }
+/// What a row holds at a unit by which it is born: its key in a key column, its unit of birth in a column of these.
+pub fn fields_of_a_row()
+    ensures key { (generator : Generator) (unit place ordinal column : ℕ) →
+        (column_at (table_at generator.tables place).columns column).kind ≡ key_kind →
+        field generator unit place (row_at (table_at generator.tables place) unit ordinal) column
+        ≡ Some (decimal (key_of generator place unit ordinal)) }
+    ensures born { (generator : Generator) (unit place ordinal column : ℕ) →
+        (column_at (table_at generator.tables place).columns column).kind ≡ born_kind →
+        field generator unit place (row_at (table_at generator.tables place) unit ordinal) column
+        ≡ Some (decimal (row_at (table_at generator.tables place) unit ordinal).born) }
 {}
 
-/// The key line of a row is the key's field, as it is written, and a line feed.
+/// The key line of a row is the key's field, as it is written, and a line feed, at any unit by which the row is born.
 pub fn key_line_is_the_key_field()
-    ensures { (rules : Rules) (place ordinal : ℕ) →
-        key_line_of rules place ordinal
-        ≡ field_text rules.delimiter (field rules place (table_at rules place) (row_of (table_at rules place) ordinal)
-        (key_column (key_base (table_at rules place)) (is_scrambled (table_at rules place)))) ++ codes "\n" }
+    ensures { (generator : Generator) (last unit place ordinal : ℕ) → unit ≤ last →
+        ordinal < born_count (table_at generator.tables place).births unit →
+        (column_at (table_at generator.tables place).columns 0).kind ≡ key_kind →
+        key_line_of generator last place ordinal
+        ≡ field_text generator.delimiter
+        (field generator unit place (row_at (table_at generator.tables place) unit ordinal) 0) ++ codes "\n" }
 {}
 
 /// Texts worked out by hand: a row at each unit; scrambled keys in cohorts of two, none at unit 0;
 /// two rows at unit 0 alone.
 pub fn worked_texts()
-    ensures row_at_each_unit { table_text one 0 2 ≡ codes "1\t0\n2\t1\n3\t2\n" }
-    ensures scrambled { table_text pairs 0 2 ≡ codes "11|1|1\n10|1|1\n13|2|2\n12|2|2\n" }
+    ensures row_at_each_unit { table_text one 2 0 ≡ codes "1\t0\n2\t1\n3\t2\n" }
+    ensures scrambled { table_text pairs 2 0 ≡ codes "11|1|1\n10|1|1\n13|2|2\n12|2|2\n" }
     ensures empty { table_text pairs 0 0 ≡ [] }
-    ensures at_unit_0_alone { table_text pairs 1 2 ≡ codes "0\n1\n" }
+    ensures at_unit_0_alone { table_text pairs 2 1 ≡ codes "0\n1\n" }
     ensures past_the_tables { table_text pairs 2 2 ≡ [] }
 {}

@@ -7,7 +7,6 @@
 #![tactic(auto)]
 
 mod cohort_lines;
-mod fields;
 pub mod laws;
 mod rows;
 
