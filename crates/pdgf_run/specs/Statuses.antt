@@ -5,8 +5,8 @@ use Rattle.std.specs.List.{list_any}
 use Rattle.schema_read.specs.Keys.{key_name}
 use Rattle.schema_read.specs.declared.fault.Expected.{Expected}
 use Rattle.schema_read.specs.declared.fault.Expected.TheVariants.{Whole, TextValue, Flag, DelimiterName, TableList, TwoWholes, KindName, LeafName, DateText, TextList, Wholes, PartList, WindowValue, NoSuchKey}
-use Rattle.schema_read.specs.declared.key.SchemaKey.{SchemaKey}
-use Rattle.schema_read.specs.declared.key.SchemaKey.TheVariants.{Units, Window, Other}
+use Rattle.schema_read.specs.declared.schema_key.SchemaKey.{SchemaKey}
+use Rattle.schema_read.specs.declared.schema_key.SchemaKey.TheVariants.{Units, Window, Other}
 use Rattle.pdgf_run.specs.declared.refusal.Refusal.{Refusal}
 use Rattle.pdgf_run.specs.declared.refusal.Refusal.TheVariants.{Usage, SchemaTooLong, Syntax, Shape, NotBuilt, Rule, OutOfRange}
 use Rattle.pdgf_run.specs.declared.usage.OptionName.{OptionName}
