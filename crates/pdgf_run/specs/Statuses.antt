@@ -5,8 +5,6 @@ use Rattle.std.specs.List.{list_any}
 use Rattle.schema_read.specs.Keys.{key_name}
 use Rattle.schema_read.specs.declared.fault.Expected.{Expected}
 use Rattle.schema_read.specs.declared.fault.Expected.TheVariants.{Whole, TextValue, Flag, DelimiterName, TableList, TwoWholes, KindName, LeafName, DateText, TextList, Wholes, PartList, WindowValue, NoSuchKey}
-use Rattle.schema_read.specs.declared.key.SchemaKey.{SchemaKey}
-use Rattle.schema_read.specs.declared.key.SchemaKey.TheVariants.{Units, Window, Other}
 use Rattle.pd_outside.specs.declared.faults.ReadFault.{ReadFault}
 use Rattle.pd_outside.specs.declared.faults.ReadFault.TheVariants as reading
 use Rattle.schema_check.specs.declared.checker.CheckFault.{CheckFault}
@@ -14,6 +12,8 @@ use Rattle.schema_check.specs.declared.checker.CheckFault.TheVariants as check
 use Rattle.schema_read.specs.declared.fault.Place.{Place}
 use Rattle.schema_read.specs.declared.read.ReadSchemaFault.{ReadSchemaFault}
 use Rattle.schema_read.specs.declared.read.ReadSchemaFault.TheVariants as schema
+use Rattle.schema_read.specs.declared.schema_key.SchemaKey.{SchemaKey}
+use Rattle.schema_read.specs.declared.schema_key.SchemaKey.TheVariants.{Units, Window, Other}
 use Rattle.pdgf_run.specs.declared.refusal.Refusal.{Refusal}
 use Rattle.pdgf_run.specs.declared.refusal.Refusal.TheVariants.{Words, Job}
 use Rattle.pdgf_run.specs.declared.refusal.JobFault.{JobFault}

@@ -5,18 +5,16 @@
 #![tactic(auto)]
 
 mod column;
+mod memory;
 mod sequence;
 mod table;
 mod text;
 
 pub use column::{Column, Kind, Leaf, Part, Window};
+pub use memory::Memory;
 pub use sequence::{Columns, Leaves, Longs, Parts, Sequence, Tables, Texts};
 pub use table::{Delimiter, Life, Schema, Table};
 pub use text::Text;
-
-/// No memory was left for what a call had to keep.
-#[derive(Clone, Copy, Debug, PartialEq, Eq)]
-pub struct Memory;
 
 #[cfg(test)]
 mod tests;

@@ -34,10 +34,8 @@ impl Text {
     pub fn of(alloc: Global, text: &str) -> Result<Text, Memory>
         ensures { IfOk result (λ made. made ≡ text.now) }
     {
-        match String::from_str(alloc, text) {
-            Ok(text) => Ok(Text { text }),
-            Err(_) => Err(Memory),
-        }
+        let text = String::from_str(alloc, text)?;
+        Ok(Text { text })
     }
 
     /// The length in bytes.
@@ -67,10 +65,8 @@ impl Text {
         ensures appended { OnOk result (self.new ≡ self.old ++ piece.now) }
         ensures unchanged { OnErr result (self.new ≡ self.old) }
     {
-        match self.text.push_str(piece) {
-            Ok(()) => Ok(()),
-            Err(_) => Err(Memory),
-        }
+        self.text.push_str(piece)?;
+        Ok(())
     }
 }
 

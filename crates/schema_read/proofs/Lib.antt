@@ -3,3 +3,5 @@ pub mod Days
 pub mod Places
 pub mod Sequences
 pub mod Shapes
+pub mod FirstWrong
+pub mod Refusals

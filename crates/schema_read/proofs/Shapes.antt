@@ -7,8 +7,8 @@ use Rattle.schema_read.specs.declared.fault.Wrong.{Wrong}
 use Rattle.schema_read.specs.declared.fault.ReadFault.{ReadFault}
 use Rattle.schema_read.specs.declared.fault.ReadFault.TheVariants as fault
 use Rattle.schema_read.specs.declared.fault.Expected.TheVariants as type
-use Rattle.schema_read.specs.declared.key.SchemaKey.TheVariants as key
-use Rattle.schema_read.specs.declared.kind.LeafName.{LeafName}
+use Rattle.schema_read.specs.declared.schema_key.SchemaKey.TheVariants as key
+use Rattle.schema_read.specs.declared.kind_name.LeafName.{LeafName}
 use Rattle.schema_read.specs.Reading.{IsTold, Tells}
 use Rattle.schema_read.specs.Shape.{leaf_of, leaf_keys, branch_keys, branch_place, branch_wrong}
 use Rattle.schema_read.specs.Wanted.{required, wrong_key, first_of, further_key, first_wrong}

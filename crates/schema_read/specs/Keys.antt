@@ -2,8 +2,8 @@
 use Rattle.std.specs.Prelude.{ℕ, List, Bool, codes}
 use Rattle.std.specs.List.{list_any}
 use Rattle.schema_read.specs.Document.{same_text}
-use Rattle.schema_read.specs.declared.key.SchemaKey.{SchemaKey}
-use Rattle.schema_read.specs.declared.key.SchemaKey.TheVariants.{Seed, Units, Delimiter, Table, Name, Rows, Insert, Life, Update, Column, Kind, Changes, Null, Base, Scramble, Lo, Hi, Step, Decimals, Entries, Weights, Size, Power, File, Alphabet, Parts, On, Branches, Window, Spread, Via, Other}
+use Rattle.schema_read.specs.declared.schema_key.SchemaKey.{SchemaKey}
+use Rattle.schema_read.specs.declared.schema_key.SchemaKey.TheVariants.{Seed, Units, Delimiter, Table, Name, Rows, Insert, Life, Update, Column, Kind, Changes, Null, Base, Scramble, Lo, Hi, Step, Decimals, Entries, Weights, Size, Power, File, Alphabet, Parts, On, Branches, Window, Spread, Via, Other}
 
 abbrev pub key_name : SchemaKey → List ℕ
 key_name Seed = codes "seed"

@@ -2,10 +2,10 @@
 use Rattle.std.specs.Prelude.{ℕ, List, [], ◌∷◌, Option, option_map, codes}
 use Rattle.std.specs.List.{find}
 use Rattle.std.specs.Option.{option_or}
-use Rattle.schema_read.specs.declared.kind.LeafName.{LeafName}
-use Rattle.schema_read.specs.declared.kind.LeafName.TheVariants.{Int, Fixed, Date, Pick, Skew, Dict, Words, Chars}
-use Rattle.schema_read.specs.declared.kind.KindName.{KindName}
-use Rattle.schema_read.specs.declared.kind.KindName.TheVariants.{Key, Born, Changed, Template, Case, Ref, Lookup, Leaf}
+use Rattle.schema_read.specs.declared.kind_name.LeafName.{LeafName}
+use Rattle.schema_read.specs.declared.kind_name.LeafName.TheVariants.{Int, Fixed, Date, Pick, Skew, Dict, Words, Chars}
+use Rattle.schema_read.specs.declared.kind_name.KindName.{KindName}
+use Rattle.schema_read.specs.declared.kind_name.KindName.TheVariants.{Key, Born, Changed, Template, Case, Ref, Lookup, Leaf}
 use Rattle.schema_read.specs.Document.{same_text}
 
 -- the name of a leaf kind, as it is written

@@ -7,4 +7,5 @@ pub mod Values
 pub mod Wanted
 pub mod Reading
 pub mod Shape
+pub mod Order
 pub mod Schema

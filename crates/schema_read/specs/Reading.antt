@@ -5,7 +5,7 @@ use Rattle.toml.specs.Data.{Data, Members, no_members, table}
 use Rattle.toml.specs.View.{view}
 use Rattle.toml.specs.declared.value.Value.{Value}
 use Rattle.schema_read.specs.declared.fault.Place.{Place}
-use Rattle.schema_read.specs.declared.kind.KindName.{KindName}
+use Rattle.schema_read.specs.declared.kind_name.KindName.{KindName}
 use Rattle.schema_read.specs.Shape.{kind_keys, column_keys, branches_wrong}
 use Rattle.schema_read.specs.Wanted.{first_of, further_key}
 use Rattle.schema_read.specs.declared.fault.ReadFault.{ReadFault}

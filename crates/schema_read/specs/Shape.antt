@@ -15,11 +15,11 @@ use Rattle.schema_model.specs.declared.column.Window.TheVariants.{All}
 use Rattle.schema_read.specs.declared.fault.Place.{Place}
 use Rattle.schema_read.specs.declared.fault.Wrong.{Wrong}
 use Rattle.schema_read.specs.declared.fault.Expected.TheVariants.{Whole, TextValue, Flag, DelimiterName, TableList, TwoWholes, KindName as NameOfKind, LeafName as NameOfLeaf, DateText, TextList, Wholes, PartList, WindowValue}
-use Rattle.schema_read.specs.declared.key.SchemaKey.TheVariants as key
-use Rattle.schema_read.specs.declared.kind.KindName.{KindName}
-use Rattle.schema_read.specs.declared.kind.KindName.TheVariants.{Key, Born, Changed, Leaf as LeafOf, Template, Case, Ref, Lookup}
-use Rattle.schema_read.specs.declared.kind.LeafName.{LeafName}
-use Rattle.schema_read.specs.declared.kind.LeafName.TheVariants.{Int, Fixed, Date, Pick, Skew, Dict, Words, Chars}
+use Rattle.schema_read.specs.declared.schema_key.SchemaKey.TheVariants as key
+use Rattle.schema_read.specs.declared.kind_name.KindName.{KindName}
+use Rattle.schema_read.specs.declared.kind_name.KindName.TheVariants.{Key, Born, Changed, Leaf as LeafOf, Template, Case, Ref, Lookup}
+use Rattle.schema_read.specs.declared.kind_name.LeafName.{LeafName}
+use Rattle.schema_read.specs.declared.kind_name.LeafName.TheVariants.{Int, Fixed, Date, Pick, Skew, Dict, Words, Chars}
 use Rattle.schema_read.specs.Types.{as_delimiter, as_life, as_kind, as_leaf, as_day, as_list_of, as_part, as_window}
 use Rattle.schema_read.specs.Values.{value, value_or, whole, whole_or, text, texts, flag_or, tables}
 use Rattle.schema_read.specs.Wanted.{Wanted, required, optional, first_wrong, each_from}

@@ -12,12 +12,12 @@ use Rattle.schema_model.specs.declared.column.Window.{Window}
 use Rattle.schema_model.specs.declared.column.Window.TheVariants.{Units, All}
 use Rattle.schema_read.specs.declared.fault.Expected.{Expected}
 use Rattle.schema_read.specs.declared.fault.Expected.TheVariants as type
-use Rattle.schema_read.specs.declared.kind.KindName.{KindName}
-use Rattle.schema_read.specs.declared.kind.LeafName.{LeafName}
+use Rattle.schema_read.specs.declared.kind_name.KindName.{KindName}
+use Rattle.schema_read.specs.declared.kind_name.LeafName.{LeafName}
 use Rattle.schema_read.specs.Dates.{day_named}
 use Rattle.schema_read.specs.Document.{elements, keys_of, same_text}
 use Rattle.schema_read.specs.Keys.{key_name, is_among}
-use Rattle.schema_read.specs.declared.key.SchemaKey.TheVariants.{Column}
+use Rattle.schema_read.specs.declared.schema_key.SchemaKey.TheVariants.{Column}
 use Rattle.schema_read.specs.Kinds.{kind_named, leaf_named}
 
 -- the items, each read, where each can be

@@ -1,7 +1,7 @@
 -- What stands under a key, as a value of a type. A key that is missing, or of another type, gives the default.
 use Rattle.std.specs.Prelude.{ℕ, ℤ, pos, List, [], Bool, Option, option_and_then, unwrap_or}
 use Rattle.toml.specs.Data.{Data, Members, get_member, as_integer, as_str, as_bool, as_table}
-use Rattle.schema_read.specs.declared.key.SchemaKey.{SchemaKey}
+use Rattle.schema_read.specs.declared.schema_key.SchemaKey.{SchemaKey}
 use Rattle.schema_read.specs.Keys.{key_name}
 use Rattle.schema_read.specs.Types.{as_list_of}
 

@@ -3,8 +3,8 @@ use Rattle.std.specs.Prelude.{ℕ, suc, List, [], ◌∷◌, map, Bool, true, fa
 use Rattle.std.specs.Option.{option_or}
 use Rattle.std.specs.List.{list_all}
 use Rattle.toml.specs.Data.{Data, Members, get_member}
-use Rattle.schema_read.specs.declared.key.SchemaKey.{SchemaKey}
-use Rattle.schema_read.specs.declared.key.SchemaKey.TheVariants.{Other}
+use Rattle.schema_read.specs.declared.schema_key.SchemaKey.{SchemaKey}
+use Rattle.schema_read.specs.declared.schema_key.SchemaKey.TheVariants.{Other}
 use Rattle.schema_read.specs.declared.fault.Expected.{Expected}
 use Rattle.schema_read.specs.declared.fault.Expected.TheVariants.{NoSuchKey}
 use Rattle.schema_read.specs.declared.fault.Place.{Place}

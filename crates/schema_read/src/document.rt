@@ -6,13 +6,13 @@ ghost use Rattle.schema_read.specs.Reading.{Reads, table_of, tables_of};
 ghost use Rattle.schema_read.specs.Shape.{column_place, column_wrong, column, table_place, table_wrong, table, first_wrong_key, schema};
 ghost use Rattle.schema_read.specs.Wanted.{each_from};
 
+use crate::column_kind::read_kind;
 use crate::fault::{Expected, Place, ReadFault, refuse};
-use crate::key::SchemaKey;
-use crate::keyed::{
+use crate::members::no_further_key;
+use crate::schema_key::SchemaKey;
+use crate::typed_member::{
     delimiter_if_any, flag_if_any, kind_at, life_if_any, tables_at, text_at, whole_at, whole_if_any,
 };
-use crate::kinds::read_kind;
-use crate::members::no_further_key;
 use schema_model::{Column, Columns, Delimiter, Schema, Table, Tables};
 use std::alloc::Global;
 use toml::Value;

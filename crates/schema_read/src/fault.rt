@@ -3,9 +3,8 @@
 ghost use Rattle.std.specs.Prelude.{◌≡◌, Err};
 ghost use Rattle.schema_read.specs.declared.fault.ReadFault.TheVariants.{Memory};
 
-use crate::key::SchemaKey;
+use crate::schema_key::SchemaKey;
 use schema_model::Memory;
-use std::alloc::AllocError;
 
 /// A place of a schema's document. Tables, columns and branches count from 1; a part is 0 where the place isn't
 /// inside one.

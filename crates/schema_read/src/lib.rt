@@ -1,22 +1,23 @@
 //! From the bytes of a schema's text to the schema.
 #![tactic(auto)]
 
+mod column_kind;
 mod date;
 mod document;
 mod fault;
-mod key;
-mod keyed;
-mod kind;
-mod kinds;
-mod leaf;
+mod kind_name;
+pub mod laws;
+mod leaf_kind;
 mod lists;
 mod members;
 mod read;
+mod schema_key;
+mod typed_member;
 mod types;
 
 pub use fault::{Expected, Place};
-pub use key::SchemaKey;
 pub use read::{ReadSchemaFault, read_schema};
+pub use schema_key::SchemaKey;
 
 #[cfg(test)]
 mod tests;

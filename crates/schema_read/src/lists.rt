@@ -5,8 +5,8 @@ ghost use Rattle.toml.specs.Data.{Data, as_integer, as_str, as_table, Members};
 ghost use Rattle.toml.specs.View.{view, table_view};
 ghost use Rattle.schema_read.specs.Types.{all_read, as_list_of, as_part, cited};
 
-use crate::key::SchemaKey;
 use crate::members::{has_only, member};
+use crate::schema_key::SchemaKey;
 use crate::types::array_elements;
 use schema_model::{Memory, Part, Sequence, Text};
 use std::alloc::Global;

@@ -11,7 +11,7 @@ ghost use Rattle.schema_read.specs.Reading.{Passes};
 ghost use Rattle.schema_read.specs.Wanted.{further_key};
 
 use crate::fault::{Expected, Place, ReadFault, refuse};
-use crate::key::SchemaKey;
+use crate::schema_key::SchemaKey;
 use toml::{Table, Value};
 
 /// What stands under a key.

@@ -7,7 +7,7 @@ ghost use Rattle.schema_read.specs.Schema.{schema_of};
 
 use crate::document::read_document;
 use crate::fault::{Expected, Place, ReadFault, Wrong};
-use crate::key::SchemaKey;
+use crate::schema_key::SchemaKey;
 use schema_model::Schema;
 use std::alloc::Global;
 

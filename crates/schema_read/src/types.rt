@@ -6,10 +6,10 @@ ghost use Rattle.toml.specs.Data.{Data, as_array, as_integer, as_str, as_table};
 ghost use Rattle.toml.specs.View.{view};
 ghost use Rattle.schema_read.specs.Document.{elements};
 ghost use Rattle.schema_read.specs.Reading.{tables_of};
-ghost use Rattle.schema_read.specs.Types.{all_read, as_list_of, delimiter_named, as_delimiter, life_of, as_life, as_kind, as_leaf, as_day, window_named, as_window};
+ghost use Rattle.schema_read.specs.Types.{as_list_of, delimiter_named, as_delimiter, life_of, as_life, as_kind, as_leaf, as_day, window_named, as_window};
 
 use crate::date::day_of_text;
-use crate::kind::{KindName, LeafName, kind_of_name, leaf_of_name};
+use crate::kind_name::{KindName, LeafName, kind_of_name, leaf_of_name};
 use schema_model::{Delimiter, Life, Window};
 use toml::Value;
 

@@ -10,10 +10,10 @@ ghost use Rattle.schema_read.specs.Values.{value, value_or, whole, text, texts, 
 ghost use Rattle.schema_read.specs.Wanted.{required, optional, wrong_at, wrong_key};
 
 use crate::fault::{Expected, Place, ReadFault, refuse};
-use crate::key::SchemaKey;
-use crate::kind::{KindName, LeafName};
+use crate::kind_name::{KindName, LeafName};
 use crate::lists::sequence_of_value;
 use crate::members::member;
+use crate::schema_key::SchemaKey;
 use crate::types::{
     day_of, delimiter_of, kind_of, leaf_kind_of, life_of_value, table_elements, window_of,
 };

@@ -7,13 +7,13 @@ ghost use Rattle.schema_read.specs.Shape.{leaf_keys, kind_keys, kind_value, bran
 ghost use Rattle.schema_read.specs.Wanted.{first_of, each_from};
 
 use crate::fault::{Expected, Place, ReadFault, refuse};
-use crate::key::SchemaKey;
-use crate::keyed::{
+use crate::kind_name::{KindName, LeafName};
+use crate::leaf_kind::read_leaf;
+use crate::members::no_further_key;
+use crate::schema_key::SchemaKey;
+use crate::typed_member::{
     flag_if_any, leaf_kind_at, parts_at, tables_at, text_at, whole_at, wholes_if_any, window_at,
 };
-use crate::kind::{KindName, LeafName};
-use crate::leaf::read_leaf;
-use crate::members::no_further_key;
 use schema_model::{Kind, Leaf, Leaves, Longs, Memory};
 use std::alloc::Global;
 use toml::{Table, Value};

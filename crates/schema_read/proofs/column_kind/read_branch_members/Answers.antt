@@ -1,10 +1,10 @@
 use Rattle.std.proofs.Common.{sym, ap, ◌∙◌}
 use Rattle.std.proofs.lemmas.Result.{err_from_is_err_and}
 use Rattle.toml.specs.View.{table_view}
-use Rattle.schema_read.specs.declared.kind.LeafName.{LeafName}
+use Rattle.schema_read.specs.declared.kind_name.LeafName.{LeafName}
 use Rattle.schema_read.specs.Shape.{leaf_value}
 use Rattle.schema_read.proofs.Shapes.{Tells-IsTold, tells_first, tells_second, tells_same, branch_wrong-is}
-use Rattle.schema_read.proofs.kinds.read_branch_members.Goals as goal
+use Rattle.schema_read.proofs.column_kind.read_branch_members.Goals as goal
 
 pub returns-in_err-leaf : goal.returns-in_err-leaf
 returns-in_err-leaf c =

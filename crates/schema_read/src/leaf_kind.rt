@@ -7,9 +7,9 @@ ghost use Rattle.schema_read.specs.Shape.{leaf_keys, leaf_value};
 ghost use Rattle.schema_read.specs.Wanted.{first_of};
 
 use crate::fault::{Place, ReadFault};
-use crate::key::SchemaKey;
-use crate::keyed::{day_at, text_at, texts_at, whole_at, whole_if_any, wholes_if_any};
-use crate::kind::LeafName;
+use crate::kind_name::LeafName;
+use crate::schema_key::SchemaKey;
+use crate::typed_member::{day_at, text_at, texts_at, whole_at, whole_if_any, wholes_if_any};
 use schema_model::{Leaf, Longs, Memory, Text};
 use std::alloc::Global;
 use toml::Table;

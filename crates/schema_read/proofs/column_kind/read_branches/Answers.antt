@@ -3,7 +3,7 @@ use Rattle.std.proofs.lemmas.Result.{err_from_is_err_and}
 use Rattle.schema_read.specs.Reading.{table_of}
 use Rattle.schema_read.specs.Shape.{branch_wrong, branch}
 use Rattle.schema_read.proofs.Places.{begins, goes_on, stops, ends}
-use Rattle.schema_read.proofs.kinds.read_branches.Goals as goal
+use Rattle.schema_read.proofs.column_kind.read_branches.Goals as goal
 
 pub loop-i-init : goal.loop-i-init
 loop-i-init c = rw c.new-branches.ensures (begins _ _ _)

@@ -1,0 +1,19 @@
+//! The one fault of this crate.
+
+use std::alloc::{AllocError, AllocFailed};
+
+/// No memory was left for what a call had to keep.
+#[derive(Clone, Copy, Debug, PartialEq, Eq)]
+pub struct Memory;
+
+impl From<AllocError> for Memory {
+    fn from(_error: AllocError) -> Memory {
+        Memory
+    }
+}
+
+impl<T: Drop> From<AllocFailed<T>> for Memory {
+    fn from(_error: AllocFailed<T>) -> Memory {
+        Memory
+    }
+}
