@@ -1,5 +1,5 @@
 -- Adding a number modulo m, and taking it away again.
-use Rattle.std.proofs.Common.{◌≡◌, ℕ, ◌+◌, ◌-◌, ◌*◌, ◌/◌, ◌%◌, ◌<◌, ◌≤◌, sym, ap, ◌∙◌, arith}
+use Rattle.std.proofs.Common.{◌≡◌, ℕ, ◌+◌, ◌-◌, ◌*◌, ◌/◌, ◌%◌, ◌<◌, sym, ap, ◌∙◌, arith}
 use Rattle.std.proofs.Math.Nat.{mod-add-mod, mod-eq_of_lt, div-add-mod, add-mul-mod_self_left}
 use Rattle.std.proofs.lemmas.Nat.{mod_below}
 

@@ -6,7 +6,7 @@
 #![tactic(auto)]
 
 mod halves;
-mod laws;
+pub mod laws;
 mod memory;
 mod network;
 mod order;
@@ -15,7 +15,6 @@ mod shuffle;
 mod table_network;
 mod table_shuffle;
 
-pub use laws::an_order_is_a_bijection;
 pub use memory::Memory;
 pub use order::{Order, tables_pay};
 pub use shuffle::Shuffle;

@@ -1,7 +1,6 @@
 //! A permutation as its callers see it: its size, its seed, and the steps that it takes.
 
 ghost use Rattle.std.specs.Prelude.{◌≡◌, ◌+◌, ◌<◌, ◌≤◌, ◌^◌, All, length, map};
-ghost use Rattle.id_permutation.specs.Walk.{IsBijectionBelow, AreInversesBelow};
 ghost use Rattle.id_permutation.specs.Placement.{Permutation, IsFoundWithinHeight, place, unplace};
 
 use crate::network::Network;
@@ -28,8 +27,6 @@ impl Shuffle {
         requires small { n ≤ 2 ^ 40 }
         ensures size { result.size ≡ n }
         ensures seed { result.seed ≡ seed }
-        ensures bijection { IsBijectionBelow n (place n seed) }
-        ensures inverse { AreInversesBelow n (place n seed) (unplace n seed) }
     {
         Shuffle {
             network: Network::new(n, seed),
