@@ -1,5 +1,5 @@
 -- The least number that passes a test: a search below a bound, and what `least` gives where one knows the answer.
-use Rattle.std.proofs.Common.{◌≡◌, ℕ, zero, suc, ◌+◌, ◌<◌, ◌≤◌, Bool, true, false, ◌⊎◌, inl, inr, refl, ap, ◌∙◌, arith, add-one, below_more}
+use Rattle.std.proofs.Common.{◌≡◌, ℕ, zero, suc, ◌+◌, ◌<◌, ◌≤◌, Bool, true, false, ◌⊎◌, inl, inr, refl, ap, sym, subst, ◌∙◌, arith, add-one, below_more}
 use Rattle.std.proofs.lemmas.Bool.{cases_Bool, cases_eq}
 use Rattle.id_permutation.specs.Least.{least, least_from}
 
@@ -59,4 +59,34 @@ first_or_none p (suc bound) =
         | inl pass ↦ inl (bound, record { within = omega arith; passes = pass; fails = none })
         | inr fail ↦ inr (rw (← add-one) (below_more (λ j. p j ≡ false) bound none fail))
       ]
+    ]
+
+least_from-none : (p : ℕ → Bool) (tries k : ℕ) → ((j : ℕ) → k ≤ j → j < k + tries → p j ≡ false) → least_from p tries k ≡ k + tries
+least_from-none p zero k fails = least_from-zero p k ∙ omega arith
+least_from-none p (suc tries) k fails =
+    least_from-false p tries k (fails k (omega arith) (omega arith))
+    ∙ least_from-none p tries (k + 1) (λ j low high. fails j (omega arith) (omega arith))
+    ∙ omega arith
+
+-- where none below the bound passes, the bound
+least-none : (p : ℕ → Bool) (bound : ℕ) → ((j : ℕ) → j < bound → p j ≡ false) → least p bound ≡ bound
+unfolding least
+least-none p bound fails = least_from-none p bound 0 (λ j _ h. fails j (omega arith)) ∙ omega arith
+
+-- what the search gives: a number that passes first, or the bound
+pub record IsLeast (p : ℕ → Bool) (bound m : ℕ) : Type 0 where
+  pub within : m ≤ bound
+  pub passes : m < bound → p m ≡ true
+  pub fails : (j : ℕ) → j < m → p j ≡ false
+
+pub IsLeast-least : (p : ℕ → Bool) (bound : ℕ) → IsLeast p bound (least p bound)
+IsLeast-least p bound =
+    elim (first_or_none p bound) [
+      | inl found ↦
+          let below : found.0 < bound = found.1.within in
+          subst (IsLeast p bound) (sym (least-is p bound found.0 (omega arith) found.1.passes found.1.fails))
+          (record { within = omega arith; passes = λ _. found.1.passes; fails = found.1.fails })
+      | inr none ↦
+          subst (IsLeast p bound) (sym (least-none p bound none))
+          (record { within = omega arith; passes = λ h. absurd (omega (arith, h)); fails = none })
     ]

@@ -1,5 +1,7 @@
-//! The law of orders, the contract of a function that does nothing.
+//! The laws of orders and of the search for a least number, each the contract of a function that does nothing.
 
+ghost use Rattle.std.specs.Prelude.{◌≡◌, ◌<◌, ◌≤◌, ℕ, Bool, false, true};
+ghost use Rattle.id_permutation.specs.Least.{least};
 ghost use Rattle.id_permutation.specs.Walk.{IsBijectionBelow, AreInversesBelow};
 ghost use Rattle.id_permutation.specs.Order.{Arrangement, place_in, number_at};
 
@@ -8,4 +10,11 @@ ghost use Rattle.id_permutation.specs.Order.{Arrangement, place_in, number_at};
 pub fn an_order_is_a_bijection()
     ensures bijection { (order : Arrangement) → IsBijectionBelow order.size (place_in order) }
     ensures inverse { (order : Arrangement) → AreInversesBelow order.size (place_in order) (number_at order) }
+{}
+
+/// The least number is one that passes the test, or the bound where none below it does; and none before it passes.
+pub fn the_least_number_passes_first()
+    ensures within { (p : ℕ → Bool) (bound : ℕ) → least p bound ≤ bound }
+    ensures passes { (p : ℕ → Bool) (bound : ℕ) → least p bound < bound → p (least p bound) ≡ true }
+    ensures first { (p : ℕ → Bool) (bound k : ℕ) → k < least p bound → p k ≡ false }
 {}
