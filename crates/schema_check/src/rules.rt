@@ -162,7 +162,7 @@ impl Rule {
 }
 
 /// The columns of the table at a place.
-fn columns_at(schema: &Schema, table: usize) -> &[Column]
+pub(crate) fn columns_at(schema: &Schema, table: usize) -> &[Column]
     requires { table < length schema.now.tables }
     ensures { result.now ≡ columns_at schema.now table }
 {
