@@ -102,8 +102,9 @@ some_of_rule rule (Some site) broken h =
 -- the first rule of a list that is broken, at its first site
 pub first_rule : (schema : Schema) (rules : List Rule) (broken : Broken) → FoundAt (broken_rule schema) rules broken → (i : ℕ) × (slice_get rules i ≡ Some broken.rule) × IsFirstBreak broken.rule schema broken.site × ((k : ℕ) (other : Rule) → k < i → slice_get rules k ≡ Some other → Keeps other schema)
 first_rule schema rules broken found =
-    let out = some_of_rule found.1 (first_break found.1 schema) broken found.3 in
-    (found.0,
-     found.2 ∙ ap (λ rule. Some rule) out.1,
-     subst (λ (rule : Rule). IsFirstBreak rule schema broken.site) out.1 (is_first_break found.1 schema broken.site out.0),
-     λ k other lt at. keeps_from_none other schema (none_of_rule schema other (found.4 k other lt at)))
+    let out = some_of_rule found.1 (first_break found.1 schema) broken found.3 in (
+      found.0,
+      found.2 ∙ ap (λ rule. Some rule) out.1,
+      subst (λ (rule : Rule). IsFirstBreak rule schema broken.site) out.1 (is_first_break found.1 schema broken.site out.0),
+      λ k other lt at. keeps_from_none other schema (none_of_rule schema other (found.4 k other lt at)),
+    )

@@ -58,6 +58,7 @@ is_known-range number count place limit within below =
   where
     known : List ℕ
     known = map (λ p. capped (number p)) (range_with_len 0 (min count 64))
+
     of_test : (past : Bool) → nat_le 64 place ≡ past → (nat_le (min count 64) place || nat_le (get_or known place 0) limit) ≡ (past || nat_le (number place) limit)
     of_test true h =
         let is_past : nat_le (min count 64) place ≡ true = grind (arith, nat_tests) in

@@ -50,7 +50,7 @@ pub fn check(alloc: Global, schema: Schema) -> Result<Plan, CheckFault>
 }
 
 /// A broken rule of a schema as it is told.
-fn fault_of(schema: &Schema, broken: Broken) -> CheckFault
+pub(crate) fn fault_of(schema: &Schema, broken: Broken) -> CheckFault
     requires { IsSiteOf schema.now broken.site }
     ensures { result ≡ told broken }
 {

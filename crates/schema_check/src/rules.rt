@@ -254,5 +254,7 @@ fn is_row_cost(facts: &[TableFacts], table: usize) -> bool
 fn is_line_size(facts: &[TableFacts], table: usize) -> bool
     ensures { result ≡ is_known_at_most (map (λ fact. fact.max_line) facts.now) table 65536 }
 {
-    facts.get(table).is_none_or(|known| known.max_line <= MAX_LINE)
+    facts
+        .get(table)
+        .is_none_or(|known| known.max_line <= MAX_LINE)
 }

@@ -38,7 +38,7 @@ returns c =
     let layouts = map (part_layout table.columns) parts in
     c.bounds.ensures
     ∙ ap (λ size. bounds size c.loop-part.permutations) (c.loop-part.invariant.size ∙ ap (λ ps. capped (sum_by (λ (part : Part). (taken part).size) ps)) all
-      ∙ ap capped (sym (fold-map (λ total (part : PartLayout). total + (of part).size) (part_layout table.columns) 0 parts)))
+    ∙ ap capped (sym (fold-map (λ total (part : PartLayout). total + (of part).size) (part_layout table.columns) 0 parts)))
     ∙ ap (bounds (capped (sum_by (λ part. (of part).size) layouts))) (c.loop-part.invariant.permutations ∙ ap (λ ps. capped (sum_by (λ (part : Part). (taken part).permutations) ps)) all
-      ∙ ap capped (sym (fold-map (λ total (part : PartLayout). total + (of part).permutations) (part_layout table.columns) 0 parts)))
+    ∙ ap capped (sym (fold-map (λ total (part : PartLayout). total + (of part).permutations) (part_layout table.columns) 0 parts)))
     ∙ bounds-capped (sum_by (λ part. (of part).size) layouts) (sum_by (λ part. (of part).permutations) layouts)
