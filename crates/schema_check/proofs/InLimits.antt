@@ -1,5 +1,6 @@
 -- An accepted schema is within its limits.
-use Rattle.std.proofs.Common.{◌≡◌, ◌≢◌, ℕ, pos, suc, zero, ◌<◌, ◌≤◌, ◌^◌, Bool, true, false, not, ◌&&◌, ◌||◌, List, [], length, map, get_or, slice_get, Some, refl, sym, ap, ◌∙◌, subst, arith, int_le, nat_le}
+use Rattle.std.proofs.Common.{◌≡◌, ◌≢◌, ℕ, pos, suc, zero, ◌<◌, ◌≤◌, ◌^◌, Bool, true, false, not, ◌&&◌, ◌||◌, List, [], length, map, get_or, slice_get, Some, refl, sym, ap, ◌∙◌, subst, arith, int_le, nat_le, ◌==◌}
+use Rattle.std.specs.List.{position_or_len}
 use Rattle.std.proofs.lemmas.Bool.{and_parts, leb-true}
 use Rattle.std.proofs.lemmas.List.{get_or-map, length-map}
 use Rattle.schema_model.specs.declared.table.Schema.{Schema}
@@ -14,7 +15,7 @@ use Rattle.schema_check.specs.Cohorts.{born_count}
 use Rattle.schema_check.specs.Counts.{count}
 use Rattle.schema_check.specs.Layout.{KindLayout, ColumnLayout, births_of, column_at, column_layout, key_kind, keys_of_kind, kind_layout, layout_of, no_column, table_layout}
 use Rattle.schema_check.specs.Limits.{IsCount, IsTableInLimits, IsInLimits}
-use Rattle.schema_check.specs.Rules.{broken_rule, first_broken, rules, is_between, is_key, is_key_in_range, is_key_first, is_one_to_64, kind_at, schema_table, IsAccepted, Keeps}
+use Rattle.schema_check.specs.Rules.{broken_rule, first_broken, number_of, rules, is_between, is_key, is_key_in_range, is_key_first, is_one_to_64, kind_at, schema_table, IsAccepted, Keeps}
 use Rattle.schema_check.specs.Sites.{columns_at}
 use Rattle.schema_check.specs.TableFacts.{cost, max_line}
 use Rattle.schema_check.proofs.FirstBreak.{none_of_rule}
@@ -22,10 +23,14 @@ use Rattle.schema_check.proofs.FromTests.{count_from_test, limit_from_test}
 use Rattle.schema_check.proofs.Kept.{keeps_from_none, none_at}
 use Rattle.schema_check.proofs.RuleLemmas.{columns_at-is}
 
-keeps_at : (schema : Schema) → IsAccepted schema → (i : ℕ) (rule : Rule) → slice_get rules i ≡ Some rule → Keeps rule schema
+-- the place of a rule in the order, by its number
+abbrev index_of : Rule → ℕ
+index_of rule = position_or_len (λ other. number_of other == number_of rule) rules
+
+keeps : (schema : Schema) → IsAccepted schema → (rule : Rule) → slice_get rules (index_of rule) ≡ Some rule → Keeps rule schema
 unfolding first_broken
-keeps_at schema accepted i rule at =
-    keeps_from_none rule schema (none_of_rule schema rule (none_at (broken_rule schema) rules accepted i rule at))
+keeps schema accepted rule at =
+    keeps_from_none rule schema (none_of_rule schema rule (none_at (broken_rule schema) rules accepted (index_of rule) rule at))
 
 -- ---- columns
 
@@ -56,11 +61,11 @@ table_in_limits : (schema : Schema) → IsAccepted schema → (i : ℕ) → i < 
 table_in_limits schema accepted i h =
     let t = schema_table schema i in
     let same : columns_at schema i ≡ t.columns = columns_at-is schema i _ h in
-    let v4 : is_one_to_64 (length t.columns) ≡ true = ap (λ columns. is_one_to_64 (length columns)) (sym same) ∙ keeps_at schema accepted 3 Columns refl (OfTable i) h in
+    let v4 : is_one_to_64 (length t.columns) ≡ true = ap (λ columns. is_one_to_64 (length columns)) (sym same) ∙ keeps schema accepted Columns refl (OfTable i) h in
     let counted = and_parts (nat_le 1 (length t.columns)) (nat_le (length t.columns) 64) v4 in
-    let v6 = and_parts (int_le (pos 0) t.rows && int_le (pos 0) t.insert) (nat_le (born_count (births_of t) (count schema.units)) (2 ^ 40)) (keeps_at schema accepted 5 RowCount refl (OfTable i) h) in
+    let v6 = and_parts (int_le (pos 0) t.rows && int_le (pos 0) t.insert) (nat_le (born_count (births_of t) (count schema.units)) (2 ^ 40)) (keeps schema accepted RowCount refl (OfTable i) h) in
     let some : 1 ≤ length t.columns = leb-true 1 (length t.columns) counted.0 in
-    let v5 = λ (j : ℕ) (lt : j < length t.columns). ap (λ columns. is_key_first j (kind_at columns j)) (sym same) ∙ keeps_at schema accepted 4 KeyColumn refl (OfColumn i j) (h, subst (λ (columns : List Column). j < length columns) (sym same) lt) in
+    let v5 = λ (j : ℕ) (lt : j < length t.columns). ap (λ columns. is_key_first j (kind_at columns j)) (sym same) ∙ keeps schema accepted KeyColumn refl (OfColumn i j) (h, subst (λ (columns : List Column). j < length columns) (sym same) lt) in
     let layout = column_layout schema.tables t.columns in
     let kind = kind_layout schema.tables t.columns in
     let layouts : length (map layout t.columns) ≡ length t.columns = length-map t.columns layout in
@@ -86,9 +91,9 @@ within_limit place n limit h asked = of_test (nat_le 64 place) refl asked
 
 pub in_limits : (schema : Schema) → IsAccepted schema → IsInLimits schema
 in_limits schema accepted =
-    let v1 = and_parts (int_le (pos 0) schema.seed) (is_between 0 10000 schema.units) (keeps_at schema accepted 0 SeedAndUnits refl Whole tt) in
+    let v1 = and_parts (int_le (pos 0) schema.seed) (is_between 0 10000 schema.units) (keeps schema accepted SeedAndUnits refl Whole tt) in
     let units = and_parts (int_le (pos 0) schema.units) (int_le schema.units (pos 10000)) v1.1 in
-    let v2 = and_parts (nat_le 1 (length schema.tables)) (nat_le (length schema.tables) 64) (keeps_at schema accepted 1 TableCount refl Whole tt) in
+    let v2 = and_parts (nat_le 1 (length schema.tables)) (nat_le (length schema.tables) 64) (keeps schema accepted TableCount refl Whole tt) in
     let few : length schema.tables ≤ 64 = leb-true (length schema.tables) 64 v2.1 in
     record {
       seed = count_from_test schema.seed v1.0;
@@ -99,6 +104,6 @@ in_limits schema accepted =
       tables = λ i d h.
           let within : i < length schema.tables = omega (arith, h, length-map schema.tables (table_layout schema.tables)) in
           subst (IsTableInLimits (count schema.units)) (sym (get_or-map (table_layout schema.tables) schema.tables i _ d within)) (table_in_limits schema accepted i within);
-      costs = λ place h. within_limit place (cost (layout_of schema) place) 4096 (omega (arith, h, few)) (keeps_at schema accepted 6 RowCost refl (OfTable place) h);
-      lines = λ place h. within_limit place (max_line (layout_of schema) place) 65536 (omega (arith, h, few)) (keeps_at schema accepted 7 LineSize refl (OfTable place) h);
+      costs = λ place h. within_limit place (cost (layout_of schema) place) 4096 (omega (arith, h, few)) (keeps schema accepted RowCost refl (OfTable place) h);
+      lines = λ place h. within_limit place (max_line (layout_of schema) place) 65536 (omega (arith, h, few)) (keeps schema accepted LineSize refl (OfTable place) h);
     }
