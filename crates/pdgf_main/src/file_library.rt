@@ -3,9 +3,9 @@
 ghost use Rattle.std.specs.Prelude.{◌≡◌, false, None, is_some};
 
 use crate::faults::fault;
+use crate::moves::take_some;
 use pd_outside::{Failed, Library};
 use std::fs::File;
-use std::io::Read;
 use std::rt::Files;
 
 /// The files of the system, read one at a time. It can't tell what they hold, nor which were asked.
@@ -17,13 +17,14 @@ pub struct FileLibrary<R: Files> {
     rt: R,
     started: Option<R::File>,
     taken: u64,
-    faults: u64,
+    pub(crate) faults: u64,
 }
 
 impl<R: Files> FileLibrary<R> {
-    /// Nothing is started, and no call failed.
+    /// Nothing is started or taken, and no call failed.
     pub fn new(rt: R) -> Self
         ensures started { is_some result.started ≡ false }
+        ensures taken { result.taken ≡ 0 }
         ensures faults { result.faults ≡ 0 }
     {
         FileLibrary {
@@ -64,14 +65,14 @@ impl<R: Files> Library for FileLibrary<R> {
         let Some(file) = &mut self.started else {
             unreachable!()
         };
-        match file.read(into) {
+        match take_some(file, into, &mut self.faults) {
             Ok(n) => {
                 self.taken += n as u64;
                 Ok(n)
             }
-            Err(_) => {
+            Err(Failed) => {
                 self.started = None;
-                Err(fault(&mut self.faults))
+                Err(Failed)
             }
         }
     }

@@ -3,6 +3,7 @@
 ghost use Rattle.std.specs.Prelude.{◌≡◌, false, None, is_some};
 
 use crate::faults::fault;
+use crate::moves::{hand_on, put_some};
 use pd_outside::{Failed, Shelf};
 use std::alloc::Global;
 use std::fs::File;
@@ -27,7 +28,7 @@ pub struct FileShelf<R: Files> {
     alloc: Global,
     stdout: Stdout,
     begun: Option<BufWriter<Output<R::File>>>,
-    faults: u64,
+    pub(crate) faults: u64,
 }
 
 #[derive(Drop)]
@@ -99,22 +100,15 @@ impl<R: Files> Shelf for FileShelf<R> {
         let Some(output) = &mut self.begun else {
             unreachable!()
         };
-        match output.write(piece) {
-            Ok(n) if n > 0 => Ok(n),
-            _ => Err(fault(&mut self.faults)),
-        }
+        put_some(output, piece, &mut self.faults)
     }
 
     fn end(&mut self) -> Result<(), Failed> {
         let Some(output) = &mut self.begun else {
             unreachable!()
         };
-        match output.flush() {
-            Ok(()) => {
-                self.begun = None;
-                Ok(())
-            }
-            Err(_) => Err(fault(&mut self.faults)),
-        }
+        hand_on(output, &mut self.faults)?;
+        self.begun = None;
+        Ok(())
     }
 }
