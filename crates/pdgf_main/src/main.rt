@@ -4,7 +4,7 @@
 
 ghost use Rattle.std.specs.Prelude.{◌≡◌, ◌≢◌, ◌↔◌, map, string_bytes, IfErr, IfOk, IfSome, IsErr, IsTrue};
 ghost use Rattle.std.specs.IoError.{error_kind};
-ghost use Rattle.pdgf_run.specs.Statuses.{fixed_text, is_status, memory_status, text_of};
+ghost use Rattle.pdgf_run.specs.Statuses.{fixed_text, is_status, text_of};
 ghost use Rattle.pdgf_run.specs.Words.{request};
 
 mod ending;
@@ -48,9 +48,9 @@ fn run<R: Files + AllocGlobal + Threads + Sync>(
     ensures known { IsTrue (is_status result.status) }
     ensures message { IfSome (fixed_text result.status) (λ text. result.message ≡ text) }
     ensures usage { IfOk words (λ words. (result.status ≡ 2) ↔ IsErr (request (map string_bytes words.items))) }
-    ensures usage_text { IfOk words (λ words. IfErr (request (map string_bytes words.items)) (λ fault. result.message ≡ text_of (Refusal.Usage fault))) }
+    ensures usage_text { IfOk words (λ words. IfErr (request (map string_bytes words.items)) (λ fault. result.message ≡ text_of (Refusal.Words fault))) }
     ensures not_utf8 { IfErr words (λ error. error_kind error ≢ ErrorKind.OutOfMemory → result.status ≡ 2) }
-    ensures memory { IfErr words (λ error. error_kind error ≡ ErrorKind.OutOfMemory → result.status ≡ memory_status) }
+    ensures memory { IfErr words (λ error. error_kind error ≡ ErrorKind.OutOfMemory → result.status ≡ 7) }
 {
     match words {
         Ok(words) => run_words(rt, stdout, words.as_slice()),
@@ -67,7 +67,7 @@ fn run_words<R: Files + AllocGlobal + Threads + Sync>(
     ensures known { IsTrue (is_status result.status) }
     ensures message { IfSome (fixed_text result.status) (λ text. result.message ≡ text) }
     ensures usage { (result.status ≡ 2) ↔ IsErr (request (map string_bytes words.now)) }
-    ensures usage_text { IfErr (request (map string_bytes words.now)) (λ fault. result.message ≡ text_of (Refusal.Usage fault)) }
+    ensures usage_text { IfErr (request (map string_bytes words.now)) (λ fault. result.message ≡ text_of (Refusal.Words fault)) }
 {
     let mut library = FileLibrary::new(rt);
     let mut shelf = FileShelf::new(rt, rt.alloc(), stdout);
@@ -76,7 +76,7 @@ fn run_words<R: Files + AllocGlobal + Threads + Sync>(
 
 /// There was no memory for the words.
 fn out_of_memory() -> Report
-    ensures status { result.status ≡ memory_status }
+    ensures status { result.status ≡ 7 }
     ensures message { IfSome (fixed_text result.status) (λ text. result.message ≡ text) }
 {
     let mut message = Message::new();
