@@ -1,0 +1,4 @@
+pub mod Ranges
+pub mod CohortLemmas
+pub mod SimulationLemmas
+pub mod KeyLemmas
