@@ -53,7 +53,6 @@ range-cohort table unit =
     ap (range_with_len 0) (born_count-next table.births unit) ∙ range_with_len-add 0 (first_ordinal table.births unit) (cohort_size table.births unit)
     ∙ ap (λ (a : ℕ). range_with_len 0 (first_ordinal table.births unit) ++ range_with_len a (cohort_size table.births unit)) (omega arith)
 
-
 pub rows_of-zero : (table : TableLayout) → rows_of table 0 ≡ cohort table 0
 rows_of-zero table =
     let count : born_count table.births 0 ≡ cohort_size table.births 0 = omega (arith, born_count-next table.births 0) in
