@@ -17,6 +17,12 @@ born_count-next births unit = ap (first_ordinal births) (add-one unit)
 pub born_count-by_units : (births : Births) (unit : ℕ) → born_count births unit ≡ births.rows + unit * births.insert
 born_count-by_units births unit = ap (first_ordinal births) (add-one unit) ∙ first_ordinal-suc births unit
 
+-- the same, as the code computes it
+pub born_count-sum : (births : Births) (unit : ℕ) → births.rows + births.insert * unit ≡ born_count births unit
+born_count-sum births unit =
+    let turned : births.insert * unit ≡ unit * births.insert = grind arith in
+    omega (arith, born_count-by_units births unit, turned)
+
 pub cohort_size-add_one : (births : Births) (unit : ℕ) → cohort_size births (unit + 1) ≡ births.insert
 cohort_size-add_one births unit = ap (cohort_size births) (add-one unit)
 
@@ -25,6 +31,13 @@ pub born_count-le : (births : Births) (unit last : ℕ) → unit ≤ last → bo
 born_count-le births unit last within =
     let more : unit * births.insert ≤ last * births.insert = mul-le unit births.insert last births.insert within (omega arith) in
     omega (arith, born_count-by_units births unit, born_count-by_units births last, more)
+
+-- no sum of the code is past the limit of all rows
+pub born_count-limit : (births known : Births) (unit last limit : ℕ) → known ≡ births → unit ≤ last → born_count births last ≤ limit → known.rows + known.insert * unit ≤ limit
+born_count-limit births known unit last limit is within all =
+    let more : born_count births unit ≤ born_count births last = born_count-le births unit last within in
+    let same : born_count known unit ≡ born_count births unit = ap (λ (b : Births). born_count b unit) is in
+    omega (arith, born_count-sum known unit, same, more, all)
 
 -- the cohort of a unit ends before those of later units begin
 pub cohort-within : (births : Births) (unit last : ℕ) → unit ≤ last → first_ordinal births unit + cohort_size births unit ≤ born_count births last

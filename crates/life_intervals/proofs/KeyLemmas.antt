@@ -40,6 +40,13 @@ key_of-first_ordinal generator place last unit index within below =
     ap (λ (u : ℕ). key_in_cohort generator place u (ordinal - first_ordinal births u)) born
     ∙ ap (key_in_cohort generator place unit) at
 
+pub key_of-found : (generator : Generator) (place last ordinal unit first : ℕ) → unit ≡ birth (table_at generator.tables place).births last ordinal →
+    first ≡ first_ordinal (table_at generator.tables place).births unit → key_in_cohort generator place unit (ordinal - first) ≡ key_of generator place last ordinal
+unfolding key_of
+key_of-found generator place last ordinal unit first born starts =
+    ap (λ (f : ℕ). key_in_cohort generator place unit (ordinal - f)) starts
+    ∙ ap (λ (u : ℕ). key_in_cohort generator place u (ordinal - first_ordinal (table_at generator.tables place).births u)) born
+
 -- where a row's key stands: its cohort's keys begin at the first ordinal, and the row has one of their places
 pub record KeyLiesIn (generator : Generator) (place last ordinal unit : ℕ) : Type 0 where
   pub index : ℕ
