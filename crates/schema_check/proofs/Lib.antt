@@ -1,0 +1,14 @@
+pub mod Lists
+pub mod PlaceLemmas
+pub mod Capping
+pub mod FirstFound
+pub mod FromTests
+pub mod Kept
+pub mod FirstBreak
+pub mod CohortLemmas
+pub mod LineageLemmas
+pub mod BoundsLemmas
+pub mod FactsLemmas
+pub mod RuleLemmas
+pub mod InLimits
+pub mod PlannedLemmas

@@ -1,16 +1,17 @@
 //! The check of a schema.
 
-ghost use Rattle.std.specs.Prelude.{◌≡◌, false, IfOk, OnOk, IfErr};
+ghost use Rattle.std.specs.Prelude.{◌≡◌, ◌≤◌, false, IfOk, OnOk, IfErr};
 ghost use Rattle.schema_check.specs.Faults.{told, Tells};
 ghost use Rattle.schema_check.specs.Planned.{without_dictionaries};
 ghost use Rattle.schema_check.specs.Rules.{IsAccepted};
-ghost use Rattle.schema_check.specs.Sites.{IsSiteOf};
+ghost use Rattle.schema_check.specs.Sites.{column_number, IsSiteOf};
 ghost use Rattle.schema_check.specs.Unbuilt.{is_unbuilt};
 
 use crate::broken::Broken;
 use crate::facts::{NO_FACTS, fill_facts};
 use crate::plan::Plan;
-use crate::rules::{MAX_ITEMS, first_broken};
+use crate::rules::{MAX_ITEMS, columns_at, first_broken};
+use crate::site::Site;
 use schema_model::Schema;
 use std::alloc::Global;
 
@@ -49,14 +50,26 @@ pub fn check(alloc: Global, schema: Schema) -> Result<Plan, CheckFault>
 }
 
 /// A broken rule of a schema as it is told.
-fn fault_of(schema: &Schema, broken: Broken) -> CheckFault
+pub(crate) fn fault_of(schema: &Schema, broken: Broken) -> CheckFault
     requires { IsSiteOf schema.now broken.site }
     ensures { result ≡ told broken }
 {
-    let _lengths = schema.tables.len();
+    let _tables = schema.tables.len();
+    let _columns = columns_beside(schema, broken.site);
     CheckFault::Rule {
         number: broken.rule.number(),
         table: broken.site.table_number(),
         column: broken.site.column_number(),
+    }
+}
+
+/// How many columns the table of a column's site has, which bounds the column's number; 0 at any other site.
+fn columns_beside(schema: &Schema, site: Site) -> usize
+    requires { IsSiteOf schema.now site }
+    ensures { column_number site ≤ result }
+{
+    match site {
+        Site::OfColumn(table, _) => columns_at(schema, table).len(),
+        _ => 0,
     }
 }

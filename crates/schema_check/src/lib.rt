@@ -10,8 +10,8 @@ mod checker;
 mod counts;
 mod facts;
 mod field_bounds;
-mod layout;
 pub mod laws;
+mod layout;
 mod lineage;
 mod names;
 mod not_built;
@@ -25,5 +25,7 @@ pub use layout::{Births, Keys, Span};
 pub use not_built::unbuilt;
 pub use plan::Plan;
 
+#[cfg(test)]
+mod fact_tests;
 #[cfg(test)]
 mod tests;

@@ -1,7 +1,9 @@
 //! Names to places, which count from 0. A name that nothing has stands for the place past the last one.
 
 ghost use Rattle.std.specs.Prelude.{◌≡◌, ◌≤◌, length};
+ghost use Rattle.std.specs.List.{position};
 ghost use Rattle.schema_check.specs.Layout.{keys_of, keys_of_kind, parent_of, parent_via, place_of_column, place_of_table};
+ghost use Rattle.schema_check.specs.Names.{same_text};
 
 use crate::counts::count;
 use crate::layout::Keys;
@@ -12,10 +14,14 @@ pub(crate) fn place_of_table(tables: &[Table], name: &Text) -> usize
     ensures place { result ≡ place_of_table tables.now name.now }
     ensures within { result ≤ length tables.now }
 {
-    tables
-        .iter()
-        .position(|table| table.name == *name)
-        .unwrap_or(tables.len())
+    find_table(tables, name).unwrap_or(tables.len())
+}
+
+/// The place of the first of some tables that has a name.
+fn find_table(tables: &[Table], name: &Text) -> Option<usize>
+    ensures { result ≡ position (λ table. same_text table.name name.now) tables.now }
+{
+    tables.iter().position(|table| table.name == *name)
 }
 
 /// The place of the column with a name.
@@ -23,10 +29,14 @@ pub(crate) fn place_of_column(columns: &[Column], name: &Text) -> usize
     ensures place { result ≡ place_of_column columns.now name.now }
     ensures within { result ≤ length columns.now }
 {
-    columns
-        .iter()
-        .position(|column| column.name == *name)
-        .unwrap_or(columns.len())
+    find_column(columns, name).unwrap_or(columns.len())
+}
+
+/// The place of the first of some columns that has a name.
+fn find_column(columns: &[Column], name: &Text) -> Option<usize>
+    ensures { result ≡ position (λ column. same_text column.name name.now) columns.now }
+{
+    columns.iter().position(|column| column.name == *name)
 }
 
 /// The place of the table that a kind names as its parent; the place past the last one where it names none.

@@ -40,7 +40,11 @@ impl Model for Plan {
 
 impl Plan {
     /// The plan of a schema that keeps all rules, by the facts of its tables.
-    pub(crate) fn of_accepted(alloc: Global, schema: Schema, facts: &[TableFacts]) -> Result<Plan, AllocError>
+    pub(crate) fn of_accepted(
+        alloc: Global,
+        schema: Schema,
+        facts: &[TableFacts],
+    ) -> Result<Plan, AllocError>
         requires built { is_unbuilt schema ≡ false }
         requires accepted { IsAccepted schema }
         requires facts { facts.now ≡ first_facts schema }

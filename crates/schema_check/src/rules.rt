@@ -1,11 +1,12 @@
 //! The rules of a schema as tests of its sites, and the search for the first that is broken.
 
-ghost use Rattle.std.specs.Prelude.{◌≡◌, ◌<◌, IfSome, length, map};
+ghost use Rattle.std.specs.Prelude.{◌≡◌, ◌<◌, ◌+◌, ◌*◌, ◌&&◌, IfSome, int_le, length, map, pos};
 ghost use Rattle.std.specs.List.{list_any};
-ghost use Rattle.schema_check.specs.Capped.{first_facts, is_known_at_most};
+ghost use Rattle.schema_check.specs.Capped.{capped, first_facts, is_known_at_most};
+ghost use Rattle.schema_check.specs.Counts.{count};
 ghost use Rattle.schema_check.specs.Names.{same_text};
 ghost use Rattle.schema_check.specs.Rules.{break_in_table, first_break, first_broken, holds, is_key_first, is_new_at, is_one_to_64, is_row_count, number_of};
-ghost use Rattle.schema_check.specs.Sites.{IsSiteOf};
+ghost use Rattle.schema_check.specs.Sites.{columns_at, IsSiteOf};
 
 use crate::broken::Broken;
 use crate::counts::count;
@@ -108,7 +109,7 @@ fn break_in_table(rule: Rule, schema: &Schema, facts: &[TableFacts], table: usiz
     if !rule.holds(schema, facts, Site::OfTable(table)) {
         return Some(Site::OfTable(table));
     }
-    for column in 0..schema.tables.get(table).columns.len() {
+    for column in 0..columns_at(schema, table).len() {
         let site = Site::OfColumn(table, column);
         if !rule.holds(schema, facts, site) {
             return Some(site);
@@ -145,12 +146,12 @@ impl Rule {
             (Rule::SeedAndUnits, Site::Whole) => is_seed_and_units(schema),
             (Rule::TableCount, Site::Whole) => is_one_to_64(tables.len()),
             (Rule::TableNames, Site::OfTable(table)) => is_new_table(tables, table),
-            (Rule::Columns, Site::OfTable(table)) => is_one_to_64(tables[table].columns.len()),
+            (Rule::Columns, Site::OfTable(table)) => is_one_to_64(columns_at(schema, table).len()),
             (Rule::Columns, Site::OfColumn(table, column)) => {
-                is_new_column(tables[table].columns.as_slice(), column)
+                is_new_column(columns_at(schema, table), column)
             }
             (Rule::KeyColumn, Site::OfColumn(table, column)) => {
-                is_key_first(column, &tables[table].columns.as_slice()[column].kind)
+                is_key_first(column, &columns_at(schema, table)[column].kind)
             }
             (Rule::RowCount, Site::OfTable(table)) => is_row_count(schema.units, &tables[table]),
             (Rule::RowCost, Site::OfTable(table)) => is_row_cost(facts, table),
@@ -158,6 +159,14 @@ impl Rule {
             _ => true,
         }
     }
+}
+
+/// The columns of the table at a place.
+pub(crate) fn columns_at(schema: &Schema, table: usize) -> &[Column]
+    requires { table < length schema.now.tables }
+    ensures { result.now ≡ columns_at schema.now table }
+{
+    schema.tables.as_slice()[table].columns.as_slice()
 }
 
 fn is_seed_and_units(schema: &Schema) -> bool
@@ -217,10 +226,23 @@ fn is_key_first(place: usize, kind: &Kind) -> bool
 fn is_row_count(units: i64, table: &Table) -> bool
     ensures { result ≡ is_row_count units table.now }
 {
-    let rows = count(table.insert)
-        .saturating_mul(count(units))
-        .saturating_add(count(table.rows));
-    0 <= table.rows && 0 <= table.insert && rows <= MAX_ROWS
+    is_counted(table) && rows_by(units, table) <= MAX_ROWS
+}
+
+/// Whether a table gains no negative number of rows.
+fn is_counted(table: &Table) -> bool
+    ensures { result ≡ (int_le (pos 0) table.now.rows && int_le (pos 0) table.now.insert) }
+{
+    0 <= table.rows && 0 <= table.insert
+}
+
+/// How many rows of a table are born by a unit.
+fn rows_by(unit: i64, table: &Table) -> u64
+    ensures { result ≡ capped (count table.now.rows + count unit * count table.now.insert) }
+{
+    count(unit)
+        .saturating_mul(count(table.insert))
+        .saturating_add(count(table.rows))
 }
 
 fn is_row_cost(facts: &[TableFacts], table: usize) -> bool
@@ -232,5 +254,7 @@ fn is_row_cost(facts: &[TableFacts], table: usize) -> bool
 fn is_line_size(facts: &[TableFacts], table: usize) -> bool
     ensures { result ≡ is_known_at_most (map (λ fact. fact.max_line) facts.now) table 65536 }
 {
-    facts.get(table).is_none_or(|known| known.max_line <= MAX_LINE)
+    facts
+        .get(table)
+        .is_none_or(|known| known.max_line <= MAX_LINE)
 }

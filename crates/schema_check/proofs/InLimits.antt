@@ -1,0 +1,104 @@
+-- An accepted schema is within its limits.
+use Rattle.std.proofs.Common.{◌≡◌, ◌≢◌, ℕ, pos, suc, zero, ◌<◌, ◌≤◌, ◌^◌, Bool, true, false, not, ◌&&◌, ◌||◌, List, [], length, map, get_or, slice_get, Some, refl, sym, ap, ◌∙◌, subst, arith, int_le, nat_le}
+use Rattle.std.proofs.lemmas.Bool.{and_parts, leb-true}
+use Rattle.std.proofs.lemmas.List.{get_or-map, length-map}
+use Rattle.schema_model.specs.declared.table.Schema.{Schema}
+use Rattle.schema_model.specs.declared.table.Table.{Table}
+use Rattle.schema_model.specs.declared.column.Column.{Column}
+use Rattle.schema_model.specs.declared.column.Kind.{Kind}
+use Rattle.schema_model.specs.declared.column.Kind.TheVariants.{Key, Born}
+use Rattle.schema_check.specs.declared.rules.Rule.{Rule}
+use Rattle.schema_check.specs.declared.rules.Rule.TheVariants.{SeedAndUnits, TableCount, Columns, KeyColumn, RowCount, RowCost, LineSize}
+use Rattle.schema_check.specs.declared.site.Site.TheVariants.{Whole, OfTable, OfColumn}
+use Rattle.schema_check.specs.Cohorts.{born_count}
+use Rattle.schema_check.specs.Counts.{count}
+use Rattle.schema_check.specs.Layout.{KindLayout, ColumnLayout, births_of, column_at, column_layout, key_kind, keys_of_kind, kind_layout, layout_of, no_column, table_layout}
+use Rattle.schema_check.specs.Limits.{IsCount, IsTableInLimits, IsInLimits}
+use Rattle.schema_check.specs.Rules.{broken_rule, first_broken, rules, is_between, is_key, is_key_in_range, is_key_first, is_one_to_64, kind_at, schema_table, IsAccepted, Keeps}
+use Rattle.schema_check.specs.Sites.{columns_at}
+use Rattle.schema_check.specs.TableFacts.{cost, max_line}
+use Rattle.schema_check.proofs.FirstBreak.{none_of_rule}
+use Rattle.schema_check.proofs.FromTests.{count_from_test, limit_from_test}
+use Rattle.schema_check.proofs.Kept.{keeps_from_none, none_at}
+use Rattle.schema_check.proofs.RuleLemmas.{columns_at-is}
+
+keeps_at : (schema : Schema) → IsAccepted schema → (i : ℕ) (rule : Rule) → slice_get rules i ≡ Some rule → Keeps rule schema
+unfolding first_broken
+keeps_at schema accepted i rule at =
+    keeps_from_none rule schema (none_of_rule schema rule (none_at (broken_rule schema) rules accepted i rule at))
+
+-- ---- columns
+
+a_column : Column
+a_column = record { name = []; kind = Born; changes = false; null = pos 0 }
+
+kind_at-layout : (columns : List Column) (layout : Column → ColumnLayout) (of : Kind → KindLayout) → ((c : Column) → (layout c).kind ≡ of c.kind) → (j : ℕ) → j < length columns → (column_at (map layout columns) j).kind ≡ of (kind_at columns j)
+kind_at-layout columns layout of same j h =
+    ap (λ (c : ColumnLayout). c.kind) (get_or-map layout columns j a_column no_column h)
+    ∙ same (get_or columns j a_column)
+    ∙ ap of (sym (get_or-map (λ (c : Column). c.kind) columns j a_column Born h))
+
+base_from_range : (kind : Kind) → is_key_in_range kind ≡ true → (keys_of_kind kind).base ≤ 2 ^ 62
+base_from_range (Key base scramble) h = limit_from_test base (2 ^ 62) ((and_parts (int_le (pos 0) base) (int_le base (pos (2 ^ 62))) h).1)
+base_from_range _ h = cc
+
+key_from_range : (tables : List Table) (columns : List Column) (kind : Kind) → is_key_in_range kind ≡ true → kind_layout tables columns kind ≡ key_kind
+key_from_range tables columns (Key base scramble) h = refl
+key_from_range tables columns _ h = cc
+
+no_key : (tables : List Table) (columns : List Column) (kind : Kind) → not (is_key kind) ≡ true → kind_layout tables columns kind ≢ key_kind
+no_key tables columns (Key base scramble) h = cc
+no_key tables columns _ h = λ e. cc
+
+-- ---- tables
+
+table_in_limits : (schema : Schema) → IsAccepted schema → (i : ℕ) → i < length schema.tables → IsTableInLimits (count schema.units) (table_layout schema.tables (schema_table schema i))
+table_in_limits schema accepted i h =
+    let t = schema_table schema i in
+    let same : columns_at schema i ≡ t.columns = columns_at-is schema i _ h in
+    let v4 : is_one_to_64 (length t.columns) ≡ true = ap (λ columns. is_one_to_64 (length columns)) (sym same) ∙ keeps_at schema accepted 3 Columns refl (OfTable i) h in
+    let counted = and_parts (nat_le 1 (length t.columns)) (nat_le (length t.columns) 64) v4 in
+    let v6 = and_parts (int_le (pos 0) t.rows && int_le (pos 0) t.insert) (nat_le (born_count (births_of t) (count schema.units)) (2 ^ 40)) (keeps_at schema accepted 5 RowCount refl (OfTable i) h) in
+    let some : 1 ≤ length t.columns = leb-true 1 (length t.columns) counted.0 in
+    let v5 = λ (j : ℕ) (lt : j < length t.columns). ap (λ columns. is_key_first j (kind_at columns j)) (sym same) ∙ keeps_at schema accepted 4 KeyColumn refl (OfColumn i j) (h, subst (λ (columns : List Column). j < length columns) (sym same) lt) in
+    let layout = column_layout schema.tables t.columns in
+    let kind = kind_layout schema.tables t.columns in
+    let layouts : length (map layout t.columns) ≡ length t.columns = length-map t.columns layout in
+    record {
+      row_limit = leb-true (born_count (births_of t) (count schema.units)) (2 ^ 40) v6.1;
+      base_limit = base_from_range (kind_at t.columns 0) (v5 0 some);
+      some_column = omega (arith, layouts, some);
+      column_limit = omega (arith, layouts, leb-true (length t.columns) 64 counted.1);
+      key_first = kind_at-layout t.columns layout kind (λ c. refl) 0 some ∙ key_from_range schema.tables t.columns (kind_at t.columns 0) (v5 0 some);
+      no_other_key = λ place lt is_key_at.
+          let within : suc place < length t.columns = omega (arith, layouts, lt) in
+          no_key schema.tables t.columns (kind_at t.columns (suc place)) (v5 (suc place) within)
+          (sym (kind_at-layout t.columns layout kind (λ c. refl) (suc place) within) ∙ is_key_at);
+    }
+
+-- a number of one of the first 64 tables is at most its limit
+within_limit : (place n limit : ℕ) → place < 64 → (nat_le 64 place || nat_le n limit) ≡ true → n ≤ limit
+within_limit place n limit h asked = of_test (nat_le 64 place) refl asked
+  where
+    of_test : (past : Bool) → nat_le 64 place ≡ past → (past || nat_le n limit) ≡ true → n ≤ limit
+    of_test true is asked = absurd (omega (arith, leb-true 64 place is))
+    of_test false is asked = leb-true n limit asked
+
+pub in_limits : (schema : Schema) → IsAccepted schema → IsInLimits schema
+in_limits schema accepted =
+    let v1 = and_parts (int_le (pos 0) schema.seed) (is_between 0 10000 schema.units) (keeps_at schema accepted 0 SeedAndUnits refl Whole tt) in
+    let units = and_parts (int_le (pos 0) schema.units) (int_le schema.units (pos 10000)) v1.1 in
+    let v2 = and_parts (nat_le 1 (length schema.tables)) (nat_le (length schema.tables) 64) (keeps_at schema accepted 1 TableCount refl Whole tt) in
+    let few : length schema.tables ≤ 64 = leb-true (length schema.tables) 64 v2.1 in
+    record {
+      seed = count_from_test schema.seed v1.0;
+      units = count_from_test schema.units units.0;
+      unit_limit = limit_from_test schema.units 10000 units.1;
+      some_table = leb-true 1 (length schema.tables) v2.0;
+      table_limit = few;
+      tables = λ i d h.
+          let within : i < length schema.tables = omega (arith, h, length-map schema.tables (table_layout schema.tables)) in
+          subst (IsTableInLimits (count schema.units)) (sym (get_or-map (table_layout schema.tables) schema.tables i _ d within)) (table_in_limits schema accepted i within);
+      costs = λ place h. within_limit place (cost (layout_of schema) place) 4096 (omega (arith, h, few)) (keeps_at schema accepted 6 RowCost refl (OfTable place) h);
+      lines = λ place h. within_limit place (max_line (layout_of schema) place) 65536 (omega (arith, h, few)) (keeps_at schema accepted 7 LineSize refl (OfTable place) h);
+    }

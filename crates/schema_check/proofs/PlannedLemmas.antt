@@ -1,0 +1,79 @@
+-- What a plan keeps of the table at a place.
+use Rattle.std.proofs.Common.{◌≡◌, ℕ, zero, suc, ◌+◌, ◌<◌, ◌≤◌, min, max, Bool, false, ◌||◌, List, [], ◌∷◌, length, map, get_or, slice_get, Some, refl, sym, ap, ◌∙◌, arith}
+use Rattle.std.specs.List.{fold, list_any, range_with_len}
+use Rattle.std.proofs.lemmas.Bool.{or_parts}
+use Rattle.std.proofs.lemmas.List.{length-map}
+use Rattle.std.proofs.lemmas.List.FromFn.{fill_by_all, get_or-map-range_with_len, length-map-range_with_len}
+use Rattle.std.proofs.lemmas.List.Folds.{fold-map}
+use Rattle.std.proofs.lemmas.Option.{get_or_from_slice_get, slice_get_within}
+use Rattle.schema_model.specs.declared.table.Schema.{Schema}
+use Rattle.schema_model.specs.declared.table.Table.{Table}
+use Rattle.schema_check.specs.declared.facts.TableFacts.{TableFacts}
+use Rattle.schema_check.specs.declared.lineage.Lineage.{Lineage}
+use Rattle.schema_check.specs.Capped.{capped, capped_facts, capped_lineage, first_facts}
+use Rattle.schema_check.specs.FieldBounds.{greatest_by}
+use Rattle.schema_check.specs.Layout.{Layout, TableLayout, layout_of, no_table, table_at, table_layout}
+use Rattle.schema_check.specs.Limits.{IsInLimits}
+use Rattle.schema_check.specs.TableFacts.{facts_at, line_of_table, max_line, reach}
+use Rattle.schema_check.specs.Unbuilt.{is_bar, is_unbuilt, is_unbuilt_table}
+use Rattle.schema_check.proofs.FromTests.{fails_each}
+use Rattle.schema_check.proofs.Lists.{map-same}
+
+-- no fact of an accepted schema is past the end of 64 bits
+not_capped : (schema : Schema) → IsInLimits schema → (place : ℕ) → place < length schema.tables → capped_facts (facts_at (layout_of schema) place) ≡ facts_at (layout_of schema) place
+not_capped schema limits place h =
+    let facts = facts_at (layout_of schema) place in
+    let cost : capped facts.cost ≡ facts.cost = omega (arith, limits.costs place h) in
+    let death : capped facts.lineage.death_cost ≡ facts.lineage.death_cost = omega (arith, limits.costs place h) in
+    let line : capped facts.max_line ≡ facts.max_line = omega (arith, limits.lines place h) in
+    ap (λ n. record facts { lineage = record facts.lineage { death_cost = n }; cost = capped facts.cost; max_line = capped facts.max_line }) death
+    ∙ ap (λ n. record facts { cost = n; max_line = capped facts.max_line }) cost
+    ∙ ap (λ n. record facts { max_line = n }) line
+
+pub facts_whole : (schema : Schema) → IsInLimits schema → first_facts schema ≡ map (facts_at (layout_of schema)) (range_with_len 0 (length schema.tables))
+facts_whole schema limits =
+    let all : min (length schema.tables) 64 ≡ length schema.tables = omega (arith, limits.table_limit) in
+    ap (λ n. map (λ place. capped_facts (facts_at (layout_of schema) place)) (range_with_len 0 n)) all
+    ∙ map-same (λ place. capped_facts (facts_at (layout_of schema) place)) (facts_at (layout_of schema)) (length schema.tables) (λ k h. not_capped schema limits k h)
+
+-- the reach is the greatest of the lines
+pub reach-is : (schema : Schema) → greatest_by (λ (fact : TableFacts). fact.max_line) (map (facts_at (layout_of schema)) (range_with_len 0 (length schema.tables))) ≡ reach (layout_of schema)
+unfolding max_line reach
+reach-is schema =
+    let layout = layout_of schema in
+    let places = range_with_len 0 (length schema.tables) in
+    let in_row : layout.tables ≡ map (table_at layout.tables) places = fill_by_all (table_at layout.tables) layout.tables (length schema.tables) no_table (length-map schema.tables (table_layout schema.tables)) (λ k h. refl) in
+    fold-map (λ most (fact : TableFacts). max most fact.max_line) (facts_at layout) 0 places
+    ∙ sym (ap (greatest_by (line_of_table layout)) in_row
+    ∙ fold-map (λ most (table : TableLayout). max most (line_of_table layout table)) (table_at layout.tables) 0 places)
+
+-- the greatest of a number is at least what it began from, and at least that of each item
+greatest_from : {A : Type 0} (number : A → ℕ) (xs : List A) (a : ℕ) → a ≤ fold (λ most x. max most (number x)) a xs
+greatest_from number [] a = omega arith
+greatest_from number (x ∷ xs) a = omega (arith, greatest_from number xs (max a (number x)))
+
+greatest_at : {A : Type 0} (number : A → ℕ) (xs : List A) (a : ℕ) (i : ℕ) (d : A) → number d ≤ a → number (get_or xs i d) ≤ fold (λ most x. max most (number x)) a xs
+greatest_at number [] a i d h = h
+greatest_at number (x ∷ xs) a zero d h = omega (arith, greatest_from number xs (max a (number x)))
+greatest_at number (x ∷ xs) a (suc i) d h = greatest_at number xs (max a (number x)) i d (omega arith)
+
+-- no line is longer than the reach
+pub max_line-reach : (layout : Layout) (place : ℕ) → max_line layout place ≤ reach layout
+unfolding max_line reach
+max_line-reach layout place =
+    let none : line_of_table layout no_table ≡ 0 = refl in
+    greatest_at (line_of_table layout) layout.tables 0 place no_table (omega (arith, none))
+
+-- what is kept of the table at a place
+pub length-kept : (schema : Schema) (kept : List TableFacts) → kept ≡ map (facts_at (layout_of schema)) (range_with_len 0 (length schema.tables)) → length kept ≡ length schema.tables
+length-kept schema kept is = ap length is ∙ length-map-range_with_len (facts_at (layout_of schema)) 0 (length schema.tables)
+
+pub get_or-kept : (schema : Schema) (kept : List TableFacts) → kept ≡ map (facts_at (layout_of schema)) (range_with_len 0 (length schema.tables)) → (place : ℕ) (d : TableFacts) → place < length schema.tables → get_or kept place d ≡ facts_at (layout_of schema) place
+get_or-kept schema kept is place d h =
+    ap (λ facts. get_or facts place d) is ∙ get_or-map-range_with_len (facts_at (layout_of schema)) 0 (length schema.tables) place place d h (omega arith)
+
+-- a table of a built schema is built
+pub built_table : (schema : Schema) → is_unbuilt schema ≡ false → (place : ℕ) (table : Table) → slice_get schema.tables place ≡ Some table → is_unbuilt_table table ≡ false
+built_table schema built place table at =
+    ap is_unbuilt_table (sym (get_or_from_slice_get schema.tables place table table at))
+    ∙ fails_each is_unbuilt_table schema.tables place table (slice_get_within schema.tables place table at) ((or_parts (is_bar schema.delimiter) (list_any is_unbuilt_table schema.tables) built).1)

@@ -1,0 +1,89 @@
+-- What the tests of the rules ask, as the code asks it.
+use Rattle.std.proofs.Common.{◌≡◌, ℕ, suc, zero, ◌+◌, ◌*◌, ◌-◌, ◌<◌, ◌≤◌, ◌^◌, Bool, true, false, not, ◌&&◌, ◌||◌, List, [], ◌∷◌, length, map, min, get_or, take, refl, sym, ap, ◌∙◌, arith, nat_le, ℤ, pos, int_le, leb}
+use Rattle.std.specs.List.{list_any, range_with_len}
+use Rattle.std.proofs.lemmas.Bool.{leb-true, leb-false}
+use Rattle.std.proofs.lemmas.Bool.Decides.{nat_tests}
+use Rattle.std.proofs.lemmas.List.{get_or-map}
+use Rattle.std.proofs.lemmas.List.FromFn.{length-map-range_with_len, get_or-map-range_with_len}
+use Rattle.schema_model.specs.declared.table.Schema.{Schema}
+use Rattle.schema_model.specs.declared.table.Table.{Table}
+use Rattle.schema_check.specs.declared.facts.TableFacts.{TableFacts}
+use Rattle.schema_check.specs.declared.rules.Rule.{Rule}
+use Rattle.schema_check.specs.declared.rules.Rule.TheVariants.{RowCost, LineSize}
+use Rattle.schema_check.specs.declared.site.Site.{Site}
+use Rattle.schema_check.specs.declared.site.Site.TheVariants.{OfTable}
+use Rattle.schema_check.specs.Capped.{capped, capped_facts, first_facts, is_known_at_most}
+use Rattle.schema_check.specs.Cohorts.{born_count}
+use Rattle.schema_check.specs.Counts.{count}
+use Rattle.schema_check.specs.Layout.{births_of, layout_of}
+use Rattle.schema_check.specs.Names.{same_text, is_name}
+use Rattle.schema_check.specs.Rules.{holds, is_new_name, is_new_at, is_row_count}
+use Rattle.schema_check.specs.Sites.{columns_at}
+use Rattle.schema_check.specs.TableFacts.{cost, facts_at, max_line}
+use Rattle.schema_check.proofs.CohortLemmas.{born_count-is}
+use Rattle.schema_check.proofs.Lists.{map-map}
+
+take-map : {A B : Type 0} (f : A → B) (i : ℕ) (xs : List A) → take i (map f xs) ≡ map f (take i xs)
+take-map f zero xs = refl
+take-map f (suc i) [] = refl
+take-map f (suc i) (x ∷ xs) = ap (λ ys. f x ∷ ys) (take-map f i xs)
+
+list_any-map : {A B : Type 0} (test : B → Bool) (f : A → B) (xs : List A) → list_any test (map f xs) ≡ list_any (λ x. test (f x)) xs
+list_any-map test f [] = refl
+list_any-map test f (x ∷ xs) = ap (λ rest. test (f x) || rest) (list_any-map test f xs)
+
+-- of some items, the one at a place has a name that none before it has
+pub is_new_at-item : {A : Type 0} (name_of : A → List ℕ) (xs : List A) (i : ℕ) (d : A) (any : Bool) → i < length xs → is_name (name_of (get_or xs i d)) ≡ true → any ≡ list_any (λ other. same_text (name_of other) (name_of (get_or xs i d))) (take i xs) → not any ≡ is_new_at (map name_of xs) i
+is_new_at-item name_of xs i d any h is_name_at any_is =
+    let name = name_of (get_or xs i d) in
+    ap not (any_is ∙ sym (ap (list_any (λ other. same_text other name)) (take-map name_of i xs) ∙ list_any-map (λ other. same_text other name) name_of (take i xs)))
+    ∙ ap (λ test. test && not (list_any (λ other. same_text other name) (take i (map name_of xs)))) (sym is_name_at)
+    ∙ ap (is_new_name (take i (map name_of xs))) (sym (get_or-map name_of xs i d [] h))
+
+-- a number past the end of 64 bits is past the limit, and so is the end
+pub capped-test : (n limit : ℕ) → limit < 2 ^ 64 - 1 → nat_le (capped n) limit ≡ nat_le n limit
+capped-test n limit h = grind (arith, nat_tests)
+
+pub is_row_count-is : (units : ℤ) (table : Table) → (int_le (pos 0) table.rows && int_le (pos 0) table.insert) ≡ true → nat_le (capped (count table.rows + count units * count table.insert)) (2 ^ 40) ≡ is_row_count units table
+is_row_count-is units table counted =
+    capped-test (count table.rows + count units * count table.insert) (2 ^ 40) (omega arith)
+    ∙ ap (λ rows. nat_le rows (2 ^ 40)) (sym (born_count-is (births_of table) (count units)))
+    ∙ ap (λ test. test && nat_le (born_count (births_of table) (count units)) (2 ^ 40)) (sym counted)
+
+-- what is asked of the facts of the first tables is asked of those tables
+pub is_known-range : (number : ℕ → ℕ) (count place limit : ℕ) → place < count → limit < 2 ^ 64 - 1 → is_known_at_most (map (λ p. capped (number p)) (range_with_len 0 (min count 64))) place limit ≡ (nat_le 64 place || nat_le (number place) limit)
+is_known-range number count place limit within below =
+    ap (λ n. nat_le n place || nat_le (get_or known place 0) limit) (length-map-range_with_len (λ p. capped (number p)) 0 (min count 64))
+    ∙ of_test (nat_le 64 place) refl
+  where
+    known : List ℕ
+    known = map (λ p. capped (number p)) (range_with_len 0 (min count 64))
+
+    of_test : (past : Bool) → nat_le 64 place ≡ past → (nat_le (min count 64) place || nat_le (get_or known place 0) limit) ≡ (past || nat_le (number place) limit)
+    of_test true h =
+        let is_past : nat_le (min count 64) place ≡ true = grind (arith, nat_tests) in
+        ap (λ test. test || nat_le (get_or known place 0) limit) is_past
+    of_test false h =
+        let before = leb-false 64 place h in
+        let is_before : nat_le (min count 64) place ≡ false = grind (arith, nat_tests) in
+        ap (λ test. test || nat_le (get_or known place 0) limit) is_before
+        ∙ ap (λ n. nat_le n limit) (get_or-map-range_with_len (λ p. capped (number p)) 0 (min count 64) place place 0 (omega arith) (omega arith))
+        ∙ capped-test (number place) limit below
+
+-- a test of a rule at a site
+pub holds_at : (rule own : Rule) (schema : Schema) (site at : Site) (test : Bool) → rule ≡ own → site ≡ at → test ≡ holds own schema at → test ≡ holds rule schema site
+holds_at rule own schema site at test p q r = cc
+
+pub row_cost-is : (schema : Schema) (table : ℕ) → table < length schema.tables → is_known_at_most (map (λ (fact : TableFacts). fact.cost) (first_facts schema)) table 4096 ≡ holds RowCost schema (OfTable table)
+row_cost-is schema table h =
+    ap (λ costs. is_known_at_most costs table 4096) (map-map (λ (fact : TableFacts). fact.cost) (λ place. capped_facts (facts_at (layout_of schema) place)) (range_with_len 0 (min (length schema.tables) 64)))
+    ∙ is_known-range (cost (layout_of schema)) (length schema.tables) table 4096 h (omega arith)
+
+pub line_size-is : (schema : Schema) (table : ℕ) → table < length schema.tables → is_known_at_most (map (λ (fact : TableFacts). fact.max_line) (first_facts schema)) table 65536 ≡ holds LineSize schema (OfTable table)
+line_size-is schema table h =
+    ap (λ lines. is_known_at_most lines table 65536) (map-map (λ (fact : TableFacts). fact.max_line) (λ place. capped_facts (facts_at (layout_of schema) place)) (range_with_len 0 (min (length schema.tables) 64)))
+    ∙ is_known-range (max_line (layout_of schema)) (length schema.tables) table 65536 h (omega arith)
+
+-- the columns of the table at a place
+pub columns_at-is : (schema : Schema) (table : ℕ) (d : Table) → table < length schema.tables → columns_at schema table ≡ (get_or schema.tables table d).columns
+columns_at-is schema table d h = get_or-map (λ (t : Table). t.columns) schema.tables table d [] h

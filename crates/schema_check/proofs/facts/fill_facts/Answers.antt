@@ -1,0 +1,16 @@
+use Rattle.std.proofs.Common.{◌∙◌, ◌∷◌, [], ◌++◌, ap, sym, arith, map, take}
+use Rattle.std.specs.List.{range_with_len}
+use Rattle.std.proofs.lemmas.List.{length-set, take_more_set}
+use Rattle.std.proofs.lemmas.List.FromFn.{map-range_with_len_more}
+use Rattle.schema_check.specs.Capped.{capped_facts}
+use Rattle.schema_check.specs.Layout.{layout_of}
+use Rattle.schema_check.specs.TableFacts.{facts_at}
+use Rattle.schema_check.proofs.FactsLemmas.{one_more}
+use Rattle.schema_check.proofs.facts.fill_facts.Goals as goal
+
+pub loop-place-preserved : goal.loop-place-preserved
+loop-place-preserved c =
+    record {
+      size = length-set c.loop-place.facts c.loop-place.place c.facts_of.result ∙ c.loop-place.invariant.size;
+      filled = one_more c.args.schema.now c.loop-place.facts c.loop-place.place c.facts_of.result (omega arith) c.loop-place.invariant.filled c.facts_of.ensures;
+    }

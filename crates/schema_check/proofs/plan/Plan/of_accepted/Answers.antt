@@ -1,0 +1,17 @@
+use Rattle.std.proofs.Common.{ap, ◌∙◌}
+use Rattle.schema_check.specs.FieldBounds.{greatest_by}
+use Rattle.schema_check.proofs.InLimits.{in_limits}
+use Rattle.schema_check.proofs.PlannedLemmas.{facts_whole, reach-is}
+use Rattle.schema_check.proofs.plan.Plan.of_accepted.Goals as goal
+
+pub invariant_of-result : goal.invariant_of-result
+invariant_of-result c =
+    let limits = in_limits c.args.schema c.requires.accepted in
+    let known = c.requires.facts ∙ facts_whole c.args.schema limits in
+    record {
+      accepted = c.requires.accepted;
+      built = c.requires.built;
+      limits = limits;
+      facts = c.in_ok-facts.ensures.items ∙ known;
+      reach = c.greatest_line-reach.ensures ∙ ap (greatest_by (λ fact. fact.max_line)) known ∙ reach-is c.args.schema;
+    }

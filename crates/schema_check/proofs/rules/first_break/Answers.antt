@@ -1,0 +1,27 @@
+use Rattle.std.proofs.Common.{ℕ, length, sym, ap, ◌∙◌, ◌<◌, arith}
+use Rattle.std.specs.List.{range_with_len}
+use Rattle.std.specs.Option.{option_or}
+use Rattle.schema_check.specs.declared.site.Site.TheVariants.{Whole}
+use Rattle.schema_check.specs.Rules.{break_in_table, first_found}
+use Rattle.schema_check.proofs.FirstFound.{found_at_place, found_past_place}
+use Rattle.schema_check.proofs.Kept.{none_from_holds}
+use Rattle.schema_check.proofs.rules.first_break.Goals as goal
+
+pub returns-in-Some-clause-first : goal.returns-in-Some-clause-first
+returns-in-Some-clause-first c =
+    let rule = c.args.rule in
+    let schema = c.args.schema.now in
+    let look = break_in_table rule schema in
+    let rest = first_found look (range_with_len 0 (length schema.tables)) in
+    let within : c.loop-table.table < length schema.tables = omega arith in
+    sym (ap (λ found. option_or found rest) (none_from_holds rule schema Whole (sym c.holds.ensures ∙ c.if-not-holds.false))
+    ∙ c.loop-table.invariant
+    ∙ found_at_place look c.loop-table.table (length schema.tables) c.in-Some.site within (sym c.break_in_table.ensures.first ∙ c.in-Some.is))
+
+pub loop-table-preserved : goal.loop-table-preserved
+loop-table-preserved c =
+    let rule = c.args.rule in
+    let schema = c.args.schema.now in
+    let within : c.loop-table.table < length schema.tables = omega arith in
+    c.loop-table.invariant
+    ∙ found_past_place (break_in_table rule schema) c.loop-table.table (length schema.tables) within (sym c.break_in_table.ensures.first ∙ c.in_default.is)
