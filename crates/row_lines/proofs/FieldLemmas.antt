@@ -1,5 +1,6 @@
--- What a row holds in a column.
-use Rattle.std.proofs.Common.{◌≡◌, ◌<◌, ◌≤◌, ℕ, ◌++◌, Some, codes, decimal, ap, sym, ◌∙◌}
+-- What a row holds in a column, and how long it is.
+use Rattle.std.proofs.Common.{◌≡◌, ◌<◌, ◌≤◌, ◌^◌, ℕ, ◌++◌, Some, length, codes, decimal, ap, sym, ◌∙◌, arith}
+use Rattle.std.proofs.lemmas.Fmt.{length-decimal-le}
 use Rattle.row_text.specs.Fields.{field_text}
 use Rattle.schema_check.specs.Cohorts.{born_count}
 use Rattle.schema_check.specs.Layout.{born_kind, column_at, key_kind, table_at}
@@ -28,3 +29,10 @@ pub key_line-field : (generator : Generator) (last unit place ordinal : ℕ) →
 key_line-field generator last unit place ordinal within born is =
     ap (λ (key : ℕ). field_text generator.delimiter (Some (decimal key)) ++ codes "\n") (key_of-by generator last unit place ordinal within born)
     ∙ ap (λ (held : _). field_text generator.delimiter held ++ codes "\n") (sym (field-key generator unit place ordinal 0 is))
+
+-- how many digits a number of 64 bits has, and a unit
+pub length-decimal-le_20 : (n : ℕ) → n < 2 ^ 64 → length (decimal n) ≤ 20
+length-decimal-le_20 n fits = length-decimal-le 20 n (omega arith) (omega arith) fits
+
+pub length-decimal-le_5 : (n : ℕ) → n ≤ 10000 → length (decimal n) ≤ 5
+length-decimal-le_5 n small = length-decimal-le 5 n (omega arith) (omega arith) (omega arith)

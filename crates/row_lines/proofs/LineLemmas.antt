@@ -138,12 +138,19 @@ table_text-front generator unit place born count in_units in_cohort =
           ∙ sym (append_assoc before first (after ++ later)),
     )
 
--- a row's key is the same by any unit by which it is born
+-- a row's birth, and its key, are the same by any unit by which it is born
+pub birth-by : (births : Births) (last unit ordinal : ℕ) → unit ≤ last → ordinal < born_count births unit → birth births last ordinal ≡ birth births unit ordinal
+birth-by births last unit ordinal within born =
+    let found = LiesIn-birth births unit ordinal born in
+    birth-only births last (birth births unit ordinal) ordinal (omega (arith, within, found.0)) found.1
+
 pub key_of-by : (generator : Generator) (last unit place ordinal : ℕ) → unit ≤ last → ordinal < born_count (table_at generator.tables place).births unit →
     key_of generator place last ordinal ≡ key_of generator place unit ordinal
 unfolding key_of
 key_of-by generator last unit place ordinal within born =
     let births : Births = (table_at generator.tables place).births in
-    let found = LiesIn-birth births unit ordinal born in
-    ap (λ (b : ℕ). key_in_cohort generator place b (ordinal - first_ordinal births b))
-    (birth-only births last (birth births unit ordinal) ordinal (omega (arith, within, found.0)) found.1)
+    ap (λ (b : ℕ). key_in_cohort generator place b (ordinal - first_ordinal births b)) (birth-by births last unit ordinal within born)
+
+pub birth-within : (births : Births) (last unit ordinal : ℕ) → unit ≤ last → ordinal < born_count births unit → birth births last ordinal ≤ unit
+birth-within births last unit ordinal within born =
+    omega (arith, birth-by births last unit ordinal within born, (LiesIn-birth births unit ordinal born).0)
