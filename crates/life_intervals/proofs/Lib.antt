@@ -1,0 +1,5 @@
+pub mod Ranges
+pub mod CohortLemmas
+pub mod SimulationLemmas
+pub mod KeyLemmas
+pub mod KeyOrderLemmas

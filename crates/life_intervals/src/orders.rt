@@ -28,28 +28,22 @@ pub fn key_order(plan: &Plan, table: u32, unit: u64) -> Order
     }
 }
 
-/// The same, by tables where they pay for all rows of the cohort and have at most this many entries.
-fn key_order_within(
-    alloc: Global,
-    plan: &Plan,
-    table: u32,
-    unit: u64,
-    entries: u64,
-) -> Result<Order, Memory>
+/// The same, by tables where they pay for all rows of the cohort.
+fn key_order_by_tables(alloc: Global, plan: &Plan, table: u32, unit: u64) -> Result<Order, Memory>
     requires table { table < length plan.now.schema.tables }
     requires unit { unit ≤ last_unit plan.now.schema }
     ensures { IfOk result (λ order. order ≡ key_order plan.now.schema table unit) }
 {
     let size = cohort(plan, table, unit).size;
-    if plan.keys(table).scramble && size > 0 && table_entries(size) <= entries {
+    if plan.keys(table).scramble && size > 0 {
         let seed = key_order_seed(plan.seed(), table, unit);
         Ok(Order::for_rows(alloc, size, seed, size)?)
     } else {
-        Ok(key_order(plan, table, unit))
+        Ok(Order::in_place(size))
     }
 }
 
-/// At least as many entries as the tables of an order of so many numbers have.
+/// How many entries the tables of an order of so many numbers have at most.
 fn table_entries(size: u64) -> u64 {
     6 * (size.isqrt() + 1)
 }
@@ -61,12 +55,17 @@ pub fn key_orders(alloc: Global, plan: &Plan, table: u32, last: u64) -> Result<V
     requires unit { last ≤ last_unit plan.now.schema }
     ensures { IfOk result (λ orders. orders.items ≡ key_orders plan.now.schema table last) }
 {
-    let _limits = plan.schema();
+    let _limits = plan.schema(); // there are at most 10,000 units
     let mut orders = Vec::new(alloc);
     let mut entries = MOST_ENTRIES;
     for unit in 0..last + 1 {
-        let order = key_order_within(alloc, plan, table, unit, entries)?;
-        entries = entries.saturating_sub(table_entries(order.size()));
+        let needed = table_entries(cohort(plan, table, unit).size);
+        let order = if needed <= entries {
+            entries -= needed;
+            key_order_by_tables(alloc, plan, table, unit)?
+        } else {
+            key_order(plan, table, unit)
+        };
         orders.push(order)?;
     }
     Ok(orders)

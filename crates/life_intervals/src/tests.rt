@@ -2,8 +2,11 @@
 //! rules of seeds, permutations and keys, with no shared code (docs/SECOND_PROGRAM.md).
 
 ghost use Rattle.std.specs.Prelude.{◌≡◌, ◌<◌, length};
+ghost use Rattle.life_intervals.specs.Generator.{last_unit};
+ghost use Rattle.life_intervals.specs.KeyOrders.{key_orders};
 
 use super::*;
+use id_permutation::Order;
 use schema_check::{Plan, check, unbuilt};
 use schema_model::{Column, Columns, Delimiter, Kind, Schema, Table, Tables, Text};
 use std::alloc::{AllocError, Global};
@@ -155,9 +158,10 @@ fn keys_go_there_and_back(rt: HostRuntime) -> Result<(), Fail> {
     Ok(())
 }
 
-/// The keys of a table, one after the other, as one number.
-fn key_checksum<L: Ledger>(plan: &Plan, blank: Blank) -> u64
-    requires table { 0 < length plan.now.tables }
+/// The keys of a table, one after the other, as one number. The order of its cohort gives each key as well.
+fn key_checksum<L: Ledger>(rt: &impl Abort, plan: &Plan, orders: &[Order], blank: Blank) -> u64
+    requires table { 0 < length plan.now.schema.tables }
+    requires orders { orders.now ≡ key_orders plan.now.schema 0 (last_unit plan.now.schema) }
     requires name { blank.name ≡ L.name }
     requires parts { blank.parts ≡ L.parts }
     requires some { 0 < blank.parts }
@@ -166,22 +170,31 @@ fn key_checksum<L: Ledger>(plan: &Plan, blank: Blank) -> u64
     let mut sum = 0u64;
     for row in 0..born(plan, 0, plan.units()) {
         let key = key(plan, 0, row, &mut steps);
+        let unit = birth(plan, 0, row);
+        let keys = CohortKeys::new(plan, 0, unit, &orders[unit as usize]);
+        let index = row - cohort(plan, 0, unit).first;
+        assert_eq!(rt; keys.key(index, &mut steps), key);
         sum = sum.wrapping_mul(1_000_003).wrapping_add(key);
     }
     sum
 }
 
-// The checksums are from the Python program.
+// The checksums are from the Python program. Tables pay for the 1,000 rows of unit 0, and not for 10 rows.
 #[test]
 fn keys_of_a_table(rt: HostRuntime) -> Result<(), Fail> {
+    let alloc = rt.alloc();
     let sums = [
         (false, 962_663_571_871_257_377),
         (true, 6_009_505_196_028_058_877),
     ];
     for (scramble, sum) in sums {
-        let plan = plan(rt.alloc(), thousand(scramble))?;
+        let plan = plan(alloc, thousand(scramble))?;
         assert!(rt; plan.tables() == 1);
-        assert_eq!(rt; key_checksum::<Brand>(&plan, Blank::new(1)), sum);
+        let orders = key_orders(alloc, &plan, 0, plan.units()).map_err(|_| AllocError)?;
+        assert_eq!(rt;
+            key_checksum::<Brand>(&rt, &plan, orders.as_slice(), Blank::new(1)),
+            sum
+        );
     }
     Ok(())
 }

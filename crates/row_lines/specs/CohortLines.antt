@@ -3,7 +3,6 @@ use Rattle.std.specs.Prelude.{◌≡◌, ◌≤◌, ℕ, ◌+◌, List, decimal,
 use Rattle.row_text.specs.Fields.{field_text}
 use Rattle.schema_model.specs.declared.table.Table.{Table}
 use Rattle.schema_check.specs.Cohorts.{first_ordinal}
-use Rattle.schema_check.specs.declared.field_bounds.FieldBounds.{FieldBounds}
 use Rattle.schema_check.specs.FieldBounds.{bounds_of}
 use Rattle.schema_check.specs.Layout.{layout_of, table_layout, TableLayout, column_at}
 use Rattle.schema_check.specs.Limits.{IsTableInLimits}
@@ -55,8 +54,13 @@ pub record AreLinesOf (lines : LinesOf) (keys : CohortOf) (table : Table) (byte 
   pub unit : lines.unit ≤ last_unit lines.plan.schema
   pub unit_limit : last_unit lines.plan.schema ≤ 10000
 
--- what the field of the column at a place takes at most
-abbrev pub bounds_for : LinesOf → ℕ → FieldBounds
-bounds_for lines column =
-    bounds_of (layout_of lines.plan.schema).delimiter (layout_of lines.plan.schema).tables (layout_for lines)
-    (column_at (layout_for lines).columns column).kind
+-- what the field of the column at a place takes at most: bytes, and permutations
+abbrev pub size_for : LinesOf → ℕ → ℕ
+size_for lines column =
+    (bounds_of (layout_of lines.plan.schema).delimiter (layout_of lines.plan.schema).tables (layout_for lines)
+    (column_at (layout_for lines).columns column).kind).size
+
+abbrev pub permutations_for : LinesOf → ℕ → ℕ
+permutations_for lines column =
+    (bounds_of (layout_of lines.plan.schema).delimiter (layout_of lines.plan.schema).tables (layout_for lines)
+    (column_at (layout_for lines).columns column).kind).permutations

@@ -1,9 +1,9 @@
 -- The text of a table: a line for each row, in COPY text form (PostgreSQL's manual, "COPY").
-use Rattle.std.specs.Prelude.{ℕ, ◌+◌, List, ◌++◌, filter, map, flat_map, length, Option, Some, None, codes, decimal}
+use Rattle.std.specs.Prelude.{ℕ, List, ◌++◌, filter, map, flat_map, length, Option, Some, None, codes, decimal}
 use Rattle.std.specs.List.{join_with_byte, range_with_len}
 use Rattle.row_text.specs.Fields.{field_text}
 use Rattle.schema_check.specs.Cohorts.{cohort_size, first_ordinal}
-use Rattle.schema_check.specs.Layout.{KindLayout, key_kind, born_kind, changed_kind, leaf_kind, template_kind, case_kind, reference_kind, lookup_kind, TableLayout, table_at, column_at}
+use Rattle.schema_check.specs.Layout.{KindLayout, key_kind, born_kind, changed_kind, leaf_kind, template_kind, case_kind, reference_kind, lookup_kind, table_at, column_at}
 use Rattle.life_intervals.specs.Generator.{Generator}
 use Rattle.life_intervals.specs.Intervals.{is_live, row_at}
 use Rattle.life_intervals.specs.Keys.{key_in_cohort, key_of}

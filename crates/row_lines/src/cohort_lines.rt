@@ -1,6 +1,6 @@
 //! The lines of the rows of a cohort, with what doesn't change from row to row taken once.
 
-ghost use Rattle.std.specs.Prelude.{◌≡◌, ◌<◌, ◌≤◌, ◌+◌, ◌++◌, true, length};
+ghost use Rattle.std.specs.Prelude.{◌≡◌, ◌<◌, ◌≤◌, ◌+◌, ◌==◌, [], ◌∷◌, ◌++◌, if◌then◌else◌, true, length, min};
 ghost use Rattle.schema_check.specs.Cohorts.{cohort_size};
 ghost use Rattle.schema_check.specs.Delimiters.{delimiter_byte as byte_of};
 ghost use Rattle.schema_check.specs.Layout.{layout_of};
@@ -8,7 +8,7 @@ ghost use Rattle.schema_check.specs.TableFacts.{line_cost, max_line};
 ghost use Rattle.life_intervals.specs.Generator.{last_unit};
 ghost use Rattle.life_intervals.specs.Intervals.{is_live};
 ghost use Rattle.life_intervals.specs.KeyOrders.{key_order};
-ghost use Rattle.row_lines.specs.CohortLines.{bounds_for, layout_for, line_in_cohort, ordinal_of, text_in_cohort};
+ghost use Rattle.row_lines.specs.CohortLines.{layout_for, line_in_cohort, ordinal_of, permutations_for, size_for, text_in_cohort};
 
 use id_permutation::Order;
 use life_intervals::CohortKeys;
@@ -81,9 +81,7 @@ impl<'a> CohortLines<'a> {
         ensures steps { steps.new ≤ steps.old + line_cost (layout_of self.now.plan.schema) self.now.table }
     {
         for column in 0..self.table.columns.len() {
-            if column > 0 {
-                buf.put_piece(&Piece::of_byte(self.delimiter));
-            }
+            put_delimiter(buf, self.delimiter, column);
             self.put_field(column, index, buf, steps);
         }
         buf.put_piece(&Piece::of_byte(b'\n'));
@@ -91,19 +89,36 @@ impl<'a> CohortLines<'a> {
 
     /// Appends the field of the column at a place.
     #[inline(always)]
-    fn put_field<L: Ledger>(&self, column: usize, index: u64, buf: &mut PageBuf, steps: &mut Steps<L>)
+    fn put_field<L: Ledger>(
+        &self,
+        column: usize,
+        index: u64,
+        buf: &mut PageBuf,
+        steps: &mut Steps<L>,
+    )
         requires column { column < length (layout_for self.now).columns }
         requires row { index < cohort_size (layout_for self.now).births self.now.born }
-        requires room { length buf.old.text + (bounds_for self.now column).size ≤ buf.old.room }
+        requires room { length buf.old.text + size_for self.now column ≤ buf.old.room }
         ensures text { buf.new ≡ record buf.old { text = buf.old.text ++ text_in_cohort self.now index column } }
-        ensures size { length (text_in_cohort self.now index column) ≤ (bounds_for self.now column).size }
-        ensures steps { steps.new ≤ steps.old + (bounds_for self.now column).permutations }
+        ensures size { length (text_in_cohort self.now index column) ≤ size_for self.now column }
+        ensures steps { steps.new ≤ steps.old + permutations_for self.now column }
     {
         match &self.table.columns.get(column).kind {
             Kind::Key { .. } => buf.put_number(self.keys.key(index, steps)),
             Kind::Born => buf.put_piece(&self.birth),
             _ => unreachable!(),
         }
+    }
+}
+
+/// Appends the delimiter before the column at a place, but not before the first.
+#[inline(always)]
+fn put_delimiter(buf: &mut PageBuf, delimiter: u8, column: usize)
+    requires { length buf.old.text + min column 1 ≤ buf.old.room }
+    ensures { buf.new ≡ record buf.old { text = buf.old.text ++ (if column == 0 then [] else delimiter ∷ []) } }
+{
+    if column > 0 {
+        buf.put_piece(&Piece::of_byte(delimiter));
     }
 }
 

@@ -1,0 +1,35 @@
+use Rattle.std.proofs.Common.{◌≡◌, ◌<◌, ℕ, ◌+◌, ◌-◌, ◌/◌, ap, arith, sym, subst, ◌∙◌}
+use Rattle.schema_check.specs.declared.layout.Births.{Births}
+use Rattle.schema_check.specs.Cohorts.{born_count}
+use Rattle.life_intervals.specs.Generator.{last_unit}
+use Rattle.life_intervals.specs.Intervals.{LiesIn, birth}
+use Rattle.life_intervals.proofs.CohortLemmas.{birth-only, LiesIn-early, LiesIn-late, some_insert}
+use Rattle.life_intervals.proofs.births.birth.Goals as goal
+
+-- a row of some births is one of those that are the same
+born_by : (births known : Births) (last ordinal : ℕ) → known ≡ births → ordinal < born_count births last → ordinal < born_count known last
+born_by births known last ordinal is born = subst (λ (b : Births). ordinal < born_count b last) (sym is) born
+
+pub nonzero_div-result : goal.nonzero_div-result
+nonzero_div-result c =
+    some_insert c.births-births.result (last_unit c.args.plan.now.schema) c.args.j (born_by _ _ _ _ c.births-births.ensures c.requires.row) c.if-j-births.false
+
+pub returns-then-j-births-clause-unit : goal.returns-then-j-births-clause-unit
+returns-then-j-births-clause-unit c =
+    sym (birth-only c.births-births.result (last_unit c.args.plan.now.schema) 0 c.args.j (omega arith) (LiesIn-early c.births-births.result c.args.j c.if-j-births.true))
+    ∙ ap (λ (births : Births). birth births (last_unit c.args.plan.now.schema) c.args.j) c.births-births.ensures
+
+pub returns-else-j-births-clause-unit : goal.returns-else-j-births-clause-unit
+returns-else-j-births-clause-unit c =
+    let lies = LiesIn-late c.births-births.result (last_unit c.args.plan.now.schema) c.args.j (born_by _ _ _ _ c.births-births.ensures c.requires.row) c.if-j-births.false in
+    sym (birth-only c.births-births.result (last_unit c.args.plan.now.schema) _ c.args.j lies.0 lies.1)
+    ∙ ap (λ (births : Births). birth births (last_unit c.args.plan.now.schema) c.args.j) c.births-births.ensures
+
+pub returns-else-j-births-clause-within : goal.returns-else-j-births-clause-within
+returns-else-j-births-clause-within c =
+    (LiesIn-late c.births-births.result (last_unit c.args.plan.now.schema) c.args.j (born_by _ _ _ _ c.births-births.ensures c.requires.row) c.if-j-births.false).0
+
+pub returns-else-j-births-clause-lies : goal.returns-else-j-births-clause-lies
+returns-else-j-births-clause-lies c =
+    subst (λ (births : Births). LiesIn births ((c.args.j - c.births-births.result.rows) / c.births-births.result.insert + 1) c.args.j) c.births-births.ensures
+    (LiesIn-late c.births-births.result (last_unit c.args.plan.now.schema) c.args.j (born_by _ _ _ _ c.births-births.ensures c.requires.row) c.if-j-births.false).1

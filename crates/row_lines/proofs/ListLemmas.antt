@@ -1,0 +1,72 @@
+-- Lists: pieces of what passes a test, and pieces joined by a byte.
+use Rattle.std.proofs.Common.{◌≡◌, ℕ, ◌+◌, ◌-◌, ◌≤◌, ◌==◌, Bool, true, false, List, [], ◌∷◌, ◌++◌, map, filter, if◌then◌else◌, length, refl, ap, arith, sym, ◌∙◌}
+use Rattle.std.specs.List.{flat_map, join_with_byte, range_with_len}
+use Rattle.std.proofs.lemmas.Bool.Decides.{nat_tests}
+use Rattle.std.proofs.lemmas.List.{append-nil, append_assoc}
+use Rattle.std.proofs.lemmas.List.Concat.{flat_map-append}
+use Rattle.std.proofs.lemmas.List.Elements.{filter-append}
+use Rattle.std.proofs.lemmas.List.FromFn.{length-map-range_with_len, map-range_with_len_more}
+use Rattle.life_intervals.proofs.Ranges.{range_with_len-add}
+
+-- the pieces of what passes a test, of two lists
+flat_map-filter_append : {A B : Type 0} (f : A → List B) (p : A → Bool) (xs ys : List A) →
+    flat_map f (filter p (xs ++ ys)) ≡ flat_map f (filter p xs) ++ flat_map f (filter p ys)
+flat_map-filter_append f p xs ys =
+    ap (flat_map f) (filter-append p xs ys) ∙ flat_map-append f (filter p xs) (filter p ys)
+
+-- and of many
+pub flat_map-filter_flat_map : {A B C : Type 0} (f : B → List C) (p : B → Bool) (g : A → List B) (xs : List A) →
+    flat_map f (filter p (flat_map g xs)) ≡ flat_map (λ x. flat_map f (filter p (g x))) xs
+flat_map-filter_flat_map f p g [] = refl
+flat_map-filter_flat_map f p g (x ∷ xs) =
+    flat_map-filter_append f p (g x) (flat_map g xs)
+    ∙ ap (λ ys. flat_map f (filter p (g x)) ++ ys) (flat_map-filter_flat_map f p g xs)
+
+flat_map-if : {A B : Type 0} (f : A → List B) (x : A) (passes : Bool) → flat_map f (if passes then x ∷ [] else []) ≡ (if passes then f x else [])
+flat_map-if f x true = append-nil (f x)
+flat_map-if f x false = refl
+
+-- one more number at the end of a range, whose piece is there where it passes the test
+pub flat_map-filter_range_more : {B : Type 0} (f : ℕ → List B) (p : ℕ → Bool) (a n : ℕ) →
+    flat_map f (filter p (range_with_len a (n + 1))) ≡ flat_map f (filter p (range_with_len a n)) ++ (if p (a + n) then f (a + n) else [])
+flat_map-filter_range_more f p a n =
+    ap (λ xs. flat_map f (filter p xs)) (range_with_len-add a n 1)
+    ∙ flat_map-filter_append f p (range_with_len a n) ((a + n) ∷ [])
+    ∙ ap (λ ys. flat_map f (filter p (range_with_len a n)) ++ ys) (flat_map-if f (a + n) (p (a + n)))
+
+-- what comes of the first numbers of a range begins what comes of all
+pub flat_map-filter_range_front : {B : Type 0} (f : ℕ → List B) (p : ℕ → Bool) (a m all : ℕ) → m ≤ all →
+    flat_map f (filter p (range_with_len a all)) ≡ flat_map f (filter p (range_with_len a m)) ++ flat_map f (filter p (range_with_len (a + m) (all - m)))
+flat_map-filter_range_front f p a m all within =
+    let whole : all ≡ m + (all - m) = omega arith in
+    ap (λ (n : ℕ). flat_map f (filter p (range_with_len a n))) whole
+    ∙ ap (λ xs. flat_map f (filter p xs)) (range_with_len-add a m (all - m))
+    ∙ flat_map-filter_append f p (range_with_len a m) (range_with_len (a + m) (all - m))
+
+-- one more piece behind others: the byte goes before it
+join_with_byte-append : (c : ℕ) (first : List ℕ) (pieces : List (List ℕ)) (piece : List ℕ) → join_with_byte c ((first ∷ pieces) ++ piece ∷ []) ≡ join_with_byte c (first ∷ pieces) ++ ((c ∷ []) ++ piece)
+join_with_byte-append c first [] piece = refl
+join_with_byte-append c first (second ∷ pieces) piece =
+    ap (λ (text : List ℕ). first ++ (c ∷ text)) (join_with_byte-append c second pieces piece)
+    ∙ sym (append_assoc first (c ∷ join_with_byte c (second ∷ pieces)) ((c ∷ []) ++ piece))
+
+-- one more piece: the byte goes before it, but before the first
+join_with_byte-push : (c : ℕ) (pieces : List (List ℕ)) (piece : List ℕ) (n : ℕ) → length pieces ≡ n → join_with_byte c (pieces ++ piece ∷ []) ≡ join_with_byte c pieces ++ ((if n == 0 then [] else c ∷ []) ++ piece)
+join_with_byte-push c [] piece n count = ap (λ (m : ℕ). (if m == 0 then [] else c ∷ []) ++ piece) count
+join_with_byte-push c (first ∷ pieces) piece n count =
+    let later : (if n == 0 then [] else c ∷ []) ≡ c ∷ [] = grind (arith, nat_tests) in
+    join_with_byte-append c first pieces piece
+    ∙ ap (λ (between : List ℕ). join_with_byte c (first ∷ pieces) ++ (between ++ piece)) (sym later)
+
+-- one more field of a line, behind the first ones
+pub join_with_byte-range_more : (c : ℕ) (f : ℕ → List ℕ) (n : ℕ) (old text : List ℕ) → text ≡ old ++ join_with_byte c (map f (range_with_len 0 n)) →
+    (text ++ (if n == 0 then [] else c ∷ [])) ++ f n ≡ old ++ join_with_byte c (map f (range_with_len 0 (n + 1)))
+join_with_byte-range_more c f n old text text_is =
+    let between : List ℕ = if n == 0 then [] else c ∷ [] in
+    let pieces : List (List ℕ) = map f (range_with_len 0 n) in
+    ap (λ t. (t ++ between) ++ f n) text_is
+    ∙ append_assoc (old ++ join_with_byte c pieces) between (f n)
+    ∙ append_assoc old (join_with_byte c pieces) (between ++ f n)
+    ∙ ap (λ t. old ++ t)
+    (sym (join_with_byte-push c pieces (f n) n (length-map-range_with_len f 0 n))
+    ∙ ap (join_with_byte c) (sym (map-range_with_len_more f 0 n n (omega arith))))

@@ -1,0 +1,5 @@
+use Rattle.row_lines.proofs.FieldLemmas.{field-born, field-key}
+use Rattle.row_lines.proofs.laws.fields_of_a_row.Goals as goal
+
+pub returns : goal.returns
+returns c = record { key = field-key; born = field-born }

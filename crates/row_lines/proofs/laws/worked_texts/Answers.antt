@@ -1,0 +1,10 @@
+use Rattle.std.proofs.Common.{refl}
+use Rattle.row_text.specs.Fields.{escaped}
+use Rattle.std.specs.Fmt.{digits}
+use Rattle.life_intervals.specs.Simulation.{simulation, rows_at}
+use Rattle.row_lines.specs.Lines.{line, table_text}
+use Rattle.row_lines.proofs.laws.worked_texts.Goals as goal
+
+pub returns : goal.returns
+unfolding simulation rows_at line table_text digits escaped
+returns c = record { row_at_each_unit = refl; scrambled = refl; empty = refl; at_unit_0_alone = refl; past_the_tables = refl }
