@@ -1,8 +1,8 @@
 -- The orders of keys, as the code keeps them, are those that the seeds give.
-use Rattle.std.proofs.Common.{◌≡◌, ◌<◌, ◌≤◌, ℕ, ◌+◌, Bool, true, false, ◌&&◌, Some, None, get_or, refl, ap, arith}
+use Rattle.std.proofs.Common.{◌≡◌, ◌<◌, ◌≤◌, ℕ, ◌+◌, Bool, true, false, ◌&&◌, Some, None, get_or, length, refl, ap, arith}
 use Rattle.std.specs.Prelude.{if◌then◌else◌, nat_lt}
 use Rattle.std.proofs.lemmas.Bool.{lt-ltb}
-use Rattle.std.proofs.lemmas.List.FromFn.{get_or-map-range_with_len}
+use Rattle.std.proofs.lemmas.List.FromFn.{get_or-map-range_with_len, length-map-range_with_len}
 use Rattle.philox_seeds.specs.SeedTree.{key_order_seed}
 use Rattle.id_permutation.specs.Order.{Arrangement, order_steps, place_by, place_in, steps_by}
 use Rattle.id_permutation.specs.Placement as placement
@@ -40,3 +40,6 @@ order_steps-key_order schema table unit some =
 pub key_orders-at : (schema : Schema) (table last unit : ℕ) (default : Arrangement) → unit ≤ last → get_or (key_orders schema table last) unit default ≡ key_order schema table unit
 key_orders-at schema table last unit default within =
     get_or-map-range_with_len (key_order schema table) 0 (last + 1) unit unit default (omega (arith, within)) (omega arith)
+
+pub length-key_orders : (schema : Schema) (table last : ℕ) → length (key_orders schema table last) ≡ last + 1
+length-key_orders schema table last = length-map-range_with_len (key_order schema table) 0 (last + 1)

@@ -1,8 +1,9 @@
 //! The orders of the keys of cohorts.
 
-ghost use Rattle.std.specs.Prelude.{◌≡◌, ◌<◌, ◌≤◌, IfOk, length};
-ghost use Rattle.life_intervals.specs.Generator.{last_unit};
-ghost use Rattle.life_intervals.specs.KeyOrders.{key_order, key_orders};
+ghost use Rattle.std.specs.Prelude.{◌≡◌, ◌<◌, ◌≤◌, true, IfOk, length};
+ghost use Rattle.schema_check.specs.Cohorts.{cohort_size};
+ghost use Rattle.life_intervals.specs.Generator.{last_unit, table_of};
+ghost use Rattle.life_intervals.specs.KeyOrders.{is_permuted, key_order, key_orders};
 
 use crate::births::cohort;
 use crate::memory::Memory;
@@ -14,6 +15,16 @@ use std::alloc::Global;
 /// The most entries that the tables of a table's key orders have together. Of 4 bytes each, they take at most 4 MiB.
 const MOST_ENTRIES: u64 = 1 << 20;
 
+/// Whether the keys of the rows of a table that are born at a unit are permuted: they are scrambled, and there are some.
+fn is_permuted(plan: &Plan, table: u32, unit: u64) -> bool
+    requires table { table < length plan.now.schema.tables }
+    requires unit { unit ≤ last_unit plan.now.schema }
+    ensures exact { result ≡ is_permuted plan.now.schema table unit }
+    ensures some { result ≡ true → 0 < cohort_size (table_of plan.now.schema table).births unit }
+{
+    plan.keys(table).scramble && cohort(plan, table, unit).size > 0
+}
+
 /// The order of the keys of the rows of a table that are born at a unit, in no memory.
 pub fn key_order(plan: &Plan, table: u32, unit: u64) -> Order
     requires table { table < length plan.now.schema.tables }
@@ -21,7 +32,7 @@ pub fn key_order(plan: &Plan, table: u32, unit: u64) -> Order
     ensures { result ≡ key_order plan.now.schema table unit }
 {
     let size = cohort(plan, table, unit).size;
-    if plan.keys(table).scramble && size > 0 {
+    if is_permuted(plan, table, unit) {
         Order::by_rounds(size, key_order_seed(plan.seed(), table, unit))
     } else {
         Order::in_place(size)
@@ -35,7 +46,7 @@ fn key_order_by_tables(alloc: Global, plan: &Plan, table: u32, unit: u64) -> Res
     ensures { IfOk result (λ order. order ≡ key_order plan.now.schema table unit) }
 {
     let size = cohort(plan, table, unit).size;
-    if plan.keys(table).scramble && size > 0 {
+    if is_permuted(plan, table, unit) {
         let seed = key_order_seed(plan.seed(), table, unit);
         Ok(Order::for_rows(alloc, size, seed, size)?)
     } else {

@@ -159,9 +159,9 @@ fn keys_go_there_and_back(rt: HostRuntime) -> Result<(), Fail> {
 }
 
 /// The keys of a table, one after the other, as one number. The order of its cohort gives each key as well.
-fn key_checksum<L: Ledger>(rt: &impl Abort, plan: &Plan, orders: &[Order], blank: Blank) -> u64
+fn key_checksum<L: Ledger>(rt: &impl Abort, plan: &Plan, orders: &Vec<Order>, blank: Blank) -> u64
     requires table { 0 < length plan.now.schema.tables }
-    requires orders { orders.now ≡ key_orders plan.now.schema 0 (last_unit plan.now.schema) }
+    requires orders { orders.now.items ≡ key_orders plan.now.schema 0 (last_unit plan.now.schema) }
     requires name { blank.name ≡ L.name }
     requires parts { blank.parts ≡ L.parts }
     requires some { 0 < blank.parts }
@@ -192,7 +192,7 @@ fn keys_of_a_table(rt: HostRuntime) -> Result<(), Fail> {
         assert!(rt; plan.tables() == 1);
         let orders = key_orders(alloc, &plan, 0, plan.units()).map_err(|_| AllocError)?;
         assert_eq!(rt;
-            key_checksum::<Brand>(&rt, &plan, orders.as_slice(), Blank::new(1)),
+            key_checksum::<Brand>(&rt, &plan, &orders, Blank::new(1)),
             sum
         );
     }
