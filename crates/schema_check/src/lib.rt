@@ -1,8 +1,8 @@
-//! The rules of a schema, and the plan of an accepted one.
+//! The layout of a schema, its rules, and the plan of an accepted one.
 //!
-//! A schema may be read whole and still make no sense. `check` tries the rules V1 to V25 in their order (V13 first) and
-//! gives either the first one that is broken, at its first place, or a plan: the schema, with what doesn't change from
-//! row to row. V1 to V6 are built; `unbuilt` says of which schemas no table can be made yet.
+//! A schema may be read whole and still make no sense. `check` tries its rules in their order and gives either the first
+//! one that is broken, at its first site, or a plan: the schema, with what doesn't change from row to row. `unbuilt` says of
+//! which schemas no table can be made yet; the rules that speak of what isn't built aren't tried yet.
 #![tactic(auto)]
 
 mod broken;
