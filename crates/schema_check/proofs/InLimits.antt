@@ -1,5 +1,5 @@
 -- An accepted schema is within its limits.
-use Rattle.std.proofs.Common.{◌≡◌, ◌≢◌, ℕ, pos, suc, zero, ◌<◌, ◌≤◌, ◌^◌, Bool, true, false, not, ◌&&◌, ◌||◌, List, [], length, map, get_or, slice_get, Some, refl, sym, ap, ◌∙◌, subst, arith, int_le, nat_le}
+use Rattle.std.proofs.Common.{◌≡◌, ◌≢◌, ℕ, pos, suc, ◌<◌, ◌≤◌, ◌^◌, Bool, true, false, not, ◌&&◌, ◌||◌, List, [], length, map, get_or, slice_get, Some, refl, sym, ap, ◌∙◌, subst, arith, int_le, nat_le}
 use Rattle.std.proofs.lemmas.Bool.{and_parts, leb-true}
 use Rattle.std.proofs.lemmas.List.{get_or-map, length-map}
 use Rattle.schema_model.specs.declared.table.Schema.{Schema}
@@ -13,7 +13,7 @@ use Rattle.schema_check.specs.declared.site.Site.TheVariants.{Whole, OfTable, Of
 use Rattle.schema_check.specs.Cohorts.{born_count}
 use Rattle.schema_check.specs.Counts.{count}
 use Rattle.schema_check.specs.Layout.{KindLayout, ColumnLayout, births_of, column_at, column_layout, key_kind, keys_of_kind, kind_layout, layout_of, no_column, table_layout}
-use Rattle.schema_check.specs.Limits.{IsCount, IsTableInLimits, IsInLimits}
+use Rattle.schema_check.specs.Limits.{IsTableInLimits, IsInLimits}
 use Rattle.schema_check.specs.Rules.{broken_rule, first_broken, rules, is_between, is_key, is_key_in_range, is_key_first, is_one_to_64, kind_at, schema_table, IsAccepted, Keeps}
 use Rattle.schema_check.specs.Sites.{columns_at}
 use Rattle.schema_check.specs.TableFacts.{cost, max_line}
