@@ -1,5 +1,5 @@
 -- What fields take, with numbers that stand at the last of 64 bits where they are past it.
-use Rattle.std.proofs.Common.{◌≡◌, ℕ, ℤ, ◌+◌, ◌*◌, ◌-◌, ◌^◌, min, max, List, map, sum_by, refl, sym, ap, ◌∙◌, arith, encode_utf8}
+use Rattle.std.proofs.Common.{◌≡◌, ℕ, ℤ, ◌+◌, ◌*◌, max, List, map, sum_by, sym, ap, ◌∙◌, arith, encode_utf8}
 use Rattle.std.specs.Str.{chars}
 use Rattle.std.proofs.lemmas.List.Folds.{fold-map}
 use Rattle.schema_model.specs.declared.table.Table.{Table}

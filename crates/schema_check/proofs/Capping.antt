@@ -1,6 +1,6 @@
 -- Numbers that stand at the last of 64 bits where they are past it.
-use Rattle.std.proofs.Common.{◌≡◌, ℕ, ◌+◌, ◌*◌, ◌<◌, ◌≤◌, min, max, List, length, get_or, take, map, refl, sym, ap, ◌∙◌, arith}
-use Rattle.std.specs.List.{sum_by, fold}
+use Rattle.std.proofs.Common.{◌≡◌, ℕ, ◌+◌, ◌<◌, max, List, length, get_or, take, sym, ap, ◌∙◌, arith}
+use Rattle.std.specs.List.{sum_by}
 use Rattle.std.proofs.lemmas.List.Sums.{fold_more}
 use Rattle.schema_check.specs.Capped.{capped}
 use Rattle.schema_check.specs.FieldBounds.{greatest_by}

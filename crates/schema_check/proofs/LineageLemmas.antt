@@ -1,5 +1,5 @@
 -- Lineages as the code keeps them, with costs that stand at the last of 64 bits where they are past it.
-use Rattle.std.proofs.Common.{◌≡◌, ℕ, ℤ, ◌+◌, ◌<◌, ◌≤◌, min, List, [], length, get_or, map, take, Option, Some, None, refl, sym, ap, ◌∙◌, arith}
+use Rattle.std.proofs.Common.{◌≡◌, ℕ, ℤ, ◌+◌, ◌<◌, List, [], length, map, take, Option, Some, None, refl, sym, ap, ◌∙◌, arith}
 use Rattle.std.proofs.Math.ListN as N
 use Rattle.std.specs.List.{range_with_len, fold}
 use Rattle.std.proofs.lemmas.List.{length-map, length-take-le, get_or-take, get_or-map}
@@ -13,7 +13,6 @@ use Rattle.schema_model.specs.declared.column.Window.{Window}
 use Rattle.schema_check.specs.declared.layout.Span.{Span}
 use Rattle.schema_check.specs.declared.lineage.Lineage.{Lineage}
 use Rattle.schema_check.specs.Capped.{capped, capped_lineage}
-use Rattle.schema_check.specs.InTurn.{in_turn}
 use Rattle.schema_check.specs.Layout.{TableLayout, ColumnLayout, no_table, table_at, column_layout, kind_layout, place_of_table, table_layout, window_layout}
 use Rattle.schema_check.specs.Lineage.{endless, lineage_at, lineage_of, lineages, own_lineage, with_kind, with_parent}
 use Rattle.schema_check.proofs.Lists.{length-in_turn, get_or-in_turn}

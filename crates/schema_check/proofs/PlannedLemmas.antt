@@ -1,5 +1,5 @@
 -- What a plan keeps of the table at a place.
-use Rattle.std.proofs.Common.{◌≡◌, ℕ, zero, suc, ◌+◌, ◌<◌, ◌≤◌, min, max, Bool, false, ◌||◌, List, [], ◌∷◌, length, map, get_or, slice_get, Some, refl, sym, ap, ◌∙◌, arith}
+use Rattle.std.proofs.Common.{◌≡◌, ℕ, zero, suc, ◌<◌, ◌≤◌, min, max, false, List, [], ◌∷◌, length, map, get_or, slice_get, Some, refl, sym, ap, ◌∙◌, arith}
 use Rattle.std.specs.List.{fold, list_any, range_with_len}
 use Rattle.std.proofs.lemmas.Bool.{or_parts}
 use Rattle.std.proofs.lemmas.List.{length-map}
@@ -9,8 +9,7 @@ use Rattle.std.proofs.lemmas.Option.{get_or_from_slice_get, slice_get_within}
 use Rattle.schema_model.specs.declared.table.Schema.{Schema}
 use Rattle.schema_model.specs.declared.table.Table.{Table}
 use Rattle.schema_check.specs.declared.facts.TableFacts.{TableFacts}
-use Rattle.schema_check.specs.declared.lineage.Lineage.{Lineage}
-use Rattle.schema_check.specs.Capped.{capped, capped_facts, capped_lineage, first_facts}
+use Rattle.schema_check.specs.Capped.{capped, capped_facts, first_facts}
 use Rattle.schema_check.specs.FieldBounds.{greatest_by}
 use Rattle.schema_check.specs.Layout.{Layout, TableLayout, layout_of, no_table, table_at, table_layout}
 use Rattle.schema_check.specs.Limits.{IsInLimits}

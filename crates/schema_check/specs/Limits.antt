@@ -1,9 +1,9 @@
 -- What the rules give for the numbers of an accepted schema.
-use Rattle.std.specs.Prelude.{◌≡◌, ◌≢◌, ℕ, ℤ, suc, pos, ◌^◌, ◌<◌, ◌≤◌, List, length, All}
+use Rattle.std.specs.Prelude.{◌≡◌, ◌≢◌, ℕ, ℤ, suc, pos, ◌^◌, ◌<◌, ◌≤◌, length, All}
 use Rattle.schema_model.specs.declared.table.Schema.{Schema}
 use Rattle.schema_check.specs.Cohorts.{born_count}
 use Rattle.schema_check.specs.Counts.{count}
-use Rattle.schema_check.specs.Layout.{key_kind, ColumnLayout, column_at, TableLayout, Layout, layout_of}
+use Rattle.schema_check.specs.Layout.{key_kind, column_at, TableLayout, layout_of}
 use Rattle.schema_check.specs.TableFacts.{cost, max_line}
 
 -- a number that isn't below 0

@@ -1,5 +1,5 @@
 -- What doesn't change from row to row in a table.
-use Rattle.std.specs.Prelude.{ℕ, ◌+◌, List, is_some, sum_by, map}
+use Rattle.std.specs.Prelude.{ℕ, ◌+◌, List, is_some, sum_by}
 use Rattle.schema_check.specs.Layout.{Layout, TableLayout, table_at}
 use Rattle.schema_check.specs.Lineage.{one_if, death_cost, lineages, lineage_at}
 use Rattle.schema_check.specs.FieldBounds.{greatest_by, bounds_of_fields}

@@ -1,13 +1,10 @@
 use Rattle.std.proofs.Common.{◌∙◌, ◌+◌, ap}
-use Rattle.schema_model.specs.declared.table.Table.{Table}
-use Rattle.schema_check.specs.declared.facts.TableFacts.{TableFacts}
 use Rattle.schema_check.specs.declared.field_bounds.FieldBounds.{FieldBounds}
-use Rattle.schema_check.specs.Capped.{capped, capped_bounds, capped_facts, capped_lineage}
+use Rattle.schema_check.specs.Capped.{capped, capped_bounds}
 use Rattle.schema_check.specs.FieldBounds.{bounds_of_fields}
-use Rattle.schema_check.specs.Layout.{keys_of, layout_of, table_at, table_layout, table_layouts}
-use Rattle.schema_check.specs.Lineage.{lineage_at, lineage_of, lineages, one_if}
-use Rattle.schema_check.specs.TableFacts.{facts_at, line_bounds}
-use Rattle.schema_check.proofs.Lists.{map-map}
+use Rattle.schema_check.specs.Layout.{keys_of, layout_of, table_layout, table_layouts}
+use Rattle.schema_check.specs.Lineage.{one_if}
+use Rattle.schema_check.specs.TableFacts.{line_bounds}
 use Rattle.schema_check.proofs.FactsLemmas.{facts_are, lineage_is, bool_byte-is}
 use Rattle.schema_check.proofs.facts.facts_of.Goals as goal
 

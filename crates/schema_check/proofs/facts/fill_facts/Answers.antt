@@ -1,10 +1,5 @@
-use Rattle.std.proofs.Common.{◌∙◌, ◌∷◌, [], ◌++◌, ap, sym, arith, map, take}
-use Rattle.std.specs.List.{range_with_len}
-use Rattle.std.proofs.lemmas.List.{length-set, take_more_set}
-use Rattle.std.proofs.lemmas.List.FromFn.{map-range_with_len_more}
-use Rattle.schema_check.specs.Capped.{capped_facts}
-use Rattle.schema_check.specs.Layout.{layout_of}
-use Rattle.schema_check.specs.TableFacts.{facts_at}
+use Rattle.std.proofs.Common.{◌∙◌, arith}
+use Rattle.std.proofs.lemmas.List.{length-set}
 use Rattle.schema_check.proofs.FactsLemmas.{one_more}
 use Rattle.schema_check.proofs.facts.fill_facts.Goals as goal
 

@@ -1,4 +1,4 @@
-use Rattle.std.proofs.Common.{◌≡◌, ◌∙◌, ap, sym, map, ◌+◌, sum_by, arith}
+use Rattle.std.proofs.Common.{◌∙◌, ap, ◌+◌, sum_by}
 use Rattle.std.proofs.lemmas.List.{take_all}
 use Rattle.schema_model.specs.declared.column.Column.{Column}
 use Rattle.schema_check.specs.Capped.{capped}

@@ -1,5 +1,4 @@
 use Rattle.std.proofs.Common.{◌∙◌, sym}
-use Rattle.schema_check.specs.declared.rules.Rule.TheVariants.{SeedAndUnits}
 use Rattle.schema_check.specs.Rules.{broken_rule, rules}
 use Rattle.schema_check.proofs.FirstBreak.{none_for_rule}
 use Rattle.schema_check.proofs.FirstFound.{found_past_item}

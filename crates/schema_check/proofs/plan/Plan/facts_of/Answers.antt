@@ -1,5 +1,4 @@
 use Rattle.std.proofs.Common.{◌≡◌, ◌<◌, ◌≤◌, sym, ap, ◌∙◌, subst, arith, length}
-use Rattle.schema_model.specs.declared.table.Schema.{Schema}
 use Rattle.schema_check.specs.declared.facts.TableFacts.{TableFacts}
 use Rattle.schema_check.specs.Layout.{layout_of}
 use Rattle.schema_check.specs.Planned.{Planned}
