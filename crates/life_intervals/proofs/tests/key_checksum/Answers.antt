@@ -1,4 +1,4 @@
-use Rattle.std.proofs.Common.{◌<◌, length, get_or, ap, arith, ◌∙◌}
+use Rattle.std.proofs.Common.{length, get_or, ap, arith, ◌∙◌}
 use Rattle.life_intervals.specs.Generator.{last_unit}
 use Rattle.life_intervals.proofs.KeyOrderLemmas.{key_orders-at, length-key_orders}
 use Rattle.life_intervals.proofs.tests.key_checksum.Goals as goal
