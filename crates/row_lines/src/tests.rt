@@ -2,10 +2,10 @@
 //! Python from the rules of cohorts, keys and lines, with no shared code (docs/SECOND_PROGRAM.md).
 
 ghost use Rattle.std.specs.Prelude.{◌≡◌, ℕ, ◌<◌, ◌≤◌, IfOk, length};
-ghost use Rattle.schema_check.specs.Counts.{count};
+ghost use Rattle.life_intervals.specs.Generator.{last_unit};
 
 use super::*;
-use life_intervals::{born, cohort};
+use life_intervals::{born, cohort, key_order};
 use pd_outside::{Memory, PageBuf};
 use schema_check::{Plan, check, unbuilt};
 use schema_model::{Column, Columns, Delimiter, Kind, Schema, Table, Tables, Text};
@@ -175,21 +175,22 @@ fn checksum(so_far: u64, text: &[u8]) -> u64 {
     sum
 }
 
-/// The checksum of the lines of a cohort, behind one so far.
+/// The checksum of the lines at the last unit of a cohort, behind one so far.
 fn cohort_checksum<L: Ledger>(
     alloc: Global,
     plan: &Plan,
-    unit: u64,
+    born: u64,
     so_far: u64,
     steps: &mut Steps<L>,
 ) -> Result<u64, Fail>
-    requires table { 0 < length plan.now.tables }
-    requires unit { unit ≤ count plan.now.units }
+    requires table { 0 < length plan.now.schema.tables }
+    requires born { born ≤ last_unit plan.now.schema }
 {
     let mut sum = so_far;
-    let lines = CohortLines::new(plan, 0, unit);
+    let order = key_order(plan, 0, born);
+    let lines = CohortLines::new(plan, 0, born, plan.units(), &order);
     let room = plan.max_line(0) as usize;
-    for index in 0..cohort(plan, 0, unit).size {
+    for index in 0..cohort(plan, 0, born).size {
         let mut page = page_of(alloc, room)?;
         lines.put_line(index, &mut page, steps);
         sum = checksum(sum, page.text());
@@ -198,16 +199,16 @@ fn cohort_checksum<L: Ledger>(
 }
 
 fn text_checksum<L: Ledger>(alloc: Global, plan: &Plan, blank: Blank) -> Result<u64, Fail>
-    requires table { 0 < length plan.now.tables }
-    requires units { 5 ≤ count plan.now.units }
+    requires table { 0 < length plan.now.schema.tables }
+    requires units { 5 ≤ last_unit plan.now.schema }
     requires name { blank.name ≡ L.name }
     requires parts { blank.parts ≡ L.parts }
     requires some { 0 < blank.parts }
 {
     let mut steps = Steps::<L>::new(blank);
     let mut sum = 0;
-    for unit in 0..6 {
-        sum = cohort_checksum(alloc, plan, unit, sum, &mut steps)?;
+    for born in 0..6 {
+        sum = cohort_checksum(alloc, plan, born, sum, &mut steps)?;
     }
     Ok(sum)
 }
