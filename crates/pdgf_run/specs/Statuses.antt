@@ -171,24 +171,24 @@ refusal_text (Job (job.Text fault)) = text_fault_text fault
 -- ---- messages
 
 -- a message: the program's name and these words, on a line
-abbrev pub line_of : List ℕ → List ℕ
-line_of words = codes "pdgf: " ++ words ++ codes "\n"
+abbrev pub message_line : List ℕ → List ℕ
+message_line words = codes "pdgf: " ++ words ++ codes "\n"
 
 -- the message of a refusal
 abbrev pub text_of : Refusal → List ℕ
-text_of refusal = line_of (refusal_text refusal)
+text_of refusal = message_line (refusal_text refusal)
 
 -- the message of a failed write
 abbrev pub write_failed_text : List ℕ
-write_failed_text = line_of (codes "write failed")
+write_failed_text = message_line (codes "write failed")
 
 -- the message of a status that has only one
 abbrev pub fixed_text : ℕ → Option (List ℕ)
 fixed_text status =
     if status == 0 then Some [] else
-    (if status == 5 then Some (line_of (codes "read failed")) else
+    (if status == 5 then Some (message_line (codes "read failed")) else
     (if status == 6 then Some write_failed_text else
-    (if status == 7 then Some (line_of (codes "out of memory")) else None)))
+    (if status == 7 then Some (message_line (codes "out of memory")) else None)))
 
 -- ---- worked messages
 

@@ -1,7 +1,7 @@
 //! The messages, and the words that they are made of.
 
 ghost use Rattle.std.specs.Prelude.{◌≡◌, ◌≤◌, ◌+◌, ◌++◌, length, codes, decimal};
-ghost use Rattle.pdgf_run.specs.Statuses.{expected_text, key_text, line_of, option_text, place_text, plan_fault_text, reading_text, refusal_text, rule_text, schema_fault_text, shape_text, text_fault_text, usage_text, wanted_text};
+ghost use Rattle.pdgf_run.specs.Statuses.{expected_text, key_text, message_line, option_text, place_text, plan_fault_text, reading_text, refusal_text, rule_text, schema_fault_text, shape_text, text_fault_text, usage_text, wanted_text};
 
 use crate::refusal::{JobFault, PlanFault, Refusal, TextFault};
 use crate::usage::{OptionName, UsageFault};
@@ -13,7 +13,7 @@ use schema_read::{Expected, Place, ReadSchemaFault, SchemaKey};
 /// The message of these words: the program's name before them, and a line feed behind.
 pub(crate) fn line(words: &[u8]) -> Message
     requires { length words.now + 7 ≤ Message.ROOM }
-    ensures { result ≡ line_of words.now }
+    ensures { result ≡ message_line words.now }
 {
     let mut message = Message::new();
     message.put(b"pdgf: ");
