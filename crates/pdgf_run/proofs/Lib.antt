@@ -1,0 +1,3 @@
+pub mod FillLemmas
+pub mod JobLemmas
+pub mod DecideLemmas

@@ -118,11 +118,5 @@ fn plan_snapshot(alloc: Global, plan: Plan, request: &Request) -> Result<Job, Te
     let Some(tables) = choose(&plan, &request.table) else {
         return Err(TextFault::Range(OptionName::Table));
     };
-    Ok(Job::Snapshot(snapshot_job(
-        alloc,
-        plan,
-        request.unit,
-        tables,
-        &request.out,
-    )?))
+    Ok(Job::Snapshot(snapshot_job(alloc, plan, request.unit, tables, &request.out)?))
 }

@@ -11,34 +11,139 @@ use std::test::Fail;
 use std::thread::Threads;
 
 // A table with a row at each unit: its key, counted from 1, and its birth unit.
-const ONE: &str =
-    "seed = 1\nunits = 2\n[[table]]\nname = \"t\"\nrows = 1\ninsert = 1\n[[table.column]]\nname = \"id\"\nkind = \"key\"\nbase = 1\n[[table.column]]\nname = \"born\"\nkind = \"born\"\n";
+const ONE: &str = r#"seed = 1
+units = 2
+[[table]]
+name = "t"
+rows = 1
+insert = 1
+[[table.column]]
+name = "id"
+kind = "key"
+base = 1
+[[table.column]]
+name = "born"
+kind = "born"
+"#;
 
 // The same with scrambled keys, which are in place in cohorts of one row.
-const ONE_SCRAMBLED: &str =
-    "seed = 1\nunits = 2\n[[table]]\nname = \"t\"\nrows = 1\ninsert = 1\n[[table.column]]\nname = \"id\"\nkind = \"key\"\nbase = 1\nscramble = true\n[[table.column]]\nname = \"born\"\nkind = \"born\"\n";
+const ONE_SCRAMBLED: &str = r#"seed = 1
+units = 2
+[[table]]
+name = "t"
+rows = 1
+insert = 1
+[[table.column]]
+name = "id"
+kind = "key"
+base = 1
+scramble = true
+[[table.column]]
+name = "born"
+kind = "born"
+"#;
 
 const ONE_AT_2: &str = "1\t0\n2\t1\n3\t2\n";
 
 const TWO: [&str; 5] = ["pdgf", "snapshot", "s.toml", "--unit", "2"];
 
 // Three tables: keys alone, one row at the first unit, and rows from the second unit on.
-const THREE: &str =
-    "seed = 5\nunits = 1\n[[table]]\nname = \"a\"\nrows = 2\ninsert = 1\n[[table.column]]\nname = \"id\"\nkind = \"key\"\nbase = 1\n[[table]]\nname = \"b\"\nrows = 1\n[[table.column]]\nname = \"id\"\nkind = \"key\"\nbase = 10\n[[table.column]]\nname = \"at\"\nkind = \"born\"\n[[table]]\nname = \"c\"\nrows = 0\ninsert = 2\n[[table.column]]\nname = \"id\"\nkind = \"key\"\nbase = 0\n[[table.column]]\nname = \"at\"\nkind = \"born\"\n";
+const THREE: &str = r#"seed = 5
+units = 1
+[[table]]
+name = "a"
+rows = 2
+insert = 1
+[[table.column]]
+name = "id"
+kind = "key"
+base = 1
+[[table]]
+name = "b"
+rows = 1
+[[table.column]]
+name = "id"
+kind = "key"
+base = 10
+[[table.column]]
+name = "at"
+kind = "born"
+[[table]]
+name = "c"
+rows = 0
+insert = 2
+[[table.column]]
+name = "id"
+kind = "key"
+base = 0
+[[table.column]]
+name = "at"
+kind = "born"
+"#;
 
 const THREE_OUT: [&str; 7] = ["pdgf", "snapshot", "s.toml", "--unit", "1", "--out", "d"];
 
 // A table with no row at any unit.
-const EMPTY: &str =
-    "seed = 1\nunits = 2\n[[table]]\nname = \"t\"\nrows = 0\n[[table.column]]\nname = \"id\"\nkind = \"key\"\nbase = 1\n";
+const EMPTY: &str = r#"seed = 1
+units = 2
+[[table]]
+name = "t"
+rows = 0
+[[table.column]]
+name = "id"
+kind = "key"
+base = 1
+"#;
 
 // More rows than a table may have.
-const TOO_MANY_ROWS: &str =
-    "seed = 1\nunits = 2\n[[table]]\nname = \"t\"\nrows = 1099511627777\n[[table.column]]\nname = \"id\"\nkind = \"key\"\nbase = 1\n";
+const TOO_MANY_ROWS: &str = r#"seed = 1
+units = 2
+[[table]]
+name = "t"
+rows = 1099511627777
+[[table.column]]
+name = "id"
+kind = "key"
+base = 1
+"#;
 
 // A bar between fields, which isn't built.
-const BAR: &str =
-    "seed = 1\nunits = 2\ndelimiter = \"bar\"\n[[table]]\nname = \"t\"\nrows = 1\n[[table.column]]\nname = \"id\"\nkind = \"key\"\nbase = 1\n";
+const BAR: &str = r#"seed = 1
+units = 2
+delimiter = "bar"
+[[table]]
+name = "t"
+rows = 1
+[[table.column]]
+name = "id"
+kind = "key"
+base = 1
+"#;
+
+// Both: what isn't built is told before a broken rule.
+const BAR_AND_TOO_MANY_ROWS: &str = r#"seed = 1
+units = 2
+delimiter = "bar"
+[[table]]
+name = "t"
+rows = 1099511627777
+[[table.column]]
+name = "id"
+kind = "key"
+base = 1
+"#;
+
+// More rows than a table may have, and no unit 2: a broken rule is told before a unit past the last.
+const TOO_MANY_ROWS_TO_UNIT_1: &str = r#"seed = 1
+units = 1
+[[table]]
+name = "t"
+rows = 1099511627777
+[[table.column]]
+name = "id"
+kind = "key"
+base = 1
+"#;
 
 fn library(alloc: Global, schema: &[u8]) -> Result<MemLibrary, Memory> {
     let mut files = Files::new(alloc);
@@ -338,7 +443,7 @@ fn other_words_and_schemas_are_refused(rt: HostRuntime) -> Result<(), Fail> {
             refused(status, message),
         )?;
     }
-    let schemas: [(&str, u8, &str); 4] = [
+    let schemas: [(&str, u8, &str); 6] = [
         ("seed = \"ab", 3, "pdgf: schema: not TOML\n"),
         (
             "seed = 1\nunits = 2\n",
@@ -347,6 +452,8 @@ fn other_words_and_schemas_are_refused(rt: HostRuntime) -> Result<(), Fail> {
         ),
         (TOO_MANY_ROWS, 4, "pdgf: rule V6 at table 1\n"),
         (BAR, 11, "pdgf: not built\n"),
+        (BAR_AND_TOO_MANY_ROWS, 11, "pdgf: not built\n"),
+        (TOO_MANY_ROWS_TO_UNIT_1, 4, "pdgf: rule V6 at table 1\n"),
     ];
     for (schema, status, message) in schemas {
         let shelf = shelf(alloc, ShelfFail::Begin(9), 1000)?;
@@ -394,9 +501,30 @@ fn a_schema_of_a_byte_too_many_is_refused(rt: HostRuntime) -> Result<(), Fail> {
     )
 }
 
-// 1,000 rows at unit 0 and 10 at each later one, with scrambled keys from 1 and their birth units.
-const THOUSAND: &str =
-    "seed = 7\nunits = 5\n[[table]]\nname = \"t\"\nrows = 1000\ninsert = 10\n[[table.column]]\nname = \"id\"\nkind = \"key\"\nbase = 1\nscramble = true\n[[table.column]]\nname = \"born\"\nkind = \"born\"\n";
+// A table of one row, and one of 1,000 rows at unit 0 and 10 at each later one, with scrambled keys from 1 and their
+// birth units: cohorts that are large enough for tables of their order.
+const THOUSAND: &str = r#"seed = 7
+units = 5
+[[table]]
+name = "s"
+rows = 1
+[[table.column]]
+name = "id"
+kind = "key"
+base = 1
+[[table]]
+name = "t"
+rows = 1000
+insert = 10
+[[table.column]]
+name = "id"
+kind = "key"
+base = 1
+scramble = true
+[[table.column]]
+name = "born"
+kind = "born"
+"#;
 
 // A text as one number.
 fn checksum(text: &[u8]) -> u64 {
@@ -416,13 +544,19 @@ fn scrambled_keys_are_as_worked_out(rt: HostRuntime) -> Result<(), Fail> {
     if shelf.begun().is_some() {
         return Err(Fail::from("begun"));
     }
-    let given = words(alloc, &["pdgf", "snapshot", "s.toml", "--unit", "5"])?;
+    let given = words(
+        alloc,
+        &["pdgf", "snapshot", "s.toml", "--unit", "5", "--out", "d"],
+    )?;
     let report = pdgf(&rt, alloc, &given, &mut library, &mut shelf, &OpenGate);
     assert_eq!(rt; report.status, 0);
-    assert!(rt; shelf.finished().len() == 1);
+    assert!(rt; shelf.finished().len() == 2);
+    assert_eq!(rt; shelf.finished().name(0), "d/s.tbl");
+    assert_eq!(rt; shelf.finished().bytes(0), b"1\n".as_slice());
+    assert_eq!(rt; shelf.finished().name(1), "d/t.tbl");
     assert_eq!(rt;
-        checksum(shelf.finished().bytes(0)),
-        9_490_844_110_043_729_951
+        checksum(shelf.finished().bytes(1)),
+        4_378_325_466_889_961_595
     );
     Ok(())
 }

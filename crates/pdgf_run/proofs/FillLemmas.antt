@@ -1,0 +1,132 @@
+-- Texts of tables one after the other, and files as they are finished one after the other.
+use Rattle.std.proofs.Common.{◌≡◌, ◌<◌, ℕ, ◌+◌, List, [], ◌∷◌, ◌++◌, map, length, get_or, take, drop, Option, None, Some, refl, ap, sym, subst, ◌∙◌, append_assoc, Bool, false}
+use Rattle.std.specs.Prelude.{IfSome, is_some}
+use Rattle.std.specs.List.{flat_map}
+use Rattle.std.specs.Option.{option_map}
+use Rattle.std.proofs.lemmas.List.{append-nil, map-append, take-append-drop, take_more}
+use Rattle.std.proofs.lemmas.List.Concat.{flat_map-append}
+use Rattle.std.proofs.lemmas.List.Folds.{flat_map-map}
+use Rattle.pd_outside.proofs.Appending.{append_both, files_then_prefix, nothing_begun, nothing_done}
+use Rattle.pd_outside.specs.Files.{File}
+use Rattle.pd_outside.specs.Shelf.{Held, append_bytes, finish_files, HoldsPrefixOf, IsPrefixOfNext}
+use Rattle.schema_model.specs.declared.table.Schema.{Schema}
+use Rattle.schema_check.specs.Planned.{Planned}
+use Rattle.life_intervals.proofs.Ranges.{flat_map-range_with_len_more}
+use Rattle.life_intervals.specs.Generator.{generator_of}
+use Rattle.row_lines.specs.Lines.{table_text}
+use Rattle.pdgf_run.specs.DueFiles.{check_line, check_lines, texts_at}
+
+-- ---- pieces, one after the other
+
+-- one more piece behind those that were appended
+pub appended_then : (first second whole : List ℕ) (before mid now : Option Held) → whole ≡ first ++ second → mid ≡ option_map (append_bytes first) before →
+    now ≡ option_map (append_bytes second) mid → now ≡ option_map (append_bytes whole) before
+appended_then first second whole before mid now parts sofar step =
+    step
+    ∙ ap (option_map (append_bytes second)) sofar
+    ∙ append_both first second before
+    ∙ ap (λ (piece : List ℕ). option_map (append_bytes piece) before) (sym parts)
+
+-- an item of a list stands behind those before it, and before the rest
+item-at : {A : Type 0} (xs : List A) (i : ℕ) (x : A) → i < length xs → x ≡ get_or xs i x → xs ≡ take i xs ++ (x ∷ drop (i + 1) xs)
+item-at xs i x below is =
+    sym (take-append-drop (i + 1) xs)
+    ∙ ap (λ (front : List _). front ++ drop (i + 1) xs) (take_more xs i x below ∙ ap (λ (y : _). take i xs ++ y ∷ []) (sym is))
+    ∙ append_assoc (take i xs) (x ∷ []) (drop (i + 1) xs)
+
+-- the pieces of the items before one, and the item's own
+pub flat_map-take_more : {A : Type 0} (f : A → List ℕ) (xs : List A) (i : ℕ) (x : A) → i < length xs → x ≡ get_or xs i x →
+    flat_map f (take (i + 1) xs) ≡ flat_map f (take i xs) ++ f x
+flat_map-take_more f xs i x below is =
+    ap (flat_map f) (take_more xs i x below ∙ ap (λ (y : _). take i xs ++ y ∷ []) (sym is))
+    ∙ flat_map-append f (take i xs) (x ∷ [])
+    ∙ ap (λ (text : List ℕ). flat_map f (take i xs) ++ text) (append-nil (f x))
+
+-- and the rest behind them
+pub flat_map-at : {A : Type 0} (f : A → List ℕ) (xs : List A) (i : ℕ) (x : A) → i < length xs → x ≡ get_or xs i x →
+    flat_map f xs ≡ flat_map f (take i xs) ++ (f x ++ flat_map f (drop (i + 1) xs))
+flat_map-at f xs i x below is = ap (flat_map f) (item-at xs i x below is) ∙ flat_map-append f (take i xs) (x ∷ drop (i + 1) xs)
+
+-- ---- what is told of tables: nothing, and one more line
+
+pub check_lines-zero : (schema : Schema) → check_lines schema 0 ≡ []
+unfolding check_lines
+check_lines-zero schema = refl
+
+pub check_lines-add_one : (schema : Schema) (count : ℕ) → check_lines schema (count + 1) ≡ check_lines schema count ++ check_line schema count
+unfolding check_lines
+check_lines-add_one schema count = flat_map-range_with_len_more (check_line schema) count
+
+-- the texts of the tables at the places of some items
+pub texts_at-map : {A : Type 0} (plan : Planned) (unit : ℕ) (place : A → ℕ) (tables : List A) →
+    texts_at plan unit (map place tables) ≡ flat_map (λ table. table_text (generator_of plan.schema) unit (place table)) tables
+unfolding texts_at
+texts_at-map plan unit place tables = flat_map-map (table_text (generator_of plan.schema) unit) place tables
+
+-- ---- files, one after the other
+
+finished_both : (done more : List File) (before : Option Held) → option_map (finish_files more) (option_map (finish_files done) before) ≡ option_map (finish_files (done ++ more)) before
+finished_both done more None = refl
+finished_both done more (Some h) = ap (λ (files : List File). Some (record { finished = files; begun = None })) (append_assoc h.finished done more)
+
+begins_next_of_more : (rest more : List File) (begun : Option File) → IsPrefixOfNext rest begun → IsPrefixOfNext (rest ++ more) begun
+begins_next_of_more rest more None prefix = tt
+begins_next_of_more [] more (Some file) prefix = absurd prefix
+begins_next_of_more (next ∷ rest) more (Some file) prefix = prefix
+
+-- a prefix of some files is one of these and more
+prefix_of_more : (due more : List File) (before now : Option Held) → HoldsPrefixOf due before now → HoldsPrefixOf (due ++ more) before now
+prefix_of_more due more before now prefix = record {
+  done = prefix.done;
+  rest = prefix.rest ++ more;
+  begun = prefix.begun;
+  parts = ap (λ (files : List File). files ++ more) prefix.parts ∙ append_assoc prefix.done prefix.rest more;
+  prefix = begins_next_of_more prefix.rest more prefix.begun prefix.prefix;
+  held = prefix.held;
+}
+
+-- the files before an item, and the item's own
+map-take_more : {A B : Type 0} (f : A → B) (xs : List A) (i : ℕ) (x : A) → i < length xs → x ≡ get_or xs i x → map f (take (i + 1) xs) ≡ map f (take i xs) ++ f x ∷ []
+map-take_more f xs i x below is =
+    ap (map f) (take_more xs i x below ∙ ap (λ (y : _). take i xs ++ y ∷ []) (sym is)) ∙ map-append f (take i xs) (x ∷ [])
+
+-- one more file is finished
+pub one_more_finished : {A : Type 0} (f : A → File) (items : List A) (i : ℕ) (item : A) (before mid now : Option Held) → i < length items → item ≡ get_or items i item →
+    mid ≡ option_map (finish_files (map f (take i items))) before → now ≡ option_map (finish_files (f item ∷ [])) mid →
+    now ≡ option_map (finish_files (map f (take (i + 1) items))) before
+one_more_finished f items i item before mid now below is first then =
+    then
+    ∙ ap (option_map (finish_files (f item ∷ []))) first
+    ∙ finished_both (map f (take i items)) (f item ∷ []) before
+    ∙ ap (λ (due : List File). option_map (finish_files due) before) (sym (map-take_more f items i item below is))
+
+parts_at : {A : Type 0} (f : A → File) (items : List A) (i : ℕ) (item : A) → i < length items → item ≡ get_or items i item →
+    (map f (take i items) ++ f item ∷ []) ++ map f (drop (i + 1) items) ≡ map f items
+parts_at f items i item below is =
+    append_assoc (map f (take i items)) (f item ∷ []) (map f (drop (i + 1) items))
+    ∙ sym (ap (map f) (item-at items i item below is) ∙ map-append f (take i items) (item ∷ drop (i + 1) items))
+
+-- a prefix of the next file, behind those that are finished, is a prefix of all
+pub next_in_part : {A : Type 0} (f : A → File) (items : List A) (i : ℕ) (item : A) (before mid now : Option Held) → i < length items → item ≡ get_or items i item →
+    mid ≡ option_map (finish_files (map f (take i items))) before → HoldsPrefixOf (f item ∷ []) mid now → HoldsPrefixOf (map f items) before now
+next_in_part f items i item before mid now below is first prefix =
+    subst (λ (due : List File). HoldsPrefixOf due before now) (parts_at f items i item below is)
+    (prefix_of_more (map f (take i items) ++ f item ∷ []) (map f (drop (i + 1) items)) before now
+    (files_then_prefix (map f (take i items)) (f item ∷ []) before mid now first prefix))
+
+-- nothing is finished
+pub finished_nothing : (before : Option Held) → IfSome before (λ h. is_some h.begun ≡ false) → before ≡ option_map (finish_files []) before
+finished_nothing None none = refl
+finished_nothing (Some h) none =
+    ap (λ (begun : Option File). Some (record h { begun = begun })) (nothing_begun h.begun none)
+    ∙ ap (λ (files : List File). Some (record { finished = files; begun = None })) (sym (append-nil h.finished))
+
+-- where nothing is told to be begun, none is
+pub told_none : (before : Option Held) (is_begun : Bool) → IfSome before (λ h. is_some h.begun ≡ is_begun) → is_begun ≡ false → IfSome before (λ h. is_some h.begun ≡ false)
+told_none before is_begun alike none = subst (λ (begun : Bool). IfSome before (λ h. is_some h.begun ≡ begun)) none alike
+
+-- a file that wasn't begun
+pub refused_begin : (file : File) (before now : Option Held) (is_begun : Bool) → IfSome before (λ h. is_some h.begun ≡ is_begun) → is_begun ≡ false → now ≡ before →
+    HoldsPrefixOf (file ∷ []) before now
+refused_begin file before now is_begun alike none unchanged =
+    subst (HoldsPrefixOf (file ∷ []) before) (sym unchanged) (nothing_done (file ∷ []) before (told_none before is_begun alike none))

@@ -1,0 +1,24 @@
+use Rattle.std.proofs.Common.{Ok, Err}
+use Rattle.std.proofs.lemmas.Result.{err_from_is_err_and}
+use Rattle.pdgf_run.proofs.DecideLemmas.{asked_one, decided_for_request, decided_for_words}
+use Rattle.pdgf_run.proofs.decide.decide.Goals as goal
+
+pub returns-in_err-request-clause-verdict : goal.returns-in_err-request-clause-verdict
+returns-in_err-request-clause-verdict g c =
+    let made = err_from_is_err_and c.from_residual.result c.from_residual.ensures.1 in
+    rw (made.1, made.2) (decided_for_words _ _ _ c.in_err-request.ensures.refused)
+
+pub returns-in_err-job_of_request-clause-verdict : goal.returns-in_err-job_of_request-clause-verdict
+returns-in_err-job_of_request-clause-verdict g c =
+    let made = err_from_is_err_and c.from_residual-in_err-job_of_request.result c.from_residual-in_err-job_of_request.ensures.1 in
+    rw (made.1, made.2)
+    (decided_for_request _ _ c.in_ok-request.request (Err c.in_err-job_of_request.field-0.0) c.in_ok-request.ensures.read c.in_err-job_of_request.ensures.job)
+
+pub returns-in_err-job_of_request-clause-asked : goal.returns-in_err-job_of_request-clause-asked
+returns-in_err-job_of_request-clause-asked g c = asked_one _ c.in_ok-request.request _ _ c.in_ok-request.ensures.read c.in_err-job_of_request.ensures.asked
+
+pub returns-clause-verdict : goal.returns-clause-verdict
+returns-clause-verdict g c = decided_for_request _ _ c.in_ok-request.request (Ok c.in_ok-job_of_request.field-0) c.in_ok-request.ensures.read c.in_ok-job_of_request.ensures.job
+
+pub returns-clause-asked : goal.returns-clause-asked
+returns-clause-asked g c = asked_one _ c.in_ok-request.request _ _ c.in_ok-request.ensures.read c.in_ok-job_of_request.ensures.asked

@@ -1,0 +1,65 @@
+use Rattle.std.proofs.Common.{◌≡◌, ◌<◌, ◌+◌, ℕ, List, refl, ap, sym, subst, ◌∙◌, arith, length, get_or}
+use Rattle.std.specs.Option.{option_map}
+use Rattle.std.proofs.lemmas.List.FromFn.{length-map-range_with_len, get_or-map-range_with_len}
+use Rattle.pd_outside.proofs.Appending.{append_nothing, prefix_after}
+use Rattle.pd_outside.specs.Shelf.{append_bytes, AppendedPrefixOf}
+use Rattle.id_permutation.specs.Order.{Arrangement}
+use Rattle.schema_check.specs.Cohorts.{cohort_size}
+use Rattle.life_intervals.specs.Generator.{generator_of, table_of, Generator}
+use Rattle.life_intervals.specs.KeyOrders.{key_order}
+use Rattle.row_lines.proofs.LineLemmas.{cohort_text-at, first_lines-add_live, first_lines-all, first_lines-zero}
+use Rattle.row_lines.specs.CohortLines.{LinesOf, line_in_cohort}
+use Rattle.row_lines.specs.Lines.{first_lines}
+use Rattle.pdgf_run.proofs.FillLemmas.{appended_then}
+use Rattle.pdgf_run.proofs.fill.write_cohort.Goals as goal
+
+pub index-order-requires : goal.index-order-requires
+index-order-requires g c =
+    let count = ap length c.requires.table.orders ∙ length-map-range_with_len (key_order c.args.plan.now.schema c.args.table.now.place) 0 (c.args.unit + 1) in
+    omega (arith, count)
+
+pub new-lines-requires-clause-order : goal.new-lines-requires-clause-order
+new-lines-requires-clause-order g c =
+    let within : c.args.born < c.args.unit + 1 = omega arith in
+    c.index-order.ensures
+    ∙ ap (λ (orders : List Arrangement). get_or orders c.args.born c.index-order.result.now) c.requires.table.orders
+    ∙ get_or-map-range_with_len (key_order c.args.plan.now.schema c.args.table.now.place) 0 (c.args.unit + 1) c.args.born c.args.born c.index-order.result.now within (omega arith)
+
+pub loop-index-init : goal.loop-index-init
+loop-index-init g c = record {
+  lines =
+      append_nothing (g.S.Shelf.held c.args.shelf.now)
+      ∙ ap (λ (text : List ℕ). option_map (append_bytes text) (g.S.Shelf.held c.args.shelf.now))
+      (sym (first_lines-zero (generator_of c.args.plan.now.schema) c.args.unit c.args.table.now.place c.args.born));
+  begun = c.requires.begun;
+  no_fault = refl;
+  room = refl;
+}
+
+pub loop-index-preserved : goal.loop-index-preserved
+loop-index-preserved g c =
+    let generator : Generator = generator_of c.args.plan.now.schema in
+    record {
+      lines =
+          appended_then (first_lines generator c.args.unit c.args.table.now.place c.args.born c.loop-index.index)
+          (line_in_cohort (record { plan = c.args.plan.now; table = c.args.table.now.place; born = c.args.born; unit = c.args.unit }) c.loop-index.index) _ _ _ _
+          (first_lines-add_live generator c.args.unit c.args.table.now.place c.args.born c.loop-index.index refl) c.loop-index.invariant.lines
+          (c.in-Ok.ensures.line ∙ ap (λ (lines : LinesOf). option_map (append_bytes (line_in_cohort lines c.loop-index.index)) (g.S.Shelf.held c.loop-index.shelf)) c.new-lines.ensures);
+      begun = c.in-Ok.ensures.begun;
+      no_fault = c.in-Ok.ensures.no_fault ∙ c.loop-index.invariant.no_fault;
+      room = c.in-Ok.ensures.room ∙ c.loop-index.invariant.room;
+    }
+
+pub returns-in-Err-clause-lines : goal.returns-in-Err-clause-lines
+returns-in-Err-clause-lines g c =
+    let below : c.loop-index.index < cohort_size (table_of c.args.plan.now.schema c.args.table.now.place).births c.args.born = omega (arith, c.cohort-index-end.ensures.size) in
+    prefix_after _ _ _ _ _ _ _ (cohort_text-at (generator_of c.args.plan.now.schema) c.args.unit c.args.table.now.place c.args.born c.loop-index.index below refl)
+    c.loop-index.invariant.lines
+    (subst (λ (lines : LinesOf). AppendedPrefixOf (line_in_cohort lines c.loop-index.index) (g.S.Shelf.held c.loop-index.shelf) (g.S.Shelf.held c.write_line.new.shelf)) c.new-lines.ensures c.in-Err.ensures.line)
+
+pub returns-clause-lines : goal.returns-clause-lines
+returns-clause-lines g c =
+    let all : c.loop-index.index ≡ cohort_size (table_of c.args.plan.now.schema c.args.table.now.place).births c.args.born = omega (arith, c.cohort-index-end.ensures.size) in
+    c.loop-index.invariant.lines
+    ∙ ap (λ (text : List ℕ). option_map (append_bytes text) (g.S.Shelf.held c.args.shelf.now))
+    (first_lines-all (generator_of c.args.plan.now.schema) c.args.unit c.args.table.now.place c.args.born c.loop-index.index all)

@@ -1,0 +1,52 @@
+use Rattle.std.proofs.Common.{◌≡◌, ◌≤◌, ◌+◌, ℕ, List, refl, ap, sym, ◌∙◌, arith}
+use Rattle.std.specs.Option.{option_map}
+use Rattle.pd_outside.proofs.Appending.{append_nothing, prefix_after}
+use Rattle.pd_outside.specs.Shelf.{append_bytes}
+use Rattle.schema_check.proofs.PlannedLemmas.{max_line-reach}
+use Rattle.schema_check.specs.Layout.{layout_of}
+use Rattle.life_intervals.specs.Generator.{generator_of, Generator}
+use Rattle.row_lines.proofs.LineLemmas.{table_text-at, table_text-text_before, text_before-add_one, text_before-zero}
+use Rattle.row_lines.specs.Lines.{cohort_text, text_before}
+use Rattle.pdgf_run.proofs.FillLemmas.{appended_then}
+use Rattle.pdgf_run.proofs.fill.write_table.Goals as goal
+
+pub loop-born-init : goal.loop-born-init
+loop-born-init g c = record {
+  text =
+      append_nothing (g.S.Shelf.held c.args.shelf.now)
+      ∙ ap (λ (text : List ℕ). option_map (append_bytes text) (g.S.Shelf.held c.args.shelf.now))
+      (sym (text_before-zero (generator_of c.args.plan.now.schema) c.args.unit c.args.table.now.place));
+  begun = c.requires.begun;
+  no_fault = refl;
+  room = refl;
+}
+
+pub loop-born-preserved : goal.loop-born-preserved
+loop-born-preserved g c =
+    let generator : Generator = generator_of c.args.plan.now.schema in
+    record {
+      text =
+          appended_then (text_before generator c.args.unit c.args.table.now.place c.loop-born.born) (cohort_text generator c.args.unit c.args.table.now.place c.loop-born.born) _ _ _ _
+          (text_before-add_one generator c.args.unit c.args.table.now.place c.loop-born.born) c.loop-born.invariant.text c.in-Ok.ensures.lines;
+      begun = c.in-Ok.ensures.begun;
+      no_fault = c.in-Ok.ensures.no_fault ∙ c.loop-born.invariant.no_fault;
+      room = c.in-Ok.ensures.room ∙ c.loop-born.invariant.room;
+    }
+
+pub write_cohort-requires-clause-room : goal.write_cohort-requires-clause-room
+write_cohort-requires-clause-room g c =
+    omega (arith, max_line-reach (layout_of c.args.plan.now.schema) c.args.table.now.place, c.loop-born.invariant.room, c.requires.room)
+
+pub returns-in-Err-clause-text : goal.returns-in-Err-clause-text
+returns-in-Err-clause-text g c =
+    let within : c.loop-born.born ≤ c.args.unit = omega arith in
+    prefix_after _ _ _ _ _ _ _ (table_text-at (generator_of c.args.plan.now.schema) c.args.unit c.args.table.now.place c.loop-born.born within)
+    c.loop-born.invariant.text c.in-Err.ensures.lines
+
+pub returns-clause-text : goal.returns-clause-text
+returns-clause-text g c =
+    let all : c.loop-born.born ≡ c.args.unit + 1 = omega arith in
+    c.loop-born.invariant.text
+    ∙ ap (λ (born : ℕ). option_map (append_bytes (text_before (generator_of c.args.plan.now.schema) c.args.unit c.args.table.now.place born)) (g.S.Shelf.held c.args.shelf.now)) all
+    ∙ ap (λ (text : List ℕ). option_map (append_bytes text) (g.S.Shelf.held c.args.shelf.now))
+    (sym (table_text-text_before (generator_of c.args.plan.now.schema) c.args.unit c.args.table.now.place))
