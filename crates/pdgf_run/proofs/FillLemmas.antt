@@ -1,5 +1,5 @@
 -- Texts of tables one after the other, and files as they are finished one after the other.
-use Rattle.std.proofs.Common.{◌≡◌, ◌<◌, ◌≤◌, ℕ, zero, suc, ◌+◌, max, List, [], ◌∷◌, ◌++◌, map, length, get_or, take, drop, Option, None, Some, inl, inr, refl, ap, sym, subst, ◌∙◌, arith, append_assoc, Bool, false}
+use Rattle.std.proofs.Common.{◌≡◌, ◌<◌, ℕ, ◌+◌, List, [], ◌∷◌, ◌++◌, map, length, get_or, take, drop, Option, None, Some, refl, ap, sym, subst, ◌∙◌, append_assoc, Bool, false}
 use Rattle.std.specs.Prelude.{IfSome, is_some}
 use Rattle.std.specs.List.{flat_map}
 use Rattle.std.specs.Option.{option_map}

@@ -7,7 +7,6 @@ use Rattle.schema_read.specs.declared.fault.Expected.{Expected}
 use Rattle.schema_read.specs.declared.fault.Expected.TheVariants.{Whole, TextValue, Flag, DelimiterName, TableList, TwoWholes, KindName, LeafName, DateText, TextList, Wholes, PartList, WindowValue, NoSuchKey}
 use Rattle.pd_outside.specs.declared.faults.ReadFault.{ReadFault}
 use Rattle.pd_outside.specs.declared.faults.ReadFault.TheVariants as reading
-use Rattle.schema_check.specs.declared.checker.CheckFault.{CheckFault}
 use Rattle.schema_check.specs.declared.checker.CheckFault.TheVariants as check
 use Rattle.schema_read.specs.declared.fault.Place.{Place}
 use Rattle.schema_read.specs.declared.read.ReadSchemaFault.{ReadSchemaFault}

@@ -6,7 +6,7 @@ use Rattle.schema_check.proofs.PlannedLemmas.{max_line-reach}
 use Rattle.schema_check.specs.Layout.{layout_of}
 use Rattle.life_intervals.specs.Generator.{generator_of, Generator}
 use Rattle.row_lines.proofs.LineLemmas.{table_text-at, table_text-text_before, text_before-add_one, text_before-zero}
-use Rattle.row_lines.specs.Lines.{cohort_text, table_text, text_before}
+use Rattle.row_lines.specs.Lines.{cohort_text, text_before}
 use Rattle.pdgf_run.proofs.FillLemmas.{appended_then}
 use Rattle.pdgf_run.proofs.fill.write_table.Goals as goal
 

@@ -1,7 +1,5 @@
-use Rattle.std.proofs.Common.{sym, subst, ◌∙◌, [], ◌∷◌}
-use Rattle.std.specs.Prelude.{Option}
+use Rattle.std.proofs.Common.{◌∙◌}
 use Rattle.pd_outside.proofs.Appending.{file_as_a_whole, file_in_part}
-use Rattle.pd_outside.specs.Files.{File}
 use Rattle.pdgf_run.specs.DueFiles.{standard_output}
 use Rattle.pdgf_run.proofs.FillLemmas.{refused_begin}
 use Rattle.pdgf_run.proofs.fill.write_text.Goals as goal

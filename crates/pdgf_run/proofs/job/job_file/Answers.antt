@@ -1,4 +1,4 @@
-use Rattle.std.proofs.Common.{List, map, ap, sym, ◌∙◌, []}
+use Rattle.std.proofs.Common.{map, ap, ◌∙◌, []}
 use Rattle.std.proofs.lemmas.List.Elements.{All-nil, All-push, All-same}
 use Rattle.pdgf_run.specs.Jobs.{IsTableOf}
 use Rattle.pdgf_run.specs.declared.job.JobTable.{JobTable}
