@@ -7,7 +7,7 @@ ghost use Rattle.schema_check.specs.Layout.{layout_of};
 ghost use Rattle.schema_check.specs.TableFacts.{max_line, reach};
 ghost use Rattle.life_intervals.specs.Generator.{generator_of, last_unit};
 ghost use Rattle.life_intervals.specs.Intervals.{is_live};
-ghost use Rattle.row_lines.specs.CohortLines.{layout_for, line_in_cohort, ordinal_of};
+ghost use Rattle.row_lines.specs.CohortLines.{key_for, layout_for, line_in_cohort, ordinal_of};
 ghost use Rattle.row_lines.specs.Lines.{cohort_text, table_text};
 ghost use Rattle.pdgf_run.specs.Appends.{Appends, Finishes};
 ghost use Rattle.pdgf_run.specs.DueFiles.{standard_output, texts_at};
@@ -22,17 +22,22 @@ use std::marker::Brand;
 use std::sync::ledger::{Blank, Ledger};
 use step_count::Steps;
 
-/// Writes the line of the row with this index in its cohort.
-fn write_line<S: Shelf, B: Ledger>(
+/// How many rows' keys are taken before their lines are written. Side by side they take a fraction of the time that each takes
+/// between two lines, since none waits for another.
+const ROWS_AT_ONCE: usize = 256;
+
+/// Writes the line of the row with this index in its cohort, and this key.
+fn write_line<S: Shelf>(
     shelf: &mut S,
     page: &mut PageBuf,
     lines: &CohortLines<'_>,
     index: u64,
-    steps: &mut Steps<B>,
+    key: u64,
 ) -> Result<(), WriteFailed>
     requires begun { IsTrue (S.is_begun shelf.old) }
     requires row { index < cohort_size (layout_for lines.now).births lines.now.born }
     requires alive { is_live (layout_for lines.now) lines.now.unit (ordinal_of lines.now index) ≡ true }
+    requires key { key ≡ key_for lines.now index }
     requires room { max_line (layout_of lines.now.plan.schema) lines.now.table ≤ page.old.room }
     ensures line { Appends result (line_in_cohort lines.now index) (S.held shelf.old) (S.held shelf.new) }
     ensures cause { OnErr result (Rose (S.faults shelf.old) (S.faults shelf.new)) }
@@ -42,7 +47,7 @@ fn write_line<S: Shelf, B: Ledger>(
     ensures room { page.new.room ≡ page.old.room }
 {
     page.clear();
-    lines.put_line(index, page, steps);
+    lines.put_keyed_line(index, key, page);
     write_all(shelf, page.text())
 }
 
@@ -70,11 +75,19 @@ fn write_cohort<S: Shelf, B: Ledger>(
 {
     let order = &table.orders[born as usize];
     let lines = CohortLines::new(plan, table.place, born, unit, order);
-    for index in 0..cohort(plan, table.place, born).size {
-        match write_line(shelf, page, &lines, index, steps) {
-            Ok(()) => {}
-            Err(WriteFailed) => return Err(WriteFailed),
+    let size = cohort(plan, table.place, born).size;
+    let mut keys = [0; ROWS_AT_ONCE];
+    let mut first = 0;
+    while first < size {
+        let count = (size - first).min(ROWS_AT_ONCE as u64);
+        lines.put_keys(first, count, &mut keys, steps);
+        for index in 0..count {
+            match write_line(shelf, page, &lines, first + index, keys[index as usize]) {
+                Ok(()) => {}
+                Err(WriteFailed) => return Err(WriteFailed),
+            }
         }
+        first += count;
     }
     Ok(())
 }

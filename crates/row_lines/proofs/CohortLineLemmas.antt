@@ -7,6 +7,7 @@ use Rattle.std.proofs.lemmas.Bool.{both_ways, or_parts}
 use Rattle.std.proofs.lemmas.Bool.Decides.{nat_tests}
 use Rattle.std.proofs.lemmas.List.{get_or-map, length-map}
 use Rattle.std.proofs.lemmas.List.Folds.{fold-map}
+use Rattle.std.proofs.lemmas.List.Sums.{sum_by_more_le}
 use Rattle.std.proofs.lemmas.Option.{get_or_from_slice_get, slice_get_within}
 use Rattle.row_text.specs.Fields.{field_text}
 use Rattle.row_text.proofs.DigitLemmas.{piece_text-decimal}
@@ -22,12 +23,11 @@ use Rattle.schema_check.specs.TableFacts.{line_cost, max_line}
 use Rattle.schema_check.specs.Unbuilt.{is_unbuilt_column, is_unbuilt_kind}
 use Rattle.schema_check.proofs.FromTests.{fails_each}
 use Rattle.life_intervals.specs.CohortKeys.{CohortOf}
-use Rattle.life_intervals.specs.Generator.{Generator, generator_of}
-use Rattle.life_intervals.specs.Keys.{key_in_cohort}
-use Rattle.life_intervals.proofs.CohortLemmas.{birth-first_ordinal}
+use Rattle.life_intervals.specs.Generator.{Generator, generator_of, last_unit}
+use Rattle.life_intervals.proofs.CohortLemmas.{birth-first_ordinal, cohort-within}
 use Rattle.life_intervals.proofs.KeyLemmas.{key_of-first_ordinal}
 use Rattle.pd_outside.specs.declared.piece.Piece.{Piece}
-use Rattle.row_lines.specs.CohortLines.{AreLinesOf, LinesOf, layout_for, line_in_cohort, ordinal_of, permutations_for, size_for, text_in_cohort}
+use Rattle.row_lines.specs.CohortLines.{AreLinesOf, LinesOf, key_for, layout_for, line_in_cohort, ordinal_of, size_for, text_in_cohort}
 use Rattle.row_lines.specs.Lines.{line}
 use Rattle.row_lines.proofs.FieldLemmas.{field-born, field-key}
 
@@ -36,16 +36,13 @@ abbrev pub room_in : LinesOf → ColumnLayout → ℕ
 room_in lines column =
     (bounds_of (layout_of lines.plan.schema).delimiter (layout_of lines.plan.schema).tables (layout_for lines) column.kind).size + 1
 
-abbrev pub permutations_in : LinesOf → ColumnLayout → ℕ
+abbrev permutations_in : LinesOf → ColumnLayout → ℕ
 permutations_in lines column =
     (bounds_of (layout_of lines.plan.schema).delimiter (layout_of lines.plan.schema).tables (layout_for lines) column.kind).permutations
 
 -- what the fields before a place take at most
 abbrev pub bytes_before : LinesOf → ℕ → ℕ
 bytes_before lines place = sum_by (room_in lines) (take place (layout_for lines).columns)
-
-abbrev pub permutations_before : LinesOf → ℕ → ℕ
-permutations_before lines place = sum_by (permutations_in lines) (take place (layout_for lines).columns)
 
 sum_by-map : {A B : Type 0} (h : A → B) (xs : List A) (g : B → ℕ) → sum_by g (map h xs) ≡ sum_by (λ x. g (h x)) xs
 sum_by-map h xs g = fold-map (λ all y. all + g y) h 0 xs
@@ -57,7 +54,7 @@ max_line-columns lines =
     sum_by-map (λ (column : ColumnLayout). bounds_of (layout_of lines.plan.schema).delimiter (layout_of lines.plan.schema).tables (layout_for lines) column.kind)
     (layout_for lines).columns (λ bounds. bounds.size + 1)
 
-pub line_cost-columns : (lines : LinesOf) → sum_by (permutations_in lines) (layout_for lines).columns ≤ line_cost (layout_of lines.plan.schema) lines.table
+line_cost-columns : (lines : LinesOf) → sum_by (permutations_in lines) (layout_for lines).columns ≤ line_cost (layout_of lines.plan.schema) lines.table
 unfolding line_cost
 line_cost-columns lines =
     omega (
@@ -107,15 +104,23 @@ no_other_kind lines keys table byte birth known place column found not_key not_b
     ∙ fails_each is_unbuilt_column table.columns place column (slice_get_within table.columns place column found) columns in
     built_kind column.kind (or_parts (column.changes || not (int_eq column.null (pos 0))) (is_unbuilt_kind column.kind) own).1 not_key not_born
 
+-- a line may ask the permutation of its key, which is its first field
+pub scramble-line_cost : (lines : LinesOf) (keys : CohortOf) (table : Table) (byte : ℕ) (birth : Piece) → AreLinesOf lines keys table byte birth →
+    one_if (layout_for lines).key.scramble ≤ line_cost (layout_of lines.plan.schema) lines.table
+scramble-line_cost lines keys table byte birth known =
+    let columns : List ColumnLayout = (layout_for lines).columns in
+    omega (
+      arith,
+      ap (λ (kind : KindLayout). (bounds_of (layout_of lines.plan.schema).delimiter (layout_of lines.plan.schema).tables (layout_for lines) kind).permutations)
+          known.limits.key_first,
+      sum_by_more_le (permutations_in lines) columns 0 no_column known.limits.some_column,
+      line_cost-columns lines,
+    )
+
 -- what a key and a unit of birth take
 pub size-key : (lines : LinesOf) (place : ℕ) → (column_at (layout_for lines).columns place).kind ≡ key_kind → size_for lines place ≡ 20
 size-key lines place is =
     ap (λ (kind : KindLayout). (bounds_of (layout_of lines.plan.schema).delimiter (layout_of lines.plan.schema).tables (layout_for lines) kind).size) is
-
-pub permutations-key : (lines : LinesOf) (place : ℕ) → (column_at (layout_for lines).columns place).kind ≡ key_kind →
-    permutations_for lines place ≡ one_if (layout_for lines).key.scramble
-permutations-key lines place is =
-    ap (λ (kind : KindLayout). (bounds_of (layout_of lines.plan.schema).delimiter (layout_of lines.plan.schema).tables (layout_for lines) kind).permutations) is
 
 pub size-born : (lines : LinesOf) (place : ℕ) → (column_at (layout_for lines).columns place).kind ≡ born_kind → size_for lines place ≡ 5
 size-born lines place is =
@@ -123,7 +128,7 @@ size-born lines place is =
 
 -- and how they are written
 pub text-key : (lines : LinesOf) (place index key : ℕ) → (column_at (layout_for lines).columns place).kind ≡ key_kind → lines.born ≤ lines.unit →
-    index < cohort_size (layout_for lines).births lines.born → key ≡ key_in_cohort (generator_of lines.plan.schema) lines.table lines.born index → key < 2 ^ 64 →
+    index < cohort_size (layout_for lines).births lines.born → key ≡ key_for lines index → key < 2 ^ 64 →
     text_in_cohort lines index place ≡ decimal key
 text-key lines place index key is within below key_is small =
     let generator : Generator = generator_of lines.plan.schema in
@@ -151,3 +156,13 @@ pub line_in_cohort-fields : (lines : LinesOf) (index count : ℕ) → count ≡ 
 unfolding line
 line_in_cohort-fields lines index count all =
     ap (λ (n : ℕ). join_with_byte (layout_of lines.plan.schema).delimiter (map (text_in_cohort lines index) (range_with_len 0 n)) ++ codes "\n") all
+
+-- a cohort has no more rows than a table
+pub cohort_size-limit : (lines : LinesOf) (keys : CohortOf) (table : Table) (byte : ℕ) (birth : Piece) → AreLinesOf lines keys table byte birth →
+    cohort_size (layout_for lines).births lines.born ≤ 2 ^ 40
+cohort_size-limit lines keys table byte birth known =
+    omega (
+      arith,
+      known.limits.row_limit,
+      cohort-within (layout_for lines).births lines.born (last_unit lines.plan.schema) (omega (arith, known.born, known.unit)),
+    )

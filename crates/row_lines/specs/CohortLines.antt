@@ -11,6 +11,7 @@ use Rattle.schema_check.specs.Unbuilt.{is_unbuilt_table}
 use Rattle.life_intervals.specs.CohortKeys.{CohortOf}
 use Rattle.life_intervals.specs.Generator.{generator_of, last_unit, table_of}
 use Rattle.life_intervals.specs.Intervals.{row_at}
+use Rattle.life_intervals.specs.Keys.{key_in_cohort}
 use Rattle.pd_outside.specs.declared.piece.Piece.{Piece}
 use Rattle.pd_outside.specs.Pieces.{piece_text}
 use Rattle.row_lines.specs.Lines.{field, line_of}
@@ -29,6 +30,10 @@ layout_for lines = table_of lines.plan.schema lines.table
 -- the ordinal of the row with an index in the cohort
 abbrev pub ordinal_of : LinesOf → ℕ → ℕ
 ordinal_of lines index = first_ordinal (layout_for lines).births lines.born + index
+
+-- the key of the row with an index in the cohort
+abbrev pub key_for : LinesOf → ℕ → ℕ
+key_for lines index = key_in_cohort (generator_of lines.plan.schema) lines.table lines.born index
 
 -- the line of the row with an index in the cohort
 abbrev pub line_in_cohort : LinesOf → ℕ → List ℕ
@@ -54,13 +59,8 @@ pub record AreLinesOf (lines : LinesOf) (keys : CohortOf) (table : Table) (byte 
   pub unit : lines.unit ≤ last_unit lines.plan.schema
   pub unit_limit : last_unit lines.plan.schema ≤ 10000
 
--- what the field of the column at a place takes at most: bytes, and permutations
+-- what the field of the column at a place takes at most, in bytes
 abbrev pub size_for : LinesOf → ℕ → ℕ
 size_for lines column =
     (bounds_of (layout_of lines.plan.schema).delimiter (layout_of lines.plan.schema).tables (layout_for lines)
     (column_at (layout_for lines).columns column).kind).size
-
-abbrev pub permutations_for : LinesOf → ℕ → ℕ
-permutations_for lines column =
-    (bounds_of (layout_of lines.plan.schema).delimiter (layout_of lines.plan.schema).tables (layout_for lines)
-    (column_at (layout_for lines).columns column).kind).permutations

@@ -1,14 +1,15 @@
 //! The lines of the rows of a cohort, with what doesn't change from row to row taken once.
 
-ghost use Rattle.std.specs.Prelude.{◌≡◌, ◌<◌, ◌≤◌, ◌+◌, ◌==◌, [], ◌∷◌, ◌++◌, if◌then◌else◌, true, length, min};
+ghost use Rattle.std.specs.Prelude.{◌≡◌, ◌<◌, ◌≤◌, ℕ, ◌+◌, ◌*◌, ◌==◌, get_or, [], ◌∷◌, ◌++◌, if◌then◌else◌, true, length, min};
 ghost use Rattle.schema_check.specs.Cohorts.{cohort_size};
 ghost use Rattle.schema_check.specs.Delimiters.{delimiter_byte as byte_of};
 ghost use Rattle.schema_check.specs.Layout.{layout_of};
+ghost use Rattle.schema_check.specs.Lineage.{one_if};
 ghost use Rattle.schema_check.specs.TableFacts.{line_cost, max_line};
 ghost use Rattle.life_intervals.specs.Generator.{last_unit};
 ghost use Rattle.life_intervals.specs.Intervals.{is_live};
 ghost use Rattle.life_intervals.specs.KeyOrders.{key_order};
-ghost use Rattle.row_lines.specs.CohortLines.{layout_for, line_in_cohort, ordinal_of, permutations_for, size_for, text_in_cohort};
+ghost use Rattle.row_lines.specs.CohortLines.{key_for, layout_for, line_in_cohort, ordinal_of, size_for, text_in_cohort};
 
 use id_permutation::Order;
 use life_intervals::CohortKeys;
@@ -69,6 +70,40 @@ impl<'a> CohortLines<'a> {
         }
     }
 
+    /// The key of the row with this index in the cohort. It takes one step where the keys are scrambled, else none; the cost
+    /// of a line has it in.
+    #[inline]
+    pub fn key<L: Ledger>(&self, index: u64, steps: &mut Steps<L>) -> u64
+        requires { index < cohort_size (layout_for self.now).births self.now.born }
+        ensures key { result ≡ key_for self.now index }
+        ensures steps { steps.new ≡ steps.old + one_if (layout_for self.now).key.scramble }
+        ensures in_cost { steps.new ≤ steps.old + line_cost (layout_of self.now.plan.schema) self.now.table }
+    {
+        self.keys.key(index, steps)
+    }
+
+    /// Puts the keys of so many rows into the list, the first that of the row with the index `first` in the cohort. Each takes
+    /// one step where the keys are scrambled, else none.
+    pub fn put_keys<L: Ledger>(
+        &self,
+        first: u64,
+        count: u64,
+        keys: &mut [u64],
+        steps: &mut Steps<L>,
+    )
+        requires rows { first + count ≤ cohort_size (layout_for self.now).births self.now.born }
+        requires room { count ≤ length keys.old }
+        ensures keys { (i : ℕ) → i < count → get_or keys.new i 0 ≡ key_for self.now (first + i) }
+        ensures rest { (i : ℕ) → count ≤ i → get_or keys.new i 0 ≡ get_or keys.old i 0 }
+        ensures length { length keys.new ≡ length keys.old }
+        ensures steps { steps.new ≡ steps.old + count * one_if (layout_for self.now).key.scramble }
+    {
+        let cohort = &self.keys;
+        for index in 0..count {
+            keys[index as usize] = cohort.key(first + index, steps);
+        }
+    }
+
     /// Appends the line of the row with this index in the cohort, which is alive at the unit and for which the greatest line
     /// of the table has to be free. It asks at most as many permutations as the cost of a row counts for its line.
     #[inline]
@@ -80,31 +115,39 @@ impl<'a> CohortLines<'a> {
         ensures size { length (line_in_cohort self.now index) ≤ max_line (layout_of self.now.plan.schema) self.now.table }
         ensures steps { steps.new ≤ steps.old + line_cost (layout_of self.now.plan.schema) self.now.table }
     {
+        let key = self.key(index, steps);
+        self.put_keyed_line(index, key, buf);
+    }
+
+    /// The same for a row whose key is known, so that its line asks no permutation.
+    #[inline]
+    pub fn put_keyed_line(&self, index: u64, key: u64, buf: &mut PageBuf)
+        requires row { index < cohort_size (layout_for self.now).births self.now.born }
+        requires alive { is_live (layout_for self.now) self.now.unit (ordinal_of self.now index) ≡ true }
+        requires key { key ≡ key_for self.now index }
+        requires room { length buf.old.text + max_line (layout_of self.now.plan.schema) self.now.table ≤ buf.old.room }
+        ensures line { buf.new ≡ record buf.old { text = buf.old.text ++ line_in_cohort self.now index } }
+        ensures size { length (line_in_cohort self.now index) ≤ max_line (layout_of self.now.plan.schema) self.now.table }
+    {
         for column in 0..self.table.columns.len() {
             put_delimiter(buf, self.delimiter, column);
-            self.put_field(column, index, buf, steps);
+            self.put_field(column, index, key, buf);
         }
         buf.put_piece(&Piece::of_byte(b'\n'));
     }
 
     /// Appends the field of the column at a place.
     #[inline(always)]
-    fn put_field<L: Ledger>(
-        &self,
-        column: usize,
-        index: u64,
-        buf: &mut PageBuf,
-        steps: &mut Steps<L>,
-    )
+    fn put_field(&self, column: usize, index: u64, key: u64, buf: &mut PageBuf)
         requires column { column < length (layout_for self.now).columns }
         requires row { index < cohort_size (layout_for self.now).births self.now.born }
+        requires key { key ≡ key_for self.now index }
         requires room { length buf.old.text + size_for self.now column ≤ buf.old.room }
         ensures text { buf.new ≡ record buf.old { text = buf.old.text ++ text_in_cohort self.now index column } }
         ensures size { length (text_in_cohort self.now index column) ≤ size_for self.now column }
-        ensures steps { steps.new ≤ steps.old + permutations_for self.now column }
     {
         match &self.table.columns.get(column).kind {
-            Kind::Key { .. } => buf.put_number(self.keys.key(index, steps)),
+            Kind::Key { .. } => buf.put_number(key),
             Kind::Born => buf.put_piece(&self.birth),
             _ => unreachable!(),
         }

@@ -25,8 +25,10 @@ new-lines-requires-clause-order g c =
     ∙ ap (λ (orders : List Arrangement). get_or orders c.args.born c.index-order.result.now) c.requires.table.orders
     ∙ get_or-map-range_with_len (key_order c.args.plan.now.schema c.args.table.now.place) 0 (c.args.unit + 1) c.args.born c.args.born c.index-order.result.now within (omega arith)
 
-pub loop-index-init : goal.loop-index-init
-loop-index-init g c = record {
+pub loop-first-init : goal.loop-first-init
+loop-first-init g c = record {
+  within = omega arith;
+  keys = refl;
   lines =
       append_nothing (g.S.Shelf.held c.args.shelf.now)
       ∙ ap (λ (text : List ℕ). option_map (append_bytes text) (g.S.Shelf.held c.args.shelf.now))
@@ -39,12 +41,15 @@ loop-index-init g c = record {
 pub loop-index-preserved : goal.loop-index-preserved
 loop-index-preserved g c =
     let generator : Generator = generator_of c.args.plan.now.schema in
+    let index : ℕ = c.loop-first.first + c.loop-index.index in
+    let next : index + 1 ≡ c.loop-first.first + (c.loop-index.index + 1) = omega arith in
     record {
       lines =
-          appended_then (first_lines generator c.args.unit c.args.table.now.place c.args.born c.loop-index.index)
-          (line_in_cohort (record { plan = c.args.plan.now; table = c.args.table.now.place; born = c.args.born; unit = c.args.unit }) c.loop-index.index) _ _ _ _
-          (first_lines-add_live generator c.args.unit c.args.table.now.place c.args.born c.loop-index.index refl) c.loop-index.invariant.lines
-          (c.in-Ok.ensures.line ∙ ap (λ (lines : LinesOf). option_map (append_bytes (line_in_cohort lines c.loop-index.index)) (g.S.Shelf.held c.loop-index.shelf)) c.new-lines.ensures);
+          appended_then (first_lines generator c.args.unit c.args.table.now.place c.args.born index)
+          (line_in_cohort (record { plan = c.args.plan.now; table = c.args.table.now.place; born = c.args.born; unit = c.args.unit }) index) _ _ _ _
+          (first_lines-add_live generator c.args.unit c.args.table.now.place c.args.born index refl) c.loop-index.invariant.lines
+          (c.in-Ok.ensures.line ∙ ap (λ (lines : LinesOf). option_map (append_bytes (line_in_cohort lines index)) (g.S.Shelf.held c.loop-index.shelf)) c.new-lines.ensures)
+          ∙ ap (λ (count : ℕ). option_map (append_bytes (first_lines generator c.args.unit c.args.table.now.place c.args.born count)) (g.S.Shelf.held c.args.shelf.now)) next;
       begun = c.in-Ok.ensures.begun;
       no_fault = c.in-Ok.ensures.no_fault ∙ c.loop-index.invariant.no_fault;
       room = c.in-Ok.ensures.room ∙ c.loop-index.invariant.room;
@@ -52,14 +57,17 @@ loop-index-preserved g c =
 
 pub returns-in-Err-clause-lines : goal.returns-in-Err-clause-lines
 returns-in-Err-clause-lines g c =
-    let below : c.loop-index.index < cohort_size (table_of c.args.plan.now.schema c.args.table.now.place).births c.args.born = omega (arith, c.cohort-index-end.ensures.size) in
-    prefix_after _ _ _ _ _ _ _ (cohort_text-at (generator_of c.args.plan.now.schema) c.args.unit c.args.table.now.place c.args.born c.loop-index.index below refl)
+    let index : ℕ = c.loop-first.first + c.loop-index.index in
+    let below : index < cohort_size (table_of c.args.plan.now.schema c.args.table.now.place).births c.args.born =
+    omega (arith, c.cohort-size.ensures.size, c.min-count.ensures, c.loop-first-test.true, c.loop-index.auto.index-end, c.loop-index-test.true) in
+    prefix_after _ _ _ _ _ _ _ (cohort_text-at (generator_of c.args.plan.now.schema) c.args.unit c.args.table.now.place c.args.born index below refl)
     c.loop-index.invariant.lines
-    (subst (λ (lines : LinesOf). AppendedPrefixOf (line_in_cohort lines c.loop-index.index) (g.S.Shelf.held c.loop-index.shelf) (g.S.Shelf.held c.write_line.new.shelf)) c.new-lines.ensures c.in-Err.ensures.line)
+    (subst (λ (lines : LinesOf). AppendedPrefixOf (line_in_cohort lines index) (g.S.Shelf.held c.loop-index.shelf) (g.S.Shelf.held c.write_line.new.shelf)) c.new-lines.ensures c.in-Err.ensures.line)
 
 pub returns-clause-lines : goal.returns-clause-lines
 returns-clause-lines g c =
-    let all : c.loop-index.index ≡ cohort_size (table_of c.args.plan.now.schema c.args.table.now.place).births c.args.born = omega (arith, c.cohort-index-end.ensures.size) in
-    c.loop-index.invariant.lines
+    let all : c.loop-first.first ≡ cohort_size (table_of c.args.plan.now.schema c.args.table.now.place).births c.args.born =
+    omega (arith, c.cohort-size.ensures.size, c.loop-first.invariant.within, c.loop-first-test.false) in
+    c.loop-first.invariant.lines
     ∙ ap (λ (text : List ℕ). option_map (append_bytes text) (g.S.Shelf.held c.args.shelf.now))
-    (first_lines-all (generator_of c.args.plan.now.schema) c.args.unit c.args.table.now.place c.args.born c.loop-index.index all)
+    (first_lines-all (generator_of c.args.plan.now.schema) c.args.unit c.args.table.now.place c.args.born c.loop-first.first all)

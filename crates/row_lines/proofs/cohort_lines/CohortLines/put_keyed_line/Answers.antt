@@ -5,12 +5,12 @@ use Rattle.std.proofs.lemmas.List.Sums.{sum_by-take-le, sum_by_more, sum_by_more
 use Rattle.schema_check.specs.Layout.{ColumnLayout, layout_of, no_column}
 use Rattle.pd_outside.specs.Pages.{Page}
 use Rattle.row_lines.specs.CohortLines.{LinesOf, layout_for, text_in_cohort}
-use Rattle.row_lines.proofs.CohortLineLemmas.{AreLinesOf-view, length-columns, length-delimiter, line_cost-columns, line_in_cohort-fields, max_line-columns, permutations_in, room_in}
+use Rattle.row_lines.proofs.CohortLineLemmas.{AreLinesOf-view, length-columns, length-delimiter, line_in_cohort-fields, max_line-columns, room_in}
 use Rattle.row_lines.proofs.ListLemmas.{join_with_byte-range_more}
-use Rattle.row_lines.proofs.cohort_lines.CohortLines.put_line.Goals as goal
+use Rattle.row_lines.proofs.cohort_lines.CohortLines.put_keyed_line.Goals as goal
 
 pub put_delimiter-requires : goal.put_delimiter-requires
-put_delimiter-requires g c =
+put_delimiter-requires c =
     let lines : LinesOf = c.args.self.now in
     omega (
       arith,
@@ -22,12 +22,12 @@ put_delimiter-requires g c =
     )
 
 pub put_field-requires-clause-column : goal.put_field-requires-clause-column
-put_field-requires-clause-column g c =
+put_field-requires-clause-column c =
     let known = AreLinesOf-view _ c.args.self.now c.self.inside.keys c.self.inside.table.now c.self.inside.delimiter c.self.inside.birth c.self.view_is c.self.invariant in
     omega (arith, c.loop-column-test.true, c.len-column-end.ensures, length-columns c.args.self.now _ _ _ _ known)
 
 pub put_field-requires-clause-room : goal.put_field-requires-clause-room
-put_field-requires-clause-room g c =
+put_field-requires-clause-room c =
     let lines : LinesOf = c.args.self.now in
     let n : ℕ = c.loop-column.column in
     omega (
@@ -38,13 +38,13 @@ put_field-requires-clause-room g c =
       ap (λ (page : Page). page.room) c.put_delimiter.ensures,
       length-append c.loop-column.buf.text (if n == 0 then [] else c.self.inside.delimiter ∷ []),
       length-delimiter n c.self.inside.delimiter,
-      sum_by_more_le (room_in lines) (layout_for lines).columns n no_column (put_field-requires-clause-column g c),
+      sum_by_more_le (room_in lines) (layout_for lines).columns n no_column (put_field-requires-clause-column c),
       max_line-columns lines,
       c.requires.room,
     )
 
 pub loop-column-preserved : goal.loop-column-preserved
-loop-column-preserved g c =
+loop-column-preserved c =
     let lines : LinesOf = c.args.self.now in
     let known = AreLinesOf-view _ lines c.self.inside.keys c.self.inside.table.now c.self.inside.delimiter c.self.inside.birth c.self.view_is c.self.invariant in
     let columns : List ColumnLayout = (layout_for lines).columns in
@@ -70,16 +70,10 @@ loop-column-preserved g c =
         length-delimiter n c.self.inside.delimiter,
         sum_by_more (room_in lines) columns n no_column below,
       );
-      steps = omega (
-        arith,
-        c.loop-column.invariant.steps,
-        c.put_field.ensures.steps,
-        sum_by_more (permutations_in lines) columns n no_column below,
-      );
     }
 
 pub put_piece-requires : goal.put_piece-requires
-put_piece-requires g c =
+put_piece-requires c =
     let lines : LinesOf = c.args.self.now in
     let known = AreLinesOf-view _ lines c.self.inside.keys c.self.inside.table.now c.self.inside.delimiter c.self.inside.birth c.self.view_is c.self.invariant in
     omega (
@@ -97,7 +91,7 @@ put_piece-requires g c =
     )
 
 pub returns-clause-line : goal.returns-clause-line
-returns-clause-line g c =
+returns-clause-line c =
     let lines : LinesOf = c.args.self.now in
     let known = AreLinesOf-view _ lines c.self.inside.keys c.self.inside.table.now c.self.inside.delimiter c.self.inside.birth c.self.view_is c.self.invariant in
     let n : ℕ = c.loop-column.column in
@@ -113,7 +107,7 @@ returns-clause-line g c =
     ∙ ap (λ (text : List ℕ). c.args.buf.now.text ++ text) (line_in_cohort-fields lines c.args.index n all))
 
 pub returns-clause-size : goal.returns-clause-size
-returns-clause-size g c =
+returns-clause-size c =
     let lines : LinesOf = c.args.self.now in
     let known = AreLinesOf-view _ lines c.self.inside.keys c.self.inside.table.now c.self.inside.delimiter c.self.inside.birth c.self.view_is c.self.invariant in
     let n : ℕ = c.loop-column.column in
@@ -131,14 +125,4 @@ returns-clause-size g c =
       ap (λ (text : List ℕ). length text) (line_in_cohort-fields lines c.args.index n all),
       sum_by-take-le (room_in lines) (layout_for lines).columns n,
       max_line-columns lines,
-    )
-
-pub returns-clause-steps : goal.returns-clause-steps
-returns-clause-steps g c =
-    let lines : LinesOf = c.args.self.now in
-    omega (
-      arith,
-      c.loop-column.invariant.steps,
-      sum_by-take-le (permutations_in lines) (layout_for lines).columns c.loop-column.column,
-      line_cost-columns lines,
     )
