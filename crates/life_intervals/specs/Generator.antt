@@ -1,6 +1,6 @@
 -- What generated data follow: the tables, the order of places in each cohort, the draws, and the byte between two fields.
 use Rattle.std.specs.Prelude.{ℕ, List}
-use Rattle.philox_seeds.specs.SeedTree.{table_seed, column_seed, unit_seed, row_seed, draw, permutation_seed}
+use Rattle.philox_seeds.specs.SeedTree.{field_draw, permutation_seed}
 use Rattle.id_permutation.specs.Placement as placement
 use Rattle.schema_model.specs.declared.table.Schema.{Schema}
 use Rattle.schema_check.specs.Cohorts.{born_count, cohort_size}
@@ -30,17 +30,12 @@ abbrev pub seeded_order : ℕ → List TableLayout → Order
 seeded_order seed tables table purpose unit index =
     placement.place (cohort_size (table_at tables table).births unit) (permutation_seed seed table purpose unit) index
 
--- a draw of a row's seed, down the tree of seeds from the project's
-abbrev pub seeded_draw : ℕ → Draw
-seeded_draw seed table column unit ordinal number =
-    draw (row_seed (unit_seed (column_seed (table_seed seed table) column) unit) ordinal) number
-
 -- the generator of a layout
 abbrev pub generator_by : Layout → Generator
 generator_by layout = record {
   tables = layout.tables;
   order = seeded_order layout.seed layout.tables;
-  draw = seeded_draw layout.seed;
+  draw = field_draw layout.seed;
   delimiter = layout.delimiter;
 }
 

@@ -54,6 +54,11 @@ row_seed unit ordinal = child unit row_level ordinal
 unfoldable pub draw : ℕ → ℕ → ℕ
 draw seed n = keyed_number seed n 0 draw_level 0
 
+-- a draw of a row's field, by its number: down the tree of seeds from the project's to the row's
+abbrev pub field_draw : ℕ → ℕ → ℕ → ℕ → ℕ → ℕ → ℕ
+field_draw project table column unit ordinal number =
+    draw (row_seed (unit_seed (column_seed (table_seed project table) column) unit) ordinal) number
+
 -- the column that stands for the permutation of a table's keys; a reference's permutation has the reference's own column
 abbrev pub key_column : ℕ
 key_column = 64

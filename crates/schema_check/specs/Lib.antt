@@ -1,4 +1,5 @@
 pub mod Counts
+pub mod Choices
 pub mod Names
 pub mod Delimiters
 pub mod Layout
@@ -12,6 +13,7 @@ pub mod Rules
 pub mod Unbuilt
 pub mod Limits
 pub mod Faults
+pub mod Ready
 pub mod Planned
 pub mod Capped
 pub mod Worked

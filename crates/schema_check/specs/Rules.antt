@@ -1,15 +1,17 @@
 -- The rules of a schema, each at the sites where it asks something, and the first that is broken.
-use Rattle.std.specs.Prelude.{◌≡◌, ℕ, zero, suc, ℤ, pos, ◌^◌, List, [], ◌∷◌, length, map, take, Bool, true, false, not, ◌&&◌, ◌||◌, nat_le, int_le, Option, Some, None, slice_index_or, if◌then◌else◌}
-use Rattle.std.specs.List.{list_any, range_with_len}
+use Rattle.std.specs.Prelude.{◌≡◌, ℕ, zero, suc, ℤ, pos, neg_ℤ, ◌+ℤ◌, ◌-ℤ◌, ◌^◌, ◌==◌, List, [], ◌∷◌, length, map, sum, take, Bool, true, false, not, ◌&&◌, ◌||◌, nat_le, int_le, Option, Some, None, slice_index_or, if◌then◌else◌}
+use Rattle.std.specs.List.{list_all, list_any, range_with_len}
 use Rattle.std.specs.Option.{option_or, option_map}
 use Rattle.schema_model.specs.declared.table.Schema.{Schema}
 use Rattle.schema_model.specs.declared.table.Table.{Table}
 use Rattle.schema_model.specs.declared.column.Column.{Column}
 use Rattle.schema_model.specs.declared.column.Kind.{Kind}
 use Rattle.schema_model.specs.declared.column.Kind.TheVariants as kind
+use Rattle.schema_model.specs.declared.column.Leaf.{Leaf}
+use Rattle.schema_model.specs.declared.column.Leaf.TheVariants as drawn
 use Rattle.schema_check.specs.declared.broken.Broken.{Broken}
 use Rattle.schema_check.specs.declared.rules.Rule.{Rule}
-use Rattle.schema_check.specs.declared.rules.Rule.TheVariants.{SeedAndUnits, TableCount, TableNames, Columns, KeyColumn, RowCount, RowCost, LineSize}
+use Rattle.schema_check.specs.declared.rules.Rule.TheVariants.{SeedAndUnits, TableCount, TableNames, Columns, KeyColumn, RowCount, NumberRange, DateRange, PickEntries, SkewRange, RowCost, LineSize}
 use Rattle.schema_check.specs.declared.site.Site.{Site}
 use Rattle.schema_check.specs.declared.site.Site.TheVariants.{Whole, OfTable, OfColumn}
 use Rattle.schema_check.specs.Cohorts.{born_count}
@@ -72,6 +74,46 @@ abbrev pub is_row_count : ℤ → Table → Bool
 is_row_count units table =
     int_le (pos 0) table.rows && int_le (pos 0) table.insert && nat_le (born_count (births_of table) (count units)) (2 ^ 40)
 
+-- ---- what rules ask of drawn values
+
+-- the values that are drawn for a column: the one of a leaf, or those of the branches of a case
+abbrev pub leaves_of : Kind → List Leaf
+leaves_of (kind.Leaf leaf) = leaf ∷ []
+leaves_of (kind.Case on branches) = branches
+leaves_of _ = []
+
+-- numbers from lo to hi, which is at most 2^63 - 1 past lo
+abbrev pub is_range : ℤ → ℤ → Bool
+is_range lo hi = int_le lo hi && int_le (hi -ℤ lo) (pos (2 ^ 63 - 1))
+
+-- a number is of such a range, in steps of at least 1, or with at most 9 digits after the point
+abbrev pub is_number_range : Leaf → Bool
+is_number_range (drawn.Int lo hi step) = is_range lo hi && int_le (pos 1) step
+is_number_range (drawn.Fixed lo hi decimals) = is_range lo hi && is_between 0 9 decimals
+is_number_range _ = true
+
+-- a date is from 0001-01-01 to 9999-12-31
+abbrev pub is_date_range : Leaf → Bool
+is_date_range (drawn.Date lo hi) = int_le (neg_ℤ (pos 719162)) lo && int_le lo hi && int_le hi (pos 2932896)
+is_date_range _ = true
+
+-- a pick has 1 to 256 entries and as many weights, each at least 1 and together at most 2^32
+abbrev pub is_weighted : Leaf → Bool
+is_weighted (drawn.Pick entries weights) =
+    nat_le 1 (length entries) && nat_le (length entries) 256 && length weights == length entries
+    && list_all (int_le (pos 1)) weights && nat_le (sum (map count weights)) (2 ^ 32)
+is_weighted _ = true
+
+-- a skew has 1 to 4,096 numbers, the last at most 2^63 - 1, and a power from 1 to 3
+abbrev pub is_skew_range : Leaf → Bool
+is_skew_range (drawn.Skew lo size power) =
+    is_between 1 4096 size && is_between 1 3 power && int_le (lo +ℤ (size -ℤ pos 1)) (pos (2 ^ 63 - 1))
+is_skew_range _ = true
+
+-- whether each value that is drawn for the column at a place passes a test
+abbrev pub is_each_leaf : (Leaf → Bool) → Schema → ℕ → ℕ → Bool
+is_each_leaf test schema table column = list_all test (leaves_of (kind_at (columns_at schema table) column))
+
 -- ---- the rules
 
 -- whether a rule holds at a site; where a rule asks nothing, it holds
@@ -89,6 +131,15 @@ holds Columns schema (OfColumn table column) = is_new_at (column_names schema ta
 holds KeyColumn schema (OfColumn table column) = is_key_first column (kind_at (columns_at schema table) column)
 -- V6: a table gains no negative number of rows, and at most 2^40 by the last unit
 holds RowCount schema (OfTable table) = is_row_count schema.units (schema_table schema table)
+-- V9: a number is from lo to hi, which is at most 2^63 - 1 past lo; its step is at least 1, its decimals are 0 to 9. This rule and
+-- the next three are tried on the branches of a case too
+holds NumberRange schema (OfColumn table column) = is_each_leaf is_number_range schema table column
+-- V10: a date is from 0001-01-01 to 9999-12-31
+holds DateRange schema (OfColumn table column) = is_each_leaf is_date_range schema table column
+-- V11: a pick has 1 to 256 entries and as many weights, each at least 1 and together at most 2^32
+holds PickEntries schema (OfColumn table column) = is_each_leaf is_weighted schema table column
+-- V12: a skew has 1 to 4,096 numbers up to 2^63 - 1, and a power from 1 to 3
+holds SkewRange schema (OfColumn table column) = is_each_leaf is_skew_range schema table column
 -- V23: the cost of a row is at most 4,096. Past 64 tables, where an earlier rule is broken, nothing is asked
 holds RowCost schema (OfTable table) = nat_le 64 table || nat_le (cost (layout_of schema) table) 4096
 -- V24: a line has at most 65,536 bytes. The same
@@ -103,12 +154,17 @@ number_of TableNames = 3
 number_of Columns = 4
 number_of KeyColumn = 5
 number_of RowCount = 6
+number_of NumberRange = 9
+number_of DateRange = 10
+number_of PickEntries = 11
+number_of SkewRange = 12
 number_of RowCost = 23
 number_of LineSize = 24
 
 -- the rules in the order in which they are tried, which for all of V1 to V25 is V13, V1 to V12, V14 to V25
 abbrev pub rules : List Rule
-rules = SeedAndUnits ∷ TableCount ∷ TableNames ∷ Columns ∷ KeyColumn ∷ RowCount ∷ RowCost ∷ LineSize ∷ []
+rules = SeedAndUnits ∷ TableCount ∷ TableNames ∷ Columns ∷ KeyColumn ∷ RowCount
+    ∷ NumberRange ∷ DateRange ∷ PickEntries ∷ SkewRange ∷ RowCost ∷ LineSize ∷ []
 
 -- ---- the first broken rule
 

@@ -4,16 +4,24 @@ use Rattle.std.specs.List.{list_any}
 use Rattle.std.specs.Ordering.{int_eq}
 use Rattle.schema_model.specs.declared.table.Schema.{Schema}
 use Rattle.schema_model.specs.declared.table.Table.{Table}
-use Rattle.schema_model.specs.declared.table.Delimiter.{Delimiter}
-use Rattle.schema_model.specs.declared.table.Delimiter.TheVariants.{Tab, Bar}
 use Rattle.schema_model.specs.declared.column.Column.{Column}
 use Rattle.schema_model.specs.declared.column.Kind.{Kind}
-use Rattle.schema_model.specs.declared.column.Kind.TheVariants.{Key, Born}
+use Rattle.schema_model.specs.declared.column.Kind.TheVariants as kind
+use Rattle.schema_model.specs.declared.column.Leaf.{Leaf}
+use Rattle.schema_model.specs.declared.column.Leaf.TheVariants as drawn
 
--- every kind but key and born
+-- a value of a dictionary, or of characters
+abbrev pub is_unbuilt_leaf : Leaf → Bool
+is_unbuilt_leaf (drawn.Dict file) = true
+is_unbuilt_leaf (drawn.Words file lo hi) = true
+is_unbuilt_leaf (drawn.Chars alphabet lo hi) = true
+is_unbuilt_leaf _ = false
+
+-- such a value, and every kind but key, born and drawn values
 abbrev pub is_unbuilt_kind : Kind → Bool
-is_unbuilt_kind (Key base scramble) = false
-is_unbuilt_kind Born = false
+is_unbuilt_kind (kind.Key base scramble) = false
+is_unbuilt_kind kind.Born = false
+is_unbuilt_kind (kind.Leaf leaf) = is_unbuilt_leaf leaf
 is_unbuilt_kind _ = true
 
 -- a column that changes, is null at times, or has such a kind
@@ -26,10 +34,6 @@ abbrev pub is_unbuilt_table : Table → Bool
 is_unbuilt_table table =
     is_some table.life || is_some table.update || list_any is_unbuilt_column table.columns
 
-abbrev pub is_bar : Delimiter → Bool
-is_bar Tab = false
-is_bar Bar = true
-
--- a schema whose delimiter is the bar, or that has such a table
+-- a schema that has such a table
 abbrev pub is_unbuilt : Schema → Bool
-is_unbuilt schema = is_bar schema.delimiter || list_any is_unbuilt_table schema.tables
+is_unbuilt schema = list_any is_unbuilt_table schema.tables

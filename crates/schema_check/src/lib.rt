@@ -17,6 +17,7 @@ mod names;
 mod not_built;
 mod places;
 mod plan;
+mod ready;
 mod rules;
 mod site;
 
@@ -24,6 +25,7 @@ pub use checker::{CheckFault, check};
 pub use layout::{Births, Keys, Span};
 pub use not_built::unbuilt;
 pub use plan::Plan;
+pub use ready::{ReadyColumn, ReadyLeaf};
 
 #[cfg(test)]
 mod fact_tests;

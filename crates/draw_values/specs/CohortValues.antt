@@ -1,0 +1,37 @@
+-- The values of the rows of one cohort, and what the code keeps of them.
+use Rattle.std.specs.Prelude.{◌≡◌, ◌<◌, ◌≤◌, ℕ, List, decimal, length, get_or, All, true}
+use Rattle.philox_seeds.specs.SeedTree.{table_seed, column_seed, unit_seed}
+use Rattle.pd_outside.specs.declared.piece.Piece.{Piece}
+use Rattle.pd_outside.specs.Pieces.{piece_text}
+use Rattle.schema_check.specs.declared.ready.ReadyColumn.{ReadyColumn}
+use Rattle.schema_check.specs.Layout.{layout_of, table_at, TableLayout}
+use Rattle.schema_check.specs.Limits.{IsTableInLimits}
+use Rattle.schema_check.specs.Planned.{Planned}
+use Rattle.schema_check.specs.Ready.{ready_columns, is_served}
+use Rattle.draw_values.specs.Values.{value_at}
+
+-- the values of the rows that are born at a unit, in the table at a place
+pub record ValuesOf : Type 0 where
+  pub plan : Planned
+  pub table : ℕ
+  pub unit : ℕ
+
+-- the layout of the table
+abbrev pub layout_for : ValuesOf → TableLayout
+layout_for values = table_at (layout_of values.plan.schema).tables values.table
+
+-- what the row with an ordinal holds in the column at a place
+abbrev pub value_for : ValuesOf → ℕ → ℕ → _
+value_for values column ordinal =
+    value_at (layout_of values.plan.schema) values.table column
+    (record { ordinal = ordinal; born = values.unit; changed = values.unit })
+
+-- what is kept is of the table's columns, with the seed of the unit for each
+pub record AreValuesOf (values : ValuesOf) (ready : List ReadyColumn) (seeds : List ℕ) (birth : Piece) : Type 0 where
+  pub columns : ready ≡ ready_columns (layout_of values.plan.schema) values.table
+  pub served : All (λ column. is_served column ≡ true) ready
+  pub limits : IsTableInLimits (layout_of values.plan.schema).units (layout_for values)
+  pub seeds_are : (column : ℕ) → column < length ready →
+      get_or seeds column 0 ≡ unit_seed (column_seed (table_seed (layout_of values.plan.schema).seed values.table) column) values.unit
+  pub birth_text : piece_text birth ≡ decimal values.unit
+  pub unit_limit : values.unit ≤ 10000

@@ -1,0 +1,17 @@
+-- Numbers in decimal, with a fixed number of digits or with a point.
+use Rattle.std.specs.Prelude.{ℕ, zero, suc, ℤ, pos, negsuc, ◌+◌, ◌/◌, ◌%◌, ◌^◌, List, [], ◌∷◌, ◌++◌, decimal}
+
+-- the last digits of a number, as many as are said, zeros included
+unfoldable pub last_digits : ℕ → ℕ → List ℕ
+last_digits zero n = []
+last_digits (suc count) n = last_digits count (n / 10) ++ (48 + n % 10) ∷ []
+
+-- a number whose last digits, as many as are said, stand after a point, and at least one before it; no point where none are said
+abbrev pub pointed : ℕ → ℕ → List ℕ
+pointed zero n = decimal n
+pointed (suc count) n = decimal (n / 10 ^ suc count) ++ 46 ∷ last_digits (suc count) n
+
+-- the same with a minus sign where the number is negative
+abbrev pub signed_pointed : ℕ → ℤ → List ℕ
+signed_pointed decimals (pos n) = pointed decimals n
+signed_pointed decimals (negsuc n) = 45 ∷ pointed decimals (suc n)

@@ -1,0 +1,58 @@
+//! What a plan keeps of the columns, so that nothing that stays the same is worked out for a row.
+
+use fixed_divisors::FixedDivisor;
+use row_text::WrittenTexts;
+use weight_tables::Weights;
+
+/// A column, ready for rows.
+#[derive(Debug, Drop)]
+pub enum ReadyColumn {
+    /// The key of the row.
+    Key,
+    /// The row's unit of birth.
+    Born,
+    /// A value that is drawn for the field alone.
+    Drawn(ReadyLeaf),
+    /// A kind that no table can be made of yet.
+    Unserved,
+}
+
+/// A value that is drawn for a field alone, ready for rows.
+#[derive(Debug, Drop)]
+pub enum ReadyLeaf {
+    /// One of so many choices from `lo` to `hi`, each `step` past the one before.
+    Int {
+        lo: i64,
+        hi: i64,
+        step: u64,
+        choices: FixedDivisor,
+    },
+    /// One of so many choices from `lo` to `hi`, whose last `decimals` digits stand after a point: `unit` is 10 to their number.
+    Fixed {
+        lo: i64,
+        hi: i64,
+        choices: FixedDivisor,
+        decimals: u32,
+        unit: FixedDivisor,
+    },
+    /// One of so many days from `lo` to `hi`, counted from 1970-01-01, which is day 0.
+    Date {
+        lo: i32,
+        hi: i32,
+        choices: FixedDivisor,
+    },
+    /// One of the entries, as they are written, each as often as its weight says; `total` is the sum of the weights.
+    Pick {
+        entries: WrittenTexts,
+        weights: Weights,
+        total: FixedDivisor,
+    },
+    /// A number from `lo` on, one for each weight, as often as that says; `total` is the sum of the weights.
+    Skew {
+        lo: i64,
+        weights: Weights,
+        total: FixedDivisor,
+    },
+    /// A value that no table can be made of yet.
+    Unserved,
+}
