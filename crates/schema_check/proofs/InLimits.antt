@@ -1,5 +1,5 @@
 -- An accepted schema is within its limits.
-use Rattle.std.proofs.Common.{◌≡◌, ◌≢◌, ℕ, pos, suc, zero, ◌<◌, ◌≤◌, ◌^◌, Bool, true, false, not, ◌&&◌, ◌||◌, List, [], length, map, get_or, slice_get, Some, refl, sym, ap, ◌∙◌, subst, arith, int_le, nat_le, ◌==◌}
+use Rattle.std.proofs.Common.{◌≡◌, ◌≢◌, ℕ, pos, suc, ◌<◌, ◌≤◌, ◌^◌, Bool, true, false, not, ◌&&◌, ◌||◌, List, [], length, map, get_or, slice_get, Some, refl, sym, ap, ◌∙◌, subst, arith, int_le, nat_le, ◌==◌}
 use Rattle.std.specs.List.{position_or_len}
 use Rattle.std.proofs.lemmas.Bool.{and_parts, leb-true}
 use Rattle.std.proofs.lemmas.List.{get_or-map, length-map}
@@ -9,18 +9,19 @@ use Rattle.schema_model.specs.declared.column.Column.{Column}
 use Rattle.schema_model.specs.declared.column.Kind.{Kind}
 use Rattle.schema_model.specs.declared.column.Kind.TheVariants.{Key, Born}
 use Rattle.schema_check.specs.declared.rules.Rule.{Rule}
-use Rattle.schema_check.specs.declared.rules.Rule.TheVariants.{SeedAndUnits, TableCount, Columns, KeyColumn, RowCount, RowCost, LineSize}
+use Rattle.schema_check.specs.declared.rules.Rule.TheVariants.{SeedAndUnits, TableCount, Columns, KeyColumn, RowCount, NumberRange, DateRange, PickEntries, SkewRange, RowCost, LineSize}
 use Rattle.schema_check.specs.declared.site.Site.TheVariants.{Whole, OfTable, OfColumn}
 use Rattle.schema_check.specs.Cohorts.{born_count}
 use Rattle.schema_check.specs.Counts.{count}
 use Rattle.schema_check.specs.Layout.{KindLayout, ColumnLayout, births_of, column_at, column_layout, key_kind, keys_of_kind, kind_layout, layout_of, no_column, table_layout}
-use Rattle.schema_check.specs.Limits.{IsCount, IsTableInLimits, IsInLimits}
+use Rattle.schema_check.specs.Limits.{IsKindInLimits, IsTableInLimits, IsInLimits}
 use Rattle.schema_check.specs.Rules.{broken_rule, first_broken, number_of, rules, is_between, is_key, is_key_in_range, is_key_first, is_one_to_64, kind_at, schema_table, IsAccepted, Keeps}
 use Rattle.schema_check.specs.Sites.{columns_at}
 use Rattle.schema_check.specs.TableFacts.{cost, max_line}
 use Rattle.schema_check.proofs.FirstBreak.{none_of_rule}
 use Rattle.schema_check.proofs.FromTests.{count_from_test, limit_from_test}
 use Rattle.schema_check.proofs.Kept.{keeps_from_none, none_at}
+use Rattle.schema_check.proofs.LeafLimits.{kind_in_limits}
 use Rattle.schema_check.proofs.RuleLemmas.{columns_at-is}
 
 -- the place of a rule in the order, by its number
@@ -55,6 +56,15 @@ no_key : (tables : List Table) (columns : List Column) (kind : Kind) → not (is
 no_key tables columns (Key base scramble) h = cc
 no_key tables columns _ h = λ e. cc
 
+-- what is drawn for a column of an accepted schema
+column_in_limits : (schema : Schema) → IsAccepted schema → (i j : ℕ) → i < length schema.tables → j < length (columns_at schema i) → (tables : List Table) (columns : List Column) → IsKindInLimits (kind_layout tables columns (kind_at (columns_at schema i) j))
+column_in_limits schema accepted i j table column tables columns =
+    kind_in_limits tables columns (kind_at (columns_at schema i) j)
+    (keeps schema accepted NumberRange refl (OfColumn i j) (table, column))
+    (keeps schema accepted DateRange refl (OfColumn i j) (table, column))
+    (keeps schema accepted PickEntries refl (OfColumn i j) (table, column))
+    (keeps schema accepted SkewRange refl (OfColumn i j) (table, column))
+
 -- ---- tables
 
 table_in_limits : (schema : Schema) → IsAccepted schema → (i : ℕ) → i < length schema.tables → IsTableInLimits (count schema.units) (table_layout schema.tables (schema_table schema i))
@@ -79,6 +89,11 @@ table_in_limits schema accepted i h =
           let within : suc place < length t.columns = omega (arith, layouts, lt) in
           no_key schema.tables t.columns (kind_at t.columns (suc place)) (v5 (suc place) within)
           (sym (kind_at-layout t.columns layout kind (λ c. refl) (suc place) within) ∙ is_key_at);
+      drawn = λ place lt.
+          let within : place < length t.columns = omega (arith, layouts, lt) in
+          let at : place < length (columns_at schema i) = subst (λ (columns : List Column). place < length columns) (sym same) within in
+          let limits = column_in_limits schema accepted i place h at schema.tables t.columns in
+          subst IsKindInLimits (ap (λ columns. kind (kind_at columns place)) same ∙ sym (kind_at-layout t.columns layout kind (λ c. refl) place within)) limits;
     }
 
 -- a number of one of the first 64 tables is at most its limit

@@ -10,5 +10,7 @@ pub mod LineageLemmas
 pub mod BoundsLemmas
 pub mod FactsLemmas
 pub mod RuleLemmas
+pub mod LeafLemmas
+pub mod LeafLimits
 pub mod InLimits
 pub mod PlannedLemmas

@@ -1,7 +1,6 @@
 -- What a plan keeps of the table at a place.
 use Rattle.std.proofs.Common.{◌≡◌, ℕ, zero, suc, ◌<◌, ◌≤◌, min, max, false, List, [], ◌∷◌, length, map, get_or, slice_get, Some, refl, sym, ap, ◌∙◌, arith}
-use Rattle.std.specs.List.{fold, list_any, range_with_len}
-use Rattle.std.proofs.lemmas.Bool.{or_parts}
+use Rattle.std.specs.List.{fold, range_with_len}
 use Rattle.std.proofs.lemmas.List.{length-map}
 use Rattle.std.proofs.lemmas.List.FromFn.{fill_by_all, get_or-map-range_with_len, length-map-range_with_len}
 use Rattle.std.proofs.lemmas.List.Folds.{fold-map}
@@ -14,7 +13,7 @@ use Rattle.schema_check.specs.FieldBounds.{greatest_by}
 use Rattle.schema_check.specs.Layout.{Layout, TableLayout, layout_of, no_table, table_at, table_layout}
 use Rattle.schema_check.specs.Limits.{IsInLimits}
 use Rattle.schema_check.specs.TableFacts.{facts_at, line_of_table, max_line, reach}
-use Rattle.schema_check.specs.Unbuilt.{is_bar, is_unbuilt, is_unbuilt_table}
+use Rattle.schema_check.specs.Unbuilt.{is_unbuilt, is_unbuilt_table}
 use Rattle.schema_check.proofs.FromTests.{fails_each}
 use Rattle.schema_check.proofs.Lists.{map-same}
 
@@ -75,4 +74,4 @@ get_or-kept schema kept is place d h =
 pub built_table : (schema : Schema) → is_unbuilt schema ≡ false → (place : ℕ) (table : Table) → slice_get schema.tables place ≡ Some table → is_unbuilt_table table ≡ false
 built_table schema built place table at =
     ap is_unbuilt_table (sym (get_or_from_slice_get schema.tables place table table at))
-    ∙ fails_each is_unbuilt_table schema.tables place table (slice_get_within schema.tables place table at) ((or_parts (is_bar schema.delimiter) (list_any is_unbuilt_table schema.tables) built).1)
+    ∙ fails_each is_unbuilt_table schema.tables place table (slice_get_within schema.tables place table at) built

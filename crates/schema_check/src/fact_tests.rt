@@ -73,46 +73,6 @@ fn first_fault(schema: &Schema) -> Option<CheckFault> {
     }
 }
 
-/// A schema with a key, a unit of birth, and one word of this many letters to pick.
-fn schema_with_word(alloc: Global, letters: u32) -> Result<Schema, AllocError> {
-    let mut word = Text::new(alloc);
-    for _ in 0..letters {
-        word.push("x").map_err(|_| AllocError)?;
-    }
-    let mut entries = Texts::new(alloc);
-    entries.push(word).map_err(|_| AllocError)?;
-    let mut weights = Longs::new(alloc);
-    weights.push(1).map_err(|_| AllocError)?;
-    let mut table = table(alloc, "t", false)?;
-    push_column(alloc, &mut table.columns, "born", Kind::Born)?;
-    let pick = Kind::Leaf(Leaf::Pick { entries, weights });
-    push_column(alloc, &mut table.columns, "word", pick)?;
-    let mut schema = schema(alloc);
-    schema.tables.push(table).map_err(|_| AllocError)?;
-    Ok(schema)
-}
-
-// A line has 65,536 bytes: 20 of the key, 5 of the unit, the word, two tabs and the line feed.
-#[test]
-fn longest_lines(rt: HostRuntime) -> Result<(), Fail> {
-    let alloc = rt.alloc();
-    let broken = Some(CheckFault::Rule {
-        number: 24,
-        table: 1,
-        column: 0,
-    });
-    for (letters, fault) in [
-        (65_507, None),
-        (65_508, None),
-        (65_509, broken),
-        (65_600, broken),
-    ] {
-        let schema = schema_with_word(alloc, letters)?;
-        assert_eq!(rt; first_fault(&schema), fault, "{letters} letters");
-    }
-    Ok(())
-}
-
 /// The table with this number in a chain, with references to the table before it.
 fn link(alloc: Global, number: u8, references: u8) -> Result<Table, AllocError> {
     let name = format!(in alloc; "t{number}")?;

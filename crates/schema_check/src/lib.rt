@@ -12,6 +12,7 @@ mod facts;
 mod field_bounds;
 pub mod laws;
 mod layout;
+mod leaf_rules;
 mod lineage;
 mod names;
 mod not_built;

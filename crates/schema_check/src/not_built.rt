@@ -2,18 +2,15 @@
 
 ghost use Rattle.std.specs.Prelude.{◌≡◌};
 ghost use Rattle.std.specs.List.{list_any};
-ghost use Rattle.schema_check.specs.Unbuilt.{is_unbuilt, is_unbuilt_table, is_unbuilt_column, is_unbuilt_kind};
+ghost use Rattle.schema_check.specs.Unbuilt.{is_unbuilt, is_unbuilt_table, is_unbuilt_column, is_unbuilt_kind, is_unbuilt_leaf};
 
-use schema_model::{Column, Delimiter, Kind, Schema, Table};
+use schema_model::{Column, Kind, Leaf, Schema, Table};
 
-/// Whether a schema holds something that isn't built: the bar as delimiter, a table with a life or updates, a column
-/// that changes or is null at times, or a column that is neither a key nor a unit of birth.
+/// Whether a schema holds something that isn't built: a table with a life or updates, a column that changes or is null
+/// at times, or a column that is neither a key nor a unit of birth nor drawn from numbers, dates or entries of its own.
 pub fn unbuilt(schema: &Schema) -> bool
     ensures { result ≡ is_unbuilt schema.now }
 {
-    if schema.delimiter == Delimiter::Bar {
-        return true;
-    }
     is_any_table_unbuilt(schema.tables.as_slice())
 }
 
@@ -49,6 +46,16 @@ fn is_unbuilt_kind(kind: &Kind) -> bool
 {
     match kind {
         Kind::Key { .. } | Kind::Born => false,
+        Kind::Leaf(leaf) => is_unbuilt_leaf(leaf),
         _ => true,
+    }
+}
+
+fn is_unbuilt_leaf(leaf: &Leaf) -> bool
+    ensures { result ≡ is_unbuilt_leaf leaf.now }
+{
+    match leaf {
+        Leaf::Dict { .. } | Leaf::Words { .. } | Leaf::Chars { .. } => true,
+        _ => false,
     }
 }

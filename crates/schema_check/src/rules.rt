@@ -5,15 +5,18 @@ ghost use Rattle.std.specs.List.{list_any};
 ghost use Rattle.schema_check.specs.Capped.{capped, first_facts, is_known_at_most};
 ghost use Rattle.schema_check.specs.Counts.{count};
 ghost use Rattle.schema_check.specs.Names.{same_text};
-ghost use Rattle.schema_check.specs.Rules.{break_in_table, first_break, first_broken, holds, is_key_first, is_new_at, is_one_to_64, is_row_count, number_of};
+ghost use Rattle.schema_check.specs.Rules.{break_in_table, first_break, first_broken, holds, is_key_first, is_new_at, is_one_to_64, is_row_count, kind_at, leaves_of, number_of};
 ghost use Rattle.schema_check.specs.Sites.{columns_at, IsSiteOf};
 
 use crate::broken::Broken;
 use crate::counts::count;
 use crate::facts::TableFacts;
+use crate::leaf_rules::{
+    are_date_ranges, are_number_ranges, are_skew_ranges, are_weighted, leaves_of,
+};
 use crate::names::is_name;
 use crate::site::Site;
-use schema_model::{Column, Kind, Schema, Table, Text};
+use schema_model::{Column, Kind, Leaf, Schema, Table, Text};
 
 /// The greatest last unit.
 const MAX_UNITS: i64 = 10_000;
@@ -48,6 +51,14 @@ pub(crate) enum Rule {
     KeyColumn,
     /// V6
     RowCount,
+    /// V9
+    NumberRange,
+    /// V10
+    DateRange,
+    /// V11
+    PickEntries,
+    /// V12
+    SkewRange,
     /// V23
     RowCost,
     /// V24
@@ -55,13 +66,17 @@ pub(crate) enum Rule {
 }
 
 /// The rules in the order in which they are tried.
-const ORDER: [Rule; 8] = [
+const ORDER: [Rule; 12] = [
     Rule::SeedAndUnits,
     Rule::TableCount,
     Rule::TableNames,
     Rule::Columns,
     Rule::KeyColumn,
     Rule::RowCount,
+    Rule::NumberRange,
+    Rule::DateRange,
+    Rule::PickEntries,
+    Rule::SkewRange,
     Rule::RowCost,
     Rule::LineSize,
 ];
@@ -130,6 +145,10 @@ impl Rule {
             Rule::Columns => 4,
             Rule::KeyColumn => 5,
             Rule::RowCount => 6,
+            Rule::NumberRange => 9,
+            Rule::DateRange => 10,
+            Rule::PickEntries => 11,
+            Rule::SkewRange => 12,
             Rule::RowCost => 23,
             Rule::LineSize => 24,
         }
@@ -154,6 +173,18 @@ impl Rule {
                 is_key_first(column, &columns_at(schema, table)[column].kind)
             }
             (Rule::RowCount, Site::OfTable(table)) => is_row_count(schema.units, &tables[table]),
+            (Rule::NumberRange, Site::OfColumn(table, column)) => {
+                are_number_ranges(leaves_at(schema, table, column))
+            }
+            (Rule::DateRange, Site::OfColumn(table, column)) => {
+                are_date_ranges(leaves_at(schema, table, column))
+            }
+            (Rule::PickEntries, Site::OfColumn(table, column)) => {
+                are_weighted(leaves_at(schema, table, column))
+            }
+            (Rule::SkewRange, Site::OfColumn(table, column)) => {
+                are_skew_ranges(leaves_at(schema, table, column))
+            }
             (Rule::RowCost, Site::OfTable(table)) => is_row_cost(facts, table),
             (Rule::LineSize, Site::OfTable(table)) => is_line_size(facts, table),
             _ => true,
@@ -167,6 +198,14 @@ pub(crate) fn columns_at(schema: &Schema, table: usize) -> &[Column]
     ensures { result.now ≡ columns_at schema.now table }
 {
     schema.tables.as_slice()[table].columns.as_slice()
+}
+
+/// The values that are drawn for the column at a place.
+fn leaves_at(schema: &Schema, table: usize, column: usize) -> &[Leaf]
+    requires { IsSiteOf schema.now (Site.OfColumn table column) }
+    ensures { result.now ≡ leaves_of (kind_at (columns_at schema.now table) column) }
+{
+    leaves_of(&columns_at(schema, table)[column].kind)
 }
 
 fn is_seed_and_units(schema: &Schema) -> bool

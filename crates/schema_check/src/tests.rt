@@ -1,5 +1,7 @@
 use super::*;
-use schema_model::{Column, Columns, Delimiter, Kind, Life, Schema, Table, Tables, Text};
+use schema_model::{
+    Column, Columns, Delimiter, Kind, Leaf, Life, Longs, Parts, Schema, Table, Tables, Text, Texts,
+};
 use std::alloc::{AllocError, Global};
 use std::test::Fail;
 use std::thread;
@@ -271,6 +273,223 @@ fn numbers_of_rows(rt: HostRuntime) -> Result<(), Fail> {
     Ok(())
 }
 
+/// A text of some letters x.
+fn letters(alloc: Global, count: u64) -> Result<Text, AllocError> {
+    let mut text = Text::new(alloc);
+    for _ in 0..count {
+        text.push("x").map_err(|_| AllocError)?;
+    }
+    Ok(text)
+}
+
+/// A pick of so many entries, each of so many letters. The weights come in runs, each of so many times one weight.
+fn pick(alloc: Global, entries: u64, size: u64, runs: &[(u64, i64)]) -> Result<Leaf, AllocError> {
+    let mut picked = Texts::new(alloc);
+    for _ in 0..entries {
+        let entry = letters(alloc, size)?;
+        picked.push(entry).map_err(|_| AllocError)?;
+    }
+    let mut weights = Longs::new(alloc);
+    for (count, weight) in runs {
+        for _ in 0..*count {
+            weights.push(*weight).map_err(|_| AllocError)?;
+        }
+    }
+    Ok(Leaf::Pick {
+        entries: picked,
+        weights,
+    })
+}
+
+/// The table with one more column, which holds a drawn value.
+fn with_leaf(alloc: Global, table: Table, name: &str, leaf: Leaf) -> Result<Table, AllocError> {
+    let mut table = table;
+    let name = text(alloc, name)?;
+    let column = Column {
+        name,
+        kind: Kind::Leaf(leaf),
+        changes: false,
+        null: 0,
+    };
+    table.columns.push(column).map_err(|_| AllocError)?;
+    Ok(table)
+}
+
+/// What is told of a schema whose second table holds a drawn value in its third column.
+fn told_of(alloc: Global, leaf: Leaf) -> Result<Option<(u32, u64, u64)>, Fail> {
+    let table = with_leaf(alloc, table(alloc, "u", (1, 1), &ONE)?, "drawn", leaf)?;
+    let mut schema = single(alloc, (1, 1), &ONE)?;
+    schema.tables.push(table).map_err(|_| AllocError)?;
+    told(alloc, schema)
+}
+
+/// A rule of drawn values where it is broken there.
+fn broken_unless(is_kept: bool, number: u32) -> Option<(u32, u64, u64)> {
+    if is_kept { None } else { Some((number, 2, 3)) }
+}
+
+#[test]
+fn ranges_of_whole_numbers(rt: HostRuntime) -> Result<(), Fail> {
+    let alloc = rt.alloc();
+    for (lo, hi, step, is_kept) in [
+        (5, 5, 1, true),
+        (5, 4, 1, false),
+        (0, i64::MAX, 1, true),
+        (-1, i64::MAX, 1, false),
+        (-1, i64::MAX - 1, 1, true),
+        (i64::MIN, -1, 1, true),
+        (i64::MIN, 0, 1, false),
+        (i64::MIN, i64::MAX, 1, false),
+        (i64::MAX, i64::MIN, 1, false),
+        (1, 2, i64::MAX, true),
+        (1, 2, 0, false),
+        (1, 2, -1, false),
+    ] {
+        assert_eq!(rt;
+            told_of(alloc, Leaf::Int { lo, hi, step })?,
+            broken_unless(is_kept, 9),
+            "from {lo} to {hi} by {step}"
+        );
+    }
+    Ok(())
+}
+
+#[test]
+fn ranges_of_numbers_with_a_point(rt: HostRuntime) -> Result<(), Fail> {
+    let alloc = rt.alloc();
+    for (lo, hi, decimals, is_kept) in [
+        (5, 5, 0, true),
+        (5, 4, 0, false),
+        (5, 5, 9, true),
+        (5, 5, 10, false),
+        (5, 5, -1, false),
+        (0, i64::MAX, 2, true),
+        (-1, i64::MAX, 2, false),
+    ] {
+        assert_eq!(rt;
+            told_of(alloc, Leaf::Fixed { lo, hi, decimals })?,
+            broken_unless(is_kept, 9),
+            "from {lo} to {hi} with {decimals} decimals"
+        );
+    }
+    Ok(())
+}
+
+// 0001-01-01 is the day -719,162 from 1970-01-01, and 9999-12-31 the day 2,932,896.
+#[test]
+fn ranges_of_dates(rt: HostRuntime) -> Result<(), Fail> {
+    let alloc = rt.alloc();
+    for (lo, hi, is_kept) in [
+        (0, 0, true),
+        (1, 0, false),
+        (-719_162, 2_932_896, true),
+        (-719_163, 0, false),
+        (0, 2_932_897, false),
+        (i32::MIN, i32::MAX, false),
+    ] {
+        assert_eq!(rt;
+            told_of(alloc, Leaf::Date { lo, hi })?,
+            broken_unless(is_kept, 10),
+            "from day {lo} to day {hi}"
+        );
+    }
+    Ok(())
+}
+
+// The last weights add up to 2^64 + 1.
+#[test]
+fn entries_and_weights(rt: HostRuntime) -> Result<(), Fail> {
+    let alloc = rt.alloc();
+    for (entries, runs, is_kept) in [
+        (0, [(0, 1), (0, 1)], false),
+        (1, [(1, 1), (0, 1)], true),
+        (256, [(256, 1), (0, 1)], true),
+        (257, [(257, 1), (0, 1)], false),
+        (256, [(255, 1), (0, 1)], false),
+        (2, [(2, 1), (1, 1)], false),
+        (2, [(1, 1), (1, 0)], false),
+        (2, [(1, 1), (1, -1)], false),
+        (1, [(1, 1 << 32), (0, 1)], true),
+        (2, [(1, 1), (1, (1 << 32) - 1)], true),
+        (2, [(1, 1), (1, 1 << 32)], false),
+        (3, [(1, 3), (2, i64::MAX)], false),
+    ] {
+        assert_eq!(rt;
+            told_of(alloc, pick(alloc, entries, 1, &runs)?)?,
+            broken_unless(is_kept, 11),
+            "{entries} entries with {runs:?}"
+        );
+    }
+    Ok(())
+}
+
+#[test]
+fn ranges_of_skews(rt: HostRuntime) -> Result<(), Fail> {
+    let alloc = rt.alloc();
+    for (lo, size, power, is_kept) in [
+        (1, 1, 1, true),
+        (1, 0, 1, false),
+        (1, -1, 1, false),
+        (1, 4_096, 3, true),
+        (1, 4_097, 3, false),
+        (1, 1, 0, false),
+        (1, 1, 4, false),
+        (i64::MAX, 1, 1, true),
+        (i64::MAX, 2, 1, false),
+        (i64::MAX - 4_095, 4_096, 1, true),
+        (i64::MAX - 4_094, 4_096, 1, false),
+        (i64::MIN, 4_096, 1, true),
+        (i64::MIN, i64::MIN, 1, false),
+    ] {
+        assert_eq!(rt;
+            told_of(alloc, Leaf::Skew { lo, size, power })?,
+            broken_unless(is_kept, 12),
+            "{size} numbers from {lo} with the power {power}"
+        );
+    }
+    Ok(())
+}
+
+// An earlier rule at a later column is told before a later rule at an earlier column.
+#[test]
+fn rules_of_drawn_values_in_order(rt: HostRuntime) -> Result<(), Fail> {
+    let alloc = rt.alloc();
+    for (rows, broken) in [(1, (9, 1, 4)), (-1, (6, 1, 0))] {
+        let days = Leaf::Date { lo: 1, hi: 0 };
+        let numbers = Leaf::Int {
+            lo: 1,
+            hi: 0,
+            step: 1,
+        };
+        let table = table(alloc, "t", (rows, 1), &ONE)?;
+        let table = with_leaf(alloc, table, "days", days)?;
+        let table = with_leaf(alloc, table, "numbers", numbers)?;
+        let mut schema = schema(alloc, 1, 2);
+        schema.tables.push(table).map_err(|_| AllocError)?;
+        assert_eq!(rt; told(alloc, schema)?, Some(broken), "{rows} rows");
+    }
+    Ok(())
+}
+
+// A key takes 20 bytes and a unit of birth 5, and three bytes stand between and behind the fields: 65,508 more are a line
+// of 65,536.
+#[test]
+fn sizes_of_lines(rt: HostRuntime) -> Result<(), Fail> {
+    let alloc = rt.alloc();
+    for (size, broken) in [
+        (65_508, None),
+        (65_509, Some((24, 1, 0))),
+        (65_600, Some((24, 1, 0))),
+    ] {
+        let leaf = pick(alloc, 1, size, &[(1, 1)])?;
+        let table = with_leaf(alloc, table(alloc, "t", (1, 1), &ONE)?, "drawn", leaf)?;
+        let mut schema = schema(alloc, 1, 2);
+        schema.tables.push(table).map_err(|_| AllocError)?;
+        assert_eq!(rt; told(alloc, schema)?, broken, "an entry of {size} letters");
+    }
+    Ok(())
+}
+
 // An earlier rule at a later place is told before a later rule at an earlier place.
 #[test]
 fn rules_come_before_places(rt: HostRuntime) -> Result<(), Fail> {
@@ -294,7 +513,7 @@ fn schemas_that_are_not_built(rt: HostRuntime) -> Result<(), Fail> {
     assert!(rt; !unbuilt(&single(alloc, (1, 1), &ONE)?));
     let mut bar = single(alloc, (1, 1), &ONE)?;
     bar.delimiter = Delimiter::Bar;
-    assert!(rt; unbuilt(&bar));
+    assert_eq!(rt; told(alloc, bar)?, None);
     for life in [None, Some(Life { lo: 1, hi: 2 })] {
         for update in [None, Some(1)] {
             let mut changed = table(alloc, "u", (1, 1), &ONE)?;
@@ -340,6 +559,58 @@ fn columns_that_are_not_built(rt: HostRuntime) -> Result<(), Fail> {
     for scramble in [false, true] {
         let key = Kind::Key { base: 1, scramble };
         assert!(rt; !is_unbuilt_with(alloc, key, false, 0)?);
+    }
+    let parts = Parts::new(alloc);
+    assert!(rt; is_unbuilt_with(alloc, Kind::Template { parts }, false, 0)?);
+    Ok(())
+}
+
+#[test]
+fn drawn_values_that_are_not_built(rt: HostRuntime) -> Result<(), Fail> {
+    let alloc = rt.alloc();
+    let (lo, hi) = (1, 2);
+    let days = Leaf::Date { lo: 1, hi: 2 };
+    let skew = Leaf::Skew {
+        lo,
+        size: 2,
+        power: 1,
+    };
+    let name = || text(alloc, "words");
+    for (leaf, is_unbuilt) in [
+        (Leaf::Int { lo, hi, step: 1 }, false),
+        (
+            Leaf::Fixed {
+                lo,
+                hi,
+                decimals: 1,
+            },
+            false,
+        ),
+        (days, false),
+        (pick(alloc, 1, 1, &[(1, 1)])?, false),
+        (skew, false),
+        (Leaf::Dict { file: name()? }, true),
+        (
+            Leaf::Words {
+                file: name()?,
+                lo,
+                hi,
+            },
+            true,
+        ),
+        (
+            Leaf::Chars {
+                alphabet: name()?,
+                lo,
+                hi,
+            },
+            true,
+        ),
+    ] {
+        assert_eq!(rt;
+            is_unbuilt_with(alloc, Kind::Leaf(leaf), false, 0)?,
+            is_unbuilt
+        );
     }
     Ok(())
 }

@@ -1,0 +1,115 @@
+-- Drawn values that pass the tests of the rules are within their limits.
+use Rattle.std.proofs.Common.{◌≡◌, ◌∙◌, ℕ, ℤ, pos, negsuc, neg_ℤ, ◌+ℤ◌, ◌-ℤ◌, ◌<ℤ◌, ◌≤ℤ◌, ◌<◌, ◌≤◌, ◌-◌, ◌^◌, ◌==◌, ◌&&◌, All, Bool, true, List, length, map, sum, get_or, nat_le, int_le, sym, subst, arith}
+use Rattle.std.specs.List.{list_all}
+use Rattle.std.proofs.lemmas.Bool.{and_parts, eqb-true, leb-true}
+use Rattle.std.proofs.lemmas.Int.{ints}
+use Rattle.std.proofs.lemmas.List.{get_or-map, length-map}
+use Rattle.schema_model.specs.declared.table.Table.{Table}
+use Rattle.schema_model.specs.declared.column.Column.{Column}
+use Rattle.schema_model.specs.declared.column.Kind.{Kind}
+use Rattle.schema_model.specs.declared.column.Kind.TheVariants as kind
+use Rattle.schema_model.specs.declared.column.Leaf.{Leaf}
+use Rattle.schema_model.specs.declared.column.Leaf.TheVariants as drawn
+use Rattle.schema_check.specs.Counts.{count}
+use Rattle.schema_check.specs.Layout.{dictionary_names, kind_layout, leaf_layout}
+use Rattle.schema_check.specs.Limits.{IsDateRange, IsKindInLimits, IsLeafInLimits, IsRange, IsSkew, IsWeighted}
+use Rattle.schema_check.specs.Rules.{is_between, is_date_range, is_number_range, is_range, is_skew_range, is_weighted, leaves_of}
+use Rattle.schema_check.proofs.FromTests.{le_from_test, least_from_test, limit_from_test, passes_each}
+
+range_from_test : (lo hi : ℤ) → is_range lo hi ≡ true → IsRange lo hi
+range_from_test lo hi h =
+    let parts = and_parts (int_le lo hi) (int_le (hi -ℤ lo) (pos (2 ^ 63 - 1))) h in
+    let near : (hi -ℤ lo) ≤ℤ pos (2 ^ 63 - 1) = le_from_test (hi -ℤ lo) (pos (2 ^ 63 - 1)) parts.1 in
+    record { ordered = le_from_test lo hi parts.0; near = omega (arith, ints) }
+
+dates_from_test : (lo hi : ℤ) → is_date_range (drawn.Date lo hi) ≡ true → IsDateRange lo hi
+dates_from_test lo hi h =
+    let parts = and_parts (int_le (neg_ℤ (pos 719162)) lo && int_le lo hi) (int_le hi (pos 2932896)) h in
+    let first = and_parts (int_le (neg_ℤ (pos 719162)) lo) (int_le lo hi) parts.0 in
+    record {
+      first_day = le_from_test (neg_ℤ (pos 719162)) lo first.0;
+      ordered = le_from_test lo hi first.1;
+      last_day = le_from_test hi (pos 2932896) parts.1;
+    }
+
+-- weights that each are at least 1 count at least 1
+positive_from_test : (weights : List ℤ) → list_all (int_le (pos 1)) weights ≡ true → All (λ weight. 1 ≤ weight) (map count weights)
+positive_from_test weights h = λ i d lt.
+    let within : i < length weights = omega (arith, lt, length-map weights count) in
+    subst (λ (weight : ℕ). 1 ≤ weight) (sym (get_or-map count weights i (pos 0) d within))
+    (least_from_test (get_or weights i (pos 0)) 1 (passes_each (int_le (pos 1)) weights i (pos 0) within h))
+
+weights_from_test : (entries : List (List ℕ)) (weights : List ℤ) → is_weighted (drawn.Pick entries weights) ≡ true → IsWeighted entries (map count weights)
+weights_from_test entries weights h =
+    let some = nat_le 1 (length entries) in
+    let few = nat_le (length entries) 256 in
+    let as_many = length weights == length entries in
+    let positive = list_all (int_le (pos 1)) weights in
+    let v = and_parts (some && few && as_many && positive) (nat_le (sum (map count weights)) (2 ^ 32)) h in
+    let w = and_parts (some && few && as_many) positive v.0 in
+    let x = and_parts (some && few) as_many w.0 in
+    let y = and_parts some few x.0 in
+    record {
+      some_entry = leb-true 1 (length entries) y.0;
+      entry_limit = leb-true (length entries) 256 y.1;
+      one_each = length-map weights count ∙ eqb-true (length weights) (length entries) x.1;
+      positive = positive_from_test weights w.1;
+      total_limit = leb-true (sum (map count weights)) (2 ^ 32) v.1;
+    }
+
+-- the last of a skew's numbers, as the layout counts them
+last_from_test : (lo size : ℤ) → int_le (pos 1) size ≡ true → int_le (lo +ℤ (size -ℤ pos 1)) (pos (2 ^ 63 - 1)) ≡ true → (lo +ℤ pos (count size - 1)) <ℤ pos (2 ^ 63)
+last_from_test lo (pos n) some h =
+    let least : 1 ≤ n = leb-true 1 n some in
+    let last : (lo +ℤ (pos n -ℤ pos 1)) ≤ℤ pos (2 ^ 63 - 1) = le_from_test (lo +ℤ (pos n -ℤ pos 1)) (pos (2 ^ 63 - 1)) h in
+    omega (arith, ints)
+last_from_test lo (negsuc n) some h = cc
+
+skew_from_test : (lo size power : ℤ) → is_skew_range (drawn.Skew lo size power) ≡ true → IsSkew lo (count size) (count power)
+skew_from_test lo size power h =
+    let v = and_parts (is_between 1 4096 size && is_between 1 3 power) (int_le (lo +ℤ (size -ℤ pos 1)) (pos (2 ^ 63 - 1))) h in
+    let w = and_parts (is_between 1 4096 size) (is_between 1 3 power) v.0 in
+    let sizes = and_parts (int_le (pos 1) size) (int_le size (pos 4096)) w.0 in
+    let powers = and_parts (int_le (pos 1) power) (int_le power (pos 3)) w.1 in
+    record {
+      some_number = least_from_test size 1 sizes.0;
+      size_limit = limit_from_test size 4096 sizes.1;
+      least_power = least_from_test power 1 powers.0;
+      greatest_power = limit_from_test power 3 powers.1;
+      last_number = last_from_test lo size sizes.0 v.1;
+    }
+
+-- ---- a drawn value, and what is drawn for a column
+
+leaf_in_limits : (names : List (List ℕ)) (leaf : Leaf) → is_number_range leaf ≡ true → is_date_range leaf ≡ true → is_weighted leaf ≡ true → is_skew_range leaf ≡ true → IsLeafInLimits (leaf_layout names leaf)
+leaf_in_limits names (drawn.Int lo hi step) numbers dates picks skews =
+    let parts = and_parts (is_range lo hi) (int_le (pos 1) step) numbers in
+    (range_from_test lo hi parts.0, least_from_test step 1 parts.1)
+leaf_in_limits names (drawn.Fixed lo hi decimals) numbers dates picks skews =
+    let parts = and_parts (is_range lo hi) (is_between 0 9 decimals) numbers in
+    (range_from_test lo hi parts.0, limit_from_test decimals 9 ((and_parts (int_le (pos 0) decimals) (int_le decimals (pos 9)) parts.1).1))
+leaf_in_limits names (drawn.Date lo hi) numbers dates picks skews = dates_from_test lo hi dates
+leaf_in_limits names (drawn.Pick entries weights) numbers dates picks skews = weights_from_test entries weights picks
+leaf_in_limits names (drawn.Skew lo size power) numbers dates picks skews = skew_from_test lo size power skews
+leaf_in_limits names (drawn.Dict file) numbers dates picks skews = tt
+leaf_in_limits names (drawn.Words file lo hi) numbers dates picks skews = tt
+leaf_in_limits names (drawn.Chars alphabet lo hi) numbers dates picks skews = tt
+
+leaves_in_limits : (names : List (List ℕ)) (leaves : List Leaf) → list_all is_number_range leaves ≡ true → list_all is_date_range leaves ≡ true → list_all is_weighted leaves ≡ true → list_all is_skew_range leaves ≡ true → All IsLeafInLimits (map (leaf_layout names) leaves)
+leaves_in_limits names leaves numbers dates picks skews = λ i d lt.
+    let within : i < length leaves = omega (arith, lt, length-map leaves (leaf_layout names)) in
+    let leaf = get_or leaves i (drawn.Date (pos 0) (pos 0)) in
+    let passes = λ (test : Leaf → Bool) (all : list_all test leaves ≡ true). passes_each test leaves i (drawn.Date (pos 0) (pos 0)) within all in
+    subst IsLeafInLimits (sym (get_or-map (leaf_layout names) leaves i (drawn.Date (pos 0) (pos 0)) d within))
+    (leaf_in_limits names leaf (passes is_number_range numbers) (passes is_date_range dates) (passes is_weighted picks) (passes is_skew_range skews))
+
+pub kind_in_limits : (tables : List Table) (columns : List Column) (kind : Kind) → list_all is_number_range (leaves_of kind) ≡ true → list_all is_date_range (leaves_of kind) ≡ true → list_all is_weighted (leaves_of kind) ≡ true → list_all is_skew_range (leaves_of kind) ≡ true → IsKindInLimits (kind_layout tables columns kind)
+kind_in_limits tables columns (kind.Leaf leaf) numbers dates picks skews =
+    leaf_in_limits (dictionary_names tables) leaf
+    ((and_parts (is_number_range leaf) true numbers).0)
+    ((and_parts (is_date_range leaf) true dates).0)
+    ((and_parts (is_weighted leaf) true picks).0)
+    ((and_parts (is_skew_range leaf) true skews).0)
+kind_in_limits tables columns (kind.Case on branches) numbers dates picks skews =
+    leaves_in_limits (dictionary_names tables) branches numbers dates picks skews
+kind_in_limits tables columns _ numbers dates picks skews = tt

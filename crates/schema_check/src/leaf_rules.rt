@@ -1,0 +1,160 @@
+//! What the rules ask of drawn values.
+
+ghost use Rattle.std.specs.Prelude.{◌≡◌, ◌-◌, ◌^◌, ◌&&◌, ◌+ℤ◌, ◌-ℤ◌, ◌≤ℤ◌, int_le, map, nat_le, pos, sum};
+ghost use Rattle.std.specs.List.{list_all};
+ghost use Rattle.schema_check.specs.Capped.{capped};
+ghost use Rattle.schema_check.specs.Counts.{count};
+ghost use Rattle.schema_check.specs.Rules.{is_date_range, is_number_range, is_range, is_skew_range, is_weighted, leaves_of};
+
+use crate::counts::count;
+use schema_model::{Kind, Leaf};
+use std::slice;
+
+/// The most digits after a point.
+const MAX_DECIMALS: i64 = 9;
+
+/// The day 0001-01-01, counted from 1970-01-01.
+const FIRST_DAY: i32 = -719_162;
+
+/// The day 9999-12-31, counted from 1970-01-01.
+const LAST_DAY: i32 = 2_932_896;
+
+/// The most entries of a pick.
+const MAX_ENTRIES: usize = 256;
+
+/// The greatest sum of weights.
+const MAX_TOTAL: u64 = 1 << 32;
+
+/// The most numbers of a skew.
+const MAX_SIZE: i64 = 4_096;
+
+/// The greatest power of a skew.
+const MAX_POWER: i64 = 3;
+
+/// The values that are drawn for a column: the one of a leaf, or those of the branches of a case.
+pub(crate) fn leaves_of(kind: &Kind) -> &[Leaf]
+    ensures { result.now ≡ leaves_of kind.now }
+{
+    match kind {
+        Kind::Leaf(leaf) => slice::from_ref(leaf),
+        Kind::Case { branches, .. } => branches.as_slice(),
+        _ => &[],
+    }
+}
+
+/// Whether the numbers among some drawn values have ranges, and steps of at least 1 or at most 9 digits after the point.
+pub(crate) fn are_number_ranges(leaves: &[Leaf]) -> bool
+    ensures { result ≡ list_all is_number_range leaves.now }
+{
+    leaves.iter().all(|leaf| is_number_range(leaf))
+}
+
+/// Whether the dates among some drawn values are from 0001-01-01 to 9999-12-31.
+pub(crate) fn are_date_ranges(leaves: &[Leaf]) -> bool
+    ensures { result ≡ list_all is_date_range leaves.now }
+{
+    leaves.iter().all(|leaf| is_date_range(leaf))
+}
+
+/// Whether the picks among some drawn values have a weight for each entry, and not too many.
+pub(crate) fn are_weighted(leaves: &[Leaf]) -> bool
+    ensures { result ≡ list_all is_weighted leaves.now }
+{
+    leaves.iter().all(|leaf| is_weighted(leaf))
+}
+
+/// Whether the skews among some drawn values have a number and not too many, and a power from 1 to 3.
+pub(crate) fn are_skew_ranges(leaves: &[Leaf]) -> bool
+    ensures { result ≡ list_all is_skew_range leaves.now }
+{
+    leaves.iter().all(|leaf| is_skew_range(leaf))
+}
+
+fn is_number_range(leaf: &Leaf) -> bool
+    ensures { result ≡ is_number_range leaf.now }
+{
+    match leaf {
+        Leaf::Int { lo, hi, step } => is_range(*lo, *hi) && 1 <= *step,
+        Leaf::Fixed { lo, hi, decimals } => {
+            is_range(*lo, *hi) && 0 <= *decimals && *decimals <= MAX_DECIMALS
+        }
+        _ => true,
+    }
+}
+
+/// Whether `hi` is at least `lo`, and by no more than a number of 64 bits with a sign.
+fn is_range(lo: i64, hi: i64) -> bool
+    ensures { result ≡ is_range lo hi }
+{
+    lo <= hi && hi.checked_sub(lo).is_some()
+}
+
+fn is_date_range(leaf: &Leaf) -> bool
+    ensures { result ≡ is_date_range leaf.now }
+{
+    match leaf {
+        Leaf::Date { lo, hi } => FIRST_DAY <= *lo && *lo <= *hi && *hi <= LAST_DAY,
+        _ => true,
+    }
+}
+
+fn is_weighted(leaf: &Leaf) -> bool
+    ensures { result ≡ is_weighted leaf.now }
+{
+    match leaf {
+        Leaf::Pick { entries, weights } => {
+            1 <= entries.len()
+                && entries.len() <= MAX_ENTRIES
+                && weights.len() == entries.len()
+                && are_weights(weights.as_slice())
+        }
+        _ => true,
+    }
+}
+
+/// Whether each of some weights is at least 1, and their sum isn't too great.
+fn are_weights(weights: &[i64]) -> bool
+    ensures { result ≡ (list_all (int_le (pos 1)) weights.now && nat_le (sum (map count weights.now)) (2 ^ 32)) }
+{
+    are_positive(weights) && total(weights) <= MAX_TOTAL
+}
+
+fn are_positive(weights: &[i64]) -> bool
+    ensures { result ≡ list_all (int_le (pos 1)) weights.now }
+{
+    weights.iter().all(|weight| 1 <= *weight)
+}
+
+/// The sum of some weights.
+fn total(weights: &[i64]) -> u64
+    ensures { result ≡ capped (sum (map count weights.now)) }
+{
+    let mut total: u64 = 0;
+    for weight in weights {
+        total = total.saturating_add(count(*weight));
+    }
+    total
+}
+
+fn is_skew_range(leaf: &Leaf) -> bool
+    ensures { result ≡ is_skew_range leaf.now }
+{
+    match leaf {
+        Leaf::Skew { lo, size, power } => {
+            1 <= *size
+                && *size <= MAX_SIZE
+                && 1 <= *power
+                && *power <= MAX_POWER
+                && is_last_in_range(*lo, *size)
+        }
+        _ => true,
+    }
+}
+
+/// Whether the last of so many numbers from `lo` on is one of 64 bits.
+fn is_last_in_range(lo: i64, size: i64) -> bool
+    requires { pos 1 ≤ℤ size }
+    ensures { result ≡ int_le (lo +ℤ (size -ℤ pos 1)) (pos (2 ^ 63 - 1)) }
+{
+    lo.checked_add(size - 1).is_some()
+}
