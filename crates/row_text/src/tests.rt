@@ -110,3 +110,35 @@ fn pieces_and_nulls_are_appended(rt: HostRuntime) -> Result<(), Fail> {
     assert_eq!(rt; page.text(), b"a\\|\\tb\\\\c\\N".as_slice());
     Ok(())
 }
+
+// Each text is read back as it was written, each with the escapes of its own delimiter, and the others stay.
+#[test]
+fn written_texts_are_kept_as_they_are_written(rt: HostRuntime) -> Result<(), Fail> {
+    let cases: [(&[u8], u8, &[u8]); 6] = [
+        (b"plain", 9, b"plain"),
+        (b"", 9, b""),
+        (b"a|b\tc", 9, b"a|b\\tc"),
+        (b"a|b\tc", 124, b"a\\|b\\tc"),
+        (b"|\n\\", 124, b"\\|\\n\\\\"),
+        (b"", 124, b""),
+    ];
+    let mut texts = WrittenTexts::new(rt.alloc());
+    assert!(rt; texts.is_empty());
+    for (text, delimiter, _) in cases {
+        texts.push(text, delimiter)?;
+    }
+    assert!(rt; !texts.is_empty());
+    assert_eq!(rt; texts.len(), 6);
+    for (place, (_, _, written)) in cases.iter().enumerate() {
+        assert_eq!(rt; texts.get(place), *written);
+    }
+    Ok(())
+}
+
+fn crosses_threads<T: Send + Sync>(_value: &T) {}
+
+#[test]
+fn written_texts_cross_threads(rt: HostRuntime) -> Result<(), Fail> {
+    crosses_threads(&WrittenTexts::new(rt.alloc()));
+    Ok(())
+}
