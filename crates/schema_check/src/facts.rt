@@ -95,7 +95,7 @@ fn births_of(table: &Table) -> Births
 }
 
 /// The byte between two fields.
-fn delimiter_byte(delimiter: Delimiter) -> u8
+pub(crate) fn delimiter_byte(delimiter: Delimiter) -> u8
     ensures { result ≡ byte_of delimiter }
 {
     match delimiter {

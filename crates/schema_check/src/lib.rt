@@ -14,11 +14,14 @@ pub mod laws;
 mod layout;
 mod leaf_rules;
 mod lineage;
+mod memory;
 mod names;
 mod not_built;
 mod places;
 mod plan;
 mod ready;
+mod ready_columns;
+mod ready_leaves;
 mod rules;
 mod site;
 

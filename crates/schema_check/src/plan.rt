@@ -1,6 +1,6 @@
 //! The plan of an accepted schema.
 
-ghost use Rattle.std.specs.Prelude.{◌≡◌, ◌<◌, ◌≤◌, false, Some, length, slice_get, IfOk};
+ghost use Rattle.std.specs.Prelude.{◌≡◌, ◌<◌, ◌≤◌, false, true, All, Some, length, slice_get, IfOk};
 ghost use Rattle.std.specs.List.{position};
 ghost use Rattle.schema_check.specs.Capped.{first_facts};
 ghost use Rattle.schema_check.specs.Layout.{layout_of, table_at, table_layout};
@@ -8,14 +8,18 @@ ghost use Rattle.schema_check.specs.Limits.{IsInLimits, IsTableInLimits};
 ghost use Rattle.schema_check.specs.Lineage.{longest_life, sure_life};
 ghost use Rattle.schema_check.specs.Names.{same_text};
 ghost use Rattle.schema_check.specs.Planned.{table_named, without_dictionaries};
+ghost use Rattle.schema_check.specs.Ready.{is_served, ready_columns};
 ghost use Rattle.schema_check.specs.Rules.{IsAccepted};
 ghost use Rattle.schema_check.specs.TableFacts.{cost, facts_at, max_line, reach};
 ghost use Rattle.schema_check.specs.Unbuilt.{is_unbuilt, is_unbuilt_table};
 
 use crate::facts::{TableFacts, greatest_line};
 use crate::layout::{Births, Keys};
-use schema_model::{Schema, Table};
-use std::alloc::{AllocError, Global};
+use crate::memory::Memory;
+use crate::ready::ReadyColumn;
+use crate::ready_columns::ready_tables;
+use schema_model::{Schema, Sequence, Table};
+use std::alloc::Global;
 use std::marker::Model;
 
 /// An accepted schema with its dictionaries, of which there are none yet, and what doesn't change from row to row.
@@ -25,6 +29,7 @@ use std::marker::Model;
 pub struct Plan {
     schema: Schema,
     facts: Vec<TableFacts>,
+    ready: Vec<Sequence<ReadyColumn>>,
     reach: u64,
 }
 
@@ -35,7 +40,7 @@ impl Model for Plan {
 
     ghost view = { λ p. without_dictionaries p.schema };
 
-    ghost invariant = { λ p. IsPlan p.schema p.facts.items p.reach };
+    ghost invariant = { λ p. IsPlan p.schema p.facts.items p.ready.items p.reach };
 }
 
 impl Plan {
@@ -44,7 +49,7 @@ impl Plan {
         alloc: Global,
         schema: Schema,
         facts: &[TableFacts],
-    ) -> Result<Plan, AllocError>
+    ) -> Result<Plan, Memory>
         requires built { is_unbuilt schema ≡ false }
         requires accepted { IsAccepted schema }
         requires facts { facts.now ≡ first_facts schema }
@@ -52,9 +57,11 @@ impl Plan {
     {
         let reach = greatest_line(facts);
         let facts = Vec::from_slice(alloc, facts)?;
+        let ready = ready_tables(alloc, &schema)?;
         Ok(Plan {
             schema,
             facts,
+            ready,
             reach,
         })
     }
@@ -109,6 +116,18 @@ impl Plan {
         ensures built { is_unbuilt_table result.now ≡ false }
     {
         self.schema.tables.get(table as usize)
+    }
+
+    /// The columns of a table, ready for rows.
+    #[inline]
+    pub fn columns(&self, table: u32) -> &[ReadyColumn]
+        requires { table < length self.now.schema.tables }
+        ensures columns { result.now ≡ ready_columns (layout_of self.now.schema) table }
+        ensures served { All (λ column. is_served column ≡ true) result.now }
+        ensures limits { IsTableInLimits (layout_of self.now.schema).units (table_at (layout_of self.now.schema).tables table) }
+        ensures units { (layout_of self.now.schema).units ≤ 10000 }
+    {
+        self.ready[table as usize].as_slice()
     }
 
     /// How many rows of a table are born at each unit.

@@ -1,0 +1,132 @@
+//! Drawn values, made ready for rows. What is kept of one doesn't depend on the names of dictionaries, so the clauses name none.
+
+ghost use Rattle.std.specs.Prelude.{◌≡◌, ◌≤◌, ℕ, [], IfOk, map};
+ghost use Rattle.row_text.specs.Fields.{piece_text};
+ghost use Rattle.schema_check.specs.Choices.{choices};
+ghost use Rattle.schema_check.specs.Counts.{count};
+ghost use Rattle.schema_check.specs.Layout.{date_leaf, fixed_leaf, int_leaf, leaf_layout, pick_leaf, skew_leaf};
+ghost use Rattle.schema_check.specs.Limits.{IsDateRange, IsLeafInLimits, IsRange, IsSkew, IsWeighted};
+ghost use Rattle.schema_check.specs.Ready.{ready_leaf};
+
+use crate::counts::count;
+use crate::memory::Memory;
+use crate::ready::ReadyLeaf;
+use fixed_divisors::FixedDivisor;
+use row_text::WrittenTexts;
+use schema_model::{Leaf, Text};
+use std::alloc::Global;
+use weight_tables::Weights;
+
+/// A drawn value within its limits, ready for rows.
+pub(crate) fn ready_leaf(alloc: Global, delimiter: u8, leaf: &Leaf) -> Result<ReadyLeaf, Memory>
+    requires { IsLeafInLimits (leaf_layout [] leaf.now) }
+    ensures { IfOk result (λ ready. ready ≡ ready_leaf delimiter (leaf_layout [] leaf.now)) }
+{
+    match leaf {
+        Leaf::Int { lo, hi, step } => Ok(ready_int(*lo, *hi, *step)),
+        Leaf::Fixed { lo, hi, decimals } => Ok(ready_fixed(*lo, *hi, *decimals)),
+        Leaf::Date { lo, hi } => Ok(ready_date(*lo, *hi)),
+        Leaf::Pick { entries, weights } => {
+            ready_pick(alloc, delimiter, entries.as_slice(), weights.as_slice())
+        }
+        Leaf::Skew { lo, size, power } => ready_skew(alloc, *lo, *size, *power),
+        Leaf::Dict { .. } | Leaf::Words { .. } | Leaf::Chars { .. } => Ok(ReadyLeaf::Unserved),
+    }
+}
+
+/// How many numbers stand from `lo` to `hi` in steps, `lo` being the first.
+fn choices(lo: i64, hi: i64, step: u64) -> FixedDivisor
+    requires range { IsRange lo hi }
+    requires step { 1 ≤ step }
+    ensures { result ≡ choices lo hi step }
+{
+    FixedDivisor::new((hi - lo) as u64 / step + 1)
+}
+
+fn ready_int(lo: i64, hi: i64, step: i64) -> ReadyLeaf
+    requires { IsLeafInLimits (int_leaf lo hi (count step)) }
+    ensures { (delimiter : ℕ) → result ≡ ready_leaf delimiter (int_leaf lo hi (count step)) }
+{
+    let step = count(step);
+    ReadyLeaf::Int {
+        lo,
+        hi,
+        step,
+        choices: choices(lo, hi, step),
+    }
+}
+
+fn ready_fixed(lo: i64, hi: i64, decimals: i64) -> ReadyLeaf
+    requires { IsLeafInLimits (fixed_leaf lo hi (count decimals)) }
+    ensures { (delimiter : ℕ) → result ≡ ready_leaf delimiter (fixed_leaf lo hi (count decimals)) }
+{
+    let decimals = count(decimals) as u32;
+    ReadyLeaf::Fixed {
+        lo,
+        hi,
+        choices: choices(lo, hi, 1),
+        decimals,
+        unit: FixedDivisor::new(10u64.pow(decimals)),
+    }
+}
+
+fn ready_date(lo: i32, hi: i32) -> ReadyLeaf
+    requires { IsDateRange lo hi }
+    ensures { (delimiter : ℕ) → result ≡ ready_leaf delimiter (date_leaf lo hi) }
+{
+    ReadyLeaf::Date {
+        lo,
+        hi,
+        choices: choices(i64::from(lo), i64::from(hi), 1),
+    }
+}
+
+fn ready_pick(
+    alloc: Global,
+    delimiter: u8,
+    entries: &[Text],
+    weights: &[i64],
+) -> Result<ReadyLeaf, Memory>
+    requires { IsWeighted entries.now (map count weights.now) }
+    ensures { IfOk result (λ ready. ready ≡ ready_leaf delimiter (pick_leaf entries.now (map count weights.now))) }
+{
+    let entries = written_entries(alloc, delimiter, entries)?;
+    let weights = Weights::new(alloc, &counts(alloc, weights)?)?;
+    let total = FixedDivisor::new(weights.total());
+    Ok(ReadyLeaf::Pick {
+        entries,
+        weights,
+        total,
+    })
+}
+
+/// The entries as they are written.
+fn written_entries(alloc: Global, delimiter: u8, entries: &[Text]) -> Result<WrittenTexts, Memory>
+    ensures { IfOk result (λ written. written ≡ map (piece_text delimiter) entries.now) }
+{
+    let mut written = WrittenTexts::new(alloc);
+    for entry in entries {
+        written.push(entry.as_str().as_bytes(), delimiter)?;
+    }
+    Ok(written)
+}
+
+/// The counts that some numbers stand for.
+fn counts(alloc: Global, numbers: &[i64]) -> Result<Vec<u64>, Memory>
+    ensures { IfOk result (λ counts. counts.items ≡ map count numbers.now) }
+{
+    let mut counts = Vec::with_capacity(alloc, numbers.len())?;
+    for number in numbers {
+        counts.push(count(*number))?;
+    }
+    Ok(counts)
+}
+
+fn ready_skew(alloc: Global, lo: i64, size: i64, power: i64) -> Result<ReadyLeaf, Memory>
+    requires { IsSkew lo (count size) (count power) }
+    ensures { (delimiter : ℕ) → IfOk result (λ ready. ready ≡ ready_leaf delimiter (skew_leaf lo (count size) (count power))) }
+{
+    let weights = Weights::harmonic(alloc, count(size) as u32, count(power) as u32)?;
+    let total = FixedDivisor::new(weights.total());
+    Ok(ReadyLeaf::Skew { lo, weights, total })
+}
