@@ -1,9 +1,6 @@
 -- The line of a row of a cohort, field by field.
-use Rattle.std.proofs.Common.{◌≡◌, ◌<◌, ◌≤◌, ◌^◌, ℕ, ℤ, pos, zero, suc, ◌+◌, ◌==◌, if◌then◌else◌, Bool, true, false, ◌||◌, List, [], ◌∷◌, ◌++◌, map, length, min, sum_by, take, codes, decimal, Some, slice_get, refl, ap, sym, subst, ◌∙◌, arith}
-use Rattle.std.specs.Prelude.{is_some, not}
-use Rattle.std.specs.List.{join_with_byte, list_any, range_with_len}
-use Rattle.std.specs.Ordering.{int_eq}
-use Rattle.std.proofs.lemmas.Bool.{both_ways, or_parts}
+use Rattle.std.proofs.Common.{◌≡◌, ◌<◌, ◌≤◌, ◌^◌, ℕ, zero, suc, ◌+◌, ◌==◌, if◌then◌else◌, Bool, true, List, [], ◌∷◌, ◌++◌, map, length, min, sum_by, take, codes, decimal, Option, Some, slice_get, get_or, refl, ap, sym, subst, ◌∙◌, arith}
+use Rattle.std.specs.List.{join_with_byte, range_with_len}
 use Rattle.std.proofs.lemmas.Bool.Decides.{nat_tests}
 use Rattle.std.proofs.lemmas.List.{get_or-map, length-map}
 use Rattle.std.proofs.lemmas.List.Folds.{fold-map}
@@ -11,25 +8,24 @@ use Rattle.std.proofs.lemmas.List.Sums.{sum_by_more_le}
 use Rattle.std.proofs.lemmas.Option.{get_or_from_slice_get, slice_get_within}
 use Rattle.row_text.specs.Fields.{field_text}
 use Rattle.row_text.proofs.DigitLemmas.{piece_text-decimal}
-use Rattle.schema_model.specs.declared.table.Table.{Table}
-use Rattle.schema_model.specs.declared.column.Column.{Column}
-use Rattle.schema_model.specs.declared.column.Kind.{Kind}
-use Rattle.schema_model.specs.declared.column.Kind.TheVariants.{Key, Born}
+use Rattle.schema_check.specs.declared.ready.ReadyColumn.{ReadyColumn}
+use Rattle.schema_check.specs.declared.ready.ReadyColumn.TheVariants.{Key}
 use Rattle.schema_check.specs.Cohorts.{cohort_size}
 use Rattle.schema_check.specs.FieldBounds.{bounds_of}
-use Rattle.schema_check.specs.Layout.{ColumnLayout, KindLayout, TableLayout, born_kind, column_at, column_layout, key_kind, kind_layout, layout_of, no_column}
+use Rattle.schema_check.specs.Layout.{ColumnLayout, KindLayout, born_kind, column_at, key_kind, layout_of, leaf_kind, no_column}
 use Rattle.schema_check.specs.Lineage.{one_if}
+use Rattle.schema_check.specs.Ready.{is_served, ready_column}
 use Rattle.schema_check.specs.TableFacts.{line_cost, max_line}
-use Rattle.schema_check.specs.Unbuilt.{is_unbuilt_column, is_unbuilt_kind}
-use Rattle.schema_check.proofs.FromTests.{fails_each}
+use Rattle.draw_values.specs.declared.values.RowAt.{RowAt}
+use Rattle.draw_values.specs.CohortValues.{ValuesOf, value_for}
+use Rattle.draw_values.specs.Values.{is_own, own_value}
 use Rattle.life_intervals.specs.CohortKeys.{CohortOf}
 use Rattle.life_intervals.specs.Generator.{Generator, generator_of, last_unit}
 use Rattle.life_intervals.proofs.CohortLemmas.{birth-first_ordinal, cohort-within}
 use Rattle.life_intervals.proofs.KeyLemmas.{key_of-first_ordinal}
-use Rattle.pd_outside.specs.declared.piece.Piece.{Piece}
 use Rattle.row_lines.specs.CohortLines.{AreLinesOf, LinesOf, key_for, layout_for, line_in_cohort, ordinal_of, size_for, text_in_cohort}
 use Rattle.row_lines.specs.Lines.{line}
-use Rattle.row_lines.proofs.FieldLemmas.{field-born, field-key}
+use Rattle.row_lines.proofs.FieldLemmas.{field-key, field-own}
 
 -- what the field of a column takes at most: bytes, with the one behind, and permutations
 abbrev pub room_in : LinesOf → ColumnLayout → ℕ
@@ -64,50 +60,44 @@ line_cost-columns lines =
     )
 
 -- what is kept is of the lines that a contract sees
-pub AreLinesOf-view : (kept lines : LinesOf) (keys : CohortOf) (table : Table) (byte : ℕ) (birth : Piece) → kept ≡ lines → AreLinesOf kept keys table byte birth →
-    AreLinesOf lines keys table byte birth
-AreLinesOf-view kept lines keys table byte birth same known = subst (λ (of : LinesOf). AreLinesOf of keys table byte birth) same known
+pub AreLinesOf-view : (kept lines : LinesOf) (keys : CohortOf) (values : ValuesOf) (columns : List ReadyColumn) (first byte : ℕ) → kept ≡ lines → AreLinesOf kept keys values columns first byte →
+    AreLinesOf lines keys values columns first byte
+AreLinesOf-view kept lines keys values columns first byte same known = subst (λ (of : LinesOf). AreLinesOf of keys values columns first byte) same known
 
 -- as many columns as the schema has
-pub length-columns : (lines : LinesOf) (keys : CohortOf) (table : Table) (byte : ℕ) (birth : Piece) → AreLinesOf lines keys table byte birth →
-    length (layout_for lines).columns ≡ length table.columns
-length-columns lines keys table byte birth known =
-    ap (λ (layout : TableLayout). length layout.columns) (sym known.layout)
-    ∙ length-map table.columns (column_layout lines.plan.schema.tables table.columns)
+pub length-columns : (lines : LinesOf) (keys : CohortOf) (values : ValuesOf) (columns : List ReadyColumn) (first byte : ℕ) → AreLinesOf lines keys values columns first byte →
+    length (layout_for lines).columns ≡ length columns
+length-columns lines keys values columns first byte known =
+    sym (ap (λ (ready : List ReadyColumn). length ready) known.columns_are
+    ∙ length-map (layout_for lines).columns (λ (column : ColumnLayout). ready_column (layout_of lines.plan.schema).delimiter column.kind))
 
--- the column at a place is of the kind of the schema's column there
-pub kind_at : (lines : LinesOf) (keys : CohortOf) (table : Table) (byte : ℕ) (birth : Piece) → AreLinesOf lines keys table byte birth →
-    (place : ℕ) (column : Column) (kind : Kind) → slice_get table.columns place ≡ Some column → column.kind ≡ kind →
-    (column_at (layout_for lines).columns place).kind ≡ kind_layout lines.plan.schema.tables table.columns kind
-kind_at lines keys table byte birth known place column kind found is =
-    let own : Column → ColumnLayout = column_layout lines.plan.schema.tables table.columns in
-    ap (λ (layout : TableLayout). (column_at layout.columns place).kind) (sym known.layout)
-    ∙ ap (λ (at : ColumnLayout). at.kind)
-    (get_or-map own table.columns place column no_column (slice_get_within table.columns place column found)
-    ∙ ap own (get_or_from_slice_get table.columns place column column found))
-    ∙ ap (kind_layout lines.plan.schema.tables table.columns) is
+-- the column at a place is ready for what the layout has there
+pub ready_at : (lines : LinesOf) (keys : CohortOf) (values : ValuesOf) (columns : List ReadyColumn) (first byte : ℕ) → AreLinesOf lines keys values columns first byte →
+    (place : ℕ) (column : ReadyColumn) → slice_get columns place ≡ Some column →
+    ready_column (layout_of lines.plan.schema).delimiter (column_at (layout_for lines).columns place).kind ≡ column
+ready_at lines keys values columns first byte known place column found =
+    let delimiter : ℕ = (layout_of lines.plan.schema).delimiter in
+    let within : place < length (layout_for lines).columns =
+    omega (arith, slice_get_within columns place column found, length-columns lines keys values columns first byte known) in
+    sym (get_or-map (λ (of : ColumnLayout). ready_column delimiter of.kind) (layout_for lines).columns place no_column column within)
+    ∙ ap (λ (ready : List ReadyColumn). get_or ready place column) (sym known.columns_are)
+    ∙ get_or_from_slice_get columns place column column found
 
-built_kind : (kind : Kind) → is_unbuilt_kind kind ≡ false → ((base : ℤ) (scramble : Bool) → kind ≡ Key base scramble → ⊥) → (kind ≡ Born → ⊥) → ⊥
-built_kind (Key base scramble) built not_key not_born = not_key base scramble refl
-built_kind Born built not_key not_born = not_born refl
-built_kind _ built not_key not_born = both_ways true built refl
+-- a column that is ready as a key is one, and any other that is served needs no other row
+pub key_from_ready : (delimiter : ℕ) (kind : KindLayout) → ready_column delimiter kind ≡ Key → kind ≡ key_kind
+key_from_ready delimiter key_kind is = refl
+key_from_ready delimiter _ is = cc
 
--- and only keys and units of birth are built
-pub no_other_kind : (lines : LinesOf) (keys : CohortOf) (table : Table) (byte : ℕ) (birth : Piece) → AreLinesOf lines keys table byte birth →
-    (place : ℕ) (column : Column) → slice_get table.columns place ≡ Some column →
-    ((base : ℤ) (scramble : Bool) → column.kind ≡ Key base scramble → ⊥) → (column.kind ≡ Born → ⊥) → ⊥
-no_other_kind lines keys table byte birth known place column found not_key not_born =
-    let columns : list_any is_unbuilt_column table.columns ≡ false =
-    (or_parts (is_some table.life || is_some table.update) (list_any is_unbuilt_column table.columns) known.built).1 in
-    let own : is_unbuilt_column column ≡ false =
-    sym (ap is_unbuilt_column (get_or_from_slice_get table.columns place column column found))
-    ∙ fails_each is_unbuilt_column table.columns place column (slice_get_within table.columns place column found) columns in
-    built_kind column.kind (or_parts (column.changes || not (int_eq column.null (pos 0))) (is_unbuilt_kind column.kind) own).1 not_key not_born
+pub own_from_ready : (delimiter : ℕ) (kind : KindLayout) → is_served (ready_column delimiter kind) ≡ true → (ready_column delimiter kind ≡ Key → ⊥) → is_own kind ≡ true
+own_from_ready delimiter key_kind served no_key = absurd (no_key refl)
+own_from_ready delimiter born_kind served no_key = refl
+own_from_ready delimiter (leaf_kind leaf) served no_key = refl
+own_from_ready delimiter _ served no_key = cc
 
 -- a line may ask the permutation of its key, which is its first field
-pub scramble-line_cost : (lines : LinesOf) (keys : CohortOf) (table : Table) (byte : ℕ) (birth : Piece) → AreLinesOf lines keys table byte birth →
+pub scramble-line_cost : (lines : LinesOf) (keys : CohortOf) (values : ValuesOf) (columns : List ReadyColumn) (first byte : ℕ) → AreLinesOf lines keys values columns first byte →
     one_if (layout_for lines).key.scramble ≤ line_cost (layout_of lines.plan.schema) lines.table
-scramble-line_cost lines keys table byte birth known =
+scramble-line_cost lines keys values ready first byte known =
     let columns : List ColumnLayout = (layout_for lines).columns in
     omega (
       arith,
@@ -117,16 +107,11 @@ scramble-line_cost lines keys table byte birth known =
       line_cost-columns lines,
     )
 
--- what a key and a unit of birth take
+-- what a key takes, and how it is written
 pub size-key : (lines : LinesOf) (place : ℕ) → (column_at (layout_for lines).columns place).kind ≡ key_kind → size_for lines place ≡ 20
 size-key lines place is =
     ap (λ (kind : KindLayout). (bounds_of (layout_of lines.plan.schema).delimiter (layout_of lines.plan.schema).tables (layout_for lines) kind).size) is
 
-pub size-born : (lines : LinesOf) (place : ℕ) → (column_at (layout_for lines).columns place).kind ≡ born_kind → size_for lines place ≡ 5
-size-born lines place is =
-    ap (λ (kind : KindLayout). (bounds_of (layout_of lines.plan.schema).delimiter (layout_of lines.plan.schema).tables (layout_for lines) kind).size) is
-
--- and how they are written
 pub text-key : (lines : LinesOf) (place index key : ℕ) → (column_at (layout_for lines).columns place).kind ≡ key_kind → lines.born ≤ lines.unit →
     index < cohort_size (layout_for lines).births lines.born → key ≡ key_for lines index → key < 2 ^ 64 →
     text_in_cohort lines index place ≡ decimal key
@@ -136,13 +121,21 @@ text-key lines place index key is within below key_is small =
     ∙ ap (λ (k : ℕ). field_text generator.delimiter (Some (decimal k))) (key_of-first_ordinal generator lines.table lines.unit lines.born index within below ∙ sym key_is)
     ∙ piece_text-decimal generator.delimiter key small
 
-pub text-born : (lines : LinesOf) (place index : ℕ) → (column_at (layout_for lines).columns place).kind ≡ born_kind → lines.born ≤ lines.unit →
-    index < cohort_size (layout_for lines).births lines.born → lines.born ≤ 10000 → text_in_cohort lines index place ≡ decimal lines.born
-text-born lines place index is within below small =
+-- what a column holds that needs no other row, as the values of the cohort have it
+pub text-own : (lines : LinesOf) (values : ValuesOf) (place index ordinal : ℕ) → values ≡ record { plan = lines.plan; table = lines.table; unit = lines.born } →
+    ordinal ≡ ordinal_of lines index → is_own (column_at (layout_for lines).columns place).kind ≡ true → lines.born ≤ lines.unit →
+    index < cohort_size (layout_for lines).births lines.born →
+    text_in_cohort lines index place ≡ field_text (layout_of lines.plan.schema).delimiter (value_for values place ordinal)
+text-own lines values place index ordinal values_are ordinal_is own within below =
     let generator : Generator = generator_of lines.plan.schema in
-    ap (field_text generator.delimiter) (field-born generator lines.unit lines.table (ordinal_of lines index) place is)
-    ∙ ap (λ (born : ℕ). field_text generator.delimiter (Some (decimal born))) (birth-first_ordinal (layout_for lines).births lines.unit lines.born index within below)
-    ∙ piece_text-decimal generator.delimiter lines.born (omega (arith, small))
+    let kind : KindLayout = (column_at (layout_for lines).columns place).kind in
+    let at : ℕ → RowAt = λ born. record { ordinal = ordinal_of lines index; born = born; changed = born } in
+    let held : ℕ → Option (List ℕ) = λ born. own_value kind (at born) (generator.draw lines.table place born (ordinal_of lines index)) in
+    ap (field_text generator.delimiter)
+    (field-own generator lines.unit lines.table (ordinal_of lines index) place own
+    ∙ ap held (birth-first_ordinal (layout_for lines).births lines.unit lines.born index within below)
+    ∙ ap (value_for (record { plan = lines.plan; table = lines.table; unit = lines.born }) place) (sym ordinal_is)
+    ∙ ap (λ (of : ValuesOf). value_for of place ordinal) (sym values_are))
 
 pub length-delimiter : (column delimiter : ℕ) → length (if column == 0 then [] else delimiter ∷ []) ≡ min column 1
 length-delimiter zero delimiter = refl
@@ -158,9 +151,9 @@ line_in_cohort-fields lines index count all =
     ap (λ (n : ℕ). join_with_byte (layout_of lines.plan.schema).delimiter (map (text_in_cohort lines index) (range_with_len 0 n)) ++ codes "\n") all
 
 -- a cohort has no more rows than a table
-pub cohort_size-limit : (lines : LinesOf) (keys : CohortOf) (table : Table) (byte : ℕ) (birth : Piece) → AreLinesOf lines keys table byte birth →
+pub cohort_size-limit : (lines : LinesOf) (keys : CohortOf) (values : ValuesOf) (columns : List ReadyColumn) (first byte : ℕ) → AreLinesOf lines keys values columns first byte →
     cohort_size (layout_for lines).births lines.born ≤ 2 ^ 40
-cohort_size-limit lines keys table byte birth known =
+cohort_size-limit lines keys values columns first byte known =
     omega (
       arith,
       known.limits.row_limit,

@@ -1,19 +1,18 @@
 -- The lines of one cohort, and what the code keeps of them.
-use Rattle.std.specs.Prelude.{◌≡◌, ◌≤◌, ℕ, ◌+◌, List, decimal, false, Some, slice_get}
+use Rattle.std.specs.Prelude.{◌≡◌, ◌≤◌, ℕ, ◌+◌, List, All, true}
 use Rattle.row_text.specs.Fields.{field_text}
-use Rattle.schema_model.specs.declared.table.Table.{Table}
 use Rattle.schema_check.specs.Cohorts.{first_ordinal}
 use Rattle.schema_check.specs.FieldBounds.{bounds_of}
-use Rattle.schema_check.specs.Layout.{layout_of, table_layout, TableLayout, column_at}
+use Rattle.schema_check.specs.Layout.{layout_of, TableLayout, column_at}
 use Rattle.schema_check.specs.Limits.{IsTableInLimits}
 use Rattle.schema_check.specs.Planned.{Planned}
-use Rattle.schema_check.specs.Unbuilt.{is_unbuilt_table}
+use Rattle.schema_check.specs.declared.ready.ReadyColumn.{ReadyColumn}
+use Rattle.schema_check.specs.Ready.{ready_columns, is_served}
+use Rattle.draw_values.specs.CohortValues.{ValuesOf}
 use Rattle.life_intervals.specs.CohortKeys.{CohortOf}
 use Rattle.life_intervals.specs.Generator.{generator_of, last_unit, table_of}
 use Rattle.life_intervals.specs.Intervals.{row_at}
 use Rattle.life_intervals.specs.Keys.{key_in_cohort}
-use Rattle.pd_outside.specs.declared.piece.Piece.{Piece}
-use Rattle.pd_outside.specs.Pieces.{piece_text}
 use Rattle.row_lines.specs.Lines.{field, line_of}
 
 -- the lines at a unit of the rows that are born at one, in the table at a place
@@ -46,18 +45,17 @@ text_in_cohort lines index column =
     field_text (layout_of lines.plan.schema).delimiter
     (field (generator_of lines.plan.schema) lines.unit lines.table (row_at (layout_for lines) lines.unit (ordinal_of lines index)) column)
 
--- the keys are the cohort's, and what is kept beside is what the schema says
-pub record AreLinesOf (lines : LinesOf) (keys : CohortOf) (table : Table) (byte : ℕ) (birth : Piece) : Type 0 where
+-- the keys and the values are the cohort's, and what is kept beside is what the schema says
+pub record AreLinesOf (lines : LinesOf) (keys : CohortOf) (values : ValuesOf) (columns : List ReadyColumn) (first byte : ℕ) : Type 0 where
   pub keys_are : keys ≡ record { plan = lines.plan; table = lines.table; unit = lines.born }
-  pub found : slice_get lines.plan.schema.tables lines.table ≡ Some table
-  pub layout : table_layout lines.plan.schema.tables table ≡ layout_for lines
+  pub values_are : values ≡ record { plan = lines.plan; table = lines.table; unit = lines.born }
+  pub columns_are : columns ≡ ready_columns (layout_of lines.plan.schema) lines.table
+  pub served : All (λ column. is_served column ≡ true) columns
   pub limits : IsTableInLimits (last_unit lines.plan.schema) (layout_for lines)
-  pub built : is_unbuilt_table table ≡ false
-  pub birth_text : piece_text birth ≡ decimal lines.born
+  pub first_is : first ≡ first_ordinal (layout_for lines).births lines.born
   pub delimiter : byte ≡ (layout_of lines.plan.schema).delimiter
   pub born : lines.born ≤ lines.unit
   pub unit : lines.unit ≤ last_unit lines.plan.schema
-  pub unit_limit : last_unit lines.plan.schema ≤ 10000
 
 -- what the field of the column at a place takes at most, in bytes
 abbrev pub size_for : LinesOf → ℕ → ℕ

@@ -1,37 +1,39 @@
 -- The text of a table: a line for each row, in COPY text form (PostgreSQL's manual, "COPY").
-use Rattle.std.specs.Prelude.{ℕ, List, ◌++◌, filter, map, flat_map, length, Option, Some, None, codes, decimal}
+use Rattle.std.specs.Prelude.{ℕ, List, ◌++◌, filter, map, flat_map, length, Option, Some, codes, decimal}
 use Rattle.std.specs.List.{join_with_byte, range_with_len}
 use Rattle.row_text.specs.Fields.{field_text}
 use Rattle.schema_check.specs.Cohorts.{cohort_size, first_ordinal}
-use Rattle.schema_check.specs.Layout.{KindLayout, key_kind, born_kind, changed_kind, leaf_kind, template_kind, case_kind, reference_kind, lookup_kind, table_at, column_at}
+use Rattle.schema_check.specs.Layout.{KindLayout, key_kind, template_kind, reference_kind, lookup_kind, table_at, column_at}
+use Rattle.draw_values.specs.declared.values.RowAt.{RowAt}
+use Rattle.draw_values.specs.Values.{Draws, own_value, not_served}
 use Rattle.life_intervals.specs.Generator.{Generator}
 use Rattle.life_intervals.specs.Intervals.{is_live, row_at}
 use Rattle.life_intervals.specs.Keys.{key_in_cohort, key_of}
 use Rattle.life_intervals.specs.Rows.{Row, index_in_cohort}
 use Rattle.life_intervals.specs.Simulation.{rows_at}
 
--- what a row holds in a column of a kind that no table can be made of yet: schemas with such a column are refused as unbuilt, so no
--- promise speaks of it
-abbrev pub not_served : Option (List ℕ)
-not_served = None
+-- a row, as its own values see it
+abbrev pub at_row : Row → RowAt
+at_row row = record { ordinal = row.ordinal; born = row.born; changed = row.changed }
 
--- what a row of the table at a place holds in a column of this kind, None where it is null
-abbrev pub value : Generator → ℕ → Row → KindLayout → Option (List ℕ)
-value generator place row key_kind =
+-- the draws of a row's field in the column at a place. Columns that change aren't served yet: so each is drawn at the birth of its row
+abbrev pub draws_of : Generator → ℕ → ℕ → Row → Draws
+draws_of generator place column row = generator.draw place column row.born row.ordinal
+
+-- what a row of the table at a place holds in the column at a place, which is of this kind; None where it is null
+abbrev pub value : Generator → ℕ → ℕ → Row → KindLayout → Option (List ℕ)
+value generator place column row key_kind =
     Some (decimal (key_in_cohort generator place row.born (index_in_cohort (table_at generator.tables place) row)))
-value generator place row born_kind = Some (decimal row.born)
-value generator place row changed_kind = not_served
-value generator place row (leaf_kind leaf) = not_served
-value generator place row (template_kind parts) = not_served
-value generator place row (case_kind on branches) = not_served
-value generator place row (reference_kind parent window spread) = not_served
-value generator place row (lookup_kind via parent column) = not_served
+value generator place column row (template_kind parts) = not_served
+value generator place column row (reference_kind parent window spread) = not_served
+value generator place column row (lookup_kind via parent name) = not_served
+value generator place column row kind = own_value kind (at_row row) (draws_of generator place column row)
 
 -- what a row of the table at a place holds at a unit in the column at a place, None where it is null. Columns that are null at times
 -- or change aren't served yet, and no value that is speaks of other rows: so the unit isn't asked yet
 abbrev pub field : Generator → ℕ → ℕ → Row → ℕ → Option (List ℕ)
 field generator unit place row column =
-    value generator place row (column_at (table_at generator.tables place).columns column).kind
+    value generator place column row (column_at (table_at generator.tables place).columns column).kind
 
 -- the fields of a row at a unit, as they are written
 abbrev pub field_texts : Generator → ℕ → ℕ → Row → List (List ℕ)

@@ -3,19 +3,22 @@
 ghost use Rattle.std.specs.Prelude.{◌≡◌, ◌<◌, ◌≤◌, ℕ, ◌+◌, ◌*◌, ◌==◌, get_or, [], ◌∷◌, ◌++◌, if◌then◌else◌, true, length, min};
 ghost use Rattle.schema_check.specs.Cohorts.{cohort_size};
 ghost use Rattle.schema_check.specs.Delimiters.{delimiter_byte as byte_of};
-ghost use Rattle.schema_check.specs.Layout.{layout_of};
+ghost use Rattle.schema_check.specs.Layout.{column_at, layout_of};
 ghost use Rattle.schema_check.specs.Lineage.{one_if};
 ghost use Rattle.schema_check.specs.TableFacts.{line_cost, max_line};
+ghost use Rattle.draw_values.specs.Values.{is_own};
 ghost use Rattle.life_intervals.specs.Generator.{last_unit};
 ghost use Rattle.life_intervals.specs.Intervals.{is_live};
 ghost use Rattle.life_intervals.specs.KeyOrders.{key_order};
 ghost use Rattle.row_lines.specs.CohortLines.{key_for, layout_for, line_in_cohort, ordinal_of, size_for, text_in_cohort};
 
+use draw_values::{CohortValues, Put};
 use id_permutation::Order;
-use life_intervals::CohortKeys;
+use life_intervals::{CohortKeys, cohort};
 use pd_outside::{PageBuf, Piece};
-use schema_check::Plan;
-use schema_model::{Delimiter, Kind, Table};
+use row_text::put_null;
+use schema_check::{Plan, ReadyColumn};
+use schema_model::Delimiter;
 use std::marker::Model;
 use std::sync::ledger::Ledger;
 use step_count::Steps;
@@ -27,10 +30,11 @@ pub struct CohortLines<'a> {
     place: u32,
     born: u64,
     unit: u64,
+    first: u64,
     keys: CohortKeys<'a>,
-    table: &'a Table,
+    values: CohortValues<'a>,
+    columns: &'a [ReadyColumn],
     delimiter: u8,
-    birth: Piece,
 }
 
 impl<'a> Model for CohortLines<'a> {
@@ -40,7 +44,7 @@ impl<'a> Model for CohortLines<'a> {
 
     ghost view = { λ l. record { plan = l.plan.now; table = l.place; born = l.born; unit = l.unit } };
 
-    ghost invariant = { λ l. AreLinesOf (record { plan = l.plan.now; table = l.place; born = l.born; unit = l.unit }) l.keys l.table.now l.delimiter l.birth };
+    ghost invariant = { λ l. AreLinesOf (record { plan = l.plan.now; table = l.place; born = l.born; unit = l.unit }) l.keys l.values l.columns.now l.first l.delimiter };
 }
 
 impl<'a> CohortLines<'a> {
@@ -63,10 +67,11 @@ impl<'a> CohortLines<'a> {
             place: table,
             born,
             unit,
+            first: cohort(plan, table, born).first,
             keys: CohortKeys::new(plan, table, born, order),
-            table: plan.table(table),
+            values: CohortValues::new(plan, table, born),
+            columns: plan.columns(table),
             delimiter: delimiter_byte(plan.schema().delimiter),
-            birth: Piece::of_number(born),
         }
     }
 
@@ -129,7 +134,7 @@ impl<'a> CohortLines<'a> {
         ensures line { buf.new ≡ record buf.old { text = buf.old.text ++ line_in_cohort self.now index } }
         ensures size { length (line_in_cohort self.now index) ≤ max_line (layout_of self.now.plan.schema) self.now.table }
     {
-        for column in 0..self.table.columns.len() {
+        for column in 0..self.columns.len() {
             put_delimiter(buf, self.delimiter, column);
             self.put_field(column, index, key, buf);
         }
@@ -146,10 +151,25 @@ impl<'a> CohortLines<'a> {
         ensures text { buf.new ≡ record buf.old { text = buf.old.text ++ text_in_cohort self.now index column } }
         ensures size { length (text_in_cohort self.now index column) ≤ size_for self.now column }
     {
-        match &self.table.columns.get(column).kind {
-            Kind::Key { .. } => buf.put_number(key),
-            Kind::Born => buf.put_piece(&self.birth),
-            _ => unreachable!(),
+        match &self.columns[column] {
+            ReadyColumn::Key => buf.put_number(key),
+            _ => self.put_own(column, index, buf),
+        }
+    }
+
+    /// Appends the field of a column that needs no other row.
+    #[inline(always)]
+    fn put_own(&self, column: usize, index: u64, buf: &mut PageBuf)
+        requires column { column < length (layout_for self.now).columns }
+        requires row { index < cohort_size (layout_for self.now).births self.now.born }
+        requires own { is_own (column_at (layout_for self.now).columns column).kind ≡ true }
+        requires room { length buf.old.text + size_for self.now column ≤ buf.old.room }
+        ensures text { buf.new ≡ record buf.old { text = buf.old.text ++ text_in_cohort self.now index column } }
+        ensures size { length (text_in_cohort self.now index column) ≤ size_for self.now column }
+    {
+        match self.values.put(column, self.first + index, buf) {
+            Put::Text => {}
+            Put::Null => put_null(buf),
         }
     }
 }
