@@ -107,13 +107,13 @@ kind = "key"
 base = 1
 "#;
 
-// A bar between fields, which isn't built.
-const BAR: &str = r#"seed = 1
+// A table whose rows die, which isn't built.
+const MORTAL: &str = r#"seed = 1
 units = 2
-delimiter = "bar"
 [[table]]
 name = "t"
 rows = 1
+life = [1, 1]
 [[table.column]]
 name = "id"
 kind = "key"
@@ -121,12 +121,12 @@ base = 1
 "#;
 
 // Both: what isn't built is told before a broken rule.
-const BAR_AND_TOO_MANY_ROWS: &str = r#"seed = 1
+const MORTAL_AND_TOO_MANY_ROWS: &str = r#"seed = 1
 units = 2
-delimiter = "bar"
 [[table]]
 name = "t"
 rows = 1099511627777
+life = [1, 1]
 [[table.column]]
 name = "id"
 kind = "key"
@@ -451,8 +451,8 @@ fn other_words_and_schemas_are_refused(rt: HostRuntime) -> Result<(), Fail> {
             "pdgf: schema: top key table: expected list of tables\n",
         ),
         (TOO_MANY_ROWS, 4, "pdgf: rule V6 at table 1\n"),
-        (BAR, 11, "pdgf: not built\n"),
-        (BAR_AND_TOO_MANY_ROWS, 11, "pdgf: not built\n"),
+        (MORTAL, 11, "pdgf: not built\n"),
+        (MORTAL_AND_TOO_MANY_ROWS, 11, "pdgf: not built\n"),
         (TOO_MANY_ROWS_TO_UNIT_1, 4, "pdgf: rule V6 at table 1\n"),
     ];
     for (schema, status, message) in schemas {
