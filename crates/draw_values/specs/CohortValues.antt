@@ -1,5 +1,5 @@
 -- The values of the rows of one cohort, and what the code keeps of them.
-use Rattle.std.specs.Prelude.{◌≡◌, ◌<◌, ◌≤◌, ℕ, List, decimal, length, get_or, All, true}
+use Rattle.std.specs.Prelude.{◌≡◌, ◌<◌, ◌≤◌, ℕ, List, Option, decimal, length, get_or, All, true}
 use Rattle.philox_seeds.specs.SeedTree.{table_seed, column_seed, unit_seed}
 use Rattle.pd_outside.specs.declared.piece.Piece.{Piece}
 use Rattle.pd_outside.specs.Pieces.{piece_text}
@@ -8,7 +8,7 @@ use Rattle.schema_check.specs.Layout.{layout_of, table_at, TableLayout}
 use Rattle.schema_check.specs.Limits.{IsTableInLimits}
 use Rattle.schema_check.specs.Planned.{Planned}
 use Rattle.schema_check.specs.Ready.{ready_columns, is_served}
-use Rattle.draw_values.specs.Values.{value_at}
+use Rattle.draw_values.specs.Values.{size_at, value_at}
 
 -- the values of the rows that are born at a unit, in the table at a place
 pub record ValuesOf : Type 0 where
@@ -21,10 +21,14 @@ abbrev pub layout_for : ValuesOf → TableLayout
 layout_for values = table_at (layout_of values.plan.schema).tables values.table
 
 -- what the row with an ordinal holds in the column at a place
-abbrev pub value_for : ValuesOf → ℕ → ℕ → _
+abbrev pub value_for : ValuesOf → ℕ → ℕ → Option (List ℕ)
 value_for values column ordinal =
     value_at (layout_of values.plan.schema) values.table column
     (record { ordinal = ordinal; born = values.unit; changed = values.unit })
+
+-- what a field of the column at a place takes at most, in bytes
+abbrev pub size_for : ValuesOf → ℕ → ℕ
+size_for values column = size_at (layout_of values.plan.schema) values.table column
 
 -- what is kept is of the table's columns, with the seed of the unit for each
 pub record AreValuesOf (values : ValuesOf) (ready : List ReadyColumn) (seeds : List ℕ) (birth : Piece) : Type 0 where

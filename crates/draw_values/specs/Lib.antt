@@ -2,3 +2,4 @@ pub mod Digits
 pub mod Dates
 pub mod Values
 pub mod CohortValues
+pub mod ReadyValues

@@ -6,6 +6,7 @@ use Rattle.weight_tables.specs.Harmonic.{harmonic_weights}
 use Rattle.weight_tables.specs.Weights.{selected}
 use Rattle.row_text.specs.Fields.{piece_text}
 use Rattle.schema_check.specs.Choices.{choices}
+use Rattle.schema_check.specs.FieldBounds.{bounds_of}
 use Rattle.schema_check.specs.Layout.{LeafLayout, int_leaf, fixed_leaf, date_leaf, pick_leaf, skew_leaf, dict_leaf, words_leaf, chars_leaf, KindLayout, key_kind, born_kind, changed_kind, leaf_kind, template_kind, case_kind, reference_kind, lookup_kind, Layout, table_at, column_at}
 use Rattle.draw_values.specs.declared.values.RowAt.{RowAt}
 use Rattle.draw_values.specs.declared.values.Put.{Put}
@@ -65,6 +66,12 @@ abbrev pub value_at : Layout → ℕ → ℕ → RowAt → Option (List ℕ)
 value_at layout table column at =
     own_value (column_at (table_at layout.tables table).columns column).kind at
     (field_draw layout.seed table column at.born at.ordinal)
+
+-- the greatest size of such a field as it is written, in bytes
+abbrev pub size_at : Layout → ℕ → ℕ → ℕ
+size_at layout table column =
+    (bounds_of layout.delimiter layout.tables (table_at layout.tables table)
+    (column_at (table_at layout.tables table).columns column).kind).size
 
 -- whether a value is a text or null
 abbrev pub put_of : Option (List ℕ) → Put

@@ -1,0 +1,34 @@
+//! Dates onto a page.
+
+ghost use Rattle.std.specs.Prelude.{◌≡◌, ◌≤◌, ◌+◌, ◌++◌, length, neg_ℤ, pos, ◌≤ℤ◌};
+ghost use Rattle.pd_outside.specs.Pieces.{piece_text};
+ghost use Rattle.draw_values.specs.Dates.{date_digits, date_text};
+
+use crate::digits::prepend_digits;
+use jiff_core::civil::Date;
+use pd_outside::{PageBuf, Piece};
+
+/// Appends the date of a day of the years 1 to 9999, counted from 1970-01-01, which is day 0: 10 bytes, which have to be free.
+#[inline(always)]
+pub(crate) fn put_date(day: i64, buf: &mut PageBuf)
+    requires first_day { neg_ℤ (pos 719162) ≤ℤ day }
+    requires last_day { day ≤ℤ pos 2932896 }
+    requires room { length buf.old.text + 10 ≤ buf.old.room }
+    ensures text { buf.new ≡ record buf.old { text = buf.old.text ++ date_text day } }
+    ensures size { length (date_text day) ≡ 10 }
+{
+    match Date::from_unix_epoch_day(day) {
+        Ok(date) => buf.put_piece(&date_piece(date.year as u64, date.month, date.day)),
+        Err(_) => unreachable!(),
+    }
+}
+
+/// A year, a month and a day as YYYY-MM-DD.
+#[inline(always)]
+fn date_piece(year: u64, month: u8, day: u8) -> Piece
+    ensures { piece_text result ≡ date_digits year month day }
+{
+    let end = prepend_digits(Piece::new(), u64::from(day), 2).prepend(b'-');
+    let month_on = prepend_digits(end, u64::from(month), 2).prepend(b'-');
+    prepend_digits(month_on, year, 4)
+}

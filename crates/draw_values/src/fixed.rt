@@ -1,0 +1,51 @@
+//! Fixed numbers onto a page.
+
+ghost use Rattle.std.specs.Prelude.{◌≡◌, ◌≤◌, ◌+◌, ◌^◌, ◌∷◌, ◌++◌, length};
+ghost use Rattle.pd_outside.specs.Pieces.{piece_text};
+ghost use Rattle.draw_values.specs.Digits.{last_digits, pointed, signed_pointed};
+
+use crate::digits::prepend_digits;
+use fixed_divisors::FixedDivisor;
+use pd_outside::{PageBuf, Piece};
+
+/// Appends a number whose last `decimals` digits, 0 to 9, stand after a point; `unit` is 10 to their number. 21 bytes have to be
+/// free.
+#[inline(always)]
+pub(crate) fn put_fixed(value: i64, decimals: u32, unit: &FixedDivisor, buf: &mut PageBuf)
+    requires decimals { decimals ≤ 9 }
+    requires unit { unit.now ≡ 10 ^ decimals }
+    requires room { length buf.old.text + 21 ≤ buf.old.room }
+    ensures text { buf.new ≡ record buf.old { text = buf.old.text ++ signed_pointed decimals value } }
+    ensures size { length (signed_pointed decimals value) ≤ 21 }
+{
+    if value < 0 {
+        buf.put_piece(&Piece::of_byte(b'-'));
+    }
+    put_pointed(value.unsigned_abs(), decimals, unit, buf);
+}
+
+/// The same of a number that isn't negative. 20 bytes have to be free.
+#[inline(always)]
+fn put_pointed(number: u64, decimals: u32, unit: &FixedDivisor, buf: &mut PageBuf)
+    requires number { number ≤ 2 ^ 63 }
+    requires decimals { decimals ≤ 9 }
+    requires unit { unit.now ≡ 10 ^ decimals }
+    requires room { length buf.old.text + 20 ≤ buf.old.room }
+    ensures text { buf.new ≡ record buf.old { text = buf.old.text ++ pointed decimals number } }
+    ensures size { length (pointed decimals number) ≤ 20 }
+{
+    buf.put_number(unit.quotient(number));
+    if decimals > 0 {
+        buf.put_piece(&fraction(number, decimals));
+    }
+}
+
+/// A point, and the last digits of a number, as many as `count`.
+#[inline(always)]
+fn fraction(number: u64, count: u32) -> Piece
+    requires { count ≤ 9 }
+    ensures text { piece_text result ≡ 46 ∷ last_digits count number }
+    ensures length { length (piece_text result) ≡ count + 1 }
+{
+    prepend_digits(Piece::new(), number, count).prepend(b'.')
+}

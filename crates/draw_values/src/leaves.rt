@@ -1,0 +1,57 @@
+//! Values that are drawn for a field alone, onto a page.
+
+ghost use Rattle.std.specs.Prelude.{◌≡◌, ◌≤◌, ◌+◌, ◌++◌, length};
+ghost use Rattle.philox_seeds.specs.SeedTree.{draw as draw_of};
+ghost use Rattle.draw_values.specs.ReadyValues.{IsReady, ready_size, ready_text};
+
+use crate::dates::put_date;
+use crate::fixed::put_fixed;
+use crate::numbers::chosen;
+use crate::weighted::chosen_group;
+use pd_outside::PageBuf;
+use philox_seeds::draw;
+use schema_check::ReadyLeaf;
+
+/// The draw that a value begins with. Draw 0 is kept for null fields.
+const FIRST_DRAW: u32 = 1;
+
+/// Appends the value that is drawn with the seed of a row. Its greatest size has to be free.
+#[inline(always)]
+pub(crate) fn put_leaf(leaf: &ReadyLeaf, seed: u64, buf: &mut PageBuf)
+    requires ready { IsReady leaf.now }
+    requires room { length buf.old.text + ready_size leaf.now ≤ buf.old.room }
+    ensures text { buf.new ≡ record buf.old { text = buf.old.text ++ ready_text leaf.now (draw_of seed 1) } }
+    ensures size { length (ready_text leaf.now (draw_of seed 1)) ≤ ready_size leaf.now }
+{
+    let draw = draw(seed, FIRST_DRAW);
+    match leaf {
+        ReadyLeaf::Int {
+            lo,
+            hi,
+            step,
+            choices,
+        } => buf.put_signed(chosen(*lo, *hi, *step, choices, draw)),
+        ReadyLeaf::Fixed {
+            lo,
+            hi,
+            choices,
+            decimals,
+            unit,
+        } => put_fixed(chosen(*lo, *hi, 1, choices, draw), *decimals, unit, buf),
+        ReadyLeaf::Date { lo, hi, choices } => {
+            put_date(
+                chosen(i64::from(*lo), i64::from(*hi), 1, choices, draw),
+                buf,
+            );
+        }
+        ReadyLeaf::Pick {
+            entries,
+            weights,
+            total,
+        } => buf.put(entries.get(chosen_group(weights, total, draw))),
+        ReadyLeaf::Skew { lo, weights, total } => {
+            buf.put_signed(*lo + chosen_group(weights, total, draw) as i64);
+        }
+        ReadyLeaf::Unserved => unreachable!(),
+    }
+}

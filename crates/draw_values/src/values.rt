@@ -1,0 +1,57 @@
+//! The value of one row in one column.
+
+ghost use Rattle.std.specs.Prelude.{◌≡◌, ◌<◌, ◌≤◌, ◌+◌, ◌++◌, true, length};
+ghost use Rattle.row_text.specs.Fields.{field_text};
+ghost use Rattle.schema_check.specs.Layout.{column_at, layout_of, table_at};
+ghost use Rattle.draw_values.specs.Values.{is_own, put_of, size_at, value_at, written};
+
+use crate::leaves::put_leaf;
+use pd_outside::PageBuf;
+use philox_seeds::{column_seed, row_seed, table_seed, unit_seed};
+use schema_check::{Plan, ReadyColumn};
+
+/// A row, as far as its values ask for it.
+#[derive(Clone, Copy, Debug, PartialEq, Eq)]
+pub struct RowAt {
+    /// Its place in the order of birth in its table, from 0.
+    pub ordinal: u64,
+    /// The unit at which it is born.
+    pub born: u64,
+    /// The unit at which it changed last; that of its birth where it never did.
+    pub changed: u64,
+}
+
+/// What was put for a value.
+#[derive(Clone, Copy, Debug, PartialEq, Eq)]
+pub enum Put {
+    /// Its text.
+    Text,
+    /// Nothing: it is null.
+    Null,
+}
+
+/// Appends what a row of a table holds in a column of units or of drawn values, as it is written; nothing where it is null.
+/// The greatest size of the column's fields has to be free.
+pub fn put_value(plan: &Plan, table: u32, column: u32, at: RowAt, buf: &mut PageBuf) -> Put
+    requires table { table < length plan.now.schema.tables }
+    requires column { column < length (table_at (layout_of plan.now.schema).tables table).columns }
+    requires own { is_own (column_at (table_at (layout_of plan.now.schema).tables table).columns column).kind ≡ true }
+    requires born { at.born ≤ (layout_of plan.now.schema).units }
+    requires room { length buf.old.text + size_at (layout_of plan.now.schema) table column ≤ buf.old.room }
+    ensures put { result ≡ put_of (value_at (layout_of plan.now.schema) table column at) }
+    ensures text { buf.new ≡ record buf.old { text = buf.old.text ++ written (layout_of plan.now.schema).delimiter (value_at (layout_of plan.now.schema) table column at) } }
+    ensures size { length (field_text (layout_of plan.now.schema).delimiter (value_at (layout_of plan.now.schema) table column at)) ≤ size_at (layout_of plan.now.schema) table column }
+{
+    match &plan.columns(table)[column as usize] {
+        ReadyColumn::Born => buf.put_number(at.born),
+        ReadyColumn::Drawn(leaf) => {
+            let seed = unit_seed(
+                column_seed(table_seed(plan.seed(), table), column),
+                at.born,
+            );
+            put_leaf(leaf, row_seed(seed, at.ordinal), buf);
+        }
+        _ => unreachable!(),
+    }
+    Put::Text
+}
