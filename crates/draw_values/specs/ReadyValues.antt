@@ -1,5 +1,5 @@
 -- What is written for a drawn value that a plan keeps ready, by its first draw.
-use Rattle.std.specs.Prelude.{◌≡◌, ◌<◌, ◌≤◌, ℕ, ℤ, pos, ◌-◌, ◌%◌, ◌^◌, ◌+ℤ◌, ◌<ℤ◌, List, [], length, sum, slice_index_or, ⊥}
+use Rattle.std.specs.Prelude.{◌≡◌, ◌<◌, ◌≤◌, ℕ, ℤ, pos, ◌-◌, ◌%◌, ◌^◌, ◌+ℤ◌, ◌<ℤ◌, List, [], length, sum, slice_index_or}
 use Rattle.std.specs.Fmt.{signed_decimal}
 use Rattle.schema_check.specs.declared.ready.ReadyLeaf.{ReadyLeaf}
 use Rattle.schema_check.specs.declared.ready.ReadyLeaf.TheVariants as leaf
@@ -34,5 +34,5 @@ IsReady (leaf.Int lo hi step count) = IsRange lo hi × (1 ≤ step) × (count �
 IsReady (leaf.Fixed lo hi count decimals unit) = IsRange lo hi × (count ≡ choices lo hi 1) × (decimals ≤ 9) × (unit ≡ 10 ^ decimals)
 IsReady (leaf.Date lo hi count) = IsDateRange lo hi × (count ≡ choices lo hi 1)
 IsReady (leaf.Pick entries weights total) = (length weights ≡ length entries) × (total ≡ sum weights)
-IsReady (leaf.Skew lo weights total) = ((lo +ℤ pos (length weights - 1)) <ℤ pos (2 ^ 63)) × (total ≡ sum weights)
+IsReady (leaf.Skew lo weights total) = (length weights ≤ 4096) × ((lo +ℤ pos (length weights - 1)) <ℤ pos (2 ^ 63)) × (total ≡ sum weights)
 IsReady leaf.Unserved = ⊥

@@ -47,6 +47,8 @@ impl<'a> CohortValues<'a> {
         requires unit { unit ≤ (layout_of plan.now.schema).units }
         ensures { result ≡ record { plan = plan.now; table = table; unit = unit } }
     {
+        let _limits = plan.table(table); // there are at most 64 columns
+        let _units = plan.schema(); // there are at most 10,000 units
         let columns = plan.columns(table);
         let seed = table_seed(plan.seed(), table);
         let mut seeds = [0; COLUMN_LIMIT];
@@ -74,7 +76,8 @@ impl<'a> CohortValues<'a> {
         ensures text { buf.new ≡ record buf.old { text = buf.old.text ++ written (layout_of self.now.plan.schema).delimiter (value_for self.now column ordinal) } }
         ensures size { length (field_text (layout_of self.now.plan.schema).delimiter (value_for self.now column ordinal)) ≤ size_for self.now column }
     {
-        match &self.columns[column] {
+        let columns = self.columns;
+        match &columns[column] {
             ReadyColumn::Born => buf.put_piece(&self.birth),
             ReadyColumn::Drawn(leaf) => {
                 put_leaf(leaf, row_seed(self.seeds[column], ordinal), buf);

@@ -6,8 +6,8 @@ ghost use Rattle.draw_values.specs.ReadyValues.{IsReady, ready_size, ready_text}
 
 use crate::dates::put_date;
 use crate::fixed::put_fixed;
-use crate::numbers::chosen;
-use crate::weighted::chosen_group;
+use crate::numbers::{chosen, put_whole};
+use crate::weighted::{chosen_group, put_entry, skewed};
 use pd_outside::PageBuf;
 use philox_seeds::draw;
 use schema_check::ReadyLeaf;
@@ -15,7 +15,7 @@ use schema_check::ReadyLeaf;
 /// The draw that a value begins with. Draw 0 is kept for null fields.
 const FIRST_DRAW: u32 = 1;
 
-/// Appends the value that is drawn with the seed of a row. Its greatest size has to be free.
+/// Appends the value that is drawn with the seed of a row, as it is written. Its greatest size has to be free.
 #[inline(always)]
 pub(crate) fn put_leaf(leaf: &ReadyLeaf, seed: u64, buf: &mut PageBuf)
     requires ready { IsReady leaf.now }
@@ -30,7 +30,7 @@ pub(crate) fn put_leaf(leaf: &ReadyLeaf, seed: u64, buf: &mut PageBuf)
             hi,
             step,
             choices,
-        } => buf.put_signed(chosen(*lo, *hi, *step, choices, draw)),
+        } => put_whole(chosen(*lo, *hi, *step, choices, draw), buf),
         ReadyLeaf::Fixed {
             lo,
             hi,
@@ -39,18 +39,16 @@ pub(crate) fn put_leaf(leaf: &ReadyLeaf, seed: u64, buf: &mut PageBuf)
             unit,
         } => put_fixed(chosen(*lo, *hi, 1, choices, draw), *decimals, unit, buf),
         ReadyLeaf::Date { lo, hi, choices } => {
-            put_date(
-                chosen(i64::from(*lo), i64::from(*hi), 1, choices, draw),
-                buf,
-            );
+            let day = chosen(i64::from(*lo), i64::from(*hi), 1, choices, draw);
+            put_date(day, buf);
         }
         ReadyLeaf::Pick {
             entries,
             weights,
             total,
-        } => buf.put(entries.get(chosen_group(weights, total, draw))),
+        } => put_entry(entries, chosen_group(weights, total, draw), buf),
         ReadyLeaf::Skew { lo, weights, total } => {
-            buf.put_signed(*lo + chosen_group(weights, total, draw) as i64);
+            put_whole(skewed(*lo, weights, total, draw), buf);
         }
         ReadyLeaf::Unserved => unreachable!(),
     }

@@ -1,10 +1,12 @@
-//! Whole numbers that a draw chooses.
+//! Whole numbers that a draw chooses, onto a page.
 
-ghost use Rattle.std.specs.Prelude.{◌≡◌, ◌≤◌, ◌^◌, pos, ◌-ℤ◌, ◌<ℤ◌, ◌≤ℤ◌};
+ghost use Rattle.std.specs.Prelude.{◌≡◌, ◌≤◌, ◌+◌, ◌^◌, ◌++◌, length, pos, ◌-ℤ◌, ◌<ℤ◌, ◌≤ℤ◌};
+ghost use Rattle.std.specs.Fmt.{signed_decimal};
 ghost use Rattle.schema_check.specs.Choices.{choices as choices_of};
 ghost use Rattle.draw_values.specs.Values.{chosen};
 
 use fixed_divisors::FixedDivisor;
+use pd_outside::PageBuf;
 
 /// Of the numbers from `lo` to `hi`, each `step` past the one before, the one that a draw chooses; `choices` is how many they
 /// are.
@@ -20,4 +22,14 @@ pub(crate) fn chosen(lo: i64, hi: i64, step: u64, choices: &FixedDivisor, draw: 
 {
     let past = step * choices.remainder(draw);
     lo + past as i64
+}
+
+/// Appends a number in decimal, with a minus sign where it is negative. 20 bytes have to be free.
+#[inline(always)]
+pub(crate) fn put_whole(value: i64, buf: &mut PageBuf)
+    requires { length buf.old.text + 20 ≤ buf.old.room }
+    ensures text { buf.new ≡ record buf.old { text = buf.old.text ++ signed_decimal value } }
+    ensures size { length (signed_decimal value) ≤ 20 }
+{
+    buf.put_signed(value);
 }

@@ -1,9 +1,12 @@
-//! Groups that a draw chooses by their weights.
+//! Groups that a draw chooses by their weights, and what they stand for.
 
-ghost use Rattle.std.specs.Prelude.{◌≡◌, ◌<◌, length, sum};
+ghost use Rattle.std.specs.Prelude.{◌≡◌, ◌<◌, ◌≤◌, ◌+◌, ◌-◌, ◌^◌, [], ◌++◌, length, sum, slice_index_or, pos, ◌+ℤ◌, ◌<ℤ◌};
+ghost use Rattle.schema_check.specs.FieldBounds.{greatest_by};
 ghost use Rattle.draw_values.specs.Values.{chosen_group};
 
 use fixed_divisors::FixedDivisor;
+use pd_outside::PageBuf;
+use row_text::WrittenTexts;
 use weight_tables::Weights;
 
 /// The group that a draw chooses; `total` is the sum of the weights.
@@ -14,4 +17,27 @@ pub(crate) fn chosen_group(weights: &Weights, total: &FixedDivisor, draw: u64) -
     ensures within { result < length weights.now }
 {
     weights.select(total.remainder(draw))
+}
+
+/// Of the numbers from `lo` on, one for each weight, the one that a draw chooses; `total` is the sum of the weights, of which
+/// there are at most 4096.
+#[inline(always)]
+pub(crate) fn skewed(lo: i64, weights: &Weights, total: &FixedDivisor, draw: u64) -> i64
+    requires few { length weights.now ≤ 4096 }
+    requires last { (lo +ℤ pos (length weights.now - 1)) <ℤ pos (2 ^ 63) }
+    requires total { total.now ≡ sum weights.now }
+    ensures { result ≡ lo +ℤ pos (chosen_group weights.now draw) }
+{
+    lo + chosen_group(weights, total, draw) as i64
+}
+
+/// Appends the entry of a group, as it is written. The size of the greatest entry has to be free.
+#[inline(always)]
+pub(crate) fn put_entry(entries: &WrittenTexts, group: usize, buf: &mut PageBuf)
+    requires group { group < length entries.now }
+    requires room { length buf.old.text + greatest_by length entries.now ≤ buf.old.room }
+    ensures text { buf.new ≡ record buf.old { text = buf.old.text ++ slice_index_or entries.now group [] } }
+    ensures size { length (slice_index_or entries.now group []) ≤ greatest_by length entries.now }
+{
+    buf.put(entries.get(group));
 }
