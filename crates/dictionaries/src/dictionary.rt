@@ -1,0 +1,82 @@
+//! A dictionary: entries, of which a number selects one by weight.
+
+use crate::entries::Entries;
+use std::alloc::Global;
+use std::marker::Model;
+use weight_tables::{Memory, Weights};
+
+/// A word list. A contract sees its entries and their weights. There are 1 to 1,000,000 entries, each of at most 255
+/// bytes, and a weight is from 1 to 1,000,000.
+#[derive(Debug, Drop)]
+pub struct Dictionary {
+    entries: Entries,
+    weights: Weights,
+}
+
+impl Model for Dictionary {
+    ghost use Rattle.dictionaries.specs.WordList.{WordList, IsWordList};
+
+    ghost Value = { WordList };
+
+    ghost view = { λ d. record { entries = d.entries; weights = d.weights } };
+
+    ghost invariant = { λ d. IsWordList (record { entries = d.entries; weights = d.weights }) };
+}
+
+impl Dictionary {
+    ghost use Rattle.std.specs.Prelude.{◌≡◌, ◌==◌, ◌<◌, ◌≤◌, ◌^◌, length, sum, slice_get, Some, IfOk};
+    ghost use Rattle.weight_tables.specs.Weights.{selected};
+    ghost use Rattle.dictionaries.specs.WordList.{IsWordList};
+
+    /// The dictionary of entries with these weights, one for each.
+    pub(crate) fn new(alloc: Global, entries: Entries, weights: &[u64]) -> Result<Dictionary, Memory>
+        requires { IsWordList (record { entries = entries; weights = weights.now }) }
+        ensures { IfOk result (λ dictionary. dictionary ≡ record { entries = entries; weights = weights.now }) }
+    {
+        let weights = Weights::new(alloc, weights)?;
+        Ok(Dictionary { entries, weights })
+    }
+
+    /// The number of entries.
+    pub fn len(&self) -> usize
+        ensures exact { result ≡ length self.now.entries }
+        ensures bounds { IsWordList self.now }
+    {
+        self.entries.len()
+    }
+
+    /// Whether there is no entry, which no dictionary is.
+    pub fn is_empty(&self) -> bool
+        ensures { result ≡ (length self.now.entries == 0) }
+    {
+        self.len() == 0
+    }
+
+    /// The entry at index `i`, which counts from 0.
+    pub fn entry(&self, i: usize) -> &str
+        requires { i < length self.now.entries }
+        ensures exact { slice_get self.now.entries i ≡ Some result.now }
+        ensures short { length result.now ≤ 255 }
+    {
+        self.entries.get(i)
+    }
+
+    /// The sum of the weights, from 1 to 10^12.
+    pub fn weight_total(&self) -> u64
+        ensures exact { result ≡ sum self.now.weights }
+        ensures some { 1 ≤ result }
+        ensures small { result ≤ 2 ^ 40 }
+    {
+        self.weights.total()
+    }
+
+    /// The index of the entry that `x` selects, with `x` from 0 to the sum of the weights - 1: the first one whose prefix
+    /// sum exceeds `x`, where the prefix sum of an entry is the sum of the weights up to and with its own.
+    pub fn select(&self, x: u64) -> usize
+        requires { x < sum self.now.weights }
+        ensures exact { result ≡ selected self.now.weights x }
+        ensures within { result < length self.now.entries }
+    {
+        self.weights.select(x)
+    }
+}

@@ -1,0 +1,59 @@
+//! Why bytes give no dictionary.
+
+ghost use Rattle.std.specs.Prelude.{◌≡◌};
+ghost use Rattle.dictionaries.specs.declared.fault.DictFault.TheVariants.{Memory};
+
+use std::alloc::{AllocError, AllocFailed};
+
+/// Why bytes give no dictionary. Lines count from 1, the empty ones too.
+#[derive(Clone, Copy, Debug, PartialEq, Eq)]
+pub enum DictFault {
+    /// The bytes aren't UTF-8.
+    NotUtf8 {
+        /// The length in bytes of their longest prefix that is.
+        at: u64,
+    },
+    /// A text is longer than 255 bytes.
+    LongEntry {
+        /// The number of its line.
+        line: u64,
+    },
+    /// What stands after the first tab of a line isn't one to seven decimal digits with a value from 1 to 1,000,000.
+    BadWeight {
+        /// The number of the line.
+        line: u64,
+    },
+    /// There are more than 1,000,000 entries.
+    TooMany {
+        /// The number of the line that has entry 1,000,001.
+        line: u64,
+    },
+    /// There is no entry.
+    Empty,
+    /// Memory ran out.
+    Memory,
+}
+
+impl From<AllocError> for DictFault {
+    ghost from_gives = { λ _ fault. fault ≡ Memory };
+
+    fn from(_error: AllocError) -> DictFault {
+        DictFault::Memory
+    }
+}
+
+impl<T: Drop> From<AllocFailed<T>> for DictFault {
+    ghost from_gives = { λ _ fault. fault ≡ Memory };
+
+    fn from(_error: AllocFailed<T>) -> DictFault {
+        DictFault::Memory
+    }
+}
+
+impl From<weight_tables::Memory> for DictFault {
+    ghost from_gives = { λ _ fault. fault ≡ Memory };
+
+    fn from(_error: weight_tables::Memory) -> DictFault {
+        DictFault::Memory
+    }
+}

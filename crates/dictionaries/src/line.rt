@@ -1,0 +1,78 @@
+//! What one line says.
+
+ghost use Rattle.std.specs.Prelude.{◌≡◌, ◌+◌, Some, None, IfOk, IfErr};
+ghost use Rattle.std.specs.Char.{is_ascii_digit};
+ghost use Rattle.std.specs.List.{list_all};
+ghost use Rattle.std.specs.Str.Lines.{strip_carriage_return};
+ghost use Rattle.dictionaries.specs.Grammar.{text_of, weight_of, weight_named, fault_of};
+
+use crate::DictFault;
+
+/// The greatest length of a text, in bytes.
+const LONGEST_TEXT: usize = 255;
+
+/// The greatest number of entries.
+const MOST_ENTRIES: usize = 1_000_000;
+
+/// The greatest number of digits of a weight.
+const MOST_DIGITS: usize = 7;
+
+/// The greatest weight.
+const GREATEST_WEIGHT: u64 = 1_000_000;
+
+/// A part between line feeds, without one carriage return at its end.
+pub fn strip_carriage_return(part: &str) -> &str
+    ensures { result.now ≡ strip_carriage_return part.now }
+{
+    part.strip_suffix('\r').unwrap_or(part)
+}
+
+/// The text and the weight of line `number`, before which stand `before` entries; or what is wrong with it.
+pub fn read_line(line: &str, number: u64, before: usize) -> Result<(&str, u64), DictFault>
+    ensures read { IfOk result (λ entry. (fault_of (before + 1) number line.now ≡ None)
+        × (text_of line.now ≡ entry.0.now) × (weight_of line.now ≡ Some entry.1)) }
+    ensures refused { IfErr result (λ fault. fault_of (before + 1) number line.now ≡ Some fault) }
+{
+    let (text, weight) = divide(line);
+    if text.len() > LONGEST_TEXT {
+        return Err(DictFault::LongEntry { line: number });
+    }
+    let Some(weight) = weight else {
+        return Err(DictFault::BadWeight { line: number });
+    };
+    if before >= MOST_ENTRIES {
+        return Err(DictFault::TooMany { line: number });
+    }
+    Ok((text, weight))
+}
+
+/// The text of a line, and its weight where it has one.
+fn divide(line: &str) -> (&str, Option<u64>)
+    ensures text { text_of line.now ≡ result.0.now }
+    ensures weight { weight_of line.now ≡ result.1 }
+{
+    match line.split_once('\t') {
+        Some((text, weight)) => (text, read_weight(weight)),
+        None => (line, Some(1)),
+    }
+}
+
+/// The weight that digits stand for.
+fn read_weight(digits: &str) -> Option<u64>
+    ensures { result ≡ weight_named digits.now }
+{
+    if digits.is_empty() || digits.len() > MOST_DIGITS || !are_digits(digits.as_bytes()) {
+        return None;
+    }
+    let weight = digits.parse::<u64>().ok()?;
+    if weight == 0 || weight > GREATEST_WEIGHT {
+        return None;
+    }
+    Some(weight)
+}
+
+fn are_digits(bytes: &[u8]) -> bool
+    ensures { result ≡ list_all is_ascii_digit bytes.now }
+{
+    bytes.iter().all(|byte| byte.is_ascii_digit())
+}
