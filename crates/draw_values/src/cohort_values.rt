@@ -47,8 +47,6 @@ impl<'a> CohortValues<'a> {
         requires unit { unit ≤ (layout_of plan.now.schema).units }
         ensures { result ≡ record { plan = plan.now; table = table; unit = unit } }
     {
-        let _limits = plan.table(table); // there are at most 64 columns
-        let _units = plan.schema(); // there are at most 10,000 units
         let columns = plan.columns(table);
         let seed = table_seed(plan.seed(), table);
         let mut seeds = [0; COLUMN_LIMIT];

@@ -42,8 +42,6 @@ pub fn put_value(plan: &Plan, table: u32, column: u32, at: RowAt, buf: &mut Page
     ensures text { buf.new ≡ record buf.old { text = buf.old.text ++ written (layout_of plan.now.schema).delimiter (value_at (layout_of plan.now.schema) table column at) } }
     ensures size { length (field_text (layout_of plan.now.schema).delimiter (value_at (layout_of plan.now.schema) table column at)) ≤ size_at (layout_of plan.now.schema) table column }
 {
-    let _numbers = plan.table(table); // what is drawn is within its limits
-    let _units = plan.schema(); // there are at most 10,000 units
     match &plan.columns(table)[column as usize] {
         ReadyColumn::Born => buf.put_number(at.born),
         ReadyColumn::Drawn(leaf) => {

@@ -28,7 +28,7 @@ put_number-requires c =
     let own = (goal.at.put_number-requires c).In-Born in
     omega (
       arith,
-      length-decimal-unit c.args.at.born (omega (arith, c.schema-units.ensures.limits.unit_limit, c.requires.born)),
+      length-decimal-unit c.args.at.born (omega (arith, c.columns.ensures.units, c.requires.born)),
       size_at-born (layout_of c.args.plan.now.schema) c.args.table c.args.column (born_kept own),
       c.requires.room,
     )
@@ -44,7 +44,7 @@ returns-in-Born-clause-size c =
     omega (
       arith,
       ap length (born own).field,
-      length-decimal-unit c.args.at.born (omega (arith, c.schema-units.ensures.limits.unit_limit, c.requires.born)),
+      length-decimal-unit c.args.at.born (omega (arith, c.columns.ensures.units, c.requires.born)),
       size_at-born (layout_of c.args.plan.now.schema) c.args.table c.args.column (born_kept own),
     )
 
@@ -52,7 +52,7 @@ returns-in-Born-clause-size c =
 pub put_leaf-requires-clause-ready : goal.put_leaf-requires-clause-ready
 put_leaf-requires-clause-ready c =
     drawn_is_ready (layout_of c.args.plan.now.schema) c.args.table c.args.column c.in-Drawn.leaf (drawn_kept (goal.at.put_leaf-requires-clause-ready c).In-Drawn)
-    (c.table-numbers.ensures.limits.drawn c.args.column c.requires.column)
+    (c.columns.ensures.limits.drawn c.args.column c.requires.column)
 
 pub put_leaf-requires-clause-room : goal.put_leaf-requires-clause-room
 put_leaf-requires-clause-room c =

@@ -9,6 +9,6 @@ overflow_cast-column c =
       arith,
       ap length c.columns-columns.ensures.columns,
       length-ready_columns (layout_of c.args.plan.now.schema) c.args.table,
-      c.table-limits.ensures.limits.column_limit,
+      c.columns-columns.ensures.limits.column_limit,
       c.loop-column-test.true,
     )
