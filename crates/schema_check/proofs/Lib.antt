@@ -13,4 +13,5 @@ pub mod RuleLemmas
 pub mod LeafLemmas
 pub mod LeafLimits
 pub mod InLimits
+pub mod ReadyLemmas
 pub mod PlannedLemmas

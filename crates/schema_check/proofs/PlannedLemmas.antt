@@ -62,13 +62,12 @@ max_line-reach layout place =
     let none : line_of_table layout no_table ≡ 0 = refl in
     greatest_at (line_of_table layout) layout.tables 0 place no_table (omega (arith, none))
 
--- what is kept of the table at a place
-pub length-kept : (schema : Schema) (kept : List TableFacts) → kept ≡ map (facts_at (layout_of schema)) (range_with_len 0 (length schema.tables)) → length kept ≡ length schema.tables
-length-kept schema kept is = ap length is ∙ length-map-range_with_len (facts_at (layout_of schema)) 0 (length schema.tables)
+-- what is kept of the tables, one for each
+pub length-kept : {A : Type 0} (of : ℕ → A) (tables : ℕ) (kept : List A) → kept ≡ map of (range_with_len 0 tables) → length kept ≡ tables
+length-kept of tables kept is = ap length is ∙ length-map-range_with_len of 0 tables
 
-pub get_or-kept : (schema : Schema) (kept : List TableFacts) → kept ≡ map (facts_at (layout_of schema)) (range_with_len 0 (length schema.tables)) → (place : ℕ) (d : TableFacts) → place < length schema.tables → get_or kept place d ≡ facts_at (layout_of schema) place
-get_or-kept schema kept is place d h =
-    ap (λ facts. get_or facts place d) is ∙ get_or-map-range_with_len (facts_at (layout_of schema)) 0 (length schema.tables) place place d h (omega arith)
+pub get_or-kept : {A : Type 0} (of : ℕ → A) (tables : ℕ) (kept : List A) → kept ≡ map of (range_with_len 0 tables) → (place : ℕ) (d : A) → place < tables → get_or kept place d ≡ of place
+get_or-kept of tables kept is place d h = ap (λ all. get_or all place d) is ∙ get_or-map-range_with_len of 0 tables place place d h (omega arith)
 
 -- a table of a built schema is built
 pub built_table : (schema : Schema) → is_unbuilt schema ≡ false → (place : ℕ) (table : Table) → slice_get schema.tables place ≡ Some table → is_unbuilt_table table ≡ false

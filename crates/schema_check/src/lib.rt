@@ -34,4 +34,6 @@ pub use ready::{ReadyColumn, ReadyLeaf};
 #[cfg(test)]
 mod fact_tests;
 #[cfg(test)]
+mod ready_tests;
+#[cfg(test)]
 mod tests;

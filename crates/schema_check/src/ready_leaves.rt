@@ -1,10 +1,11 @@
 //! Drawn values, made ready for rows. What is kept of one doesn't depend on the names of dictionaries, so the clauses name none.
 
-ghost use Rattle.std.specs.Prelude.{◌≡◌, ◌≤◌, ℕ, [], IfOk, map};
+ghost use Rattle.std.specs.Prelude.{◌≡◌, ◌≤◌, ◌^◌, [], IfOk, map, sum};
 ghost use Rattle.row_text.specs.Fields.{piece_text};
+ghost use Rattle.weight_tables.specs.Harmonic.{harmonic_weights};
 ghost use Rattle.schema_check.specs.Choices.{choices};
 ghost use Rattle.schema_check.specs.Counts.{count};
-ghost use Rattle.schema_check.specs.Layout.{date_leaf, fixed_leaf, int_leaf, leaf_layout, pick_leaf, skew_leaf};
+ghost use Rattle.schema_check.specs.Layout.{leaf_layout};
 ghost use Rattle.schema_check.specs.Limits.{IsDateRange, IsLeafInLimits, IsRange, IsSkew, IsWeighted};
 ghost use Rattle.schema_check.specs.Ready.{ready_leaf};
 
@@ -44,8 +45,9 @@ fn choices(lo: i64, hi: i64, step: u64) -> FixedDivisor
 }
 
 fn ready_int(lo: i64, hi: i64, step: i64) -> ReadyLeaf
-    requires { IsLeafInLimits (int_leaf lo hi (count step)) }
-    ensures { (delimiter : ℕ) → result ≡ ready_leaf delimiter (int_leaf lo hi (count step)) }
+    requires range { IsRange lo hi }
+    requires step { 1 ≤ count step }
+    ensures { result ≡ ReadyLeaf.Int lo hi (count step) (choices lo hi (count step)) }
 {
     let step = count(step);
     ReadyLeaf::Int {
@@ -57,8 +59,9 @@ fn ready_int(lo: i64, hi: i64, step: i64) -> ReadyLeaf
 }
 
 fn ready_fixed(lo: i64, hi: i64, decimals: i64) -> ReadyLeaf
-    requires { IsLeafInLimits (fixed_leaf lo hi (count decimals)) }
-    ensures { (delimiter : ℕ) → result ≡ ready_leaf delimiter (fixed_leaf lo hi (count decimals)) }
+    requires range { IsRange lo hi }
+    requires decimals { count decimals ≤ 9 }
+    ensures { result ≡ ReadyLeaf.Fixed lo hi (choices lo hi 1) (count decimals) (10 ^ count decimals) }
 {
     let decimals = count(decimals) as u32;
     ReadyLeaf::Fixed {
@@ -72,7 +75,7 @@ fn ready_fixed(lo: i64, hi: i64, decimals: i64) -> ReadyLeaf
 
 fn ready_date(lo: i32, hi: i32) -> ReadyLeaf
     requires { IsDateRange lo hi }
-    ensures { (delimiter : ℕ) → result ≡ ready_leaf delimiter (date_leaf lo hi) }
+    ensures { result ≡ ReadyLeaf.Date lo hi (choices lo hi 1) }
 {
     ReadyLeaf::Date {
         lo,
@@ -88,7 +91,7 @@ fn ready_pick(
     weights: &[i64],
 ) -> Result<ReadyLeaf, Memory>
     requires { IsWeighted entries.now (map count weights.now) }
-    ensures { IfOk result (λ ready. ready ≡ ready_leaf delimiter (pick_leaf entries.now (map count weights.now))) }
+    ensures { IfOk result (λ ready. ready ≡ ReadyLeaf.Pick (map (piece_text delimiter) entries.now) (map count weights.now) (sum (map count weights.now))) }
 {
     let entries = written_entries(alloc, delimiter, entries)?;
     let weights = Weights::new(alloc, &counts(alloc, weights)?)?;
@@ -124,7 +127,7 @@ fn counts(alloc: Global, numbers: &[i64]) -> Result<Vec<u64>, Memory>
 
 fn ready_skew(alloc: Global, lo: i64, size: i64, power: i64) -> Result<ReadyLeaf, Memory>
     requires { IsSkew lo (count size) (count power) }
-    ensures { (delimiter : ℕ) → IfOk result (λ ready. ready ≡ ready_leaf delimiter (skew_leaf lo (count size) (count power))) }
+    ensures { IfOk result (λ ready. ready ≡ ReadyLeaf.Skew lo (harmonic_weights (count size) (count power)) (sum (harmonic_weights (count size) (count power)))) }
 {
     let weights = Weights::harmonic(alloc, count(size) as u32, count(power) as u32)?;
     let total = FixedDivisor::new(weights.total());

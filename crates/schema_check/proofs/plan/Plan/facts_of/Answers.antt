@@ -11,7 +11,7 @@ index-requires c =
     let inside = c.self.inside in
     let within : c.args.table < length inside.schema.tables =
     subst (λ (p : Planned). c.args.table < length p.schema.tables) (sym c.self.view_is) c.requires in
-    omega (arith, within, length-kept inside.schema inside.facts.items c.self.invariant.facts, inside.facts.ok.0)
+    omega (arith, within, length-kept (facts_at (layout_of inside.schema)) (length inside.schema.tables) inside.facts.items c.self.invariant.facts, inside.facts.ok.0)
 
 pub returns : goal.returns
 returns c =
@@ -21,7 +21,7 @@ returns c =
     subst (λ (p : Planned). table < length p.schema.tables) (sym c.self.view_is) c.requires in
     let facts : c.index.result.now ≡ facts_at (layout_of c.args.self.now.schema) table =
     c.index.ensures
-    ∙ get_or-kept inside.schema inside.facts.items c.self.invariant.facts table _ within
+    ∙ get_or-kept (facts_at (layout_of inside.schema)) (length inside.schema.tables) inside.facts.items c.self.invariant.facts table _ within
     ∙ ap (λ (p : Planned). facts_at (layout_of p.schema) table) c.self.view_is in
     record {
       facts = facts;

@@ -4,6 +4,9 @@ use Rattle.schema_check.proofs.InLimits.{in_limits}
 use Rattle.schema_check.proofs.PlannedLemmas.{facts_whole, reach-is}
 use Rattle.schema_check.proofs.plan.Plan.of_accepted.Goals as goal
 
+pub ready_tables-requires : goal.ready_tables-requires
+ready_tables-requires c = in_limits c.args.schema c.requires.accepted
+
 pub invariant_of-result : goal.invariant_of-result
 invariant_of-result c =
     let limits = in_limits c.args.schema c.requires.accepted in
@@ -13,5 +16,6 @@ invariant_of-result c =
       built = c.requires.built;
       limits = limits;
       facts = c.in_ok-facts.ensures.items ∙ known;
+      columns = c.in_ok-ready.ensures;
       reach = c.greatest_line-reach.ensures ∙ ap (greatest_by (λ fact. fact.max_line)) known ∙ reach-is c.args.schema;
     }
