@@ -20,7 +20,8 @@ pub(crate) fn ready_tables(
     schema: &Schema,
 ) -> Result<Vec<Sequence<ReadyColumn>>, Memory>
     requires { IsInLimits schema.now }
-    ensures { IfOk result (λ ready. ready.items ≡ map (ready_columns (layout_of schema.now)) (range_with_len 0 (length schema.now.tables))) }
+    ensures { IfOk result (λ ready. ready.items
+        ≡ map (ready_columns (layout_of schema.now)) (range_with_len 0 (length schema.now.tables))) }
 {
     let delimiter = delimiter_byte(schema.delimiter);
     let mut ready = Vec::with_capacity(alloc, schema.tables.len())?;
@@ -37,7 +38,8 @@ fn ready_columns(
     columns: &[Column],
 ) -> Result<Sequence<ReadyColumn>, Memory>
     requires { All (λ column. IsKindInLimits (kind_layout [] [] column.kind)) columns.now }
-    ensures { IfOk result (λ ready. ready ≡ map (λ column. ready_column delimiter (kind_layout [] [] column.kind)) columns.now) }
+    ensures { IfOk result (λ ready. ready
+        ≡ map (λ column. ready_column delimiter (kind_layout [] [] column.kind)) columns.now) }
 {
     let mut ready = Sequence::new(alloc);
     for column in columns {

@@ -91,7 +91,8 @@ fn ready_pick(
     weights: &[i64],
 ) -> Result<ReadyLeaf, Memory>
     requires { IsWeighted entries.now (map count weights.now) }
-    ensures { IfOk result (λ ready. ready ≡ ReadyLeaf.Pick (map (piece_text delimiter) entries.now) (map count weights.now) (sum (map count weights.now))) }
+    ensures { IfOk result (λ ready. ready ≡ ReadyLeaf.Pick (map (piece_text delimiter) entries.now)
+        (map count weights.now) (sum (map count weights.now))) }
 {
     let entries = written_entries(alloc, delimiter, entries)?;
     let weights = Weights::new(alloc, &counts(alloc, weights)?)?;
@@ -127,7 +128,8 @@ fn counts(alloc: Global, numbers: &[i64]) -> Result<Vec<u64>, Memory>
 
 fn ready_skew(alloc: Global, lo: i64, size: i64, power: i64) -> Result<ReadyLeaf, Memory>
     requires { IsSkew lo (count size) (count power) }
-    ensures { IfOk result (λ ready. ready ≡ ReadyLeaf.Skew lo (harmonic_weights (count size) (count power)) (sum (harmonic_weights (count size) (count power)))) }
+    ensures { IfOk result (λ ready. ready ≡ ReadyLeaf.Skew lo (harmonic_weights (count size) (count power))
+        (sum (harmonic_weights (count size) (count power)))) }
 {
     let weights = Weights::harmonic(alloc, count(size) as u32, count(power) as u32)?;
     let total = FixedDivisor::new(weights.total());

@@ -40,15 +40,8 @@ fn pick(alloc: Global, cases: &[(&str, i64)]) -> Result<Leaf, AllocError> {
     Ok(Leaf::Pick { entries, weights })
 }
 
-/// A schema with bars between the fields, of one table with a key, a unit of birth and a column of each drawn value.
-fn drawn_schema(alloc: Global) -> Result<Schema, AllocError> {
-    let mut columns = Columns::new(alloc);
-    let key = Kind::Key {
-        base: 1,
-        scramble: false,
-    };
-    push_column(alloc, &mut columns, "id", key)?;
-    push_column(alloc, &mut columns, "born", Kind::Born)?;
+/// A column of each drawn value.
+fn push_drawn(alloc: Global, columns: &mut Columns) -> Result<(), AllocError> {
     let leaves = [
         (
             "count",
@@ -78,8 +71,21 @@ fn drawn_schema(alloc: Global) -> Result<Schema, AllocError> {
         ),
     ];
     for (name, leaf) in leaves {
-        push_column(alloc, &mut columns, name, Kind::Leaf(leaf))?;
+        push_column(alloc, columns, name, Kind::Leaf(leaf))?;
     }
+    Ok(())
+}
+
+/// A schema with bars between the fields, of one table with a key, a unit of birth and a column of each drawn value.
+fn drawn_schema(alloc: Global) -> Result<Schema, AllocError> {
+    let mut columns = Columns::new(alloc);
+    let key = Kind::Key {
+        base: 1,
+        scramble: false,
+    };
+    push_column(alloc, &mut columns, "id", key)?;
+    push_column(alloc, &mut columns, "born", Kind::Born)?;
+    push_drawn(alloc, &mut columns)?;
     let table = Table {
         name: text(alloc, "t")?,
         rows: 1,
