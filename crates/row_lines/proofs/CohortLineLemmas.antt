@@ -1,11 +1,10 @@
 -- The line of a row of a cohort, field by field.
-use Rattle.std.proofs.Common.{◌≡◌, ◌<◌, ◌≤◌, ◌^◌, ℕ, zero, suc, ◌+◌, ◌==◌, if◌then◌else◌, Bool, true, List, [], ◌∷◌, ◌++◌, map, length, min, sum_by, take, codes, decimal, Option, Some, slice_get, get_or, refl, ap, sym, subst, ◌∙◌, arith}
+use Rattle.std.proofs.Common.{◌≡◌, ◌<◌, ◌≤◌, ◌^◌, ℕ, zero, suc, ◌+◌, ◌==◌, if◌then◌else◌, Bool, true, List, [], ◌∷◌, ◌++◌, map, length, min, sum_by, take, codes, decimal, All, Option, Some, None, get_or, refl, ap, sym, subst, ◌∙◌, arith}
 use Rattle.std.specs.List.{join_with_byte, range_with_len}
 use Rattle.std.proofs.lemmas.Bool.Decides.{nat_tests}
 use Rattle.std.proofs.lemmas.List.{get_or-map, length-map}
 use Rattle.std.proofs.lemmas.List.Folds.{fold-map}
 use Rattle.std.proofs.lemmas.List.Sums.{sum_by_more_le}
-use Rattle.std.proofs.lemmas.Option.{get_or_from_slice_get, slice_get_within}
 use Rattle.row_text.specs.Fields.{field_text}
 use Rattle.row_text.proofs.DigitLemmas.{piece_text-decimal}
 use Rattle.schema_check.specs.declared.ready.ReadyColumn.{ReadyColumn}
@@ -18,7 +17,8 @@ use Rattle.schema_check.specs.Ready.{is_served, ready_column}
 use Rattle.schema_check.specs.TableFacts.{line_cost, max_line}
 use Rattle.draw_values.specs.declared.values.RowAt.{RowAt}
 use Rattle.draw_values.specs.CohortValues.{ValuesOf, value_for}
-use Rattle.draw_values.specs.Values.{is_own, own_value}
+use Rattle.draw_values.specs.declared.values.Put.TheVariants.{Text}
+use Rattle.draw_values.specs.Values.{is_own, own_value, put_of, written}
 use Rattle.life_intervals.specs.CohortKeys.{CohortOf}
 use Rattle.life_intervals.specs.Generator.{Generator, generator_of, last_unit}
 use Rattle.life_intervals.proofs.CohortLemmas.{birth-first_ordinal, cohort-within}
@@ -73,15 +73,17 @@ length-columns lines keys values columns first byte known =
 
 -- the column at a place is ready for what the layout has there
 pub ready_at : (lines : LinesOf) (keys : CohortOf) (values : ValuesOf) (columns : List ReadyColumn) (first byte : ℕ) → AreLinesOf lines keys values columns first byte →
-    (place : ℕ) (column : ReadyColumn) → slice_get columns place ≡ Some column →
+    (place : ℕ) (column : ReadyColumn) → place < length (layout_for lines).columns → column ≡ get_or columns place column →
     ready_column (layout_of lines.plan.schema).delimiter (column_at (layout_for lines).columns place).kind ≡ column
-ready_at lines keys values columns first byte known place column found =
-    let delimiter : ℕ = (layout_of lines.plan.schema).delimiter in
-    let within : place < length (layout_for lines).columns =
-    omega (arith, slice_get_within columns place column found, length-columns lines keys values columns first byte known) in
-    sym (get_or-map (λ (of : ColumnLayout). ready_column delimiter of.kind) (layout_for lines).columns place no_column column within)
-    ∙ ap (λ (ready : List ReadyColumn). get_or ready place column) (sym known.columns_are)
-    ∙ get_or_from_slice_get columns place column column found
+ready_at lines keys values columns first byte known place column within is =
+    sym (is
+    ∙ ap (λ (ready : List ReadyColumn). get_or ready place column) known.columns_are
+    ∙ get_or-map (λ (of : ColumnLayout). ready_column (layout_of lines.plan.schema).delimiter of.kind) (layout_for lines).columns place no_column column within)
+
+-- and it is served
+pub served_at : (columns : List ReadyColumn) → All (λ column. is_served column ≡ true) columns → (place : ℕ) (column : ReadyColumn) →
+    place < length columns → column ≡ get_or columns place column → is_served column ≡ true
+served_at columns served place column within is = ap is_served is ∙ served place column within
 
 -- a column that is ready as a key is one, and any other that is served needs no other row
 pub key_from_ready : (delimiter : ℕ) (kind : KindLayout) → ready_column delimiter kind ≡ Key → kind ≡ key_kind
@@ -136,6 +138,11 @@ text-own lines values place index ordinal values_are ordinal_is own within below
     ∙ ap held (birth-first_ordinal (layout_for lines).births lines.unit lines.born index within below)
     ∙ ap (value_for (record { plan = lines.plan; table = lines.table; unit = lines.born }) place) (sym ordinal_is)
     ∙ ap (λ (of : ValuesOf). value_for of place ordinal) (sym values_are))
+
+-- a value that isn't null is written as its field, and a null one leaves nothing before it
+pub written-text : (delimiter : ℕ) (value : Option (List ℕ)) → Text ≡ put_of value → written delimiter value ≡ field_text delimiter value
+written-text delimiter (Some text) is = refl
+written-text delimiter None is = cc
 
 pub length-delimiter : (column delimiter : ℕ) → length (if column == 0 then [] else delimiter ∷ []) ≡ min column 1
 length-delimiter zero delimiter = refl

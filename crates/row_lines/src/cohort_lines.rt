@@ -151,7 +151,8 @@ impl<'a> CohortLines<'a> {
         ensures text { buf.new ≡ record buf.old { text = buf.old.text ++ text_in_cohort self.now index column } }
         ensures size { length (text_in_cohort self.now index column) ≤ size_for self.now column }
     {
-        match &self.columns[column] {
+        let columns = self.columns;
+        match &columns[column] {
             ReadyColumn::Key => buf.put_number(key),
             _ => self.put_own(column, index, buf),
         }

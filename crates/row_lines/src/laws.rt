@@ -6,7 +6,8 @@
 ghost use Rattle.std.specs.Prelude.{◌≡◌, ℕ, ◌+◌, ◌<◌, ◌≤◌, ◌++◌, [], List, Some, codes, decimal, flat_map, if◌then◌else◌};
 ghost use Rattle.row_text.specs.Fields.{field_text};
 ghost use Rattle.schema_check.specs.Cohorts.{born_count, cohort_size, first_ordinal};
-ghost use Rattle.schema_check.specs.Layout.{born_kind, column_at, key_kind, table_at};
+ghost use Rattle.schema_check.specs.Layout.{LeafLayout, born_kind, column_at, key_kind, leaf_kind, table_at};
+ghost use Rattle.draw_values.specs.Values.{leaf_value};
 ghost use Rattle.life_intervals.specs.Generator.{Generator};
 ghost use Rattle.life_intervals.specs.Intervals.{is_live, living, row_at};
 ghost use Rattle.life_intervals.specs.Keys.{key_of};
@@ -53,7 +54,8 @@ pub fn text_so_far_begins_the_text()
         ≡ (text_before generator unit place born ++ first_lines generator unit place born count) ++ rest) }
 {}
 
-/// What a row holds at a unit by which it is born: its key in a key column, its unit of birth in a column of these.
+/// What a row holds at a unit by which it is born: its key in a key column, its unit of birth in a column of these, and in a column of
+/// drawn values what its draws at its birth give.
 pub fn fields_of_a_row()
     ensures key { (generator : Generator) (unit place ordinal column : ℕ) →
         (column_at (table_at generator.tables place).columns column).kind ≡ key_kind →
@@ -63,6 +65,10 @@ pub fn fields_of_a_row()
         (column_at (table_at generator.tables place).columns column).kind ≡ born_kind →
         field generator unit place (row_at (table_at generator.tables place) unit ordinal) column
         ≡ Some (decimal (row_at (table_at generator.tables place) unit ordinal).born) }
+    ensures drawn { (generator : Generator) (unit place ordinal column : ℕ) (leaf : LeafLayout) →
+        (column_at (table_at generator.tables place).columns column).kind ≡ leaf_kind leaf →
+        field generator unit place (row_at (table_at generator.tables place) unit ordinal) column
+        ≡ leaf_value leaf (generator.draw place column (row_at (table_at generator.tables place) unit ordinal).born ordinal) }
 {}
 
 /// The key line of a row is the key's field, as it is written, and a line feed, at any unit by which the row is born.

@@ -5,8 +5,8 @@ use Rattle.row_lines.proofs.cohort_lines.CohortLines.new.Goals as goal
 
 pub invariant_of-result : goal.invariant_of-result
 invariant_of-result c = record {
-  keys_are = c.new-keys.ensures;
-  values_are = c.new-values.ensures;
+  keys_are = c.new.ensures;
+  values_are = c.new-2.ensures;
   columns_are = c.columns.ensures.columns;
   served = c.columns.ensures.served;
   limits = c.columns.ensures.limits;

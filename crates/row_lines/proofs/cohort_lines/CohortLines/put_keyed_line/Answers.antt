@@ -24,7 +24,7 @@ put_delimiter-requires c =
 pub put_field-requires-clause-column : goal.put_field-requires-clause-column
 put_field-requires-clause-column c =
     let known = AreLinesOf-view _ c.args.self.now c.self.inside.keys c.self.inside.values c.self.inside.columns.now c.self.inside.first c.self.inside.delimiter c.self.view_is c.self.invariant in
-    omega (arith, c.loop-column-test.true, c.len-column-end.ensures, length-columns c.args.self.now _ _ _ _ _ known)
+    omega (arith, c.loop-column-test.true, length-columns c.args.self.now _ _ _ _ _ known)
 
 pub put_field-requires-clause-room : goal.put_field-requires-clause-room
 put_field-requires-clause-room c =
@@ -49,7 +49,7 @@ loop-column-preserved c =
     let known = AreLinesOf-view _ lines c.self.inside.keys c.self.inside.values c.self.inside.columns.now c.self.inside.first c.self.inside.delimiter c.self.view_is c.self.invariant in
     let columns : List ColumnLayout = (layout_for lines).columns in
     let n : ℕ = c.loop-column.column in
-    let below : n < length columns = omega (arith, c.loop-column-test.true, c.len-column-end.ensures, length-columns lines _ _ _ _ _ known) in
+    let below : n < length columns = omega (arith, c.loop-column-test.true, length-columns lines _ _ _ _ _ known) in
     let own : List ℕ = text_in_cohort lines c.args.index n in
     let delimiter : ℕ = (layout_of lines.plan.schema).delimiter in
     record {
@@ -80,7 +80,7 @@ put_piece-requires c =
       arith,
       known.limits.some_column,
       length-columns lines _ _ _ _ _ known,
-      c.len-column-end.ensures,
+     
       c.loop-column-test.false,
       ap (λ (bytes : List ℕ). length bytes) c.of_byte.ensures,
       c.loop-column.invariant.short,
@@ -96,7 +96,7 @@ returns-clause-line c =
     let known = AreLinesOf-view _ lines c.self.inside.keys c.self.inside.values c.self.inside.columns.now c.self.inside.first c.self.inside.delimiter c.self.view_is c.self.invariant in
     let n : ℕ = c.loop-column.column in
     let all : n ≡ length (layout_for lines).columns =
-    omega (arith, length-columns lines _ _ _ _ _ known, c.len-column-end.ensures, c.loop-column-test.false, c.loop-column.auto.column-end) in
+    omega (arith, length-columns lines _ _ _ _ _ known, c.loop-column-test.false, c.loop-column.auto.column-end) in
     let joined : List ℕ = join_with_byte (layout_of lines.plan.schema).delimiter (map (text_in_cohort lines c.args.index) (range_with_len 0 n)) in
     c.put_piece.ensures
     ∙ ap (λ (end : List ℕ). record { text = c.loop-column.buf.text ++ end; room = c.loop-column.buf.room }) c.of_byte.ensures
@@ -112,7 +112,7 @@ returns-clause-size c =
     let known = AreLinesOf-view _ lines c.self.inside.keys c.self.inside.values c.self.inside.columns.now c.self.inside.first c.self.inside.delimiter c.self.view_is c.self.invariant in
     let n : ℕ = c.loop-column.column in
     let all : n ≡ length (layout_for lines).columns =
-    omega (arith, length-columns lines _ _ _ _ _ known, c.len-column-end.ensures, c.loop-column-test.false, c.loop-column.auto.column-end) in
+    omega (arith, length-columns lines _ _ _ _ _ known, c.loop-column-test.false, c.loop-column.auto.column-end) in
     let joined : List ℕ = join_with_byte (layout_of lines.plan.schema).delimiter (map (text_in_cohort lines c.args.index) (range_with_len 0 n)) in
     omega (
       arith,

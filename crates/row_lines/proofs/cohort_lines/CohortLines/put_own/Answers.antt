@@ -1,0 +1,51 @@
+use Rattle.std.proofs.Common.{◌≡◌, ◌≤◌, ◌++◌, ◌+◌, ℕ, List, ap, sym, subst, ◌∙◌, arith, length}
+use Rattle.row_text.specs.Fields.{field_text}
+use Rattle.schema_check.specs.Layout.{layout_of}
+use Rattle.draw_values.specs.CohortValues.{ValuesOf, size_for, value_for}
+use Rattle.draw_values.specs.Values.{written}
+use Rattle.life_intervals.specs.Generator.{last_unit}
+use Rattle.life_intervals.proofs.CohortLemmas.{cohort-within}
+use Rattle.row_lines.specs.CohortLines.{LinesOf, layout_for, text_in_cohort}
+use Rattle.row_lines.proofs.CohortLineLemmas.{AreLinesOf-view, text-own, written-text}
+use Rattle.row_lines.proofs.cohort_lines.CohortLines.put_own.Goals as goal
+
+pub overflow_add-self-inside : goal.overflow_add-self-inside
+overflow_add-self-inside c =
+    let lines : LinesOf = c.args.self.now in
+    let known = AreLinesOf-view _ lines c.self.inside.keys c.self.inside.values c.self.inside.columns.now c.self.inside.first c.self.inside.delimiter c.self.view_is c.self.invariant in
+    omega (
+      arith,
+      known.first_is,
+      known.limits.row_limit,
+      cohort-within (layout_for lines).births lines.born (last_unit lines.plan.schema) (omega (arith, known.born, known.unit)),
+      c.requires.row,
+    )
+
+-- what is put is the field of the line
+text_is_own : (c : goal.In-Text) →
+    text_in_cohort c.args.self.now c.args.index c.args.column
+    ≡ written (layout_of c.self.inside.values.plan.schema).delimiter (value_for c.self.inside.values c.args.column (c.self.inside.first + c.args.index))
+text_is_own c =
+    let lines : LinesOf = c.args.self.now in
+    let known = AreLinesOf-view _ lines c.self.inside.keys c.self.inside.values c.self.inside.columns.now c.self.inside.first c.self.inside.delimiter c.self.view_is c.self.invariant in
+    let value = value_for c.self.inside.values c.args.column (c.self.inside.first + c.args.index) in
+    text-own lines c.self.inside.values c.args.column c.args.index (c.self.inside.first + c.args.index) known.values_are
+    (ap (λ (first : ℕ). first + c.args.index) known.first_is) c.requires.own known.born c.requires.row
+    ∙ sym (ap (λ (of : ValuesOf). written (layout_of of.plan.schema).delimiter value) known.values_are
+    ∙ written-text (layout_of lines.plan.schema).delimiter value (sym c.in-Text.is ∙ c.put.ensures.put))
+
+pub returns-in-Text-clause-text : goal.returns-in-Text-clause-text
+returns-in-Text-clause-text c =
+    c.put.ensures.text
+    ∙ ap (λ (text : List ℕ). record { text = c.args.buf.now.text ++ text; room = c.args.buf.now.room }) (sym (text_is_own c))
+
+pub returns-in-Text-clause-size : goal.returns-in-Text-clause-size
+returns-in-Text-clause-size c =
+    let lines : LinesOf = c.args.self.now in
+    let known = AreLinesOf-view _ lines c.self.inside.keys c.self.inside.values c.self.inside.columns.now c.self.inside.first c.self.inside.delimiter c.self.view_is c.self.invariant in
+    let ordinal : ℕ = c.self.inside.first + c.args.index in
+    let value = value_for c.self.inside.values c.args.column ordinal in
+    let is = text-own lines c.self.inside.values c.args.column c.args.index ordinal known.values_are (ap (λ (first : ℕ). first + c.args.index) known.first_is) c.requires.own known.born c.requires.row in
+    let size : length (field_text (layout_of lines.plan.schema).delimiter value) ≤ size_for (record { plan = lines.plan; table = lines.table; unit = lines.born }) c.args.column =
+    subst (λ (of : ValuesOf). length (field_text (layout_of of.plan.schema).delimiter value) ≤ size_for of c.args.column) known.values_are c.put.ensures.size in
+    subst (λ (text : List ℕ). length text ≤ size_for (record { plan = lines.plan; table = lines.table; unit = lines.born }) c.args.column) (sym is) size
