@@ -6,3 +6,4 @@ pub mod PlainLemmas
 pub mod ReadyLemmas
 pub mod ColumnLemmas
 pub mod CohortLemmas
+pub mod LineLemmas
