@@ -29,7 +29,11 @@ impl Dictionary {
     ghost use Rattle.dictionaries.specs.WordList.{IsWordList};
 
     /// The dictionary of entries with these weights, one for each.
-    pub(crate) fn new(alloc: Global, entries: Entries, weights: &[u64]) -> Result<Dictionary, Memory>
+    pub(crate) fn new(
+        alloc: Global,
+        entries: Entries,
+        weights: &[u64],
+    ) -> Result<Dictionary, Memory>
         requires { IsWordList (record { entries = entries; weights = weights.now }) }
         ensures { IfOk result (λ dictionary. dictionary ≡ record { entries = entries; weights = weights.now }) }
     {

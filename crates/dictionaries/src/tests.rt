@@ -7,7 +7,9 @@ use std::test::Fail;
 
 // The bytes have these entries with these weights, and each entry is selected from where the one before it ends.
 fn assert_read(rt: &impl Abort, alloc: Global, bytes: &[u8], entries: &[(&str, u64)]) {
-    let dictionary = read_dictionary(alloc, bytes).ok().expect(rt, "no dictionary");
+    let dictionary = read_dictionary(alloc, bytes)
+        .ok()
+        .expect(rt, "no dictionary");
     let total = dictionary.weight_total();
     let mut x = 0u64;
     assert!(rt; !dictionary.is_empty());
@@ -50,19 +52,45 @@ fn lines_are_cut_as_the_grammar_says(rt: HostRuntime) {
     assert_read(&rt, alloc, b"\ra\rb\n", &[("\ra\rb", 1)]);
     // A byte order mark counts at the beginning alone.
     assert_read(&rt, alloc, b"\xEF\xBB\xBFa\t7\nb", &[("a", 7), ("b", 1)]);
-    assert_read(&rt, alloc, b"\xEF\xBB\xBF\xEF\xBB\xBFa", &[("\u{feff}a", 1)]);
-    assert_read(&rt, alloc, b"a\n\xEF\xBB\xBF\n", &[("a", 1), ("\u{feff}", 1)]);
+    assert_read(
+        &rt,
+        alloc,
+        b"\xEF\xBB\xBF\xEF\xBB\xBFa",
+        &[("\u{feff}a", 1)],
+    );
+    assert_read(
+        &rt,
+        alloc,
+        b"a\n\xEF\xBB\xBF\n",
+        &[("a", 1), ("\u{feff}", 1)],
+    );
     // The first tab divides, and the text before it may be empty. Characters may have several bytes.
     assert_read(&rt, alloc, b"\t3\na\t4", &[("", 3), ("a", 4)]);
-    assert_read(&rt, alloc, "Zoë\t2\r\nκ 😀\n".as_bytes(), &[("Zoë", 2), ("κ 😀", 1)]);
+    assert_read(
+        &rt,
+        alloc,
+        "Zoë\t2\r\nκ 😀\n".as_bytes(),
+        &[("Zoë", 2), ("κ 😀", 1)],
+    );
     // Weights, the smallest, the greatest, and one with leading zeros.
-    assert_read(&rt, alloc, b"a\t1\nb\t1000000\nc\t0000001\n", &[("a", 1), ("b", 1_000_000), ("c", 1)]);
+    assert_read(
+        &rt,
+        alloc,
+        b"a\t1\nb\t1000000\nc\t0000001\n",
+        &[("a", 1), ("b", 1_000_000), ("c", 1)],
+    );
 }
 
 #[test]
 fn the_first_fault_is_told(rt: HostRuntime) {
     let alloc = rt.alloc();
-    let none: [&[u8]; 5] = [b"", b"\n\n", b"\r\n\n\r", b"\xEF\xBB\xBF", b"\xEF\xBB\xBF\r\n"];
+    let none: [&[u8]; 5] = [
+        b"",
+        b"\n\n",
+        b"\r\n\n\r",
+        b"\xEF\xBB\xBF",
+        b"\xEF\xBB\xBF\r\n",
+    ];
     for bytes in none {
         assert_eq!(rt; read_dictionary(alloc, bytes).err(), Some(DictFault::Empty));
     }
@@ -81,7 +109,10 @@ fn the_first_fault_is_told(rt: HostRuntime) {
         "a\t\u{661}".as_bytes(),
     ];
     for bytes in bad_weights {
-        assert_eq!(rt; read_dictionary(alloc, bytes).err(), Some(DictFault::BadWeight { line: 1 }));
+        assert_eq!(rt;
+            read_dictionary(alloc, bytes).err(),
+            Some(DictFault::BadWeight { line: 1 })
+        );
     }
     let no_texts: [(&[u8], u64); 6] = [
         (b"A\n\xFF", 2),
@@ -92,7 +123,10 @@ fn the_first_fault_is_told(rt: HostRuntime) {
         (b"ab\xC0\x80c", 2),
     ];
     for (bytes, at) in no_texts {
-        assert_eq!(rt; read_dictionary(alloc, bytes).err(), Some(DictFault::NotUtf8 { at }));
+        assert_eq!(rt;
+            read_dictionary(alloc, bytes).err(),
+            Some(DictFault::NotUtf8 { at })
+        );
     }
     // Of two lines with a fault the first is told, and lines without an entry count.
     let second: [(&[u8], u64); 4] = [
@@ -102,7 +136,10 @@ fn the_first_fault_is_told(rt: HostRuntime) {
         (b"a\r\nb\t1\r\r\n", 2),
     ];
     for (bytes, line) in second {
-        assert_eq!(rt; read_dictionary(alloc, bytes).err(), Some(DictFault::BadWeight { line }));
+        assert_eq!(rt;
+            read_dictionary(alloc, bytes).err(),
+            Some(DictFault::BadWeight { line })
+        );
     }
 }
 

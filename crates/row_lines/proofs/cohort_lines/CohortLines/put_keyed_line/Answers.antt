@@ -80,7 +80,6 @@ put_piece-requires c =
       arith,
       known.limits.some_column,
       length-columns lines _ _ _ _ _ known,
-     
       c.loop-column-test.false,
       ap (λ (bytes : List ℕ). length bytes) c.of_byte.ensures,
       c.loop-column.invariant.short,
