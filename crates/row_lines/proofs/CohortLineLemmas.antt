@@ -1,5 +1,5 @@
 -- The line of a row of a cohort, field by field.
-use Rattle.std.proofs.Common.{◌≡◌, ◌<◌, ◌≤◌, ◌^◌, ℕ, zero, suc, ◌+◌, ◌==◌, if◌then◌else◌, Bool, true, List, [], ◌∷◌, ◌++◌, map, length, min, sum_by, take, codes, decimal, All, Option, Some, None, get_or, refl, ap, sym, subst, ◌∙◌, arith}
+use Rattle.std.proofs.Common.{◌≡◌, ◌<◌, ◌≤◌, ◌^◌, ℕ, zero, suc, ◌+◌, ◌==◌, if◌then◌else◌, true, List, [], ◌∷◌, ◌++◌, map, length, min, sum_by, take, codes, decimal, All, Option, Some, None, get_or, refl, ap, sym, subst, ◌∙◌, arith}
 use Rattle.std.specs.List.{join_with_byte, range_with_len}
 use Rattle.std.proofs.lemmas.Bool.Decides.{nat_tests}
 use Rattle.std.proofs.lemmas.List.{get_or-map, length-map}
