@@ -1,10 +1,11 @@
 -- The text of a date, and its day number.
-use Rattle.std.proofs.Common.{◌≡◌, ◌<◌, ◌≤◌, ◌≤ℤ◌, ℕ, ℤ, pos, negsuc, neg_ℤ, suc, ◌+◌, ◌-◌, ◌+ℤ◌, List, ◌∷◌, ◌++◌, length, refl, ap, subst, sym, ◌∙◌, length-append, arith}
+use Rattle.std.proofs.Common.{◌≡◌, ◌<◌, ◌≤◌, ◌≤ℤ◌, ℕ, ℤ, pos, negsuc, neg_ℤ, suc, ◌+◌, ◌-◌, ◌+ℤ◌, List, ◌∷◌, ◌++◌, length, inl, inr, refl, ap, subst, sym, ◌∙◌, length-append, arith}
+use Rattle.std.proofs.lemmas.Bool.{cases_lt}
 use Rattle.std.proofs.lemmas.Int.{by_lt_z}
 use Rattle.jiff_core.specs.Calendar.{IsCivilDate, days_from_civil, days_in_year, days_of_months, day_count, day_of_year}
 use Rattle.jiff_core.specs.Date.{epoch_day}
 use Rattle.jiff_core.specs.declared.civil.date.Date.{Date}
-use Rattle.jiff_core.proofs.CalendarLemmas.{day_count-day_of_year, day_count-lt_year, day_of_year_bound, days_from_civil-day_count, days_of_months-zero}
+use Rattle.jiff_core.proofs.CalendarLemmas.{day_count-day_of_year, day_count-later_year, day_count-lt_year, day_of_year_bound, days_from_civil-day_count, days_of_months-zero}
 use Rattle.jiff_core.proofs.MarchLemmas.{day_count-early}
 use Rattle.jiff_core.proofs.SignedLemmas.{signed_arith}
 use Rattle.schema_check.specs.Counts.{count}
@@ -50,7 +51,7 @@ year-from_first day y m d civil is from =
     (λ past. past)
 
 -- the text of a date of the years from 1 on
-date_text-civil : (day : ℤ) (year month number : ℕ) → 1 ≤ year → IsCivilDate (pos year) month number → days_from_civil (pos year) month number ≡ day → neg_ℤ (pos 719162) ≤ℤ day →
+pub date_text-civil : (day : ℤ) (year month number : ℕ) → 1 ≤ year → IsCivilDate (pos year) month number → days_from_civil (pos year) month number ≡ day → neg_ℤ (pos 719162) ≤ℤ day →
     date_text day ≡ date_digits year month number
 date_text-civil day year month number some civil is from =
     let left : ℕ = day_of_year (pos year) month number - 1 in
@@ -78,3 +79,16 @@ date_text-date date day year year_is some is from =
     let civil : IsCivilDate (pos year) date.month date.day =
     subst (λ (y : ℤ). IsCivilDate y date.month date.day) year_is (date.year_in, date.month_in, date.day_in) in
     date_text-civil day year date.month date.day some civil (ap (λ (y : ℤ). days_from_civil y date.month date.day) (sym year_is) ∙ is) from
+
+-- a date of the years from 1 on has a day number from that of 0001-01-01 on
+pub days_from_civil-from_first : (year month number : ℕ) → 1 ≤ year → IsCivilDate (pos year) month number → neg_ℤ (pos 719162) ≤ℤ days_from_civil (pos year) month number
+days_from_civil-from_first year month number some civil =
+    let place = days_from_civil-day_count (pos year) month number in
+    let of_year = day_count-day_of_year (pos year) month number civil.2.0 in
+    let of_first = day_count-first in
+    let first_day : day_count (pos 1) 1 1 ≤ day_count (pos year) 1 1 =
+    elim (cases_lt 1 year) [
+      | inl later ↦ omega (arith, day_count-later_year (pos 1) (pos year) (omega (arith, signed_arith)) (omega (arith, signed_arith)))
+      | inr same ↦ let is : year ≡ 1 = omega arith in omega (arith, ap (λ (y : ℕ). day_count (pos y) 1 1) is)
+    ] in
+    omega (arith, signed_arith, first_day)

@@ -1,1 +1,57 @@
 //! The laws of values, each the contract of a function that does nothing.
+//!
+//! Days are counted from 1970-01-01, which is day 0.
+
+ghost use Rattle.std.specs.Prelude.{◌≡◌, ℕ, ◌+◌, ◌*◌, ◌^◌, ◌<◌, ◌≤◌, ℤ, pos, neg_ℤ, ◌+ℤ◌, ◌≤ℤ◌, [], ◌∷◌, Some, codes};
+ghost use Rattle.std.specs.Fmt.{signed_decimal};
+ghost use Rattle.jiff_core.specs.Calendar.{IsCivilDate, days_from_civil};
+ghost use Rattle.row_text.specs.Fields.{piece_text};
+ghost use Rattle.schema_check.specs.Choices.{choices};
+ghost use Rattle.schema_check.specs.Layout.{date_leaf, fixed_leaf, int_leaf, pick_leaf, skew_leaf};
+ghost use Rattle.draw_values.specs.Dates.{date_digits, date_text};
+ghost use Rattle.draw_values.specs.Digits.{signed_pointed};
+ghost use Rattle.draw_values.specs.Values.{chosen, leaf_value};
+
+/// A draw chooses a number of the range, so many steps past its first, and each of them is chosen by as many steps.
+pub fn a_draw_chooses_a_number_of_the_range()
+    ensures within { (lo hi : ℤ) (step draw : ℕ) → lo ≤ℤ hi → 1 ≤ step →
+        (lo ≤ℤ chosen lo hi step draw) × (chosen lo hi step draw ≤ℤ hi) }
+    ensures each { (lo hi : ℤ) (step number : ℕ) → number < choices lo hi step →
+        chosen lo hi step number ≡ lo +ℤ pos (step * number) }
+{}
+
+/// The date of a day is the one that has this day number in the calendar, of the years from 1 on.
+pub fn dates_are_those_of_the_calendar()
+    ensures { (year month day : ℕ) → 1 ≤ year → IsCivilDate (pos year) month day →
+        date_text (days_from_civil (pos year) month day) ≡ date_digits year month day }
+{}
+
+/// Numbers and dates hold nothing that is escaped.
+pub fn numbers_and_dates_are_written_as_they_are()
+    ensures whole { (delimiter : ℕ) (number : ℤ) →
+        piece_text delimiter (signed_decimal number) ≡ signed_decimal number }
+    ensures fixed { (delimiter decimals : ℕ) (number : ℤ) →
+        piece_text delimiter (signed_pointed decimals number) ≡ signed_pointed decimals number }
+    ensures date { (delimiter : ℕ) (day : ℤ) →
+        piece_text delimiter (date_text day) ≡ date_text day }
+{}
+
+/// Values worked out by hand, where draw n is 2 * n + 1, so that the one that is taken is 3; in the last, where it is n * 10^9.
+pub fn worked_values()
+    ensures int { leaf_value (int_leaf (neg_ℤ (pos 5)) (pos 9) 4) (λ n. 2 * n + 1) ≡ Some (codes "7") }
+    ensures fixed { leaf_value (fixed_leaf (neg_ℤ (pos 8)) (pos 0) 2) (λ n. 2 * n + 1) ≡ Some (codes "-0.05") }
+    ensures whole { leaf_value (fixed_leaf (pos 1231) (pos 1234) 0) (λ n. 2 * n + 1) ≡ Some (codes "1234") }
+    ensures date { leaf_value (date_leaf (pos 19779) (pos 20000)) (λ n. 2 * n + 1) ≡ Some (codes "2024-02-29") }
+    ensures pick { leaf_value (pick_leaf (codes "a" ∷ codes "b" ∷ codes "c" ∷ []) (1 ∷ 2 ∷ 3 ∷ [])) (λ n. 2 * n + 1) ≡ Some (codes "c") }
+    ensures skew { leaf_value (skew_leaf (neg_ℤ (pos 2)) 2 1) (λ n. n * 10 ^ 9) ≡ Some (codes "-1") }
+{}
+
+/// Dates of the standard calendar: the first day, the day before day 0, a leap day, the day behind the February of a century,
+/// and the last day.
+pub fn worked_dates()
+    ensures first { date_text (neg_ℤ (pos 719162)) ≡ codes "0001-01-01" }
+    ensures before_0 { date_text (neg_ℤ (pos 1)) ≡ codes "1969-12-31" }
+    ensures leap_day { date_text (pos 11016) ≡ codes "2000-02-29" }
+    ensures century { date_text (neg_ℤ (pos 25508)) ≡ codes "1900-03-01" }
+    ensures last { date_text (pos 2932896) ≡ codes "9999-12-31" }
+{}
