@@ -1,8 +1,8 @@
 -- What is read is within its bounds.
-use Rattle.std.proofs.Common.{◌≡◌, ℕ, suc, ◌+◌, ◌-◌, ◌*◌, ◌^◌, ◌<◌, ◌≤◌, ◌==◌, ◌&&◌, Bool, true, false, not, cond, eqb, List, [], ◌∷◌, map, length, sum, Option, Some, None, Result, Ok, Err, All, refl, ap, sym, ◌∙◌, subst, inl, inr, arith, nat_le, nat_lt, if◌then◌else◌}
+use Rattle.std.proofs.Common.{◌≡◌, ℕ, ◌+◌, ◌≤◌, ◌&&◌, Bool, true, false, List, [], ◌∷◌, map, length, Option, Some, None, Result, Ok, Err, All, refl, ap, sym, ◌∙◌, subst, inl, inr, arith, nat_le, nat_lt, if◌then◌else◌}
 use Rattle.std.proofs.lemmas.Bool.{cases_Bool, leb-true, ltb-false, and_parts}
 use Rattle.std.proofs.lemmas.List.{length-map}
-use Rattle.std.proofs.lemmas.List.Elements.{All-nil, All-cons, All-map, All-weaker}
+use Rattle.std.proofs.lemmas.List.Elements.{All-nil, All-cons, All-map}
 use Rattle.std.proofs.lemmas.List.Sums.{sum_by-le}
 use Rattle.std.proofs.lemmas.Str.{IsUtf8-from_is_utf8}
 use Rattle.std.specs.Char.{is_ascii_digit}
@@ -15,7 +15,7 @@ use Rattle.std.specs.Str.Parse.{digits_value}
 use Rattle.dictionaries.specs.WordList.{WordList, IsWordList}
 use Rattle.dictionaries.specs.Grammar.{Line, without_mark, entry_lines, is_tab, text_of, is_weight, weight_named, weight_of, fault_of, first_fault_from, word_list, unless_fault, dictionary_of_lines, dictionary_of}
 use Rattle.dictionaries.specs.declared.fault.DictFault.{DictFault}
-use Rattle.dictionaries.specs.declared.fault.DictFault.TheVariants.{NotUtf8, LongEntry, BadWeight, TooMany, Empty}
+use Rattle.dictionaries.specs.declared.fault.DictFault.TheVariants.{NotUtf8, LongEntry, BadWeight, TooMany}
 use Rattle.dictionaries.proofs.TextLemmas.{All-text_of}
 
 -- a weight is from 1 to 1,000,000

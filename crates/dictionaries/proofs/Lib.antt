@@ -5,3 +5,4 @@ pub mod ReadingLemmas
 pub mod TextLemmas
 pub mod BoundLemmas
 pub mod DictionaryLemmas
+pub mod WrittenLemmas

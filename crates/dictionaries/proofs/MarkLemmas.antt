@@ -1,8 +1,7 @@
 -- A byte order mark at the beginning of a text.
-use Rattle.std.proofs.Common.{◌≡◌, ℕ, ◌+◌, ◌==◌, Bool, true, false, List, ◌++◌, Option, Some, None, drop, Bor, refl, ap, sym, ◌∙◌, if◌then◌else◌}
+use Rattle.std.proofs.Common.{◌≡◌, ℕ, Bool, true, false, List, ◌++◌, Option, Some, None, drop, Bor, refl, ap, sym, ◌∙◌, if◌then◌else◌}
 use Rattle.std.proofs.lemmas.Str.Pattern.{starts_text}
 use Rattle.std.proofs.Math.Utf8.{encode}
-use Rattle.std.specs.List.{starts_with}
 use Rattle.std.specs.Option.{MatchOption, unwrap_or}
 use Rattle.std.specs.Str.Pattern.{FindsCharPrefix, HasCharAt, StripsPrefix}
 use Rattle.dictionaries.specs.Grammar.{byte_order_mark, without_mark}

@@ -1,7 +1,7 @@
 -- The pieces of a text, and one piece more behind them.
-use Rattle.std.proofs.Common.{◌≡◌, ℕ, zero, suc, ◌+◌, ◌-◌, ◌<◌, ◌≤◌, List, [], ◌∷◌, ◌++◌, Some, length, get_or, take, drop, refl, ap, sym, ◌∙◌, inl, inr, arith}
+use Rattle.std.proofs.Common.{◌≡◌, ℕ, zero, suc, ◌-◌, ◌<◌, ◌≤◌, List, [], ◌∷◌, ◌++◌, Some, length, get_or, take, drop, refl, ap, sym, ◌∙◌, inl, inr, arith}
 use Rattle.std.proofs.lemmas.Bool.{cases_lt}
-use Rattle.std.proofs.lemmas.List.{length-append, get_or_append_left, take_at, take_all, drop_at, drop-append-le, take-append-le, length-drop}
+use Rattle.std.proofs.lemmas.List.{length-append, get_or_append_left, take_all, drop_at, drop-append-le, take-append-le, length-drop}
 use Rattle.std.proofs.lemmas.Str.{IsCharBoundary-at_seam, IsCharBoundary-end}
 use Rattle.std.specs.List.{slice_get, slice_range}
 use Rattle.std.specs.Str.{IsCharBoundary, IsUtf8}

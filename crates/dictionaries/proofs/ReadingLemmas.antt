@@ -1,33 +1,25 @@
 -- The lines of a text, read one after the other.
-use Rattle.std.proofs.Common.{◌≡◌, ℕ, zero, suc, ◌+◌, ◌-◌, ◌<◌, ◌≤◌, ◌==◌, Bool, true, false, not, cond, List, [], ◌∷◌, ◌++◌, Option, Some, None, map, filter, length, get_or, take, drop, refl, ap, sym, ◌∙◌, inl, inr, arith}
-use Rattle.std.proofs.lemmas.List.{length-append, length-map, take_all, map-append, append-nil, append_assoc, get_or-map, take-append-drop}
+use Rattle.std.proofs.Common.{◌≡◌, ℕ, zero, suc, ◌+◌, ◌<◌, ◌≤◌, ◌==◌, Bool, true, false, not, cond, List, [], ◌∷◌, ◌++◌, Option, Some, None, map, filter, length, get_or, take, drop, refl, ap, sym, ◌∙◌, arith}
+use Rattle.std.proofs.lemmas.List.{length-map, take_all, map-append, append-nil, append_assoc, get_or-map, take-append-drop}
 use Rattle.std.proofs.lemmas.List.Elements.{filter_more, filter-append}
 use Rattle.std.specs.List.{slice_split}
 use Rattle.std.specs.Option.{option_or, unwrap_or}
 use Rattle.std.specs.Str.Lines.{strip_carriage_return}
-use Rattle.dictionaries.specs.WordList.{WordList}
-use Rattle.dictionaries.specs.Grammar.{Line, is_line_feed, lines, numbered_from, is_empty, entry_lines, text_of, weight_of, fault_of, first_fault_from, word_list}
+use Rattle.dictionaries.specs.Grammar.{Line, is_line_feed, lines, numbered_line, numbered_from, has_entry, entry_lines, text_of, weight_of, fault_of, first_fault_from, word_list}
 use Rattle.dictionaries.specs.declared.fault.DictFault.{DictFault}
 
 length-numbered_from : (number : ℕ) (lines : List (List ℕ)) → length (numbered_from number lines) ≡ length lines
 length-numbered_from number [] = refl
 length-numbered_from number (line ∷ others) = ap suc (length-numbered_from (number + 1) others)
 
-abbrev line_at : ℕ → List ℕ → Line
-line_at number bytes = record { number = number; bytes = bytes }
-
 get_or-numbered_from : (number : ℕ) (lines : List (List ℕ)) (i : ℕ) (d : Line) → i < length lines →
-    get_or (numbered_from number lines) i d ≡ line_at (number + i) (get_or lines i d.bytes)
+    get_or (numbered_from number lines) i d ≡ numbered_line (number + i) (get_or lines i d.bytes)
 get_or-numbered_from number [] i d within = absurd (omega arith)
 get_or-numbered_from number (line ∷ others) zero d within =
-    let own : number ≡ number + 0 = omega arith in ap (λ (n : ℕ). line_at n line) own
+    let own : number ≡ number + 0 = omega arith in ap (λ (n : ℕ). numbered_line n line) own
 get_or-numbered_from number (line ∷ others) (suc i) d within =
     let later : number + 1 + i ≡ number + suc i = omega arith in
-    get_or-numbered_from (number + 1) others i d (omega arith) ∙ ap (λ (n : ℕ). line_at n (get_or others i d.bytes)) later
-
--- whether a line has an entry
-abbrev has_entry : Line → Bool
-has_entry line = not (is_empty line)
+    get_or-numbered_from (number + 1) others i d (omega arith) ∙ ap (λ (n : ℕ). numbered_line n (get_or others i d.bytes)) later
 
 -- the numbered lines of a text
 abbrev numbered : List ℕ → List Line
@@ -49,23 +41,23 @@ AreRead-none text = record { right = refl; texts = refl; weighed = refl }
 -- a line behind the first n
 line-is : (text : List ℕ) (n : ℕ) (part : List ℕ) → n < length (slice_split is_line_feed text) →
     part ≡ get_or (slice_split is_line_feed text) n part →
-    let line = line_at (n + 1) (strip_carriage_return part) in
+    let line = numbered_line (n + 1) (strip_carriage_return part) in
     line ≡ get_or (numbered text) n line
 line-is text n part within at =
-    let line = line_at (n + 1) (strip_carriage_return part) in
+    let line = numbered_line (n + 1) (strip_carriage_return part) in
     let stripped : get_or (lines text) n line.bytes ≡ strip_carriage_return part =
     get_or-map strip_carriage_return (slice_split is_line_feed text) n part line.bytes within ∙ ap strip_carriage_return (sym at) in
     let number : 1 + n ≡ n + 1 = omega arith in
     let long : n < length (lines text) = omega (arith, length-map (slice_split is_line_feed text) strip_carriage_return) in
-    sym (get_or-numbered_from 1 (lines text) n line long ∙ ap (λ (bytes : List ℕ). line_at (1 + n) bytes) stripped ∙ ap (λ (k : ℕ). line_at k line.bytes) number)
+    sym (get_or-numbered_from 1 (lines text) n line long ∙ ap (λ (bytes : List ℕ). numbered_line (1 + n) bytes) stripped ∙ ap (λ (k : ℕ). numbered_line k line.bytes) number)
 
 -- of one line more, what its entry adds
 entries_before-step : (text : List ℕ) (n : ℕ) (part : List ℕ) → n < length (slice_split is_line_feed text) →
     part ≡ get_or (slice_split is_line_feed text) n part →
-    let line = line_at (n + 1) (strip_carriage_return part) in
+    let line = numbered_line (n + 1) (strip_carriage_return part) in
     entries_before text (n + 1) ≡ entries_before text n ++ cond (has_entry line) (line ∷ []) []
 entries_before-step text n part within at =
-    let line = line_at (n + 1) (strip_carriage_return part) in
+    let line = numbered_line (n + 1) (strip_carriage_return part) in
     let long : n < length (numbered text) =
     omega (arith, length-numbered_from 1 (lines text), length-map (slice_split is_line_feed text) strip_carriage_return) in
     filter_more has_entry (numbered text) n line long
@@ -76,7 +68,7 @@ pub AreRead-empty : (text : List ℕ) (n : ℕ) (part : List ℕ) (entries : Lis
     n < length (slice_split is_line_feed text) → part ≡ get_or (slice_split is_line_feed text) n part →
     (length (strip_carriage_return part) == 0) ≡ true → AreRead text n entries weights → AreRead text (n + 1) entries weights
 AreRead-empty text n part entries weights within at empty so_far =
-    let line = line_at (n + 1) (strip_carriage_return part) in
+    let line = numbered_line (n + 1) (strip_carriage_return part) in
     let same : entries_before text (n + 1) ≡ entries_before text n =
     entries_before-step text n part within at
     ∙ ap (λ (b : Bool). entries_before text n ++ cond (not b) (line ∷ []) []) empty
@@ -89,9 +81,9 @@ AreRead-empty text n part entries weights within at empty so_far =
 
 entries_before-more : (text : List ℕ) (n : ℕ) (part : List ℕ) → n < length (slice_split is_line_feed text) →
     part ≡ get_or (slice_split is_line_feed text) n part → (length (strip_carriage_return part) == 0) ≡ false →
-    entries_before text (n + 1) ≡ entries_before text n ++ line_at (n + 1) (strip_carriage_return part) ∷ []
+    entries_before text (n + 1) ≡ entries_before text n ++ numbered_line (n + 1) (strip_carriage_return part) ∷ []
 entries_before-more text n part within at filled =
-    let line = line_at (n + 1) (strip_carriage_return part) in
+    let line = numbered_line (n + 1) (strip_carriage_return part) in
     entries_before-step text n part within at ∙ ap (λ (b : Bool). entries_before text n ++ cond (not b) (line ∷ []) []) filled
 
 -- of two faults the first, and then the others: the same as in one row
@@ -130,7 +122,7 @@ pub AreRead-more : (text : List ℕ) (n : ℕ) (part : List ℕ) (entries : List
     AreRead text n entries weights →
     AreRead text (n + 1) (entries ++ text_of (strip_carriage_return part) ∷ []) (weights ++ weight ∷ [])
 AreRead-more text n part entries weights weight within at filled fine named so_far =
-    let line = line_at (n + 1) (strip_carriage_return part) in
+    let line = numbered_line (n + 1) (strip_carriage_return part) in
     let before = entries_before text n in
     let more = entries_before-more text n part within at filled in
     let count : length entries ≡ length before = ap length so_far.texts ∙ length-map before (λ l. text_of l.bytes) in
@@ -153,7 +145,7 @@ pub first_fault-of_next : (text : List ℕ) (n : ℕ) (part : List ℕ) (entries
     fault_of (length entries + 1) (n + 1) (strip_carriage_return part) ≡ Some fault → AreRead text n entries weights →
     first_fault_from 1 (entry_lines text) ≡ Some fault
 first_fault-of_next text n part entries weights fault within at filled wrong so_far =
-    let line = line_at (n + 1) (strip_carriage_return part) in
+    let line = numbered_line (n + 1) (strip_carriage_return part) in
     let before = entries_before text n in
     let after = filter has_entry (drop (n + 1) (numbered text)) in
     let count : length entries ≡ length before = ap length so_far.texts ∙ length-map before (λ l. text_of l.bytes) in

@@ -1,5 +1,5 @@
 -- The parts of a text are texts: it is cut at bytes that are characters of their own.
-use Rattle.std.proofs.Common.{◌≡◌, ℕ, zero, suc, ◌+◌, ◌-◌, ◌<◌, ◌≤◌, ◌==◌, ◌&&◌, Bool, true, false, not, cond, eqb, List, [], ◌∷◌, ◌++◌, map, filter, length, get_or, take, drop, All, refl, ap, sym, ◌∙◌, subst, inl, inr, arith, lit<}
+use Rattle.std.proofs.Common.{◌≡◌, ℕ, zero, suc, ◌+◌, ◌-◌, ◌<◌, ◌≤◌, ◌==◌, Bool, false, not, cond, eqb, List, [], ◌∷◌, ◌++◌, map, length, get_or, take, drop, All, ap, sym, ◌∙◌, subst, inl, inr, arith, lit<}
 use Rattle.std.proofs.Math.Utf8.{encode}
 use Rattle.std.proofs.lemmas.Bool.{cases_Bool, cases_lt, eqb-true, not-false, not-true}
 use Rattle.std.proofs.lemmas.List.{take_all, take-append-drop, length-drop}
@@ -11,7 +11,7 @@ use Rattle.std.proofs.lemmas.Str.{IsUtf8-take, IsUtf8-drop, IsUtf8-past_char, Is
 use Rattle.std.specs.List.{before_first, after_first, position_or_len, slice_split, starts_with}
 use Rattle.std.specs.Str.{IsUtf8}
 use Rattle.std.specs.Str.Lines.{strip_carriage_return}
-use Rattle.dictionaries.specs.Grammar.{Line, byte_order_mark, without_mark, lines, is_line_feed, numbered_from, is_empty, entry_lines, text_of}
+use Rattle.dictionaries.specs.Grammar.{byte_order_mark, without_mark, lines, is_line_feed, numbered_line, numbered_from, has_entry, entry_lines, text_of}
 
 -- the byte at which a text is cut
 cut_at : (c : ℕ) (text : List ℕ) → position_or_len (λ b. b == c) text < length text →
@@ -88,7 +88,7 @@ All-numbered_from : (P : List ℕ → Type 0) (number : ℕ) (lines : List (List
     All (λ line. P line.bytes) (numbered_from number lines)
 All-numbered_from P number [] all = All-nil (λ line. P line.bytes)
 All-numbered_from P number (line ∷ others) all =
-    All-cons (λ l. P l.bytes) (record { number = number; bytes = line }) (numbered_from (number + 1) others)
+    All-cons (λ l. P l.bytes) (numbered_line number line) (numbered_from (number + 1) others)
     (All-head P line others all) (All-numbered_from P (number + 1) others (All-tail P line others all))
 
 -- the texts of a text's lines
@@ -102,7 +102,7 @@ All-text_of bytes utf8 =
     (All-weaker IsUtf8 (λ part. IsUtf8 (strip_carriage_return part)) IsUtf8-strip_carriage_return parts each_part) in
     let numbered = numbered_from 1 (lines text) in
     let each_filled =
-    All-filter (λ line. not (is_empty line)) (λ line. IsUtf8 line.bytes) numbered (All-numbered_from IsUtf8 1 (lines text) each_line) in
+    All-filter has_entry (λ line. IsUtf8 line.bytes) numbered (All-numbered_from IsUtf8 1 (lines text) each_line) in
     All-map IsUtf8 (λ line. text_of line.bytes) (entry_lines text)
     (All-weaker (λ line. IsUtf8 line.bytes) (λ line. IsUtf8 (text_of line.bytes))
     (λ line utf8. IsUtf8-before_first 9 line.bytes (lit< tt) utf8) (entry_lines text) each_filled)

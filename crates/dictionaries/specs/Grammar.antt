@@ -33,17 +33,21 @@ pub record Line : Type 0 where
   pub number : ℕ
   pub bytes : List ℕ
 
--- the lines with their numbers, of which the first is given
+abbrev pub numbered_line : ℕ → List ℕ → Line
+numbered_line number line = record { number = number; bytes = line }
+
+-- the lines with their numbers, given that of the first
 abbrev pub numbered_from : ℕ → List (List ℕ) → List Line
 numbered_from number [] = []
-numbered_from number (line ∷ others) = record { number = number; bytes = line } ∷ numbered_from (number + 1) others
+numbered_from number (line ∷ others) = numbered_line number line ∷ numbered_from (number + 1) others
 
-abbrev pub is_empty : Line → Bool
-is_empty line = length line.bytes == 0
+-- an empty line has no entry
+abbrev pub has_entry : Line → Bool
+has_entry line = not (length line.bytes == 0)
 
--- the lines that aren't empty, numbered from 1 among all lines
+-- the lines with an entry, numbered from 1 among all lines
 abbrev pub entry_lines : List ℕ → List Line
-entry_lines bytes = filter (λ line. not (is_empty line)) (numbered_from 1 (lines bytes))
+entry_lines bytes = filter has_entry (numbered_from 1 (lines bytes))
 
 -- ---- what a line says
 

@@ -1,3 +1,4 @@
 pub mod Pieces
 pub mod WordList
 pub mod Grammar
+pub mod Written

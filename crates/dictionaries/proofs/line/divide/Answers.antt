@@ -1,6 +1,6 @@
-use Rattle.std.proofs.Common.{◌≡◌, Some, ℕ, Bool, false, lit<, List, length, ap, sym, ◌∙◌, if◌then◌else◌}
+use Rattle.std.proofs.Common.{◌≡◌, Some, Bool, lit<, length, ap, if◌then◌else◌}
 use Rattle.std.specs.List.{after_first, position_or_len}
-use Rattle.dictionaries.specs.Grammar.{is_tab, weight_of, weight_named}
+use Rattle.dictionaries.specs.Grammar.{is_tab, weight_named}
 use Rattle.dictionaries.proofs.LineLemmas.{list_any-from_position}
 use Rattle.dictionaries.proofs.line.divide.Goals as goal
 

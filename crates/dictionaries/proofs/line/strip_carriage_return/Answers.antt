@@ -1,4 +1,4 @@
-use Rattle.std.proofs.Common.{◌≡◌, Bor, List, ℕ, ap, lit<, ◌∙◌}
+use Rattle.std.proofs.Common.{Bor, List, ℕ, ap, lit<, ◌∙◌}
 use Rattle.std.proofs.lemmas.Str.Pattern.{strip_suffix_char}
 use Rattle.dictionaries.proofs.LineLemmas.{strip_carriage_return-stripped}
 use Rattle.dictionaries.proofs.line.strip_carriage_return.Goals as goal

@@ -1,7 +1,6 @@
-use Rattle.std.proofs.Common.{◌≡◌, ◌<◌, ℕ, List, Some, None, Ok, Err, length, ap, sym, ◌∙◌, arith}
+use Rattle.std.proofs.Common.{◌≡◌, ◌<◌, ℕ, Some, Ok, Err, length, ap, sym, ◌∙◌, arith}
 use Rattle.std.proofs.lemmas.Result.{err_from_is_err_and}
-use Rattle.dictionaries.specs.WordList.{WordList}
-use Rattle.dictionaries.specs.Grammar.{without_mark, entry_lines, first_fault_from, word_list, dictionary_of}
+use Rattle.dictionaries.specs.Grammar.{without_mark, entry_lines, first_fault_from, dictionary_of}
 use Rattle.dictionaries.specs.declared.fault.DictFault.TheVariants.{NotUtf8, Memory}
 use Rattle.dictionaries.proofs.BoundLemmas.{IsWordList-dictionary_of}
 use Rattle.dictionaries.proofs.DictionaryLemmas.{dictionary_of-no_text, dictionary_of-fault, dictionary_of-list, dictionary_of-empty}

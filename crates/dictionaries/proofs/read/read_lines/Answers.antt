@@ -1,15 +1,13 @@
-use Rattle.std.proofs.Common.{◌≡◌, ◌<◌, ◌+◌, ◌==◌, ℕ, true, false, Some, None, List, Bor, length, get_or, lit<, ap, sym, ◌∙◌, arith}
-use Rattle.std.proofs.lemmas.Iterator.{YieldsList}
+use Rattle.std.proofs.Common.{◌≡◌, ◌<◌, ◌+◌, ◌==◌, true, false, Some, None, length, get_or, lit<, ap, ◌∙◌, arith}
 use Rattle.std.proofs.lemmas.Iterator.Consumers.{YieldsList-turn, YieldsList-end}
 use Rattle.std.proofs.lemmas.Iterator.Splits.{YieldsList-from_str_split}
 use Rattle.std.specs.List.{slice_split}
-use Rattle.std.specs.Str.Iter.{split_text, split_has_more, split_pattern, split_steps}
-use Rattle.std.specs.Str.Pattern.{FindsChar}
+use Rattle.std.specs.Str.Iter.{split_text, split_has_more, split_pattern}
 use Rattle.dictionaries.specs.Grammar.{is_line_feed, text_of, weight_of, fault_of}
 use Rattle.std.specs.Str.Lines.{strip_carriage_return}
 use Rattle.std.proofs.lemmas.List.{length_push}
 use Rattle.std.proofs.lemmas.Result.{err_from_is_err_and}
-use Rattle.dictionaries.proofs.ReadingLemmas.{AreRead-none, AreRead-empty, AreRead-more, AreRead-all, first_fault-of_next}
+use Rattle.dictionaries.proofs.ReadingLemmas.{AreRead-empty, AreRead-more, AreRead-all, first_fault-of_next}
 use Rattle.dictionaries.proofs.read.read_lines.Goals.{In-Some, In-None}
 use Rattle.dictionaries.proofs.read.read_lines.Goals as goal
 

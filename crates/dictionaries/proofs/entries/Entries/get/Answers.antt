@@ -1,6 +1,5 @@
-use Rattle.std.proofs.Common.{◌≡◌, ◌<◌, ◌∷◌, ℕ, List, string_bytes, length, get_or, ap, sym, ◌∙◌, arith}
+use Rattle.std.proofs.Common.{◌≡◌, ◌∷◌, ℕ, List, string_bytes, get_or, ap, ◌∙◌, arith}
 use Rattle.std.proofs.lemmas.List.{get_or_read}
-use Rattle.std.specs.List.{slice_get}
 use Rattle.dictionaries.proofs.PieceLemmas.{within-ends, slice_get-pieces_from, start-le-end, start_is_boundary, end_is_boundary}
 use Rattle.dictionaries.proofs.entries.Entries.get.Goals as goal
 

@@ -1,4 +1,4 @@
-use Rattle.std.proofs.Common.{ap, length, string_bytes, ◌∙◌, arith}
+use Rattle.std.proofs.Common.{ap, length, string_bytes, arith}
 use Rattle.dictionaries.proofs.PieceLemmas.{length-pieces_from}
 use Rattle.dictionaries.proofs.entries.Entries.len.Goals as goal
 

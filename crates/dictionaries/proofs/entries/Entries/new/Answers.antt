@@ -1,5 +1,3 @@
-use Rattle.std.proofs.Common.{ap, ◌∙◌}
-use Rattle.dictionaries.specs.Pieces.{pieces_from}
 use Rattle.dictionaries.proofs.PieceLemmas.{IsCutFrom-none, pieces_from-none}
 use Rattle.dictionaries.proofs.entries.Entries.new.Goals as goal
 

@@ -1,4 +1,4 @@
-use Rattle.std.proofs.Common.{◌≡◌, ◌∷◌, ◌++◌, [], ℕ, List, string_bytes, length, ap, sym, ◌∙◌, arith}
+use Rattle.std.proofs.Common.{◌≡◌, ◌∷◌, ◌++◌, [], ℕ, List, string_bytes, length, ap, ◌∙◌, arith}
 use Rattle.dictionaries.proofs.PieceLemmas.{IsCutFrom-push, pieces_from-push}
 use Rattle.dictionaries.proofs.entries.Entries.push.Goals as goal
 
