@@ -1,13 +1,16 @@
 -- What fields hold that need no other row: the units of their row, and what is drawn for them.
-use Rattle.std.specs.Prelude.{ℕ, ℤ, pos, ◌+◌, ◌*◌, ◌%◌, ◌+ℤ◌, List, [], Option, Some, None, Bool, true, false, decimal, slice_index_or, sum}
+use Rattle.std.specs.Prelude.{ℕ, ℤ, pos, ◌+◌, ◌-◌, ◌*◌, ◌%◌, ◌+ℤ◌, List, [], Option, Some, None, Bool, true, false, decimal, encode_utf8, flat_map, if◌then◌else◌, length, nat_lt, slice_index, slice_index_or, sum}
 use Rattle.std.specs.Fmt.{signed_decimal}
+use Rattle.std.specs.List.{range_with_len}
+use Rattle.std.specs.Option.{option_and_then}
+use Rattle.std.specs.Str.{chars}
 use Rattle.philox_seeds.specs.SeedTree.{field_draw}
 use Rattle.weight_tables.specs.Harmonic.{harmonic_weights}
 use Rattle.weight_tables.specs.Weights.{selected}
 use Rattle.row_text.specs.Fields.{piece_text}
 use Rattle.schema_check.specs.Choices.{choices}
 use Rattle.schema_check.specs.FieldBounds.{bounds_of}
-use Rattle.schema_check.specs.Layout.{LeafLayout, int_leaf, fixed_leaf, date_leaf, pick_leaf, skew_leaf, dict_leaf, words_leaf, chars_leaf, KindLayout, key_kind, born_kind, changed_kind, leaf_kind, template_kind, case_kind, reference_kind, lookup_kind, Layout, table_at, column_at}
+use Rattle.schema_check.specs.Layout.{LeafLayout, int_leaf, fixed_leaf, date_leaf, pick_leaf, skew_leaf, dict_leaf, words_leaf, chars_leaf, KindLayout, key_kind, born_kind, changed_kind, leaf_kind, template_kind, case_kind, reference_kind, lookup_kind, ColumnLayout, Layout, table_at, column_at}
 use Rattle.draw_values.specs.declared.values.RowAt.{RowAt}
 use Rattle.draw_values.specs.declared.values.Put.{Put}
 use Rattle.draw_values.specs.declared.values.Put.TheVariants.{Text, Null}
@@ -31,6 +34,11 @@ chosen lo hi step draw = lo +ℤ pos (step * (draw % choices lo hi step))
 abbrev pub chosen_group : List ℕ → ℕ → ℕ
 chosen_group weights draw = selected weights (draw % sum weights)
 
+-- so many characters, each chosen among some by a draw of its own: the first by draw 2
+abbrev pub drawn_characters : List ℕ → Draws → ℕ → List ℕ
+drawn_characters characters draw count =
+    flat_map (λ k. encode_utf8 (slice_index characters (draw (2 + k) % length characters))) (range_with_len 0 count)
+
 -- a value that is drawn for a field alone. Draw 0 is kept for null fields, so values begin with draw 1
 abbrev pub leaf_value : LeafLayout → Draws → Option (List ℕ)
 leaf_value (int_leaf lo hi step) draw = Some (signed_decimal (chosen lo hi step (draw 1)))
@@ -41,31 +49,63 @@ leaf_value (skew_leaf lo size power) draw =
     Some (signed_decimal (lo +ℤ pos (chosen_group (harmonic_weights size power) (draw 1))))
 leaf_value (dict_leaf dictionary) draw = not_served
 leaf_value (words_leaf dictionary lo hi) draw = not_served
-leaf_value (chars_leaf alphabet lo hi) draw = not_served
+leaf_value (chars_leaf alphabet lo hi) draw = Some (drawn_characters (chars alphabet) draw (lo + draw 1 % (hi - lo + 1)))
 
--- whether a field of this kind is made of its row's units and its draws
+-- the draws of a row's fields, by the column's place
+abbrev pub RowDraws : Type 0
+RowDraws = ℕ → Draws
+
+-- what a field holds of which so many of a thousand are null: draw 0 decides
+abbrev pub unless_null : {A : Type 0} → ℕ → Draws → Option A → Option A
+unless_null null draw held = if nat_lt (draw 0 % 1000) null then None else held
+
+-- the number of the entry that a pick selects; no other kind has entries
+abbrev pub entry_of : KindLayout → Draws → Option ℕ
+entry_of (leaf_kind (pick_leaf entries weights)) draw = Some (chosen_group weights (draw 1))
+entry_of _ draw = None
+
+-- the number of the entry that a row's field in a pick column holds, None where the field is null
+abbrev pub held_entry : ColumnLayout → Draws → Option ℕ
+held_entry column draw = unless_null column.null draw (entry_of column.kind draw)
+
+-- the branch at a place
+abbrev pub branch_at : List LeafLayout → ℕ → LeafLayout
+branch_at branches place = slice_index_or branches place (int_leaf (pos 0) (pos 0) 1)
+
+-- whether a field of this kind is made of its row's units and of draws
 abbrev pub is_own : KindLayout → Bool
 is_own born_kind = true
 is_own (leaf_kind leaf) = true
+is_own (case_kind on branches) = true
 is_own _ = false
 
--- what a row holds in a column of such a kind
-abbrev pub own_value : KindLayout → RowAt → Draws → Option (List ℕ)
-own_value key_kind at draw = not_served
-own_value born_kind at draw = Some (decimal at.born)
-own_value changed_kind at draw = not_served
-own_value (leaf_kind leaf) at draw = leaf_value leaf draw
-own_value (template_kind parts) at draw = not_served
-own_value (case_kind on branches) at draw = not_served
-own_value (reference_kind parent window spread) at draw = not_served
-own_value (lookup_kind via parent column) at draw = not_served
+-- what a row holds in a column of such a kind, where it isn't null. A case draws its branch's value from its own draws, and is null where
+-- the field of its pick column is
+abbrev pub own_value : List ColumnLayout → RowAt → RowDraws → ℕ → KindLayout → Option (List ℕ)
+own_value columns at draws column key_kind = not_served
+own_value columns at draws column born_kind = Some (decimal at.born)
+own_value columns at draws column changed_kind = not_served
+own_value columns at draws column (leaf_kind leaf) = leaf_value leaf (draws column)
+own_value columns at draws column (template_kind parts) = not_served
+own_value columns at draws column (case_kind on branches) =
+    option_and_then (λ entry. leaf_value (branch_at branches entry) (draws column))
+    (held_entry (column_at columns on) (draws on))
+own_value columns at draws column (reference_kind parent window spread) = not_served
+own_value columns at draws column (lookup_kind via parent name) = not_served
 
--- what a row of the table at a place holds in the column at a place, which is of such a kind. Columns that change aren't served yet, so a
--- field is drawn at the birth of its row
+-- the field of a row in the column at a place, which is of such a kind
+abbrev pub own_field : List ColumnLayout → RowAt → RowDraws → ℕ → Option (List ℕ)
+own_field columns at draws column =
+    unless_null (column_at columns column).null (draws column)
+    (own_value columns at draws column (column_at columns column).kind)
+
+-- the draws of a row of the table at a place. Columns that change aren't served yet, so fields are drawn at the birth of their row
+abbrev pub draws_at : Layout → ℕ → RowAt → RowDraws
+draws_at layout table at column = field_draw layout.seed table column at.born at.ordinal
+
+-- the field of a row of the table at a place
 abbrev pub value_at : Layout → ℕ → ℕ → RowAt → Option (List ℕ)
-value_at layout table column at =
-    own_value (column_at (table_at layout.tables table).columns column).kind at
-    (field_draw layout.seed table column at.born at.ordinal)
+value_at layout table column at = own_field (table_at layout.tables table).columns at (draws_at layout table at) column
 
 -- the greatest size of such a field as it is written, in bytes
 abbrev pub size_at : Layout → ℕ → ℕ → ℕ

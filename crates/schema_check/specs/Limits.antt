@@ -1,9 +1,10 @@
 -- What the rules give for the numbers of an accepted schema.
-use Rattle.std.specs.Prelude.{◌≡◌, ◌≢◌, ℕ, ℤ, suc, pos, neg_ℤ, ◌-◌, ◌^◌, ◌<◌, ◌≤◌, ◌+ℤ◌, ◌-ℤ◌, ◌<ℤ◌, ◌≤ℤ◌, List, length, sum, All, ⊤}
+use Rattle.std.specs.Prelude.{◌≡◌, ◌≢◌, Bool, true, false, ℕ, ℤ, suc, pos, neg_ℤ, ◌-◌, ◌^◌, ◌<◌, ◌≤◌, ◌+ℤ◌, ◌-ℤ◌, ◌<ℤ◌, ◌≤ℤ◌, List, length, sum, All, ⊤}
+use Rattle.std.specs.Str.{chars}
 use Rattle.schema_model.specs.declared.table.Schema.{Schema}
 use Rattle.schema_check.specs.Cohorts.{born_count}
 use Rattle.schema_check.specs.Counts.{count}
-use Rattle.schema_check.specs.Layout.{LeafLayout, int_leaf, fixed_leaf, date_leaf, pick_leaf, skew_leaf, dict_leaf, words_leaf, chars_leaf, KindLayout, key_kind, leaf_kind, case_kind, column_at, TableLayout, layout_of}
+use Rattle.schema_check.specs.Layout.{LeafLayout, int_leaf, fixed_leaf, date_leaf, pick_leaf, skew_leaf, dict_leaf, words_leaf, chars_leaf, PartLayout, literal_part, cited_part, KindLayout, key_kind, leaf_kind, template_kind, case_kind, lookup_kind, ColumnLayout, column_at, TableLayout, layout_of}
 use Rattle.schema_check.specs.TableFacts.{cost, max_line}
 
 -- a number that isn't below 0
@@ -37,7 +38,17 @@ pub record IsSkew (lo : ℤ) (size power : ℕ) : Type 0 where
   pub greatest_power : power ≤ 3
   pub last_number : (lo +ℤ pos (size - 1)) <ℤ pos (2 ^ 63)
 
--- a drawn value within its limits. Of dictionaries and characters no rule is tried yet
+-- characters or words: from lo to hi, which is at most 1,000
+pub record IsLengthRange (lo hi : ℕ) : Type 0 where
+  pub ordered : lo ≤ hi
+  pub length_limit : hi ≤ 1000
+
+-- an alphabet of characters
+pub record IsAlphabet (alphabet : List ℕ) : Type 0 where
+  pub some_character : 1 ≤ length (chars alphabet)
+  pub character_limit : length (chars alphabet) ≤ 256
+
+-- a drawn value within its limits. Of dictionaries no rule is tried yet
 abbrev pub IsLeafInLimits : LeafLayout → Type 0
 IsLeafInLimits (int_leaf lo hi step) = IsRange lo hi × (1 ≤ step)
 IsLeafInLimits (fixed_leaf lo hi decimals) = IsRange lo hi × (decimals ≤ 9)
@@ -45,14 +56,44 @@ IsLeafInLimits (date_leaf lo hi) = IsDateRange lo hi
 IsLeafInLimits (pick_leaf entries weights) = IsWeighted entries weights
 IsLeafInLimits (skew_leaf lo size power) = IsSkew lo size power
 IsLeafInLimits (dict_leaf dictionary) = ⊤
-IsLeafInLimits (words_leaf dictionary lo hi) = ⊤
-IsLeafInLimits (chars_leaf alphabet lo hi) = ⊤
+IsLeafInLimits (words_leaf dictionary lo hi) = IsLengthRange lo hi
+IsLeafInLimits (chars_leaf alphabet lo hi) = IsAlphabet alphabet × IsLengthRange lo hi
 
--- a column within its limits: what is drawn for it
-abbrev pub IsKindInLimits : KindLayout → Type 0
-IsKindInLimits (leaf_kind leaf) = IsLeafInLimits leaf
-IsKindInLimits (case_kind on branches) = All IsLeafInLimits branches
-IsKindInLimits _ = ⊤
+-- a kind that a template may cite
+abbrev pub is_cited : KindLayout → Bool
+is_cited (template_kind parts) = false
+is_cited (case_kind on branches) = false
+is_cited (lookup_kind via parent column) = false
+is_cited _ = true
+
+-- a part of the template at a place: a text, or an earlier column that may be cited
+abbrev pub IsPart : List ColumnLayout → ℕ → PartLayout → Type 0
+IsPart columns place (literal_part bytes) = ⊤
+IsPart columns place (cited_part column) = (column < place) × (is_cited (column_at columns column).kind ≡ true)
+
+-- a template's parts
+pub record AreParts (columns : List ColumnLayout) (place : ℕ) (parts : List PartLayout) : Type 0 where
+  pub some_part : 1 ≤ length parts
+  pub part_limit : length parts ≤ 32
+  pub each : All (IsPart columns place) parts
+
+-- a pick column of so many entries
+abbrev pub IsPickOf : ℕ → KindLayout → Type 0
+IsPickOf count (leaf_kind (pick_leaf entries weights)) = length entries ≡ count
+IsPickOf count _ = ⊥
+
+-- a case of an earlier pick column, with a branch for each entry
+pub record IsCase (columns : List ColumnLayout) (place on : ℕ) (branches : List LeafLayout) : Type 0 where
+  pub earlier : on < place
+  pub pick : IsPickOf (length branches) (column_at columns on).kind
+  pub each : All IsLeafInLimits branches
+
+-- the column at a place within its limits, by its kind
+abbrev pub IsKindInLimits : List ColumnLayout → ℕ → KindLayout → Type 0
+IsKindInLimits columns place (leaf_kind leaf) = IsLeafInLimits leaf
+IsKindInLimits columns place (template_kind parts) = AreParts columns place parts
+IsKindInLimits columns place (case_kind on branches) = IsCase columns place on branches
+IsKindInLimits columns place _ = ⊤
 
 -- a table within its limits, up to a last unit: its first column is its key, and no other is
 pub record IsTableInLimits (units : ℕ) (table : TableLayout) : Type 0 where
@@ -62,7 +103,9 @@ pub record IsTableInLimits (units : ℕ) (table : TableLayout) : Type 0 where
   pub column_limit : length table.columns ≤ 64
   pub key_first : (column_at table.columns 0).kind ≡ key_kind
   pub no_other_key : (place : ℕ) → suc place < length table.columns → (column_at table.columns (suc place)).kind ≢ key_kind
-  pub drawn : (place : ℕ) → place < length table.columns → IsKindInLimits (column_at table.columns place).kind
+  pub kinds : (place : ℕ) → place < length table.columns → IsKindInLimits table.columns place (column_at table.columns place).kind
+  pub nulls : (place : ℕ) → place < length table.columns → (column_at table.columns place).null ≤ 999
+  pub key_never_null : (column_at table.columns 0).null ≡ 0
 
 -- an accepted schema within its limits
 pub record IsInLimits (schema : Schema) : Type 0 where

@@ -1,13 +1,18 @@
 -- What a plan keeps of the columns, so that nothing that stays the same is worked out for a row.
-use Rattle.std.specs.Prelude.{ℕ, ◌^◌, Bool, true, false, List, map, sum}
+use Rattle.std.specs.Prelude.{ℕ, ◌+◌, ◌-◌, ◌^◌, Bool, true, false, List, encode_utf8, length, map, sum}
+use Rattle.std.specs.List.{list_all}
+use Rattle.std.specs.Str.{chars}
 use Rattle.weight_tables.specs.Harmonic.{harmonic_weights}
 use Rattle.row_text.specs.Fields.{piece_text}
 use Rattle.schema_check.specs.declared.ready.ReadyColumn.{ReadyColumn}
-use Rattle.schema_check.specs.declared.ready.ReadyColumn.TheVariants as column
+use Rattle.schema_check.specs.declared.ready.ReadyKind.{ReadyKind}
+use Rattle.schema_check.specs.declared.ready.ReadyKind.TheVariants as kind
+use Rattle.schema_check.specs.declared.ready.ReadyPart.{ReadyPart}
+use Rattle.schema_check.specs.declared.ready.ReadyPart.TheVariants as part
 use Rattle.schema_check.specs.declared.ready.ReadyLeaf.{ReadyLeaf}
 use Rattle.schema_check.specs.declared.ready.ReadyLeaf.TheVariants as leaf
 use Rattle.schema_check.specs.Choices.{choices}
-use Rattle.schema_check.specs.Layout.{LeafLayout, int_leaf, fixed_leaf, date_leaf, pick_leaf, skew_leaf, dict_leaf, words_leaf, chars_leaf, KindLayout, key_kind, born_kind, changed_kind, leaf_kind, template_kind, case_kind, reference_kind, lookup_kind, ColumnLayout, Layout, table_at}
+use Rattle.schema_check.specs.Layout.{LeafLayout, int_leaf, fixed_leaf, date_leaf, pick_leaf, skew_leaf, dict_leaf, words_leaf, chars_leaf, PartLayout, literal_part, cited_part, KindLayout, key_kind, born_kind, changed_kind, leaf_kind, template_kind, case_kind, reference_kind, lookup_kind, ColumnLayout, Layout, table_at}
 
 -- a value that is drawn for a field alone: the number of choices of a range, the weights with their sum, entries as they are written
 abbrev pub ready_leaf : ℕ → LeafLayout → ReadyLeaf
@@ -19,30 +24,43 @@ ready_leaf delimiter (skew_leaf lo size power) =
     leaf.Skew lo (harmonic_weights size power) (sum (harmonic_weights size power))
 ready_leaf delimiter (dict_leaf dictionary) = leaf.Unserved
 ready_leaf delimiter (words_leaf dictionary lo hi) = leaf.Unserved
-ready_leaf delimiter (chars_leaf alphabet lo hi) = leaf.Unserved
+ready_leaf delimiter (chars_leaf alphabet lo hi) =
+    leaf.Chars lo (hi - lo + 1) (map (λ c. piece_text delimiter (encode_utf8 c)) (chars alphabet)) (length (chars alphabet))
 
--- a column of this kind
-abbrev pub ready_column : ℕ → KindLayout → ReadyColumn
-ready_column delimiter key_kind = column.Key
-ready_column delimiter born_kind = column.Born
-ready_column delimiter changed_kind = column.Unserved
-ready_column delimiter (leaf_kind drawn) = column.Drawn (ready_leaf delimiter drawn)
-ready_column delimiter (template_kind parts) = column.Unserved
-ready_column delimiter (case_kind on branches) = column.Unserved
-ready_column delimiter (reference_kind parent window spread) = column.Unserved
-ready_column delimiter (lookup_kind via parent name) = column.Unserved
+-- a part of a template: a text as it is written, or the place of the column that it cites
+abbrev pub ready_part : ℕ → PartLayout → ReadyPart
+ready_part delimiter (literal_part bytes) = part.Literal (piece_text delimiter bytes)
+ready_part delimiter (cited_part column) = part.Cited column
+
+-- what a column holds of this kind
+abbrev pub ready_kind : ℕ → KindLayout → ReadyKind
+ready_kind delimiter key_kind = kind.Key
+ready_kind delimiter born_kind = kind.Born
+ready_kind delimiter changed_kind = kind.Unserved
+ready_kind delimiter (leaf_kind drawn) = kind.Drawn (ready_leaf delimiter drawn)
+ready_kind delimiter (template_kind parts) = kind.Template (map (ready_part delimiter) parts)
+ready_kind delimiter (case_kind on branches) = kind.Case on (map (ready_leaf delimiter) branches)
+ready_kind delimiter (reference_kind parent window spread) = kind.Unserved
+ready_kind delimiter (lookup_kind via parent name) = kind.Unserved
+
+-- a column
+abbrev pub ready_column : ℕ → ColumnLayout → ReadyColumn
+ready_column delimiter column = record { kind = ready_kind delimiter column.kind; null = column.null }
 
 -- the columns of the table at a place
 abbrev pub ready_columns : Layout → ℕ → List ReadyColumn
-ready_columns layout place =
-    map (λ (of : ColumnLayout). ready_column layout.delimiter of.kind) (table_at layout.tables place).columns
+ready_columns layout place = map (ready_column layout.delimiter) (table_at layout.tables place).columns
 
 -- whether tables can be made of a drawn value, and of a column
 abbrev pub is_served_leaf : ReadyLeaf → Bool
 is_served_leaf leaf.Unserved = false
 is_served_leaf _ = true
 
+abbrev pub is_served_kind : ReadyKind → Bool
+is_served_kind kind.Unserved = false
+is_served_kind (kind.Drawn drawn) = is_served_leaf drawn
+is_served_kind (kind.Case on branches) = list_all is_served_leaf branches
+is_served_kind _ = true
+
 abbrev pub is_served : ReadyColumn → Bool
-is_served column.Unserved = false
-is_served (column.Drawn drawn) = is_served_leaf drawn
-is_served _ = true
+is_served column = is_served_kind column.kind

@@ -1,7 +1,9 @@
 -- The rules of a schema, each at the sites where it asks something, and the first that is broken.
-use Rattle.std.specs.Prelude.{◌≡◌, ℕ, zero, suc, ℤ, pos, neg_ℤ, ◌+ℤ◌, ◌-ℤ◌, ◌-◌, ◌^◌, ◌==◌, List, [], ◌∷◌, length, map, sum, take, Bool, true, false, not, ◌&&◌, ◌||◌, nat_le, int_le, Option, Some, None, slice_index_or, if◌then◌else◌}
+use Rattle.std.specs.Prelude.{◌≡◌, ℕ, zero, suc, ℤ, pos, neg_ℤ, ◌+ℤ◌, ◌-ℤ◌, ◌-◌, ◌^◌, ◌==◌, List, [], ◌∷◌, length, map, sum, take, Bool, true, false, not, ◌&&◌, ◌||◌, nat_le, nat_lt, int_le, Option, Some, None, slice_index_or, if◌then◌else◌}
 use Rattle.std.specs.List.{list_all, list_any, range_with_len}
 use Rattle.std.specs.Option.{option_or, option_map}
+use Rattle.std.specs.Ordering.{int_eq}
+use Rattle.std.specs.Str.{chars}
 use Rattle.schema_model.specs.declared.table.Schema.{Schema}
 use Rattle.schema_model.specs.declared.table.Table.{Table}
 use Rattle.schema_model.specs.declared.column.Column.{Column}
@@ -9,14 +11,16 @@ use Rattle.schema_model.specs.declared.column.Kind.{Kind}
 use Rattle.schema_model.specs.declared.column.Kind.TheVariants as kind
 use Rattle.schema_model.specs.declared.column.Leaf.{Leaf}
 use Rattle.schema_model.specs.declared.column.Leaf.TheVariants as drawn
+use Rattle.schema_model.specs.declared.column.Part.{Part}
+use Rattle.schema_model.specs.declared.column.Part.TheVariants as part
 use Rattle.schema_check.specs.declared.broken.Broken.{Broken}
 use Rattle.schema_check.specs.declared.rules.Rule.{Rule}
-use Rattle.schema_check.specs.declared.rules.Rule.TheVariants.{SeedAndUnits, TableCount, TableNames, Columns, KeyColumn, RowCount, NumberRange, DateRange, PickEntries, SkewRange, RowCost, LineSize}
+use Rattle.schema_check.specs.declared.rules.Rule.TheVariants.{SeedAndUnits, TableCount, TableNames, Columns, KeyColumn, RowCount, NumberRange, DateRange, PickEntries, SkewRange, LengthRange, TemplateParts, CaseBranches, RowCost, LineSize, NullShare}
 use Rattle.schema_check.specs.declared.site.Site.{Site}
 use Rattle.schema_check.specs.declared.site.Site.TheVariants.{Whole, OfTable, OfColumn}
 use Rattle.schema_check.specs.Cohorts.{born_count}
 use Rattle.schema_check.specs.Counts.{count}
-use Rattle.schema_check.specs.Layout.{births_of, layout_of}
+use Rattle.schema_check.specs.Layout.{births_of, layout_of, place_of_column}
 use Rattle.schema_check.specs.Names.{same_text, is_name}
 use Rattle.schema_check.specs.Sites.{columns_at, IsSiteOf, IsBefore}
 use Rattle.schema_check.specs.TableFacts.{cost, max_line}
@@ -48,6 +52,10 @@ column_names schema table = map (λ (column : Column). column.name) (columns_at 
 -- the kind of the column at a place of some columns, counted from 0
 abbrev pub kind_at : List Column → ℕ → Kind
 kind_at columns place = slice_index_or (map (λ (column : Column). column.kind) columns) place kind.Born
+
+-- how many of a thousand fields of the column at a place are null
+abbrev pub null_at : List Column → ℕ → ℤ
+null_at columns place = slice_index_or (map (λ (column : Column). column.null) columns) place (pos 0)
 
 abbrev pub is_key : Kind → Bool
 is_key (kind.Key base scramble) = true
@@ -110,9 +118,58 @@ is_skew_range (drawn.Skew lo size power) =
     is_between 1 4096 size && is_between 1 3 power && int_le (lo +ℤ (size -ℤ pos 1)) (pos (2 ^ 63 - 1))
 is_skew_range _ = true
 
+-- from lo to hi, which is at most 1,000
+abbrev pub is_length_between : ℤ → ℤ → Bool
+is_length_between lo hi = int_le (pos 0) lo && int_le lo hi && int_le hi (pos 1000)
+
+-- words and characters are at most 1,000, of an alphabet of 1 to 256 characters
+abbrev pub is_length_range : Leaf → Bool
+is_length_range (drawn.Words file lo hi) = is_length_between lo hi
+is_length_range (drawn.Chars alphabet lo hi) =
+    is_length_between lo hi && nat_le 1 (length (chars alphabet)) && nat_le (length (chars alphabet)) 256
+is_length_range _ = true
+
 -- whether each value that is drawn for the column at a place passes a test
 abbrev pub is_each_leaf : (Leaf → Bool) → Schema → ℕ → ℕ → Bool
 is_each_leaf test schema table column = list_all test (leaves_of (kind_at (columns_at schema table) column))
+
+-- ---- what rules ask of columns that speak of others
+
+-- a kind that a template may cite
+abbrev pub is_citable : Kind → Bool
+is_citable (kind.Template parts) = false
+is_citable (kind.Case on branches) = false
+is_citable (kind.Lookup via column) = false
+is_citable _ = true
+
+-- a part of the template at a place of some columns is a text, or an earlier column that may be cited
+abbrev pub is_part : List Column → ℕ → Part → Bool
+is_part columns place (part.Literal text) = true
+is_part columns place (part.Cited name) =
+    nat_lt (place_of_column columns name) place && is_citable (kind_at columns (place_of_column columns name))
+
+-- a template has 1 to 32 parts
+abbrev pub is_template : List Column → ℕ → Kind → Bool
+is_template columns place (kind.Template parts) =
+    nat_le 1 (length parts) && nat_le (length parts) 32 && list_all (is_part columns place) parts
+is_template columns place _ = true
+
+-- a pick of so many entries
+abbrev pub is_pick_of : ℕ → Kind → Bool
+is_pick_of count (kind.Leaf (drawn.Pick entries weights)) = length entries == count
+is_pick_of count _ = false
+
+-- a case names an earlier pick column, with as many entries as it has branches
+abbrev pub is_case : List Column → ℕ → Kind → Bool
+is_case columns place (kind.Case on branches) =
+    nat_lt (place_of_column columns on) place && is_pick_of (length branches) (kind_at columns (place_of_column columns on))
+is_case columns place _ = true
+
+-- how many of a thousand fields of a kind are null: at most 999, and of keys and references none
+abbrev pub is_null_share : Kind → ℤ → Bool
+is_null_share (kind.Key base scramble) null = int_eq null (pos 0)
+is_null_share (kind.Ref table window spread) null = int_eq null (pos 0)
+is_null_share _ null = is_between 0 999 null
 
 -- ---- the rules
 
@@ -140,10 +197,21 @@ holds DateRange schema (OfColumn table column) = is_each_leaf is_date_range sche
 holds PickEntries schema (OfColumn table column) = is_each_leaf is_weighted schema table column
 -- V12: a skew has 1 to 4,096 numbers up to 2^63 - 1, and a power from 1 to 3
 holds SkewRange schema (OfColumn table column) = is_each_leaf is_skew_range schema table column
+-- V14: words and characters are 0 to 1,000, of an alphabet of 1 to 256 characters. Tried on the branches of a case too
+holds LengthRange schema (OfColumn table column) = is_each_leaf is_length_range schema table column
+-- V15: a template has 1 to 32 parts, and cites earlier columns that are no template, case or lookup
+holds TemplateParts schema (OfColumn table column) =
+    is_template (columns_at schema table) column (kind_at (columns_at schema table) column)
+-- V16: a case names an earlier pick column of its table, with as many entries as the case has branches
+holds CaseBranches schema (OfColumn table column) =
+    is_case (columns_at schema table) column (kind_at (columns_at schema table) column)
 -- V23: the cost of a row is at most 4,096. Past 64 tables, where an earlier rule is broken, nothing is asked
 holds RowCost schema (OfTable table) = nat_le 64 table || nat_le (cost (layout_of schema) table) 4096
 -- V24: a line has at most 65,536 bytes. The same
 holds LineSize schema (OfTable table) = nat_le 64 table || nat_le (max_line (layout_of schema) table) 65536
+-- V25: at most 999 of a thousand fields are null, and none of a key or a reference
+holds NullShare schema (OfColumn table column) =
+    is_null_share (kind_at (columns_at schema table) column) (null_at (columns_at schema table) column)
 holds _ schema site = true
 
 -- the number of a rule in messages, as 1 for V1
@@ -158,13 +226,18 @@ number_of NumberRange = 9
 number_of DateRange = 10
 number_of PickEntries = 11
 number_of SkewRange = 12
+number_of LengthRange = 14
+number_of TemplateParts = 15
+number_of CaseBranches = 16
 number_of RowCost = 23
 number_of LineSize = 24
+number_of NullShare = 25
 
 -- the rules in the order in which they are tried, which for all of V1 to V25 is V13, V1 to V12, V14 to V25
 abbrev pub rules : List Rule
 rules = SeedAndUnits ∷ TableCount ∷ TableNames ∷ Columns ∷ KeyColumn ∷ RowCount
-    ∷ NumberRange ∷ DateRange ∷ PickEntries ∷ SkewRange ∷ RowCost ∷ LineSize ∷ []
+    ∷ NumberRange ∷ DateRange ∷ PickEntries ∷ SkewRange ∷ LengthRange ∷ TemplateParts ∷ CaseBranches
+    ∷ RowCost ∷ LineSize ∷ NullShare ∷ []
 
 -- ---- the first broken rule
 

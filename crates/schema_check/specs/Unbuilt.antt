@@ -1,7 +1,6 @@
 -- What a schema may hold that no table can be made of yet.
-use Rattle.std.specs.Prelude.{Bool, true, false, not, ◌||◌, pos, is_some}
+use Rattle.std.specs.Prelude.{Bool, true, false, ◌||◌, is_some}
 use Rattle.std.specs.List.{list_any}
-use Rattle.std.specs.Ordering.{int_eq}
 use Rattle.schema_model.specs.declared.table.Schema.{Schema}
 use Rattle.schema_model.specs.declared.table.Table.{Table}
 use Rattle.schema_model.specs.declared.column.Column.{Column}
@@ -10,24 +9,24 @@ use Rattle.schema_model.specs.declared.column.Kind.TheVariants as kind
 use Rattle.schema_model.specs.declared.column.Leaf.{Leaf}
 use Rattle.schema_model.specs.declared.column.Leaf.TheVariants as drawn
 
--- a value of a dictionary, or of characters
+-- a value of a dictionary
 abbrev pub is_unbuilt_leaf : Leaf → Bool
 is_unbuilt_leaf (drawn.Dict file) = true
 is_unbuilt_leaf (drawn.Words file lo hi) = true
-is_unbuilt_leaf (drawn.Chars alphabet lo hi) = true
 is_unbuilt_leaf _ = false
 
--- such a value, and every kind but key, born and drawn values
+-- such a value, a case with such a branch, and what speaks of changes or of other rows
 abbrev pub is_unbuilt_kind : Kind → Bool
 is_unbuilt_kind (kind.Key base scramble) = false
 is_unbuilt_kind kind.Born = false
 is_unbuilt_kind (kind.Leaf leaf) = is_unbuilt_leaf leaf
+is_unbuilt_kind (kind.Template parts) = false
+is_unbuilt_kind (kind.Case on branches) = list_any is_unbuilt_leaf branches
 is_unbuilt_kind _ = true
 
--- a column that changes, is null at times, or has such a kind
+-- a column that changes, or has such a kind
 abbrev pub is_unbuilt_column : Column → Bool
-is_unbuilt_column column =
-    column.changes || not (int_eq column.null (pos 0)) || is_unbuilt_kind column.kind
+is_unbuilt_column column = column.changes || is_unbuilt_kind column.kind
 
 -- a table with a life, updates, or such a column
 abbrev pub is_unbuilt_table : Table → Bool

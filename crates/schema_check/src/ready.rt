@@ -2,19 +2,45 @@
 
 use fixed_divisors::FixedDivisor;
 use row_text::WrittenTexts;
+use schema_model::Sequence;
 use weight_tables::Weights;
 
 /// A column, ready for rows.
 #[derive(Debug, Drop)]
-pub enum ReadyColumn {
+pub struct ReadyColumn {
+    /// What its fields hold.
+    pub kind: ReadyKind,
+    /// How many of a thousand fields are null.
+    pub null: u64,
+}
+
+/// What the fields of a column hold, ready for rows. Columns are named by their places in the table, counted from 0.
+#[derive(Debug, Drop)]
+pub enum ReadyKind {
     /// The key of the row.
     Key,
     /// The row's unit of birth.
     Born,
     /// A value that is drawn for the field alone.
     Drawn(ReadyLeaf),
+    /// The parts, one after the other.
+    Template { parts: Sequence<ReadyPart> },
+    /// The branch whose number is that of the entry that the pick column at the place `on` selected.
+    Case {
+        on: u64,
+        branches: Sequence<ReadyLeaf>,
+    },
     /// A kind that no table can be made of yet.
     Unserved,
+}
+
+/// A part of a template, ready for rows.
+#[derive(Debug, Drop)]
+pub enum ReadyPart {
+    /// A text, as it is written.
+    Literal(Sequence<u8>),
+    /// The field of the column at a place.
+    Cited(u64),
 }
 
 /// A value that is drawn for a field alone, ready for rows.
@@ -52,6 +78,13 @@ pub enum ReadyLeaf {
         lo: i64,
         weights: Weights,
         total: FixedDivisor,
+    },
+    /// `lo` characters or more: one of so many numbers of them, each one of so many characters, as they are written.
+    Chars {
+        lo: u64,
+        lengths: FixedDivisor,
+        characters: WrittenTexts,
+        count: FixedDivisor,
     },
     /// A value that no table can be made of yet.
     Unserved,
