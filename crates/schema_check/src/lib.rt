@@ -22,6 +22,7 @@ mod plan;
 mod ready;
 mod ready_columns;
 mod ready_leaves;
+mod ready_parts;
 mod rules;
 mod site;
 
@@ -29,7 +30,7 @@ pub use checker::{CheckFault, check};
 pub use layout::{Births, Keys, Span};
 pub use not_built::unbuilt;
 pub use plan::Plan;
-pub use ready::{ReadyColumn, ReadyLeaf};
+pub use ready::{ReadyColumn, ReadyKind, ReadyLeaf, ReadyPart};
 
 #[cfg(test)]
 mod fact_tests;

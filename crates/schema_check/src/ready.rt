@@ -24,7 +24,9 @@ pub enum ReadyKind {
     /// A value that is drawn for the field alone.
     Drawn(ReadyLeaf),
     /// The parts, one after the other.
-    Template { parts: Sequence<ReadyPart> },
+    Template {
+        parts: Sequence<ReadyPart>,
+    },
     /// The branch whose number is that of the entry that the pick column at the place `on` selected.
     Case {
         on: u64,

@@ -1,17 +1,21 @@
-//! The columns of tables, made ready for rows. What is kept of one doesn't depend on other tables and columns, so the clauses of
-//! single columns name none.
+//! The columns of tables, made ready for rows. What is kept of one doesn't depend on other tables, so the clauses of single
+//! columns name none.
 
 ghost use Rattle.std.specs.Prelude.{◌≡◌, [], All, IfOk, length, map};
 ghost use Rattle.std.specs.List.{range_with_len};
-ghost use Rattle.schema_check.specs.Layout.{kind_layout, layout_of};
-ghost use Rattle.schema_check.specs.Limits.{IsInLimits, IsKindInLimits};
-ghost use Rattle.schema_check.specs.Ready.{ready_column, ready_columns};
+ghost use Rattle.schema_check.specs.Layout.{column_layout, kind_layout, layout_of, leaf_layout};
+ghost use Rattle.schema_check.specs.Limits.{IsInLimits, IsLeafInLimits};
+ghost use Rattle.schema_check.specs.Ready.{ready_column, ready_columns, ready_kind, ready_leaf};
+ghost use Rattle.schema_check.specs.Rules.{leaves_of};
 
+use crate::counts::count;
 use crate::facts::delimiter_byte;
 use crate::memory::Memory;
-use crate::ready::ReadyColumn;
+use crate::places::place_of_column;
+use crate::ready::{ReadyColumn, ReadyKind, ReadyLeaf};
 use crate::ready_leaves::ready_leaf;
-use schema_model::{Column, Kind, Schema, Sequence};
+use crate::ready_parts::ready_parts;
+use schema_model::{Column, Kind, Leaf, Schema, Sequence};
 use std::alloc::Global;
 
 /// The columns of each table of a schema within its limits, in order.
@@ -31,32 +35,79 @@ pub(crate) fn ready_tables(
     Ok(ready)
 }
 
-/// Columns within their limits, in order.
+/// The columns of a table, in order. What is drawn for them is within its limits.
 fn ready_columns(
     alloc: Global,
     delimiter: u8,
     columns: &[Column],
 ) -> Result<Sequence<ReadyColumn>, Memory>
-    requires { All (λ column. IsKindInLimits (kind_layout [] [] column.kind)) columns.now }
+    requires { All (λ column. All (λ leaf. IsLeafInLimits (leaf_layout [] leaf)) (leaves_of column.kind)) columns.now }
     ensures { IfOk result (λ ready. ready
-        ≡ map (λ column. ready_column delimiter (kind_layout [] [] column.kind)) columns.now) }
+        ≡ map (λ column. ready_column delimiter (column_layout [] columns.now column)) columns.now) }
 {
     let mut ready = Sequence::new(alloc);
     for column in columns {
-        ready.push(ready_column(alloc, delimiter, &column.kind)?)?;
+        ready.push(ready_column(alloc, delimiter, columns, column)?)?;
     }
     Ok(ready)
 }
 
-/// A column within its limits.
-fn ready_column(alloc: Global, delimiter: u8, kind: &Kind) -> Result<ReadyColumn, Memory>
-    requires { IsKindInLimits (kind_layout [] [] kind.now) }
-    ensures { IfOk result (λ ready. ready ≡ ready_column delimiter (kind_layout [] [] kind.now)) }
+/// One of some columns. What is drawn for it is within its limits.
+fn ready_column(
+    alloc: Global,
+    delimiter: u8,
+    columns: &[Column],
+    column: &Column,
+) -> Result<ReadyColumn, Memory>
+    requires { All (λ leaf. IsLeafInLimits (leaf_layout [] leaf)) (leaves_of column.now.kind) }
+    ensures { IfOk result (λ ready. ready ≡ ready_column delimiter (column_layout [] columns.now column.now)) }
+{
+    let kind = ready_kind(alloc, delimiter, columns, &column.kind)?;
+    Ok(ReadyColumn {
+        kind,
+        null: count(column.null),
+    })
+}
+
+/// What one of some columns holds. What is drawn for it is within its limits.
+fn ready_kind(
+    alloc: Global,
+    delimiter: u8,
+    columns: &[Column],
+    kind: &Kind,
+) -> Result<ReadyKind, Memory>
+    requires { All (λ leaf. IsLeafInLimits (leaf_layout [] leaf)) (leaves_of kind.now) }
+    ensures { IfOk result (λ ready. ready ≡ ready_kind delimiter (kind_layout [] columns.now kind.now)) }
 {
     match kind {
-        Kind::Key { .. } => Ok(ReadyColumn::Key),
-        Kind::Born => Ok(ReadyColumn::Born),
-        Kind::Leaf(leaf) => Ok(ReadyColumn::Drawn(ready_leaf(alloc, delimiter, leaf)?)),
-        _ => Ok(ReadyColumn::Unserved),
+        Kind::Key { .. } => Ok(ReadyKind::Key),
+        Kind::Born => Ok(ReadyKind::Born),
+        Kind::Leaf(leaf) => Ok(ReadyKind::Drawn(ready_leaf(alloc, delimiter, leaf)?)),
+        Kind::Template { parts } => {
+            let parts = ready_parts(alloc, delimiter, columns, parts.as_slice())?;
+            Ok(ReadyKind::Template { parts })
+        }
+        Kind::Case { on, branches } => {
+            let on = place_of_column(columns, on) as u64;
+            let branches = ready_branches(alloc, delimiter, branches.as_slice())?;
+            Ok(ReadyKind::Case { on, branches })
+        }
+        Kind::Changed | Kind::Ref { .. } | Kind::Lookup { .. } => Ok(ReadyKind::Unserved),
     }
+}
+
+/// The branches of a case, in order, each within its limits.
+fn ready_branches(
+    alloc: Global,
+    delimiter: u8,
+    branches: &[Leaf],
+) -> Result<Sequence<ReadyLeaf>, Memory>
+    requires { All (λ leaf. IsLeafInLimits (leaf_layout [] leaf)) branches.now }
+    ensures { IfOk result (λ ready. ready ≡ map (λ leaf. ready_leaf delimiter (leaf_layout [] leaf)) branches.now) }
+{
+    let mut ready = Sequence::new(alloc);
+    for branch in branches {
+        ready.push(ready_leaf(alloc, delimiter, branch)?)?;
+    }
+    Ok(ready)
 }

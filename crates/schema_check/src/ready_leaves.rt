@@ -1,12 +1,13 @@
 //! Drawn values, made ready for rows. What is kept of one doesn't depend on the names of dictionaries, so the clauses name none.
 
-ghost use Rattle.std.specs.Prelude.{◌≡◌, ◌≤◌, ◌^◌, [], IfOk, map, sum};
+ghost use Rattle.std.specs.Prelude.{◌≡◌, ◌≤◌, ◌+◌, ◌-◌, ◌^◌, [], IfOk, encode_utf8, length, map, sum};
+ghost use Rattle.std.specs.Str.{chars};
 ghost use Rattle.row_text.specs.Fields.{piece_text};
 ghost use Rattle.weight_tables.specs.Harmonic.{harmonic_weights};
 ghost use Rattle.schema_check.specs.Choices.{choices};
 ghost use Rattle.schema_check.specs.Counts.{count};
 ghost use Rattle.schema_check.specs.Layout.{leaf_layout};
-ghost use Rattle.schema_check.specs.Limits.{IsDateRange, IsLeafInLimits, IsRange, IsSkew, IsWeighted};
+ghost use Rattle.schema_check.specs.Limits.{IsAlphabet, IsDateRange, IsLeafInLimits, IsLengthRange, IsRange, IsSkew, IsWeighted};
 ghost use Rattle.schema_check.specs.Ready.{ready_leaf};
 
 use crate::counts::count;
@@ -31,7 +32,10 @@ pub(crate) fn ready_leaf(alloc: Global, delimiter: u8, leaf: &Leaf) -> Result<Re
             ready_pick(alloc, delimiter, entries.as_slice(), weights.as_slice())
         }
         Leaf::Skew { lo, size, power } => ready_skew(alloc, *lo, *size, *power),
-        Leaf::Dict { .. } | Leaf::Words { .. } | Leaf::Chars { .. } => Ok(ReadyLeaf::Unserved),
+        Leaf::Chars { alphabet, lo, hi } => {
+            ready_chars(alloc, delimiter, alphabet.as_str(), *lo, *hi)
+        }
+        Leaf::Dict { .. } | Leaf::Words { .. } => Ok(ReadyLeaf::Unserved),
     }
 }
 
@@ -134,4 +138,38 @@ fn ready_skew(alloc: Global, lo: i64, size: i64, power: i64) -> Result<ReadyLeaf
     let weights = Weights::harmonic(alloc, count(size) as u32, count(power) as u32)?;
     let total = FixedDivisor::new(weights.total());
     Ok(ReadyLeaf::Skew { lo, weights, total })
+}
+
+fn ready_chars(
+    alloc: Global,
+    delimiter: u8,
+    alphabet: &str,
+    lo: i64,
+    hi: i64,
+) -> Result<ReadyLeaf, Memory>
+    requires alphabet { IsAlphabet alphabet.now }
+    requires lengths { IsLengthRange (count lo) (count hi) }
+    ensures { IfOk result (λ ready. ready ≡ ReadyLeaf.Chars (count lo) (count hi - count lo + 1)
+        (map (λ c. piece_text delimiter (encode_utf8 c)) (chars alphabet.now)) (length (chars alphabet.now))) }
+{
+    let characters = written_characters(alloc, delimiter, alphabet)?;
+    let number = FixedDivisor::new(characters.len() as u64);
+    Ok(ReadyLeaf::Chars {
+        lo: count(lo),
+        lengths: FixedDivisor::new(count(hi) - count(lo) + 1),
+        characters,
+        count: number,
+    })
+}
+
+/// The characters as they are written.
+fn written_characters(alloc: Global, delimiter: u8, alphabet: &str) -> Result<WrittenTexts, Memory>
+    ensures { IfOk result (λ written. written ≡ map (λ c. piece_text delimiter (encode_utf8 c)) (chars alphabet.now)) }
+{
+    let mut written = WrittenTexts::new(alloc);
+    let mut bytes = [0; 4];
+    for c in alphabet.chars() {
+        written.push(c.encode_utf8(&mut bytes).as_bytes(), delimiter)?;
+    }
+    Ok(written)
 }

@@ -4,7 +4,8 @@ use super::*;
 use fixed_divisors::FixedDivisor;
 use row_text::WrittenTexts;
 use schema_model::{
-    Column, Columns, Delimiter, Kind, Leaf, Longs, Schema, Table, Tables, Text, Texts,
+    Column, Columns, Delimiter, Kind, Leaf, Leaves, Longs, Part, Parts, Schema, Table, Tables,
+    Text, Texts,
 };
 use std::alloc::{AllocError, Global};
 use std::process::Abort;
@@ -20,12 +21,13 @@ fn push_column(
     columns: &mut Columns,
     name: &str,
     kind: Kind,
+    null: i64,
 ) -> Result<(), AllocError> {
     let column = Column {
         name: text(alloc, name)?,
         kind,
         changes: false,
-        null: 0,
+        null,
     };
     columns.push(column).map_err(|_| AllocError)
 }
@@ -71,21 +73,81 @@ fn push_drawn(alloc: Global, columns: &mut Columns) -> Result<(), AllocError> {
         ),
     ];
     for (name, leaf) in leaves {
-        push_column(alloc, columns, name, Kind::Leaf(leaf))?;
+        push_column(alloc, columns, name, Kind::Leaf(leaf), 0)?;
     }
     Ok(())
 }
 
-/// A schema with bars between the fields, of one table with a key, a unit of birth and a column of each drawn value.
-fn drawn_schema(alloc: Global) -> Result<Schema, AllocError> {
+/// A key, a unit of birth and a column of each drawn value.
+fn drawn_columns(alloc: Global) -> Result<Columns, AllocError> {
     let mut columns = Columns::new(alloc);
+    push_key(alloc, &mut columns)?;
+    push_column(alloc, &mut columns, "born", Kind::Born, 0)?;
+    push_drawn(alloc, &mut columns)?;
+    Ok(columns)
+}
+
+fn push_key(alloc: Global, columns: &mut Columns) -> Result<(), AllocError> {
     let key = Kind::Key {
         base: 1,
         scramble: false,
     };
-    push_column(alloc, &mut columns, "id", key)?;
-    push_column(alloc, &mut columns, "born", Kind::Born)?;
-    push_drawn(alloc, &mut columns)?;
+    push_column(alloc, columns, "id", key, 0)
+}
+
+/// A text, then the field of `code`, then the key.
+fn template(alloc: Global) -> Result<Kind, AllocError> {
+    let mut parts = Parts::new(alloc);
+    let cited = [
+        Part::Literal(text(alloc, "no|")?),
+        Part::Cited(text(alloc, "code")?),
+        Part::Cited(text(alloc, "id")?),
+    ];
+    for part in cited {
+        parts.push(part).map_err(|_| AllocError)?;
+    }
+    Ok(Kind::Template { parts })
+}
+
+/// A number where `word` has its first entry, and a date where it has its second.
+fn case(alloc: Global) -> Result<Kind, AllocError> {
+    let mut branches = Leaves::new(alloc);
+    let leaves = [
+        Leaf::Int {
+            lo: 0,
+            hi: 9,
+            step: 3,
+        },
+        Leaf::Date { lo: 5, hi: 9 },
+    ];
+    for leaf in leaves {
+        branches.push(leaf).map_err(|_| AllocError)?;
+    }
+    Ok(Kind::Case {
+        on: text(alloc, "word")?,
+        branches,
+    })
+}
+
+/// A key, characters that are null at times, a pick, a template and a case.
+fn composed_columns(alloc: Global) -> Result<Columns, AllocError> {
+    let mut columns = Columns::new(alloc);
+    push_key(alloc, &mut columns)?;
+    let code = Leaf::Chars {
+        alphabet: text(alloc, "a|é")?,
+        lo: 2,
+        hi: 5,
+    };
+    push_column(alloc, &mut columns, "code", Kind::Leaf(code), 250)?;
+    let word = pick(alloc, &[("x", 1), ("y", 3)])?;
+    push_column(alloc, &mut columns, "word", Kind::Leaf(word), 0)?;
+    push_column(alloc, &mut columns, "label", template(alloc)?, 0)?;
+    push_column(alloc, &mut columns, "choice", case(alloc)?, 999)?;
+    Ok(columns)
+}
+
+/// A schema with bars between the fields, of one table with these columns.
+fn schema_of(alloc: Global, columns: Columns) -> Result<Schema, AllocError> {
     let table = Table {
         name: text(alloc, "t")?,
         rows: 1,
@@ -111,28 +173,32 @@ fn plan_of(alloc: Global, schema: Schema) -> Result<Plan, Fail> {
     check(alloc, schema).map_err(|_| Fail::from("refused"))
 }
 
-/// The numbers of a column that is drawn from a range: its least and its greatest one, its step or its unit, its choices and
+/// What is drawn for a column.
+fn drawn(column: &ReadyColumn) -> Result<&ReadyLeaf, Fail> {
+    match &column.kind {
+        ReadyKind::Drawn(leaf) => Ok(leaf),
+        _ => Err(Fail::from("not drawn")),
+    }
+}
+
+/// The numbers of a value that is drawn from a range: its least and its greatest one, its step or its unit, its choices and
 /// its decimals.
-fn range_of(column: &ReadyColumn) -> Option<(i64, i64, u64, u64, u32)> {
-    match column {
-        ReadyColumn::Drawn(
-            ReadyLeaf::Int {
-                lo,
-                hi,
-                step,
-                choices,
-            },
-        ) => { Some((*lo, *hi, *step, choices.number(), 0)) }
-        ReadyColumn::Drawn(
-            ReadyLeaf::Fixed {
-                lo,
-                hi,
-                choices,
-                decimals,
-                unit,
-            },
-        ) => { Some((*lo, *hi, unit.number(), choices.number(), *decimals)) }
-        ReadyColumn::Drawn(ReadyLeaf::Date { lo, hi, choices }) => {
+fn range_of(leaf: &ReadyLeaf) -> Option<(i64, i64, u64, u64, u32)> {
+    match leaf {
+        ReadyLeaf::Int {
+            lo,
+            hi,
+            step,
+            choices,
+        } => Some((*lo, *hi, *step, choices.number(), 0)),
+        ReadyLeaf::Fixed {
+            lo,
+            hi,
+            choices,
+            decimals,
+            unit,
+        } => Some((*lo, *hi, unit.number(), choices.number(), *decimals)),
+        ReadyLeaf::Date { lo, hi, choices } => {
             Some((i64::from(*lo), i64::from(*hi), 1, choices.number(), 0))
         }
         _ => None,
@@ -154,45 +220,130 @@ fn assert_weights(
     assert_eq!(rt; weights.select(first), 1);
 }
 
-fn assert_entries(rt: &impl Abort, entries: &WrittenTexts) {
-    assert_eq!(rt; entries.len(), 2);
-    assert_eq!(rt; entries.get(0), b"plain".as_slice());
-    assert_eq!(rt; entries.get(1), b"a\\|b\\\\c".as_slice());
+fn assert_texts(rt: &impl Abort, texts: &WrittenTexts, written: &[&[u8]]) {
+    assert_eq!(rt; texts.len(), written.len());
+    for (place, text) in written.iter().enumerate() {
+        assert!(rt; place < texts.len());
+        assert_eq!(rt; texts.get(place), *text);
+    }
 }
 
-// 25 / 4 + 1 numbers in steps of 4, 1,000 hundredths, 32 days, the entries with the escapes of bars, and
-// 10^9 + 10^9 / 4 + 10^9 / 9 + 10^9 / 16 as the total of the harmonic weights.
+/// The entries with the escapes of bars.
+fn assert_word(rt: &impl Abort, word: &ReadyColumn) -> Result<(), Fail> {
+    match drawn(word)? {
+        ReadyLeaf::Pick {
+            entries,
+            weights,
+            total,
+        } => {
+            assert_texts(rt, entries, &[b"plain", b"a\\|b\\\\c"]);
+            assert_weights(rt, weights, total, 3, 7);
+            Ok(())
+        }
+        _ => Err(Fail::from("word")),
+    }
+}
+
+/// 10^9 + 10^9 / 4 + 10^9 / 9 + 10^9 / 16 as the total of the harmonic weights.
+fn assert_rank(rt: &impl Abort, rank: &ReadyColumn) -> Result<(), Fail> {
+    match drawn(rank)? {
+        ReadyLeaf::Skew { lo, weights, total } => {
+            assert_eq!(rt; *lo, 10);
+            assert_weights(rt, weights, total, 1_000_000_000, 1_423_611_111);
+            Ok(())
+        }
+        _ => Err(Fail::from("rank")),
+    }
+}
+
+/// 25 / 4 + 1 numbers in steps of 4, 1,000 hundredths, 32 days.
+fn assert_ranges(
+    rt: &impl Abort,
+    count: &ReadyColumn,
+    price: &ReadyColumn,
+    day: &ReadyColumn,
+) -> Result<(), Fail> {
+    assert_eq!(rt; range_of(drawn(count)?), Some((-5, 20, 4, 7, 0)));
+    assert_eq!(rt; range_of(drawn(price)?), Some((50, 1_049, 100, 1_000, 2)));
+    assert_eq!(rt; range_of(drawn(day)?), Some((-1, 30, 1, 32, 0)));
+    Ok(())
+}
+
 #[test]
 fn columns_are_kept_ready_for_rows(rt: HostRuntime) -> Result<(), Fail> {
     let alloc = rt.alloc();
-    let plan = plan_of(alloc, drawn_schema(alloc)?)?;
+    let plan = plan_of(alloc, schema_of(alloc, drawn_columns(alloc)?)?)?;
     assert_eq!(rt; plan.tables(), 1);
     let [key, born, count, price, day, word, rank] = plan.columns(0) else {
         return Err(Fail::from("columns"));
     };
-    assert!(rt; matches!(key, ReadyColumn::Key) && matches!(born, ReadyColumn::Born));
-    assert_eq!(rt; range_of(count), Some((-5, 20, 4, 7, 0)));
-    assert_eq!(rt; range_of(price), Some((50, 1_049, 100, 1_000, 2)));
-    assert_eq!(rt; range_of(day), Some((-1, 30, 1, 32, 0)));
-    match word {
-        ReadyColumn::Drawn(
-            ReadyLeaf::Pick {
-                entries,
-                weights,
-                total,
-            },
-        ) => {
-            assert_entries(&rt, entries);
-            assert_weights(&rt, weights, total, 3, 7);
+    assert!(rt; matches!(key.kind, ReadyKind::Key) && matches!(born.kind, ReadyKind::Born));
+    assert_eq!(rt; key.null, 0);
+    assert_ranges(&rt, count, price, day)?;
+    assert_word(&rt, word)?;
+    assert_rank(&rt, rank)
+}
+
+/// 2 to 5 characters, with the escape of the bar.
+fn assert_code(rt: &impl Abort, code: &ReadyColumn) -> Result<(), Fail> {
+    assert_eq!(rt; code.null, 250);
+    match drawn(code)? {
+        ReadyLeaf::Chars {
+            lo,
+            lengths,
+            characters,
+            count,
+        } => {
+            assert_eq!(rt; (*lo, lengths.number(), count.number()), (2, 4, 3));
+            assert_texts(rt, characters, &[b"a", b"\\|", b"\xc3\xa9"]);
+            Ok(())
         }
-        _ => return Err(Fail::from("word")),
+        _ => Err(Fail::from("code")),
     }
-    match rank {
-        ReadyColumn::Drawn(ReadyLeaf::Skew { lo, weights, total }) => {
-            assert_eq!(rt; *lo, 10);
-            assert_weights(&rt, weights, total, 1_000_000_000, 1_423_611_111);
-        }
-        _ => return Err(Fail::from("rank")),
-    }
+}
+
+/// The text with the escape of its bar, then the places of `code` and of the key.
+fn assert_label(rt: &impl Abort, label: &ReadyColumn) -> Result<(), Fail> {
+    let ReadyKind::Template { parts } = &label.kind else {
+        return Err(Fail::from("label"));
+    };
+    let [
+        ReadyPart::Literal(text),
+        ReadyPart::Cited(code),
+        ReadyPart::Cited(key),
+    ] = parts.as_slice()
+    else {
+        return Err(Fail::from("parts"));
+    };
+    assert_eq!(rt; text.as_slice(), b"no\\|".as_slice());
+    assert_eq!(rt; (*code, *key), (1, 0));
     Ok(())
+}
+
+/// 4 numbers in steps of 3, or one of 5 days, by the entry of the column at place 2.
+fn assert_choice(rt: &impl Abort, choice: &ReadyColumn) -> Result<(), Fail> {
+    assert_eq!(rt; choice.null, 999);
+    let ReadyKind::Case { on, branches } = &choice.kind else {
+        return Err(Fail::from("choice"));
+    };
+    assert_eq!(rt; *on, 2);
+    let [number, day] = branches.as_slice() else {
+        return Err(Fail::from("branches"));
+    };
+    assert_eq!(rt; range_of(number), Some((0, 9, 3, 4, 0)));
+    assert_eq!(rt; range_of(day), Some((5, 9, 1, 5, 0)));
+    Ok(())
+}
+
+#[test]
+fn composed_columns_are_kept_ready_for_rows(rt: HostRuntime) -> Result<(), Fail> {
+    let alloc = rt.alloc();
+    let plan = plan_of(alloc, schema_of(alloc, composed_columns(alloc)?)?)?;
+    assert_eq!(rt; plan.tables(), 1);
+    let [_, code, _, label, choice] = plan.columns(0) else {
+        return Err(Fail::from("columns"));
+    };
+    assert_code(&rt, code)?;
+    assert_label(&rt, label)?;
+    assert_choice(&rt, choice)
 }
