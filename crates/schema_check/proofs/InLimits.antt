@@ -7,21 +7,21 @@ use Rattle.schema_model.specs.declared.table.Schema.{Schema}
 use Rattle.schema_model.specs.declared.table.Table.{Table}
 use Rattle.schema_model.specs.declared.column.Column.{Column}
 use Rattle.schema_model.specs.declared.column.Kind.{Kind}
-use Rattle.schema_model.specs.declared.column.Kind.TheVariants.{Key, Born}
+use Rattle.schema_model.specs.declared.column.Kind.TheVariants.{Key}
 use Rattle.schema_check.specs.declared.rules.Rule.{Rule}
-use Rattle.schema_check.specs.declared.rules.Rule.TheVariants.{SeedAndUnits, TableCount, Columns, KeyColumn, RowCount, NumberRange, DateRange, PickEntries, SkewRange, RowCost, LineSize}
+use Rattle.schema_check.specs.declared.rules.Rule.TheVariants.{SeedAndUnits, TableCount, Columns, KeyColumn, RowCount, NumberRange, DateRange, PickEntries, SkewRange, LengthRange, TemplateParts, CaseBranches, RowCost, LineSize, NullShare}
 use Rattle.schema_check.specs.declared.site.Site.TheVariants.{Whole, OfTable, OfColumn}
 use Rattle.schema_check.specs.Cohorts.{born_count}
 use Rattle.schema_check.specs.Counts.{count}
-use Rattle.schema_check.specs.Layout.{KindLayout, ColumnLayout, births_of, column_at, column_layout, key_kind, keys_of_kind, kind_layout, layout_of, no_column, table_layout}
+use Rattle.schema_check.specs.Layout.{births_of, column_at, column_layout, key_kind, keys_of_kind, kind_layout, layout_of, table_layout}
 use Rattle.schema_check.specs.Limits.{IsKindInLimits, IsTableInLimits, IsInLimits}
-use Rattle.schema_check.specs.Rules.{broken_rule, first_broken, number_of, rules, is_between, is_key, is_key_in_range, is_key_first, is_one_to_64, kind_at, schema_table, IsAccepted, Keeps}
+use Rattle.schema_check.specs.Rules.{broken_rule, first_broken, number_of, rules, is_between, is_key, is_key_in_range, is_key_first, is_null_share, is_one_to_64, kind_at, null_at, schema_table, IsAccepted, Keeps}
 use Rattle.schema_check.specs.Sites.{columns_at}
 use Rattle.schema_check.specs.TableFacts.{cost, max_line}
+use Rattle.schema_check.proofs.ColumnLimits.{columns_layout, key_never_null, kind_at-layout, kind_in_limits, null_at-layout, null_limit}
 use Rattle.schema_check.proofs.FirstBreak.{none_of_rule}
 use Rattle.schema_check.proofs.FromTests.{count_from_test, limit_from_test}
 use Rattle.schema_check.proofs.Kept.{keeps_from_none, none_at}
-use Rattle.schema_check.proofs.LeafLimits.{kind_in_limits}
 use Rattle.schema_check.proofs.RuleLemmas.{columns_at-is}
 
 -- the place of a rule in the order, by its number
@@ -35,15 +35,6 @@ keeps schema accepted rule at =
 
 -- ---- columns
 
-a_column : Column
-a_column = record { name = []; kind = Born; changes = false; null = pos 0 }
-
-kind_at-layout : (columns : List Column) (layout : Column → ColumnLayout) (of : Kind → KindLayout) → ((c : Column) → (layout c).kind ≡ of c.kind) → (j : ℕ) → j < length columns → (column_at (map layout columns) j).kind ≡ of (kind_at columns j)
-kind_at-layout columns layout of same j h =
-    ap (λ (c : ColumnLayout). c.kind) (get_or-map layout columns j a_column no_column h)
-    ∙ same (get_or columns j a_column)
-    ∙ ap of (sym (get_or-map (λ (c : Column). c.kind) columns j a_column Born h))
-
 base_from_range : (kind : Kind) → is_key_in_range kind ≡ true → (keys_of_kind kind).base ≤ 2 ^ 62
 base_from_range (Key base scramble) h = limit_from_test base (2 ^ 62) ((and_parts (int_le (pos 0) base) (int_le base (pos (2 ^ 62))) h).1)
 base_from_range _ h = cc
@@ -56,14 +47,19 @@ no_key : (tables : List Table) (columns : List Column) (kind : Kind) → not (is
 no_key tables columns (Key base scramble) h = cc
 no_key tables columns _ h = λ e. cc
 
--- what is drawn for a column of an accepted schema
-column_in_limits : (schema : Schema) → IsAccepted schema → (i j : ℕ) → i < length schema.tables → j < length (columns_at schema i) → (tables : List Table) (columns : List Column) → IsKindInLimits (kind_layout tables columns (kind_at (columns_at schema i) j))
-column_in_limits schema accepted i j table column tables columns =
-    kind_in_limits tables columns (kind_at (columns_at schema i) j)
+-- a column of an accepted schema, as the layout has it
+column_in_limits : (schema : Schema) → IsAccepted schema → (i j : ℕ) → i < length schema.tables → j < length (columns_at schema i) → (tables : List Table) → IsKindInLimits (columns_layout tables (columns_at schema i)) j (column_at (columns_layout tables (columns_at schema i)) j).kind
+column_in_limits schema accepted i j table column tables =
+    let columns = columns_at schema i in
+    subst (IsKindInLimits (columns_layout tables columns) j) (sym (kind_at-layout tables columns j column))
+    (kind_in_limits tables columns j (omega arith) (kind_at columns j)
     (keeps schema accepted NumberRange refl (OfColumn i j) (table, column))
     (keeps schema accepted DateRange refl (OfColumn i j) (table, column))
     (keeps schema accepted PickEntries refl (OfColumn i j) (table, column))
     (keeps schema accepted SkewRange refl (OfColumn i j) (table, column))
+    (keeps schema accepted LengthRange refl (OfColumn i j) (table, column))
+    (keeps schema accepted TemplateParts refl (OfColumn i j) (table, column))
+    (keeps schema accepted CaseBranches refl (OfColumn i j) (table, column)))
 
 -- ---- tables
 
@@ -76,24 +72,27 @@ table_in_limits schema accepted i h =
     let v6 = and_parts (int_le (pos 0) t.rows && int_le (pos 0) t.insert) (nat_le (born_count (births_of t) (count schema.units)) (2 ^ 40)) (keeps schema accepted RowCount refl (OfTable i) h) in
     let some : 1 ≤ length t.columns = leb-true 1 (length t.columns) counted.0 in
     let v5 = λ (j : ℕ) (lt : j < length t.columns). ap (λ columns. is_key_first j (kind_at columns j)) (sym same) ∙ keeps schema accepted KeyColumn refl (OfColumn i j) (h, subst (λ (columns : List Column). j < length columns) (sym same) lt) in
-    let layout = column_layout schema.tables t.columns in
-    let kind = kind_layout schema.tables t.columns in
-    let layouts : length (map layout t.columns) ≡ length t.columns = length-map t.columns layout in
+    let v25 = λ (j : ℕ) (lt : j < length t.columns). ap (λ columns. is_null_share (kind_at columns j) (null_at columns j)) (sym same) ∙ keeps schema accepted NullShare refl (OfColumn i j) (h, subst (λ (columns : List Column). j < length columns) (sym same) lt) in
+    let layouts : length (columns_layout schema.tables t.columns) ≡ length t.columns = length-map t.columns (column_layout schema.tables t.columns) in
     record {
       row_limit = leb-true (born_count (births_of t) (count schema.units)) (2 ^ 40) v6.1;
       base_limit = base_from_range (kind_at t.columns 0) (v5 0 some);
       some_column = omega (arith, layouts, some);
       column_limit = omega (arith, layouts, leb-true (length t.columns) 64 counted.1);
-      key_first = kind_at-layout t.columns layout kind (λ c. refl) 0 some ∙ key_from_range schema.tables t.columns (kind_at t.columns 0) (v5 0 some);
+      key_first = kind_at-layout schema.tables t.columns 0 some ∙ key_from_range schema.tables t.columns (kind_at t.columns 0) (v5 0 some);
       no_other_key = λ place lt is_key_at.
           let within : suc place < length t.columns = omega (arith, layouts, lt) in
           no_key schema.tables t.columns (kind_at t.columns (suc place)) (v5 (suc place) within)
-          (sym (kind_at-layout t.columns layout kind (λ c. refl) (suc place) within) ∙ is_key_at);
-      drawn = λ place lt.
+          (sym (kind_at-layout schema.tables t.columns (suc place) within) ∙ is_key_at);
+      kinds = λ place lt.
           let within : place < length t.columns = omega (arith, layouts, lt) in
           let at : place < length (columns_at schema i) = subst (λ (columns : List Column). place < length columns) (sym same) within in
-          let limits = column_in_limits schema accepted i place h at schema.tables t.columns in
-          subst IsKindInLimits (ap (λ columns. kind (kind_at columns place)) same ∙ sym (kind_at-layout t.columns layout kind (λ c. refl) place within)) limits;
+          subst (λ columns. IsKindInLimits (columns_layout schema.tables columns) place (column_at (columns_layout schema.tables columns) place).kind) same
+          (column_in_limits schema accepted i place h at schema.tables);
+      nulls = λ place lt.
+          let within : place < length t.columns = omega (arith, layouts, lt) in
+          omega (arith, null_at-layout schema.tables t.columns place within, null_limit (kind_at t.columns place) (null_at t.columns place) (v25 place within));
+      key_never_null = null_at-layout schema.tables t.columns 0 some ∙ key_never_null (kind_at t.columns 0) (null_at t.columns 0) (v5 0 some) (v25 0 some);
     }
 
 -- a number of one of the first 64 tables is at most its limit

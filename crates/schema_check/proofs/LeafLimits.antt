@@ -1,19 +1,16 @@
 -- Drawn values that pass the tests of the rules are within their limits.
 use Rattle.std.proofs.Common.{◌≡◌, ◌∙◌, ℕ, ℤ, pos, negsuc, neg_ℤ, ◌+ℤ◌, ◌-ℤ◌, ◌<ℤ◌, ◌≤ℤ◌, ◌<◌, ◌≤◌, ◌-◌, ◌^◌, ◌==◌, ◌&&◌, All, Bool, true, List, length, map, sum, get_or, nat_le, int_le, sym, subst, arith}
 use Rattle.std.specs.List.{list_all}
+use Rattle.std.specs.Str.{chars}
 use Rattle.std.proofs.lemmas.Bool.{and_parts, eqb-true, leb-true}
 use Rattle.std.proofs.lemmas.Int.{ints}
 use Rattle.std.proofs.lemmas.List.{get_or-map, length-map}
-use Rattle.schema_model.specs.declared.table.Table.{Table}
-use Rattle.schema_model.specs.declared.column.Column.{Column}
-use Rattle.schema_model.specs.declared.column.Kind.{Kind}
-use Rattle.schema_model.specs.declared.column.Kind.TheVariants as kind
 use Rattle.schema_model.specs.declared.column.Leaf.{Leaf}
 use Rattle.schema_model.specs.declared.column.Leaf.TheVariants as drawn
 use Rattle.schema_check.specs.Counts.{count}
-use Rattle.schema_check.specs.Layout.{dictionary_names, kind_layout, leaf_layout}
-use Rattle.schema_check.specs.Limits.{IsDateRange, IsKindInLimits, IsLeafInLimits, IsRange, IsSkew, IsWeighted}
-use Rattle.schema_check.specs.Rules.{is_between, is_date_range, is_number_range, is_range, is_skew_range, is_weighted, leaves_of}
+use Rattle.schema_check.specs.Layout.{leaf_layout}
+use Rattle.schema_check.specs.Limits.{IsAlphabet, IsDateRange, IsLeafInLimits, IsLengthRange, IsRange, IsSkew, IsWeighted}
+use Rattle.schema_check.specs.Rules.{is_between, is_date_range, is_length_between, is_length_range, is_number_range, is_range, is_skew_range, is_weighted}
 use Rattle.schema_check.proofs.FromTests.{le_from_test, least_from_test, limit_from_test, passes_each}
 
 range_from_test : (lo hi : ℤ) → is_range lo hi ≡ true → IsRange lo hi
@@ -79,37 +76,47 @@ skew_from_test lo size power h =
       last_number = last_from_test lo size sizes.0 v.1;
     }
 
--- ---- a drawn value, and what is drawn for a column
+-- numbers that aren't below 0 count in their order
+counts_ordered : (lo hi : ℤ) → int_le (pos 0) lo ≡ true → int_le lo hi ≡ true → count lo ≤ count hi
+counts_ordered (pos m) (pos n) least h = leb-true m n h
+counts_ordered (pos m) (negsuc n) least h = cc
+counts_ordered (negsuc m) hi least h = cc
 
-leaf_in_limits : (names : List (List ℕ)) (leaf : Leaf) → is_number_range leaf ≡ true → is_date_range leaf ≡ true → is_weighted leaf ≡ true → is_skew_range leaf ≡ true → IsLeafInLimits (leaf_layout names leaf)
-leaf_in_limits names (drawn.Int lo hi step) numbers dates picks skews =
+lengths_from_test : (lo hi : ℤ) → is_length_between lo hi ≡ true → IsLengthRange (count lo) (count hi)
+lengths_from_test lo hi h =
+    let parts = and_parts (int_le (pos 0) lo && int_le lo hi) (int_le hi (pos 1000)) h in
+    let first = and_parts (int_le (pos 0) lo) (int_le lo hi) parts.0 in
+    record { ordered = counts_ordered lo hi first.0 first.1; length_limit = limit_from_test hi 1000 parts.1 }
+
+characters_from_test : (alphabet : List ℕ) (lo hi : ℤ) → is_length_range (drawn.Chars alphabet lo hi) ≡ true → IsAlphabet alphabet × IsLengthRange (count lo) (count hi)
+characters_from_test alphabet lo hi h =
+    let some = nat_le 1 (length (chars alphabet)) in
+    let v = and_parts (is_length_between lo hi && some) (nat_le (length (chars alphabet)) 256) h in
+    let w = and_parts (is_length_between lo hi) some v.0 in (
+      record { some_character = leb-true 1 (length (chars alphabet)) w.1; character_limit = leb-true (length (chars alphabet)) 256 v.1 },
+      lengths_from_test lo hi w.0,
+    )
+
+-- ---- a drawn value, and some of them
+
+pub leaf_in_limits : (names : List (List ℕ)) (leaf : Leaf) → is_number_range leaf ≡ true → is_date_range leaf ≡ true → is_weighted leaf ≡ true → is_skew_range leaf ≡ true → is_length_range leaf ≡ true → IsLeafInLimits (leaf_layout names leaf)
+leaf_in_limits names (drawn.Int lo hi step) numbers dates picks skews lengths =
     let parts = and_parts (is_range lo hi) (int_le (pos 1) step) numbers in
     (range_from_test lo hi parts.0, least_from_test step 1 parts.1)
-leaf_in_limits names (drawn.Fixed lo hi decimals) numbers dates picks skews =
+leaf_in_limits names (drawn.Fixed lo hi decimals) numbers dates picks skews lengths =
     let parts = and_parts (is_range lo hi) (is_between 0 9 decimals) numbers in
     (range_from_test lo hi parts.0, limit_from_test decimals 9 ((and_parts (int_le (pos 0) decimals) (int_le decimals (pos 9)) parts.1).1))
-leaf_in_limits names (drawn.Date lo hi) numbers dates picks skews = dates_from_test lo hi dates
-leaf_in_limits names (drawn.Pick entries weights) numbers dates picks skews = weights_from_test entries weights picks
-leaf_in_limits names (drawn.Skew lo size power) numbers dates picks skews = skew_from_test lo size power skews
-leaf_in_limits names (drawn.Dict file) numbers dates picks skews = tt
-leaf_in_limits names (drawn.Words file lo hi) numbers dates picks skews = tt
-leaf_in_limits names (drawn.Chars alphabet lo hi) numbers dates picks skews = tt
+leaf_in_limits names (drawn.Date lo hi) numbers dates picks skews lengths = dates_from_test lo hi dates
+leaf_in_limits names (drawn.Pick entries weights) numbers dates picks skews lengths = weights_from_test entries weights picks
+leaf_in_limits names (drawn.Skew lo size power) numbers dates picks skews lengths = skew_from_test lo size power skews
+leaf_in_limits names (drawn.Dict file) numbers dates picks skews lengths = tt
+leaf_in_limits names (drawn.Words file lo hi) numbers dates picks skews lengths = lengths_from_test lo hi lengths
+leaf_in_limits names (drawn.Chars alphabet lo hi) numbers dates picks skews lengths = characters_from_test alphabet lo hi lengths
 
-leaves_in_limits : (names : List (List ℕ)) (leaves : List Leaf) → list_all is_number_range leaves ≡ true → list_all is_date_range leaves ≡ true → list_all is_weighted leaves ≡ true → list_all is_skew_range leaves ≡ true → All IsLeafInLimits (map (leaf_layout names) leaves)
-leaves_in_limits names leaves numbers dates picks skews = λ i d lt.
+pub leaves_in_limits : (names : List (List ℕ)) (leaves : List Leaf) → list_all is_number_range leaves ≡ true → list_all is_date_range leaves ≡ true → list_all is_weighted leaves ≡ true → list_all is_skew_range leaves ≡ true → list_all is_length_range leaves ≡ true → All IsLeafInLimits (map (leaf_layout names) leaves)
+leaves_in_limits names leaves numbers dates picks skews lengths = λ i d lt.
     let within : i < length leaves = omega (arith, lt, length-map leaves (leaf_layout names)) in
     let leaf = get_or leaves i (drawn.Date (pos 0) (pos 0)) in
     let passes = λ (test : Leaf → Bool) (all : list_all test leaves ≡ true). passes_each test leaves i (drawn.Date (pos 0) (pos 0)) within all in
     subst IsLeafInLimits (sym (get_or-map (leaf_layout names) leaves i (drawn.Date (pos 0) (pos 0)) d within))
-    (leaf_in_limits names leaf (passes is_number_range numbers) (passes is_date_range dates) (passes is_weighted picks) (passes is_skew_range skews))
-
-pub kind_in_limits : (tables : List Table) (columns : List Column) (kind : Kind) → list_all is_number_range (leaves_of kind) ≡ true → list_all is_date_range (leaves_of kind) ≡ true → list_all is_weighted (leaves_of kind) ≡ true → list_all is_skew_range (leaves_of kind) ≡ true → IsKindInLimits (kind_layout tables columns kind)
-kind_in_limits tables columns (kind.Leaf leaf) numbers dates picks skews =
-    leaf_in_limits (dictionary_names tables) leaf
-    ((and_parts (is_number_range leaf) true numbers).0)
-    ((and_parts (is_date_range leaf) true dates).0)
-    ((and_parts (is_weighted leaf) true picks).0)
-    ((and_parts (is_skew_range leaf) true skews).0)
-kind_in_limits tables columns (kind.Case on branches) numbers dates picks skews =
-    leaves_in_limits (dictionary_names tables) branches numbers dates picks skews
-kind_in_limits tables columns _ numbers dates picks skews = tt
+    (leaf_in_limits names leaf (passes is_number_range numbers) (passes is_date_range dates) (passes is_weighted picks) (passes is_skew_range skews) (passes is_length_range lengths))

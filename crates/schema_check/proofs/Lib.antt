@@ -12,6 +12,7 @@ pub mod FactsLemmas
 pub mod RuleLemmas
 pub mod LeafLemmas
 pub mod LeafLimits
+pub mod ColumnLimits
 pub mod InLimits
 pub mod ReadyLemmas
 pub mod PlannedLemmas

@@ -1,10 +1,11 @@
 //! What the rules ask of drawn values.
 
-ghost use Rattle.std.specs.Prelude.{◌≡◌, ◌-◌, ◌^◌, ◌&&◌, ◌+ℤ◌, ◌-ℤ◌, ◌≤ℤ◌, int_le, map, nat_le, pos, sum};
+ghost use Rattle.std.specs.Prelude.{◌≡◌, ◌-◌, ◌^◌, ◌&&◌, ◌+ℤ◌, ◌-ℤ◌, ◌≤ℤ◌, int_le, length, map, nat_le, pos, sum};
 ghost use Rattle.std.specs.List.{list_all};
+ghost use Rattle.std.specs.Str.{chars};
 ghost use Rattle.schema_check.specs.Capped.{capped};
 ghost use Rattle.schema_check.specs.Counts.{count};
-ghost use Rattle.schema_check.specs.Rules.{is_date_range, is_number_range, is_range, is_skew_range, is_weighted, leaves_of};
+ghost use Rattle.schema_check.specs.Rules.{is_date_range, is_length_between, is_length_range, is_number_range, is_range, is_skew_range, is_weighted, leaves_of};
 
 use crate::counts::count;
 use schema_model::{Kind, Leaf};
@@ -30,6 +31,12 @@ const MAX_SIZE: i64 = 4_096;
 
 /// The greatest power of a skew.
 const MAX_POWER: i64 = 3;
+
+/// The most words or characters of a text.
+const MAX_LENGTH: i64 = 1_000;
+
+/// The most characters of an alphabet.
+const MAX_CHARACTERS: usize = 256;
 
 /// The values that are drawn for a column: the one of a leaf, or those of the branches of a case.
 pub(crate) fn leaves_of(kind: &Kind) -> &[Leaf]
@@ -68,6 +75,13 @@ pub(crate) fn are_skew_ranges(leaves: &[Leaf]) -> bool
     ensures { result ≡ list_all is_skew_range leaves.now }
 {
     leaves.iter().all(|leaf| is_skew_range(leaf))
+}
+
+/// Whether the texts of words or characters among some drawn values have lengths from 0 to 1,000, and alphabets.
+pub(crate) fn are_length_ranges(leaves: &[Leaf]) -> bool
+    ensures { result ≡ list_all is_length_range leaves.now }
+{
+    leaves.iter().all(|leaf| is_length_range(leaf))
 }
 
 fn is_number_range(leaf: &Leaf) -> bool
@@ -157,4 +171,38 @@ fn is_last_in_range(lo: i64, size: i64) -> bool
     ensures { result ≡ int_le (lo +ℤ (size -ℤ pos 1)) (pos (2 ^ 63 - 1)) }
 {
     lo.checked_add(size - 1).is_some()
+}
+
+fn is_length_range(leaf: &Leaf) -> bool
+    ensures { result ≡ is_length_range leaf.now }
+{
+    match leaf {
+        Leaf::Words { lo, hi, .. } => is_length_between(*lo, *hi),
+        Leaf::Chars { alphabet, lo, hi } => {
+            is_length_between(*lo, *hi) && is_alphabet(alphabet.as_str())
+        }
+        _ => true,
+    }
+}
+
+/// Whether lengths aren't below 0, nor `hi` below `lo` or past the greatest length.
+fn is_length_between(lo: i64, hi: i64) -> bool
+    ensures { result ≡ is_length_between lo hi }
+{
+    0 <= lo && lo <= hi && hi <= MAX_LENGTH
+}
+
+/// Whether an alphabet has a character and not too many.
+fn is_alphabet(alphabet: &str) -> bool
+    ensures { result ≡ (nat_le 1 (length (chars alphabet.now)) && nat_le (length (chars alphabet.now)) 256) }
+{
+    let characters = character_count(alphabet);
+    1 <= characters && characters <= MAX_CHARACTERS
+}
+
+/// The number of characters of a text, not of bytes.
+fn character_count(text: &str) -> usize
+    ensures { result ≡ length (chars text.now) }
+{
+    text.chars().count()
 }

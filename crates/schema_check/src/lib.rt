@@ -7,6 +7,7 @@
 
 mod broken;
 mod checker;
+mod column_rules;
 mod counts;
 mod facts;
 mod field_bounds;

@@ -6,8 +6,8 @@ ghost use Rattle.schema_check.specs.Unbuilt.{is_unbuilt, is_unbuilt_table, is_un
 
 use schema_model::{Column, Kind, Leaf, Schema, Table};
 
-/// Whether a schema holds something that isn't built: a table with a life or updates, a column that changes or is null
-/// at times, or a column that is neither a key nor a unit of birth nor drawn from numbers, dates or entries of its own.
+/// Whether a schema holds something that isn't built: a table with a life or updates, a column that changes, holds the unit of
+/// the last change or speaks of other rows, or a value of a dictionary, be it a column's own or a branch's.
 pub fn unbuilt(schema: &Schema) -> bool
     ensures { result ≡ is_unbuilt schema.now }
 {
@@ -38,24 +38,31 @@ fn is_any_column_unbuilt(columns: &[Column]) -> bool
 fn is_unbuilt_column(column: &Column) -> bool
     ensures { result ≡ is_unbuilt_column column.now }
 {
-    column.changes || column.null != 0 || is_unbuilt_kind(&column.kind)
+    column.changes || is_unbuilt_kind(&column.kind)
 }
 
 fn is_unbuilt_kind(kind: &Kind) -> bool
     ensures { result ≡ is_unbuilt_kind kind.now }
 {
     match kind {
-        Kind::Key { .. } | Kind::Born => false,
+        Kind::Key { .. } | Kind::Born | Kind::Template { .. } => false,
         Kind::Leaf(leaf) => is_unbuilt_leaf(leaf),
+        Kind::Case { branches, .. } => is_any_leaf_unbuilt(branches.as_slice()),
         _ => true,
     }
+}
+
+fn is_any_leaf_unbuilt(leaves: &[Leaf]) -> bool
+    ensures { result ≡ list_any is_unbuilt_leaf leaves.now }
+{
+    leaves.iter().any(|leaf| is_unbuilt_leaf(leaf))
 }
 
 fn is_unbuilt_leaf(leaf: &Leaf) -> bool
     ensures { result ≡ is_unbuilt_leaf leaf.now }
 {
     match leaf {
-        Leaf::Dict { .. } | Leaf::Words { .. } | Leaf::Chars { .. } => true,
+        Leaf::Dict { .. } | Leaf::Words { .. } => true,
         _ => false,
     }
 }

@@ -9,10 +9,11 @@ ghost use Rattle.schema_check.specs.Rules.{break_in_table, first_break, first_br
 ghost use Rattle.schema_check.specs.Sites.{columns_at, IsSiteOf};
 
 use crate::broken::Broken;
+use crate::column_rules::{is_case, is_null_share, is_template};
 use crate::counts::count;
 use crate::facts::TableFacts;
 use crate::leaf_rules::{
-    are_date_ranges, are_number_ranges, are_skew_ranges, are_weighted, leaves_of,
+    are_date_ranges, are_length_ranges, are_number_ranges, are_skew_ranges, are_weighted, leaves_of,
 };
 use crate::names::is_name;
 use crate::site::Site;
@@ -59,14 +60,22 @@ pub(crate) enum Rule {
     PickEntries,
     /// V12
     SkewRange,
+    /// V14
+    LengthRange,
+    /// V15
+    TemplateParts,
+    /// V16
+    CaseBranches,
     /// V23
     RowCost,
     /// V24
     LineSize,
+    /// V25
+    NullShare,
 }
 
 /// The rules in the order in which they are tried.
-const ORDER: [Rule; 12] = [
+const ORDER: [Rule; 16] = [
     Rule::SeedAndUnits,
     Rule::TableCount,
     Rule::TableNames,
@@ -77,8 +86,12 @@ const ORDER: [Rule; 12] = [
     Rule::DateRange,
     Rule::PickEntries,
     Rule::SkewRange,
+    Rule::LengthRange,
+    Rule::TemplateParts,
+    Rule::CaseBranches,
     Rule::RowCost,
     Rule::LineSize,
+    Rule::NullShare,
 ];
 
 /// The first rule that a schema breaks, at its first site: the whole before the tables, in their order, and a table
@@ -149,8 +162,12 @@ impl Rule {
             Rule::DateRange => 10,
             Rule::PickEntries => 11,
             Rule::SkewRange => 12,
+            Rule::LengthRange => 14,
+            Rule::TemplateParts => 15,
+            Rule::CaseBranches => 16,
             Rule::RowCost => 23,
             Rule::LineSize => 24,
+            Rule::NullShare => 25,
         }
     }
 
@@ -185,8 +202,20 @@ impl Rule {
             (Rule::SkewRange, Site::OfColumn(table, column)) => {
                 are_skew_ranges(leaves_at(schema, table, column))
             }
+            (Rule::LengthRange, Site::OfColumn(table, column)) => {
+                are_length_ranges(leaves_at(schema, table, column))
+            }
+            (Rule::TemplateParts, Site::OfColumn(table, column)) => {
+                is_template(columns_at(schema, table), column)
+            }
+            (Rule::CaseBranches, Site::OfColumn(table, column)) => {
+                is_case(columns_at(schema, table), column)
+            }
             (Rule::RowCost, Site::OfTable(table)) => is_row_cost(facts, table),
             (Rule::LineSize, Site::OfTable(table)) => is_line_size(facts, table),
+            (Rule::NullShare, Site::OfColumn(table, column)) => {
+                is_null_share(&columns_at(schema, table)[column])
+            }
             _ => true,
         }
     }
