@@ -63,7 +63,7 @@ fn schema(alloc: Global) -> Schema {
 }
 
 /// The first fault of a schema, whether or not tables can be made of it.
-fn first_fault(schema: &Schema) -> Option<CheckFault> {
+pub(crate) fn first_fault(schema: &Schema) -> Option<CheckFault> {
     let mut facts = [NO_FACTS; MAX_ITEMS];
     let count = schema.tables.len().min(MAX_ITEMS);
     fill_facts(schema, &mut facts[..count]);

@@ -4,8 +4,7 @@ use super::*;
 use fixed_divisors::FixedDivisor;
 use row_text::WrittenTexts;
 use schema_model::{
-    Column, Columns, Delimiter, Kind, Leaf, Leaves, Longs, Part, Parts, Schema, Table, Tables,
-    Text, Texts,
+    Column, Columns, Delimiter, Kind, Leaf, Leaves, Longs, Schema, Table, Tables, Text, Texts,
 };
 use std::alloc::{AllocError, Global};
 use std::process::Abort;
@@ -95,20 +94,6 @@ fn push_key(alloc: Global, columns: &mut Columns) -> Result<(), AllocError> {
     push_column(alloc, columns, "id", key, 0)
 }
 
-/// A text, then the field of `code`, then the key.
-fn template(alloc: Global) -> Result<Kind, AllocError> {
-    let mut parts = Parts::new(alloc);
-    let cited = [
-        Part::Literal(text(alloc, "no|")?),
-        Part::Cited(text(alloc, "code")?),
-        Part::Cited(text(alloc, "id")?),
-    ];
-    for part in cited {
-        parts.push(part).map_err(|_| AllocError)?;
-    }
-    Ok(Kind::Template { parts })
-}
-
 /// A number where `word` has its first entry, and a date where it has its second.
 fn case(alloc: Global) -> Result<Kind, AllocError> {
     let mut branches = Leaves::new(alloc);
@@ -129,7 +114,7 @@ fn case(alloc: Global) -> Result<Kind, AllocError> {
     })
 }
 
-/// A key, characters that are null at times, a pick, a template and a case.
+/// A key, characters that are null at times, a pick and a case.
 fn composed_columns(alloc: Global) -> Result<Columns, AllocError> {
     let mut columns = Columns::new(alloc);
     push_key(alloc, &mut columns)?;
@@ -141,7 +126,6 @@ fn composed_columns(alloc: Global) -> Result<Columns, AllocError> {
     push_column(alloc, &mut columns, "code", Kind::Leaf(code), 250)?;
     let word = pick(alloc, &[("x", 1), ("y", 3)])?;
     push_column(alloc, &mut columns, "word", Kind::Leaf(word), 0)?;
-    push_column(alloc, &mut columns, "label", template(alloc)?, 0)?;
     push_column(alloc, &mut columns, "choice", case(alloc)?, 999)?;
     Ok(columns)
 }
@@ -302,24 +286,6 @@ fn assert_code(rt: &impl Abort, code: &ReadyColumn) -> Result<(), Fail> {
     }
 }
 
-/// The text with the escape of its bar, then the places of `code` and of the key.
-fn assert_label(rt: &impl Abort, label: &ReadyColumn) -> Result<(), Fail> {
-    let ReadyKind::Template { parts } = &label.kind else {
-        return Err(Fail::from("label"));
-    };
-    let [
-        ReadyPart::Literal(text),
-        ReadyPart::Cited(code),
-        ReadyPart::Cited(key),
-    ] = parts.as_slice()
-    else {
-        return Err(Fail::from("parts"));
-    };
-    assert_eq!(rt; text.as_slice(), b"no\\|".as_slice());
-    assert_eq!(rt; (*code, *key), (1, 0));
-    Ok(())
-}
-
 /// 4 numbers in steps of 3, or one of 5 days, by the entry of the column at place 2.
 fn assert_choice(rt: &impl Abort, choice: &ReadyColumn) -> Result<(), Fail> {
     assert_eq!(rt; choice.null, 999);
@@ -340,10 +306,9 @@ fn composed_columns_are_kept_ready_for_rows(rt: HostRuntime) -> Result<(), Fail>
     let alloc = rt.alloc();
     let plan = plan_of(alloc, schema_of(alloc, composed_columns(alloc)?)?)?;
     assert_eq!(rt; plan.tables(), 1);
-    let [_, code, _, label, choice] = plan.columns(0) else {
+    let [_, code, _, choice] = plan.columns(0) else {
         return Err(Fail::from("columns"));
     };
     assert_code(&rt, code)?;
-    assert_label(&rt, label)?;
     assert_choice(&rt, choice)
 }
