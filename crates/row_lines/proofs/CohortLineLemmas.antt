@@ -8,17 +8,17 @@ use Rattle.std.proofs.lemmas.List.Sums.{sum_by_more_le}
 use Rattle.row_text.specs.Fields.{field_text}
 use Rattle.row_text.proofs.DigitLemmas.{piece_text-decimal}
 use Rattle.schema_check.specs.declared.ready.ReadyColumn.{ReadyColumn}
-use Rattle.schema_check.specs.declared.ready.ReadyColumn.TheVariants.{Key}
+use Rattle.schema_check.specs.declared.ready.ReadyKind.TheVariants.{Key}
 use Rattle.schema_check.specs.Cohorts.{cohort_size}
 use Rattle.schema_check.specs.FieldBounds.{bounds_of}
-use Rattle.schema_check.specs.Layout.{ColumnLayout, KindLayout, born_kind, column_at, key_kind, layout_of, leaf_kind, no_column}
+use Rattle.schema_check.specs.Layout.{ColumnLayout, KindLayout, born_kind, case_kind, column_at, key_kind, layout_of, leaf_kind, no_column}
 use Rattle.schema_check.specs.Lineage.{one_if}
-use Rattle.schema_check.specs.Ready.{is_served, ready_column}
+use Rattle.schema_check.specs.Ready.{is_served, is_served_kind, ready_column, ready_kind}
 use Rattle.schema_check.specs.TableFacts.{line_cost, max_line}
 use Rattle.draw_values.specs.declared.values.RowAt.{RowAt}
 use Rattle.draw_values.specs.CohortValues.{ValuesOf, value_for}
 use Rattle.draw_values.specs.declared.values.Put.TheVariants.{Text}
-use Rattle.draw_values.specs.Values.{is_own, own_value, put_of, written}
+use Rattle.draw_values.specs.Values.{is_own, own_field, put_of, written}
 use Rattle.life_intervals.specs.CohortKeys.{CohortOf}
 use Rattle.life_intervals.specs.Generator.{Generator, generator_of, last_unit}
 use Rattle.life_intervals.proofs.CohortLemmas.{birth-first_ordinal, cohort-within}
@@ -69,16 +69,16 @@ pub length-columns : (lines : LinesOf) (keys : CohortOf) (values : ValuesOf) (co
     length (layout_for lines).columns ≡ length columns
 length-columns lines keys values columns first byte known =
     sym (ap (λ (ready : List ReadyColumn). length ready) known.columns_are
-    ∙ length-map (layout_for lines).columns (λ (column : ColumnLayout). ready_column (layout_of lines.plan.schema).delimiter column.kind))
+    ∙ length-map (layout_for lines).columns (ready_column (layout_of lines.plan.schema).delimiter))
 
 -- the column at a place is ready for what the layout has there
 pub ready_at : (lines : LinesOf) (keys : CohortOf) (values : ValuesOf) (columns : List ReadyColumn) (first byte : ℕ) → AreLinesOf lines keys values columns first byte →
     (place : ℕ) (column : ReadyColumn) → place < length (layout_for lines).columns → column ≡ get_or columns place column →
-    ready_column (layout_of lines.plan.schema).delimiter (column_at (layout_for lines).columns place).kind ≡ column
+    ready_column (layout_of lines.plan.schema).delimiter (column_at (layout_for lines).columns place) ≡ column
 ready_at lines keys values columns first byte known place column within is =
     sym (is
     ∙ ap (λ (ready : List ReadyColumn). get_or ready place column) known.columns_are
-    ∙ get_or-map (λ (of : ColumnLayout). ready_column (layout_of lines.plan.schema).delimiter of.kind) (layout_for lines).columns place no_column column within)
+    ∙ get_or-map (ready_column (layout_of lines.plan.schema).delimiter) (layout_for lines).columns place no_column column within)
 
 -- and it is served
 pub served_at : (columns : List ReadyColumn) → All (λ column. is_served column ≡ true) columns → (place : ℕ) (column : ReadyColumn) →
@@ -86,14 +86,15 @@ pub served_at : (columns : List ReadyColumn) → All (λ column. is_served colum
 served_at columns served place column within is = ap is_served is ∙ served place column within
 
 -- a column that is ready as a key is one, and any other that is served needs no other row
-pub key_from_ready : (delimiter : ℕ) (kind : KindLayout) → ready_column delimiter kind ≡ Key → kind ≡ key_kind
+pub key_from_ready : (delimiter : ℕ) (kind : KindLayout) → ready_kind delimiter kind ≡ Key → kind ≡ key_kind
 key_from_ready delimiter key_kind is = refl
 key_from_ready delimiter _ is = cc
 
-pub own_from_ready : (delimiter : ℕ) (kind : KindLayout) → is_served (ready_column delimiter kind) ≡ true → (ready_column delimiter kind ≡ Key → ⊥) → is_own kind ≡ true
+pub own_from_ready : (delimiter : ℕ) (kind : KindLayout) → is_served_kind (ready_kind delimiter kind) ≡ true → (ready_kind delimiter kind ≡ Key → ⊥) → is_own kind ≡ true
 own_from_ready delimiter key_kind served no_key = absurd (no_key refl)
 own_from_ready delimiter born_kind served no_key = refl
 own_from_ready delimiter (leaf_kind leaf) served no_key = refl
+own_from_ready delimiter (case_kind on branches) served no_key = refl
 own_from_ready delimiter _ served no_key = cc
 
 -- a line may ask the permutation of its key, which is its first field
@@ -109,17 +110,25 @@ scramble-line_cost lines keys values ready first byte known =
       line_cost-columns lines,
     )
 
+-- a key is never null
+pub key_never_null : (columns : List ColumnLayout) (place : ℕ) → (column_at columns 0).null ≡ 0 →
+    ((other : ℕ) → suc other < length columns → (column_at columns (suc other)).kind ≡ key_kind → ⊥) →
+    place < length columns → (column_at columns place).kind ≡ key_kind → (column_at columns place).null ≡ 0
+key_never_null columns zero never no_other within is = never
+key_never_null columns (suc other) never no_other within is = absurd (no_other other within is)
+
 -- what a key takes, and how it is written
 pub size-key : (lines : LinesOf) (place : ℕ) → (column_at (layout_for lines).columns place).kind ≡ key_kind → size_for lines place ≡ 20
 size-key lines place is =
     ap (λ (kind : KindLayout). (bounds_of (layout_of lines.plan.schema).delimiter (layout_of lines.plan.schema).tables (layout_for lines) kind).size) is
 
-pub text-key : (lines : LinesOf) (place index key : ℕ) → (column_at (layout_for lines).columns place).kind ≡ key_kind → lines.born ≤ lines.unit →
+pub text-key : (lines : LinesOf) (place index key : ℕ) → (column_at (layout_for lines).columns place).kind ≡ key_kind →
+    (column_at (layout_for lines).columns place).null ≡ 0 → lines.born ≤ lines.unit →
     index < cohort_size (layout_for lines).births lines.born → key ≡ key_for lines index → key < 2 ^ 64 →
     text_in_cohort lines index place ≡ decimal key
-text-key lines place index key is within below key_is small =
+text-key lines place index key is never within below key_is small =
     let generator : Generator = generator_of lines.plan.schema in
-    ap (field_text generator.delimiter) (field-key generator lines.unit lines.table (ordinal_of lines index) place is)
+    ap (field_text generator.delimiter) (field-key generator lines.unit lines.table (ordinal_of lines index) place is never)
     ∙ ap (λ (k : ℕ). field_text generator.delimiter (Some (decimal k))) (key_of-first_ordinal generator lines.table lines.unit lines.born index within below ∙ sym key_is)
     ∙ piece_text-decimal generator.delimiter key small
 
@@ -130,9 +139,8 @@ pub text-own : (lines : LinesOf) (values : ValuesOf) (place index ordinal : ℕ)
     text_in_cohort lines index place ≡ field_text (layout_of lines.plan.schema).delimiter (value_for values place ordinal)
 text-own lines values place index ordinal values_are ordinal_is own within below =
     let generator : Generator = generator_of lines.plan.schema in
-    let kind : KindLayout = (column_at (layout_for lines).columns place).kind in
     let at : ℕ → RowAt = λ born. record { ordinal = ordinal_of lines index; born = born; changed = born } in
-    let held : ℕ → Option (List ℕ) = λ born. own_value kind (at born) (generator.draw lines.table place born (ordinal_of lines index)) in
+    let held : ℕ → Option (List ℕ) = λ born. own_field (layout_for lines).columns (at born) (λ column. generator.draw lines.table column born (ordinal_of lines index)) place in
     ap (field_text generator.delimiter)
     (field-own generator lines.unit lines.table (ordinal_of lines index) place own
     ∙ ap held (birth-first_ordinal (layout_for lines).births lines.unit lines.born index within below)

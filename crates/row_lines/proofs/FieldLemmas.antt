@@ -1,10 +1,11 @@
 -- What a row holds in a column, and how long it is.
-use Rattle.std.proofs.Common.{◌≡◌, ◌<◌, ◌≤◌, ◌^◌, ℕ, ◌++◌, Some, length, codes, decimal, true, refl, ap, sym, ◌∙◌, arith}
+use Rattle.std.proofs.Common.{◌≡◌, ◌<◌, ◌≤◌, ◌^◌, ℕ, ◌%◌, ◌++◌, Bool, Option, Some, None, length, codes, decimal, false, true, if◌then◌else◌, nat_lt, refl, ap, sym, ◌∙◌, arith}
+use Rattle.std.proofs.lemmas.Bool.Decides.{nat_tests}
 use Rattle.std.proofs.lemmas.Fmt.{length-decimal-le}
 use Rattle.row_text.specs.Fields.{field_text}
 use Rattle.schema_check.specs.Cohorts.{born_count}
-use Rattle.schema_check.specs.Layout.{KindLayout, LeafLayout, born_kind, column_at, key_kind, leaf_kind, table_at}
-use Rattle.draw_values.specs.Values.{is_own, leaf_value, own_value}
+use Rattle.schema_check.specs.Layout.{ColumnLayout, KindLayout, LeafLayout, born_kind, case_kind, column_at, key_kind, leaf_kind, table_at}
+use Rattle.draw_values.specs.Values.{Draws, is_own, leaf_value, own_field, own_value, unless_null}
 use Rattle.life_intervals.specs.Generator.{Generator}
 use Rattle.life_intervals.specs.Intervals.{row_at}
 use Rattle.life_intervals.specs.Keys.{key_of}
@@ -12,45 +13,66 @@ use Rattle.life_intervals.specs.Rows.{Row}
 use Rattle.row_lines.specs.Lines.{at_row, draws_of, field, key_line_of, value}
 use Rattle.row_lines.proofs.LineLemmas.{key_of-by}
 
+-- a field of a column that is never null
+pub unless_null-never : {A : Type 0} (null : ℕ) (draw : Draws) (held : Option A) → null ≡ 0 → unless_null null draw held ≡ held
+unless_null-never null draw held never =
+    let passed : nat_lt (draw 0 % 1000) null ≡ false = grind (arith, nat_tests) in
+    ap (λ (is_null : Bool). if is_null then None else held) passed
+
 -- its key
 pub field-key : (generator : Generator) (unit place ordinal column : ℕ) → (column_at (table_at generator.tables place).columns column).kind ≡ key_kind →
+    (column_at (table_at generator.tables place).columns column).null ≡ 0 →
     field generator unit place (row_at (table_at generator.tables place) unit ordinal) column ≡ Some (decimal (key_of generator place unit ordinal))
 unfolding key_of
-field-key generator unit place ordinal column is = ap (value generator place column (row_at (table_at generator.tables place) unit ordinal)) is
+field-key generator unit place ordinal column is never =
+    let row : Row = row_at (table_at generator.tables place) unit ordinal in
+    let of : ColumnLayout = column_at (table_at generator.tables place).columns column in
+    unless_null-never of.null (draws_of generator place row column) (value generator place row column of.kind) never
+    ∙ ap (value generator place row column) is
 
--- its unit of birth
-pub field-born : (generator : Generator) (unit place ordinal column : ℕ) → (column_at (table_at generator.tables place).columns column).kind ≡ born_kind →
-    field generator unit place (row_at (table_at generator.tables place) unit ordinal) column ≡ Some (decimal (row_at (table_at generator.tables place) unit ordinal).born)
-field-born generator unit place ordinal column is = ap (value generator place column (row_at (table_at generator.tables place) unit ordinal)) is
-
--- what is drawn for it
-pub field-drawn : (generator : Generator) (unit place ordinal column : ℕ) (leaf : LeafLayout) → (column_at (table_at generator.tables place).columns column).kind ≡ leaf_kind leaf →
-    field generator unit place (row_at (table_at generator.tables place) unit ordinal) column
-    ≡ leaf_value leaf (draws_of generator place column (row_at (table_at generator.tables place) unit ordinal))
-field-drawn generator unit place ordinal column leaf is = ap (value generator place column (row_at (table_at generator.tables place) unit ordinal)) is
-
--- what needs no other row
+-- of a column that needs no other row: what it holds, unless it is null
 value-own : (generator : Generator) (place column : ℕ) (row : Row) (kind : KindLayout) → is_own kind ≡ true →
-    value generator place column row kind ≡ own_value kind (at_row row) (draws_of generator place column row)
+    value generator place row column kind ≡ own_value (table_at generator.tables place).columns (at_row row) (draws_of generator place row) column kind
 value-own generator place column row born_kind own = refl
 value-own generator place column row (leaf_kind leaf) own = refl
+value-own generator place column row (case_kind on branches) own = refl
 value-own generator place column row _ own = cc
 
 pub field-own : (generator : Generator) (unit place ordinal column : ℕ) → is_own (column_at (table_at generator.tables place).columns column).kind ≡ true →
     field generator unit place (row_at (table_at generator.tables place) unit ordinal) column
-    ≡ own_value (column_at (table_at generator.tables place).columns column).kind (at_row (row_at (table_at generator.tables place) unit ordinal))
-    (draws_of generator place column (row_at (table_at generator.tables place) unit ordinal))
+    ≡ own_field (table_at generator.tables place).columns (at_row (row_at (table_at generator.tables place) unit ordinal))
+    (draws_of generator place (row_at (table_at generator.tables place) unit ordinal)) column
 field-own generator unit place ordinal column own =
-    value-own generator place column (row_at (table_at generator.tables place) unit ordinal) (column_at (table_at generator.tables place).columns column).kind own
+    let row : Row = row_at (table_at generator.tables place) unit ordinal in
+    let of : ColumnLayout = column_at (table_at generator.tables place).columns column in
+    ap (unless_null of.null (draws_of generator place row column)) (value-own generator place column row of.kind own)
+
+-- its unit of birth
+pub field-born : (generator : Generator) (unit place ordinal column : ℕ) → (column_at (table_at generator.tables place).columns column).kind ≡ born_kind →
+    field generator unit place (row_at (table_at generator.tables place) unit ordinal) column
+    ≡ unless_null (column_at (table_at generator.tables place).columns column).null (draws_of generator place (row_at (table_at generator.tables place) unit ordinal) column)
+    (Some (decimal (row_at (table_at generator.tables place) unit ordinal).born))
+field-born generator unit place ordinal column is =
+    let row : Row = row_at (table_at generator.tables place) unit ordinal in
+    ap (λ (kind : KindLayout). unless_null (column_at (table_at generator.tables place).columns column).null (draws_of generator place row column) (value generator place row column kind)) is
+
+-- what is drawn for it
+pub field-drawn : (generator : Generator) (unit place ordinal column : ℕ) (leaf : LeafLayout) → (column_at (table_at generator.tables place).columns column).kind ≡ leaf_kind leaf →
+    field generator unit place (row_at (table_at generator.tables place) unit ordinal) column
+    ≡ unless_null (column_at (table_at generator.tables place).columns column).null (draws_of generator place (row_at (table_at generator.tables place) unit ordinal) column)
+    (leaf_value leaf (draws_of generator place (row_at (table_at generator.tables place) unit ordinal) column))
+field-drawn generator unit place ordinal column leaf is =
+    let row : Row = row_at (table_at generator.tables place) unit ordinal in
+    ap (λ (kind : KindLayout). unless_null (column_at (table_at generator.tables place).columns column).null (draws_of generator place row column) (value generator place row column kind)) is
 
 -- the key line is the key's field
 pub key_line-field : (generator : Generator) (last unit place ordinal : ℕ) → unit ≤ last → ordinal < born_count (table_at generator.tables place).births unit →
-    (column_at (table_at generator.tables place).columns 0).kind ≡ key_kind →
+    (column_at (table_at generator.tables place).columns 0).kind ≡ key_kind → (column_at (table_at generator.tables place).columns 0).null ≡ 0 →
     key_line_of generator last place ordinal
     ≡ field_text generator.delimiter (field generator unit place (row_at (table_at generator.tables place) unit ordinal) 0) ++ codes "\n"
-key_line-field generator last unit place ordinal within born is =
+key_line-field generator last unit place ordinal within born is never =
     ap (λ (key : ℕ). field_text generator.delimiter (Some (decimal key)) ++ codes "\n") (key_of-by generator last unit place ordinal within born)
-    ∙ ap (λ (held : _). field_text generator.delimiter held ++ codes "\n") (sym (field-key generator unit place ordinal 0 is))
+    ∙ ap (λ (held : _). field_text generator.delimiter held ++ codes "\n") (sym (field-key generator unit place ordinal 0 is never))
 
 -- how many digits a number of 64 bits has
 pub length-decimal-le_20 : (n : ℕ) → n < 2 ^ 64 → length (decimal n) ≤ 20

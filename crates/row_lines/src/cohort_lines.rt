@@ -17,7 +17,7 @@ use id_permutation::Order;
 use life_intervals::{CohortKeys, cohort};
 use pd_outside::{PageBuf, Piece};
 use row_text::put_null;
-use schema_check::{Plan, ReadyColumn};
+use schema_check::{Plan, ReadyColumn, ReadyKind};
 use schema_model::Delimiter;
 use std::marker::Model;
 use std::sync::ledger::Ledger;
@@ -152,8 +152,8 @@ impl<'a> CohortLines<'a> {
         ensures size { length (text_in_cohort self.now index column) ≤ size_for self.now column }
     {
         let columns = self.columns;
-        match &columns[column] {
-            ReadyColumn::Key => buf.put_number(key),
+        match &columns[column].kind {
+            ReadyKind::Key => buf.put_number(key),
             _ => self.put_own(column, index, buf),
         }
     }

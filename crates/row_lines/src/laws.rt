@@ -7,7 +7,7 @@ ghost use Rattle.std.specs.Prelude.{◌≡◌, ℕ, ◌+◌, ◌<◌, ◌≤◌,
 ghost use Rattle.row_text.specs.Fields.{field_text};
 ghost use Rattle.schema_check.specs.Cohorts.{born_count, cohort_size, first_ordinal};
 ghost use Rattle.schema_check.specs.Layout.{LeafLayout, born_kind, column_at, key_kind, leaf_kind, table_at};
-ghost use Rattle.draw_values.specs.Values.{leaf_value};
+ghost use Rattle.draw_values.specs.Values.{leaf_value, unless_null};
 ghost use Rattle.life_intervals.specs.Generator.{Generator};
 ghost use Rattle.life_intervals.specs.Intervals.{is_live, living, row_at};
 ghost use Rattle.life_intervals.specs.Keys.{key_of};
@@ -54,21 +54,26 @@ pub fn text_so_far_begins_the_text()
         ≡ (text_before generator unit place born ++ first_lines generator unit place born count) ++ rest) }
 {}
 
-/// What a row holds at a unit by which it is born: its key in a key column, its unit of birth in a column of these, and in a column of
-/// drawn values what its draws at its birth give.
+/// What a row holds at a unit by which it is born: its key in a key column that is never null; in a column of units of birth or of
+/// drawn values the unit, or what its draws at its birth give, unless draw 0 makes it null.
 pub fn fields_of_a_row()
     ensures key { (generator : Generator) (unit place ordinal column : ℕ) →
         (column_at (table_at generator.tables place).columns column).kind ≡ key_kind →
+        (column_at (table_at generator.tables place).columns column).null ≡ 0 →
         field generator unit place (row_at (table_at generator.tables place) unit ordinal) column
         ≡ Some (decimal (key_of generator place unit ordinal)) }
     ensures born { (generator : Generator) (unit place ordinal column : ℕ) →
         (column_at (table_at generator.tables place).columns column).kind ≡ born_kind →
         field generator unit place (row_at (table_at generator.tables place) unit ordinal) column
-        ≡ Some (decimal (row_at (table_at generator.tables place) unit ordinal).born) }
+        ≡ unless_null (column_at (table_at generator.tables place).columns column).null
+        (generator.draw place column (row_at (table_at generator.tables place) unit ordinal).born ordinal)
+        (Some (decimal (row_at (table_at generator.tables place) unit ordinal).born)) }
     ensures drawn { (generator : Generator) (unit place ordinal column : ℕ) (leaf : LeafLayout) →
         (column_at (table_at generator.tables place).columns column).kind ≡ leaf_kind leaf →
         field generator unit place (row_at (table_at generator.tables place) unit ordinal) column
-        ≡ leaf_value leaf (generator.draw place column (row_at (table_at generator.tables place) unit ordinal).born ordinal) }
+        ≡ unless_null (column_at (table_at generator.tables place).columns column).null
+        (generator.draw place column (row_at (table_at generator.tables place) unit ordinal).born ordinal)
+        (leaf_value leaf (generator.draw place column (row_at (table_at generator.tables place) unit ordinal).born ordinal)) }
 {}
 
 /// The key line of a row is the key's field, as it is written, and a line feed, at any unit by which the row is born.
@@ -76,6 +81,7 @@ pub fn key_line_is_the_key_field()
     ensures { (generator : Generator) (last unit place ordinal : ℕ) → unit ≤ last →
         ordinal < born_count (table_at generator.tables place).births unit →
         (column_at (table_at generator.tables place).columns 0).kind ≡ key_kind →
+        (column_at (table_at generator.tables place).columns 0).null ≡ 0 →
         key_line_of generator last place ordinal
         ≡ field_text generator.delimiter
         (field generator unit place (row_at (table_at generator.tables place) unit ordinal) 0) ++ codes "\n" }
