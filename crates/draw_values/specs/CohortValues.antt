@@ -1,14 +1,15 @@
 -- The values of the rows of one cohort, and what the code keeps of them.
-use Rattle.std.specs.Prelude.{◌≡◌, ◌<◌, ◌≤◌, ℕ, List, Option, decimal, length, get_or, All, true}
+use Rattle.std.specs.Prelude.{◌≡◌, ◌<◌, ◌≤◌, ℕ, List, Bool, Option, decimal, length, get_or, All, true}
 use Rattle.philox_seeds.specs.SeedTree.{table_seed, column_seed, unit_seed}
 use Rattle.pd_outside.specs.declared.piece.Piece.{Piece}
 use Rattle.pd_outside.specs.Pieces.{piece_text}
 use Rattle.schema_check.specs.declared.ready.ReadyColumn.{ReadyColumn}
-use Rattle.schema_check.specs.Layout.{layout_of, table_at, TableLayout}
+use Rattle.schema_check.specs.Layout.{column_at, layout_of, table_at, TableLayout}
 use Rattle.schema_check.specs.Limits.{IsTableInLimits}
 use Rattle.schema_check.specs.Planned.{Planned}
 use Rattle.schema_check.specs.Ready.{ready_columns, is_served}
-use Rattle.draw_values.specs.Values.{size_at, value_at}
+use Rattle.draw_values.specs.declared.values.RowAt.{RowAt}
+use Rattle.draw_values.specs.Values.{draws_at, is_null, size_at, value_at}
 
 -- the values of the rows that are born at a unit, in the table at a place
 pub record ValuesOf : Type 0 where
@@ -20,11 +21,19 @@ pub record ValuesOf : Type 0 where
 abbrev pub layout_for : ValuesOf → TableLayout
 layout_for values = table_at (layout_of values.plan.schema).tables values.table
 
--- what the row with an ordinal holds in the column at a place
+-- the row with an ordinal
+abbrev pub row_for : ValuesOf → ℕ → RowAt
+row_for values ordinal = record { ordinal = ordinal; born = values.unit; changed = values.unit }
+
+-- what it holds in the column at a place
 abbrev pub value_for : ValuesOf → ℕ → ℕ → Option (List ℕ)
-value_for values column ordinal =
-    value_at (layout_of values.plan.schema) values.table column
-    (record { ordinal = ordinal; born = values.unit; changed = values.unit })
+value_for values column ordinal = value_at (layout_of values.plan.schema) values.table column (row_for values ordinal)
+
+-- whether its field in the column at a place is drawn to be null
+abbrev pub is_null_for : ValuesOf → ℕ → ℕ → Bool
+is_null_for values column ordinal =
+    is_null (column_at (layout_for values).columns column).null
+    (draws_at (layout_of values.plan.schema) values.table (row_for values ordinal) column)
 
 -- what a field of the column at a place takes at most, in bytes
 abbrev pub size_for : ValuesOf → ℕ → ℕ

@@ -1,6 +1,11 @@
--- What is written for a drawn value that a plan keeps ready, by its first draw.
-use Rattle.std.specs.Prelude.{◌≡◌, ◌<◌, ◌≤◌, ℕ, ℤ, pos, ◌-◌, ◌%◌, ◌^◌, ◌+ℤ◌, ◌<ℤ◌, List, [], length, sum, slice_index_or}
+-- What is written for a field by what a plan keeps ready for its column, and what has to be kept so that it can be.
+use Rattle.std.specs.Prelude.{◌≡◌, ◌<◌, ◌≤◌, ℕ, ℤ, pos, ◌+◌, ◌-◌, ◌*◌, ◌%◌, ◌^◌, ◌+ℤ◌, ◌<ℤ◌, List, [], All, Option, Some, None, flat_map, length, option_map, sum, slice_index_or, ⊤}
 use Rattle.std.specs.Fmt.{signed_decimal}
+use Rattle.std.specs.List.{range_with_len}
+use Rattle.philox_seeds.specs.SeedTree.{draw, row_seed}
+use Rattle.schema_check.specs.declared.ready.ReadyColumn.{ReadyColumn}
+use Rattle.schema_check.specs.declared.ready.ReadyKind.{ReadyKind}
+use Rattle.schema_check.specs.declared.ready.ReadyKind.TheVariants as kind
 use Rattle.schema_check.specs.declared.ready.ReadyLeaf.{ReadyLeaf}
 use Rattle.schema_check.specs.declared.ready.ReadyLeaf.TheVariants as leaf
 use Rattle.schema_check.specs.Choices.{choices}
@@ -8,15 +13,25 @@ use Rattle.schema_check.specs.FieldBounds.{greatest_by}
 use Rattle.schema_check.specs.Limits.{IsDateRange, IsRange}
 use Rattle.draw_values.specs.Dates.{date_text}
 use Rattle.draw_values.specs.Digits.{signed_pointed}
-use Rattle.draw_values.specs.Values.{chosen, chosen_group}
+use Rattle.draw_values.specs.Values.{Draws, chosen, chosen_group, unless_null}
 
--- the text that a draw gives
-abbrev pub ready_text : ReadyLeaf → ℕ → List ℕ
-ready_text (leaf.Int lo hi step count) draw = signed_decimal (chosen lo hi step draw)
-ready_text (leaf.Fixed lo hi count decimals unit) draw = signed_pointed decimals (chosen lo hi 1 draw)
-ready_text (leaf.Date lo hi count) draw = date_text (chosen lo hi 1 draw)
-ready_text (leaf.Pick entries weights total) draw = slice_index_or entries (chosen_group weights draw) []
-ready_text (leaf.Skew lo weights total) draw = signed_decimal (lo +ℤ pos (chosen_group weights draw))
+-- the draws of the field of the row with an ordinal, by the seed of its column at its unit
+abbrev pub row_draws : ℕ → ℕ → Draws
+row_draws seed ordinal = draw (row_seed seed ordinal)
+
+-- so many of some texts, each chosen by a draw of its own: the first by draw 2
+abbrev pub chosen_texts : List (List ℕ) → Draws → ℕ → List ℕ
+chosen_texts texts draw count =
+    flat_map (λ k. slice_index_or texts (draw (2 + k) % length texts) []) (range_with_len 0 count)
+
+-- the text that the draws of a field give
+abbrev pub ready_text : ReadyLeaf → Draws → List ℕ
+ready_text (leaf.Int lo hi step count) draw = signed_decimal (chosen lo hi step (draw 1))
+ready_text (leaf.Fixed lo hi count decimals unit) draw = signed_pointed decimals (chosen lo hi 1 (draw 1))
+ready_text (leaf.Date lo hi count) draw = date_text (chosen lo hi 1 (draw 1))
+ready_text (leaf.Pick entries weights total) draw = slice_index_or entries (chosen_group weights (draw 1)) []
+ready_text (leaf.Skew lo weights total) draw = signed_decimal (lo +ℤ pos (chosen_group weights (draw 1)))
+ready_text (leaf.Chars lo lengths characters count) draw = chosen_texts characters draw (lo + draw 1 % lengths)
 ready_text leaf.Unserved draw = []
 
 -- the greatest size of such a text, in bytes
@@ -26,6 +41,7 @@ ready_size (leaf.Fixed lo hi count decimals unit) = 21
 ready_size (leaf.Date lo hi count) = 10
 ready_size (leaf.Pick entries weights total) = greatest_by length entries
 ready_size (leaf.Skew lo weights total) = 20
+ready_size (leaf.Chars lo lengths characters count) = (lo + lengths - 1) * greatest_by length characters
 ready_size leaf.Unserved = 0
 
 -- a table can be made of the value, and its numbers are within their limits and what they are kept for
@@ -35,4 +51,60 @@ IsReady (leaf.Fixed lo hi count decimals unit) = IsRange lo hi × (count ≡ cho
 IsReady (leaf.Date lo hi count) = IsDateRange lo hi × (count ≡ choices lo hi 1)
 IsReady (leaf.Pick entries weights total) = (length weights ≡ length entries) × (total ≡ sum weights)
 IsReady (leaf.Skew lo weights total) = (length weights ≤ 4096) × ((lo +ℤ pos (length weights - 1)) <ℤ pos (2 ^ 63)) × (total ≡ sum weights)
+IsReady (leaf.Chars lo lengths characters count) = (lo + lengths ≤ 1001) × (count ≡ length characters)
 IsReady leaf.Unserved = ⊥
+
+-- the place of the column that a field is chosen by: the pick column of a case; any other field goes by its own column
+abbrev pub chooser_of : ℕ → ReadyKind → ℕ
+chooser_of place (kind.Case on branches) = on
+chooser_of place _ = place
+
+-- the number of the entry that the draws of a field select; no other kind than picks has entries
+abbrev pub ready_entry : ReadyKind → Draws → Option ℕ
+ready_entry (kind.Drawn (leaf.Pick entries weights total)) draw = Some (chosen_group weights (draw 1))
+ready_entry _ draw = None
+
+-- the number of the entry that a field of a pick column holds, None where it is null
+abbrev pub ready_held_entry : ReadyColumn → Draws → Option ℕ
+ready_held_entry column draw = unless_null column.null draw (ready_entry column.kind draw)
+
+-- the branch at a place
+abbrev pub ready_branch : List ReadyLeaf → ℕ → ReadyLeaf
+ready_branch branches place = slice_index_or branches place leaf.Unserved
+
+-- what is written for a field of units or of draws that isn't null, by its unit of birth as it is written, the entry that its
+-- pick column holds, and its draws; None where its pick column's field is null
+abbrev pub ready_value : List ℕ → Option ℕ → Draws → ReadyKind → Option (List ℕ)
+ready_value birth entry draw kind.Born = Some birth
+ready_value birth entry draw (kind.Drawn leaf) = Some (ready_text leaf draw)
+ready_value birth entry draw (kind.Case on branches) = option_map (λ e. ready_text (ready_branch branches e) draw) entry
+ready_value birth entry draw _ = None
+
+-- what is written for a field, None where it is null
+abbrev pub ready_field : List ℕ → ReadyColumn → Draws → ReadyColumn → Draws → Option (List ℕ)
+ready_field birth chooser chooser_draw column draw =
+    unless_null column.null draw (ready_value birth (ready_held_entry chooser chooser_draw) draw column.kind)
+
+-- the greatest size of such a text, in bytes
+abbrev pub ready_kind_size : ReadyKind → ℕ
+ready_kind_size kind.Born = 5
+ready_kind_size (kind.Drawn leaf) = ready_size leaf
+ready_kind_size (kind.Case on branches) = greatest_by ready_size branches
+ready_kind_size _ = 0
+
+-- the number of the entries of a pick; no other kind has any
+abbrev pub entry_count : ReadyKind → ℕ
+entry_count (kind.Drawn (leaf.Pick entries weights total)) = length weights
+entry_count _ = 0
+
+-- a pick that a case can go by
+abbrev pub IsReadyPick : ReadyKind → Type 0
+IsReadyPick (kind.Drawn (leaf.Pick entries weights total)) = total ≡ sum weights
+IsReadyPick _ = ⊥
+
+-- a field of this kind can be written, where it is chosen by a column of the other
+abbrev pub IsReadyKind : ReadyKind → ReadyKind → Type 0
+IsReadyKind chooser kind.Born = ⊤
+IsReadyKind chooser (kind.Drawn leaf) = IsReady leaf
+IsReadyKind chooser (kind.Case on branches) = All IsReady branches × IsReadyPick chooser × (entry_count chooser ≡ length branches)
+IsReadyKind chooser _ = ⊥

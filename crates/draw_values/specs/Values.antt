@@ -55,9 +55,13 @@ leaf_value (chars_leaf alphabet lo hi) draw = Some (drawn_characters (chars alph
 abbrev pub RowDraws : Type 0
 RowDraws = ℕ → Draws
 
--- what a field holds of which so many of a thousand are null: draw 0 decides
+-- whether a field is null of which so many of a thousand are: draw 0 decides
+abbrev pub is_null : ℕ → Draws → Bool
+is_null null draw = nat_lt (draw 0 % 1000) null
+
+-- what such a field holds
 abbrev pub unless_null : {A : Type 0} → ℕ → Draws → Option A → Option A
-unless_null null draw held = if nat_lt (draw 0 % 1000) null then None else held
+unless_null null draw held = if is_null null draw then None else held
 
 -- the number of the entry that a pick selects; no other kind has entries
 abbrev pub entry_of : KindLayout → Draws → Option ℕ

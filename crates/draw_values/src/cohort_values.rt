@@ -3,13 +3,13 @@
 ghost use Rattle.std.specs.Prelude.{◌≡◌, ◌<◌, ◌≤◌, ◌+◌, ◌++◌, true, length};
 ghost use Rattle.row_text.specs.Fields.{field_text};
 ghost use Rattle.schema_check.specs.Layout.{column_at, layout_of};
-ghost use Rattle.draw_values.specs.CohortValues.{layout_for, size_for, value_for};
+ghost use Rattle.draw_values.specs.CohortValues.{is_null_for, layout_for, size_for, value_for};
 ghost use Rattle.draw_values.specs.Values.{is_own, put_of, written};
 
 use crate::Put;
-use crate::leaves::put_leaf;
+use crate::fields::{chooser_of, is_null, put_field};
 use pd_outside::{PageBuf, Piece};
-use philox_seeds::{column_seed, row_seed, table_seed, unit_seed};
+use philox_seeds::{column_seed, table_seed, unit_seed};
 use schema_check::{Plan, ReadyColumn};
 use std::marker::Model;
 
@@ -63,6 +63,17 @@ impl<'a> CohortValues<'a> {
         }
     }
 
+    /// Whether the field of the row with an ordinal is drawn to be null in the column at a place, which is of any kind. What is
+    /// null for another reason is not told here: a case whose pick column's field is null.
+    #[inline(always)]
+    pub fn is_null(&self, column: usize, ordinal: u64) -> bool
+        requires { column < length (layout_for self.now).columns }
+        ensures { result ≡ is_null_for self.now column ordinal }
+    {
+        let columns = self.columns;
+        is_null(columns[column].null, self.seeds[column], ordinal)
+    }
+
     /// Appends what the row with an ordinal holds in the column at a place, one of units or of drawn values, as it is written;
     /// nothing where it is null. The greatest size of the column's fields has to be free.
     #[inline(always)]
@@ -75,13 +86,16 @@ impl<'a> CohortValues<'a> {
         ensures size { length (field_text (layout_of self.now.plan.schema).delimiter (value_for self.now column ordinal)) ≤ size_for self.now column }
     {
         let columns = self.columns;
-        match &columns[column] {
-            ReadyColumn::Born => buf.put_piece(&self.birth),
-            ReadyColumn::Drawn(leaf) => {
-                put_leaf(leaf, row_seed(self.seeds[column], ordinal), buf);
-            }
-            _ => unreachable!(),
-        }
-        Put::Text
+        let own = &columns[column];
+        let chooser = chooser_of(column, own);
+        put_field(
+            own,
+            self.seeds[column],
+            &columns[chooser],
+            self.seeds[chooser],
+            &self.birth,
+            ordinal,
+            buf,
+        )
     }
 }

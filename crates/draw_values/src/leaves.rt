@@ -4,6 +4,7 @@ ghost use Rattle.std.specs.Prelude.{◌≡◌, ◌≤◌, ◌+◌, ◌++◌, len
 ghost use Rattle.philox_seeds.specs.SeedTree.{draw as draw_of};
 ghost use Rattle.draw_values.specs.ReadyValues.{IsReady, ready_size, ready_text};
 
+use crate::characters::put_characters;
 use crate::dates::put_date;
 use crate::fixed::put_fixed;
 use crate::numbers::{chosen, put_whole};
@@ -13,15 +14,15 @@ use philox_seeds::draw;
 use schema_check::ReadyLeaf;
 
 /// The draw that a value begins with. Draw 0 is kept for null fields.
-const FIRST_DRAW: u32 = 1;
+pub(crate) const FIRST_DRAW: u32 = 1;
 
 /// Appends the value that is drawn with the seed of a row, as it is written. Its greatest size has to be free.
 #[inline(always)]
 pub(crate) fn put_leaf(leaf: &ReadyLeaf, seed: u64, buf: &mut PageBuf)
     requires ready { IsReady leaf.now }
     requires room { length buf.old.text + ready_size leaf.now ≤ buf.old.room }
-    ensures text { buf.new ≡ record buf.old { text = buf.old.text ++ ready_text leaf.now (draw_of seed 1) } }
-    ensures size { length (ready_text leaf.now (draw_of seed 1)) ≤ ready_size leaf.now }
+    ensures text { buf.new ≡ record buf.old { text = buf.old.text ++ ready_text leaf.now (draw_of seed) } }
+    ensures size { length (ready_text leaf.now (draw_of seed)) ≤ ready_size leaf.now }
 {
     let draw = draw(seed, FIRST_DRAW);
     match leaf {
@@ -50,6 +51,12 @@ pub(crate) fn put_leaf(leaf: &ReadyLeaf, seed: u64, buf: &mut PageBuf)
         ReadyLeaf::Skew { lo, weights, total } => {
             put_whole(skewed(*lo, weights, total, draw), buf);
         }
+        ReadyLeaf::Chars {
+            lo,
+            lengths,
+            characters,
+            count,
+        } => put_characters(characters, count, *lo + lengths.remainder(draw), seed, buf),
         ReadyLeaf::Unserved => unreachable!(),
     }
 }

@@ -5,9 +5,11 @@
 //! format). No call takes memory.
 #![tactic(auto)]
 
+mod characters;
 mod cohort_values;
 mod dates;
 mod digits;
+mod fields;
 mod fixed;
 pub mod laws;
 mod leaves;

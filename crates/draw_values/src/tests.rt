@@ -13,7 +13,7 @@ use crate::fixed::put_fixed;
 use crate::numbers::{chosen, put_whole};
 use fixed_divisors::FixedDivisor;
 use pd_outside::{Memory, PageBuf};
-use schema_check::{Plan, ReadyColumn, check, unbuilt};
+use schema_check::{Plan, ReadyKind, check, unbuilt};
 use schema_model::{
     Column, Columns, Delimiter, Kind, Leaf, Longs, Schema, Table, Tables, Text, Texts,
 };
@@ -247,8 +247,11 @@ fn is_own_column(plan: &Plan, column: usize) -> bool
     ensures size { OnTrue result (size_at (layout_of plan.now.schema) 0 column ≤ max_line (layout_of plan.now.schema) 0) }
 {
     match plan.columns(0).get(column) {
-        Some(ReadyColumn::Born) | Some(ReadyColumn::Drawn(_)) => true,
-        _ => false,
+        Some(ready) => match &ready.kind {
+            ReadyKind::Born | ReadyKind::Drawn(_) | ReadyKind::Case { .. } => true,
+            _ => false,
+        },
+        None => false,
     }
 }
 

@@ -5,10 +5,10 @@ ghost use Rattle.row_text.specs.Fields.{field_text};
 ghost use Rattle.schema_check.specs.Layout.{column_at, layout_of, table_at};
 ghost use Rattle.draw_values.specs.Values.{is_own, put_of, size_at, value_at, written};
 
-use crate::leaves::put_leaf;
-use pd_outside::PageBuf;
-use philox_seeds::{column_seed, row_seed, table_seed, unit_seed};
-use schema_check::{Plan, ReadyColumn};
+use crate::fields::{chooser_of, put_field};
+use pd_outside::{PageBuf, Piece};
+use philox_seeds::{column_seed, table_seed, unit_seed};
+use schema_check::Plan;
 
 /// A row, as far as its values ask for it.
 #[derive(Clone, Copy, Debug, PartialEq, Eq)]
@@ -42,13 +42,17 @@ pub fn put_value(plan: &Plan, table: u32, column: u32, at: RowAt, buf: &mut Page
     ensures text { buf.new ≡ record buf.old { text = buf.old.text ++ written (layout_of plan.now.schema).delimiter (value_at (layout_of plan.now.schema) table column at) } }
     ensures size { length (field_text (layout_of plan.now.schema).delimiter (value_at (layout_of plan.now.schema) table column at)) ≤ size_at (layout_of plan.now.schema) table column }
 {
-    match &plan.columns(table)[column as usize] {
-        ReadyColumn::Born => buf.put_number(at.born),
-        ReadyColumn::Drawn(leaf) => {
-            let seed = unit_seed(column_seed(table_seed(plan.seed(), table), column), at.born);
-            put_leaf(leaf, row_seed(seed, at.ordinal), buf);
-        }
-        _ => unreachable!(),
-    }
-    Put::Text
+    let columns = plan.columns(table);
+    let own = &columns[column as usize];
+    let chooser = chooser_of(column as usize, own);
+    let seed = table_seed(plan.seed(), table);
+    put_field(
+        own,
+        unit_seed(column_seed(seed, column), at.born),
+        &columns[chooser],
+        unit_seed(column_seed(seed, chooser as u32), at.born),
+        &Piece::of_number(at.born),
+        at.ordinal,
+        buf,
+    )
 }

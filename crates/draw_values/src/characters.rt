@@ -1,0 +1,37 @@
+//! Texts of characters that draws choose, onto a page.
+
+ghost use Rattle.std.specs.Prelude.{◌≡◌, ◌≤◌, ◌+◌, ◌*◌, ◌++◌, length};
+ghost use Rattle.philox_seeds.specs.SeedTree.{draw as draw_of};
+ghost use Rattle.schema_check.specs.FieldBounds.{greatest_by};
+ghost use Rattle.draw_values.specs.ReadyValues.{chosen_texts};
+
+use crate::weighted::put_entry;
+use fixed_divisors::FixedDivisor;
+use pd_outside::PageBuf;
+use philox_seeds::draw;
+use row_text::WrittenTexts;
+
+/// The draw of the first character. The one before it tells how many there are.
+const FIRST_CHARACTER: u32 = 2;
+
+/// Appends so many characters, as they are written, each of them chosen by a draw of its own; `count` is how many there are to
+/// choose from. So many times the size of the greatest one has to be free.
+#[inline(always)]
+pub(crate) fn put_characters(
+    characters: &WrittenTexts,
+    count: &FixedDivisor,
+    number: u64,
+    seed: u64,
+    buf: &mut PageBuf,
+)
+    requires count { count.now ≡ length characters.now }
+    requires number { number ≤ 1000 }
+    requires room { length buf.old.text + number * greatest_by length characters.now ≤ buf.old.room }
+    ensures text { buf.new ≡ record buf.old { text = buf.old.text ++ chosen_texts characters.now (draw_of seed) number } }
+    ensures size { length (chosen_texts characters.now (draw_of seed) number) ≤ number * greatest_by length characters.now }
+{
+    for k in 0..number as u32 {
+        let character = count.remainder(draw(seed, FIRST_CHARACTER + k));
+        put_entry(characters, character as usize, buf);
+    }
+}

@@ -1,0 +1,112 @@
+//! The field of a row in a column of units or of drawn values, onto a page.
+
+ghost use Rattle.std.specs.Prelude.{◌≡◌, ◌<◌, ◌≤◌, ◌+◌, ◌++◌, [], All, IfSome, length, option_map, slice_index_or, unwrap_or};
+ghost use Rattle.philox_seeds.specs.SeedTree.{draw as draw_of};
+ghost use Rattle.pd_outside.specs.Pieces.{piece_text};
+ghost use Rattle.schema_check.specs.declared.ready.ReadyLeaf.TheVariants.{Unserved};
+ghost use Rattle.schema_check.specs.FieldBounds.{greatest_by};
+ghost use Rattle.draw_values.specs.ReadyValues.{IsReady, IsReadyKind, IsReadyPick, chooser_of, entry_count, ready_field, ready_held_entry, ready_kind_size, ready_size, ready_text, row_draws};
+ghost use Rattle.draw_values.specs.Values.{is_null, put_of};
+
+use crate::Put;
+use crate::leaves::{FIRST_DRAW, put_leaf};
+use crate::weighted::chosen_group;
+use pd_outside::{PageBuf, Piece};
+use philox_seeds::{draw, row_seed};
+use schema_check::{ReadyColumn, ReadyKind, ReadyLeaf};
+
+/// The draw that makes a field null.
+const NULL_DRAW: u32 = 0;
+
+/// Whether a row's field is null in a column of which so many of a thousand are; `seed` is the column's at the row's unit. A
+/// column that is never null draws nothing.
+#[inline(always)]
+pub(crate) fn is_null(null: u64, seed: u64, ordinal: u64) -> bool
+    ensures { result ≡ is_null null (row_draws seed ordinal) }
+{
+    null > 0 && draw(row_seed(seed, ordinal), NULL_DRAW) % 1000 < null
+}
+
+/// The place of the column that a field of the one at a place is chosen by: the pick column of a case; else its own.
+#[inline(always)]
+pub(crate) fn chooser_of(place: usize, column: &ReadyColumn) -> usize
+    ensures { result ≡ chooser_of place column.now.kind }
+{
+    match &column.kind {
+        ReadyKind::Case { on, .. } => *on as usize,
+        _ => place,
+    }
+}
+
+/// The number of the entry that a row's field holds in a pick column; None where it is null.
+#[inline(always)]
+fn held_entry(pick: &ReadyColumn, seed: u64, ordinal: u64) -> Option<usize>
+    requires { IsReadyPick pick.now.kind }
+    ensures exact { result ≡ ready_held_entry pick.now (row_draws seed ordinal) }
+    ensures within { IfSome result (λ entry. entry < entry_count pick.now.kind) }
+{
+    if is_null(pick.null, seed, ordinal) {
+        return None;
+    }
+    match &pick.kind {
+        ReadyKind::Drawn(ReadyLeaf::Pick { weights, total, .. }) => {
+            let draw = draw(row_seed(seed, ordinal), FIRST_DRAW);
+            Some(chosen_group(weights, total, draw))
+        }
+        _ => unreachable!(),
+    }
+}
+
+/// Appends the value of the branch of an entry, drawn with the seed of a row; nothing where there is no entry.
+#[inline(always)]
+fn put_branch(branches: &[ReadyLeaf], entry: Option<usize>, seed: u64, buf: &mut PageBuf) -> Put
+    requires ready { All IsReady branches.now }
+    requires entry { IfSome entry (λ place. place < length branches.now) }
+    requires room { length buf.old.text + greatest_by ready_size branches.now ≤ buf.old.room }
+    ensures put { result ≡ put_of (option_map (λ place. ready_text (slice_index_or branches.now place Unserved) (draw_of seed)) entry) }
+    ensures text { buf.new ≡ record buf.old { text = buf.old.text ++ unwrap_or (option_map (λ place. ready_text (slice_index_or branches.now place Unserved) (draw_of seed)) entry) [] } }
+    ensures size { length (unwrap_or (option_map (λ place. ready_text (slice_index_or branches.now place Unserved) (draw_of seed)) entry) []) ≤ greatest_by ready_size branches.now }
+{
+    match entry {
+        Some(place) => {
+            put_leaf(&branches[place], seed, buf);
+            Put::Text
+        }
+        None => Put::Null,
+    }
+}
+
+/// Appends what the row with an ordinal holds in a column, as it is written; nothing where it is null. `chooser` is the column
+/// that the field is chosen by, and `birth` the row's unit of birth as it is written; the seeds are those of the two columns at
+/// that unit. The greatest size of the column's fields has to be free.
+#[inline(always)]
+pub(crate) fn put_field(
+    column: &ReadyColumn,
+    seed: u64,
+    chooser: &ReadyColumn,
+    chooser_seed: u64,
+    birth: &Piece,
+    ordinal: u64,
+    buf: &mut PageBuf,
+) -> Put
+    requires ready { IsReadyKind chooser.now.kind column.now.kind }
+    requires birth { length (piece_text birth.now) ≤ 5 }
+    requires room { length buf.old.text + ready_kind_size column.now.kind ≤ buf.old.room }
+    ensures put { result ≡ put_of (ready_field (piece_text birth.now) chooser.now (row_draws chooser_seed ordinal) column.now (row_draws seed ordinal)) }
+    ensures text { buf.new ≡ record buf.old { text = buf.old.text ++ unwrap_or (ready_field (piece_text birth.now) chooser.now (row_draws chooser_seed ordinal) column.now (row_draws seed ordinal)) [] } }
+    ensures size { length (unwrap_or (ready_field (piece_text birth.now) chooser.now (row_draws chooser_seed ordinal) column.now (row_draws seed ordinal)) []) ≤ ready_kind_size column.now.kind }
+{
+    if is_null(column.null, seed, ordinal) {
+        return Put::Null;
+    }
+    match &column.kind {
+        ReadyKind::Born => buf.put_piece(birth),
+        ReadyKind::Drawn(leaf) => put_leaf(leaf, row_seed(seed, ordinal), buf),
+        ReadyKind::Case { branches, .. } => {
+            let entry = held_entry(chooser, chooser_seed, ordinal);
+            return put_branch(branches.as_slice(), entry, row_seed(seed, ordinal), buf);
+        }
+        _ => unreachable!(),
+    }
+    Put::Text
+}
