@@ -1,102 +1,220 @@
 -- What a plan keeps ready for a column gives what a row holds there, as it is written.
-use Rattle.std.proofs.Common.{◌≡◌, ◌<◌, ◌≤◌, ℕ, true, max, List, [], decimal, length, get_or, refl, ap, sym, subst, ◌∙◌, arith}
-use Rattle.std.specs.Prelude.{All}
+use Rattle.std.proofs.Common.{◌≡◌, ◌<◌, ◌≤◌, ℕ, suc, Bool, true, false, max, List, [], ◌∷◌, map, decimal, fold, length, get_or, ◌+◌, ◌%◌, IfSome, option_map, Option, None, Some, if◌then◌else◌, refl, ap, sym, subst, ◌∙◌, arith}
+use Rattle.std.specs.Prelude.{All, option_and_then, sum}
+use Rattle.std.specs.List.{list_all}
 use Rattle.std.proofs.lemmas.Fmt.{length-decimal-le}
-use Rattle.std.proofs.lemmas.List.{get_or-map, length-map}
-use Rattle.philox_seeds.specs.SeedTree.{field_draw}
+use Rattle.std.proofs.lemmas.List.{get_or-map, get_or_default, length-map}
+use Rattle.std.proofs.lemmas.List.Elements.{All-head, All-map, All-tail}
+use Rattle.std.proofs.lemmas.List.Folds.{list_all-map}
+use Rattle.weight_tables.proofs.PrefixSumLemmas.{sum-cons}
+use Rattle.weight_tables.proofs.SelectionLemmas.{Selects-selected}
+use Rattle.row_text.specs.Fields.{piece_text}
 use Rattle.schema_check.specs.declared.ready.ReadyColumn.{ReadyColumn}
-use Rattle.schema_check.specs.declared.ready.ReadyColumn.TheVariants as column
+use Rattle.schema_check.specs.declared.ready.ReadyKind.{ReadyKind}
+use Rattle.schema_check.specs.declared.ready.ReadyKind.TheVariants as ready
 use Rattle.schema_check.specs.declared.ready.ReadyLeaf.{ReadyLeaf}
-use Rattle.schema_check.specs.FieldBounds.{bounds_of}
-use Rattle.schema_check.specs.Layout.{LeafLayout, KindLayout, key_kind, born_kind, changed_kind, leaf_kind, template_kind, case_kind, reference_kind, lookup_kind, ColumnLayout, Layout, column_at, no_column, table_at}
-use Rattle.schema_check.specs.Limits.{IsKindInLimits}
-use Rattle.schema_check.specs.Ready.{is_served, is_served_leaf, ready_column, ready_columns, ready_leaf}
+use Rattle.schema_check.specs.declared.ready.ReadyLeaf.TheVariants.{Unserved}
+use Rattle.schema_check.specs.FieldBounds.{bounds_of, greatest_by, leaf_size}
+use Rattle.schema_check.specs.Layout.{LeafLayout, int_leaf, fixed_leaf, date_leaf, pick_leaf, skew_leaf, dict_leaf, words_leaf, chars_leaf, KindLayout, key_kind, born_kind, changed_kind, leaf_kind, template_kind, case_kind, reference_kind, lookup_kind, ColumnLayout, Layout, TableLayout, column_at, no_column, table_at}
+use Rattle.schema_check.specs.Limits.{IsCase, IsKindInLimits, IsLeafInLimits, IsPickOf}
+use Rattle.schema_check.specs.Ready.{is_served, is_served_kind, is_served_leaf, ready_column, ready_columns, ready_kind, ready_leaf}
+use Rattle.schema_check.proofs.FromTests.{passes_each}
 use Rattle.draw_values.specs.declared.values.RowAt.{RowAt}
-use Rattle.draw_values.specs.ReadyValues.{IsReady, ready_size, ready_text}
-use Rattle.draw_values.specs.Values.{own_value, size_at, value_at}
+use Rattle.draw_values.specs.ReadyValues.{IsReady, IsReadyKind, IsReadyPick, chooser_of, entry_count, ready_branch, ready_entry, ready_field, ready_held_entry, ready_kind_size, ready_size, ready_text, ready_value}
+use Rattle.draw_values.specs.Values.{Draws, RowDraws, branch_at, chosen_group, entry_of, held_entry, is_null, is_own, leaf_value, own_field, own_value, unless_null}
 use Rattle.draw_values.proofs.PlainLemmas.{piece_text-plain, plain-decimal}
-use Rattle.draw_values.proofs.ReadyLemmas.{Gives, gives, leaf_gives, leaf_is_ready, leaf_size-ready}
-
--- the kind of the column at a place
-abbrev pub kind_of : Layout → ℕ → ℕ → KindLayout
-kind_of layout table place = (column_at (table_at layout.tables table).columns place).kind
+use Rattle.draw_values.proofs.ReadyLemmas.{leaf_is_ready, leaf_size-ready, leaf_value-written}
 
 pub length-ready_columns : (layout : Layout) (table : ℕ) → length (ready_columns layout table) ≡ length (table_at layout.tables table).columns
-length-ready_columns layout table = length-map (table_at layout.tables table).columns (λ (of : ColumnLayout). ready_column layout.delimiter of.kind)
-
--- a column that a plan keeps ready is the one of the layout, and tables can be made of it
-pub record IsKept (layout : Layout) (table place : ℕ) (found : ReadyColumn) : Type 0 where
-  pub is : ready_column layout.delimiter (kind_of layout table place) ≡ found
-  pub served : is_served found ≡ true
-
-pub kept_at : (layout : Layout) (table place : ℕ) (kept : List ReadyColumn) (found : ReadyColumn) → kept ≡ ready_columns layout table → All (λ column. is_served column ≡ true) kept →
-    place < length (table_at layout.tables table).columns → found ≡ get_or kept place found → IsKept layout table place found
-kept_at layout table place kept found kept_is served within at =
-    let own : ColumnLayout → ReadyColumn = λ (of : ColumnLayout). ready_column layout.delimiter of.kind in
-    let many : length kept ≡ length (table_at layout.tables table).columns = ap length kept_is ∙ length-ready_columns layout table in
-    record {
-      is = sym (at ∙ ap (λ (columns : List ReadyColumn). get_or columns place found) kept_is ∙ get_or-map own (table_at layout.tables table).columns place no_column found within);
-      served = ap is_served at ∙ served place found (omega arith);
-    }
-
--- units of birth
-kind-born : (delimiter : ℕ) (kind : KindLayout) → ready_column delimiter kind ≡ column.Born → kind ≡ born_kind
-kind-born delimiter key_kind is = absurd (cc)
-kind-born delimiter born_kind is = refl
-kind-born delimiter changed_kind is = absurd (cc)
-kind-born delimiter (leaf_kind leaf) is = absurd (cc)
-kind-born delimiter (template_kind parts) is = absurd (cc)
-kind-born delimiter (case_kind on branches) is = absurd (cc)
-kind-born delimiter (reference_kind parent window spread) is = absurd (cc)
-kind-born delimiter (lookup_kind via parent name) is = absurd (cc)
-
-pub born_gives : (layout : Layout) (table place : ℕ) (at : RowAt) → IsKept layout table place column.Born →
-    Gives layout.delimiter (value_at layout table place at) (decimal at.born)
-born_gives layout table place at kept =
-    gives layout.delimiter (value_at layout table place at) (decimal at.born) (decimal at.born)
-    (ap (λ (kind : KindLayout). own_value kind at (field_draw layout.seed table place at.born at.ordinal)) (kind-born layout.delimiter (kind_of layout table place) kept.is))
-    (piece_text-plain layout.delimiter (decimal at.born) (plain-decimal at.born))
-
-pub size_at-born : (layout : Layout) (table place : ℕ) → IsKept layout table place column.Born → size_at layout table place ≡ 5
-size_at-born layout table place kept =
-    ap (λ (kind : KindLayout). (bounds_of layout.delimiter layout.tables (table_at layout.tables table) kind).size) (kind-born layout.delimiter (kind_of layout table place) kept.is)
+length-ready_columns layout table = length-map (table_at layout.tables table).columns (ready_column layout.delimiter)
 
 pub length-decimal-unit : (unit : ℕ) → unit ≤ 10000 → length (decimal unit) ≤ 5
 length-decimal-unit unit small = length-decimal-le 5 unit (omega arith) (omega arith) (omega arith)
 
--- drawn values: the layout of what is kept
-record IsOf (delimiter : ℕ) (kind : KindLayout) (leaf : ReadyLeaf) (drawn : LeafLayout) : Type 0 where
-  kind_is : kind ≡ leaf_kind drawn
-  leaf_is : ready_leaf delimiter drawn ≡ leaf
+-- a column that a plan keeps ready
+pub ready_column-at : (delimiter : ℕ) (columns : List ColumnLayout) (kept : List ReadyColumn) (place : ℕ) (found : ReadyColumn) → kept ≡ map (ready_column delimiter) columns →
+    place < length columns → found ≡ get_or kept place found → found ≡ ready_column delimiter (column_at columns place)
+ready_column-at delimiter columns kept place found kept_is within at =
+    at
+    ∙ ap (λ (columns : List ReadyColumn). get_or columns place found) kept_is
+    ∙ get_or-map (ready_column delimiter) columns place no_column found within
 
-kind-drawn : (delimiter : ℕ) (kind : KindLayout) (leaf : ReadyLeaf) → ready_column delimiter kind ≡ column.Drawn leaf → (drawn : LeafLayout) × IsOf delimiter kind leaf drawn
-kind-drawn delimiter key_kind leaf is = absurd (cc)
-kind-drawn delimiter born_kind leaf is = absurd (cc)
-kind-drawn delimiter changed_kind leaf is = absurd (cc)
-kind-drawn delimiter (leaf_kind drawn) leaf is = (drawn, record { kind_is = refl; leaf_is = cc })
-kind-drawn delimiter (template_kind parts) leaf is = absurd (cc)
-kind-drawn delimiter (case_kind on branches) leaf is = absurd (cc)
-kind-drawn delimiter (reference_kind parent window spread) leaf is = absurd (cc)
-kind-drawn delimiter (lookup_kind via parent name) leaf is = absurd (cc)
+-- ---- branches
 
-pub drawn_gives : (layout : Layout) (table place : ℕ) (at : RowAt) (leaf : ReadyLeaf) → IsKept layout table place (column.Drawn leaf) →
-    Gives layout.delimiter (value_at layout table place at) (ready_text leaf (field_draw layout.seed table place at.born at.ordinal 1))
-drawn_gives layout table place at leaf kept =
-    let (drawn, of) = kind-drawn layout.delimiter (kind_of layout table place) leaf kept.is in
-    let draw : ℕ → ℕ = field_draw layout.seed table place at.born at.ordinal in
-    let known = leaf_gives layout.delimiter drawn draw (ap is_served_leaf of.leaf_is ∙ kept.served) in
-    subst (λ (kind : KindLayout). Gives layout.delimiter (own_value kind at draw) (ready_text leaf (draw 1))) (sym of.kind_is)
-    (subst (λ (ready : ReadyLeaf). Gives layout.delimiter (own_value (leaf_kind drawn) at draw) (ready_text ready (draw 1))) of.leaf_is known)
+-- a drawn value within its limits that tables can be made of
+abbrev IsServable : ℕ → LeafLayout → Type 0
+IsServable delimiter leaf = IsLeafInLimits leaf × (is_served_leaf (ready_leaf delimiter leaf) ≡ true)
 
-pub drawn_is_ready : (layout : Layout) (table place : ℕ) (leaf : ReadyLeaf) → IsKept layout table place (column.Drawn leaf) →
-    IsKindInLimits (kind_of layout table place) → IsReady leaf
-drawn_is_ready layout table place leaf kept limits =
-    let (drawn, of) = kind-drawn layout.delimiter (kind_of layout table place) leaf kept.is in
-    subst IsReady of.leaf_is (leaf_is_ready layout.delimiter drawn (subst IsKindInLimits of.kind_is limits) (ap is_served_leaf of.leaf_is ∙ kept.served))
+branches_servable : (delimiter : ℕ) (branches : List LeafLayout) → All IsLeafInLimits branches → list_all is_served_leaf (map (ready_leaf delimiter) branches) ≡ true → All (IsServable delimiter) branches
+branches_servable delimiter branches limits served = λ i d within. (
+  limits i d within,
+  passes_each (λ (leaf : LeafLayout). is_served_leaf (ready_leaf delimiter leaf)) branches i d within (sym (list_all-map is_served_leaf (ready_leaf delimiter) branches) ∙ served),
+)
 
-pub size_at-drawn : (layout : Layout) (table place : ℕ) (leaf : ReadyLeaf) → IsKept layout table place (column.Drawn leaf) →
-    size_at layout table place ≡ max 2 (ready_size leaf)
-size_at-drawn layout table place leaf kept =
-    let (drawn, of) = kind-drawn layout.delimiter (kind_of layout table place) leaf kept.is in
-    ap (λ (kind : KindLayout). (bounds_of layout.delimiter layout.tables (table_at layout.tables table) kind).size) of.kind_is
-    ∙ ap (max 2) (leaf_size-ready layout.delimiter drawn (ap is_served_leaf of.leaf_is ∙ kept.served) ∙ ap ready_size of.leaf_is)
+branch_written : (delimiter : ℕ) (branches : List LeafLayout) (draw : Draws) (entry : Option ℕ) → All (IsServable delimiter) branches → IfSome entry (λ place. place < length branches) →
+    option_map (piece_text delimiter) (option_and_then (λ place. leaf_value (branch_at branches place) draw) entry)
+    ≡ option_map (λ place. ready_text (ready_branch (map (ready_leaf delimiter) branches) place) draw) entry
+branch_written delimiter branches draw None servable within = refl
+branch_written delimiter branches draw (Some place) servable within =
+    let branch : LeafLayout = branch_at branches place in
+    let own = servable place (branch_at [] 0) within in
+    leaf_value-written delimiter branch draw own.0 own.1
+    ∙ ap (λ (leaf : ReadyLeaf). Some (ready_text leaf draw)) (sym (get_or-map (ready_leaf delimiter) branches place (branch_at [] 0) Unserved within))
+
+greatest_from : (delimiter most : ℕ) (branches : List LeafLayout) → All (IsServable delimiter) branches →
+    fold (λ m leaf. max m (leaf_size delimiter leaf)) most branches ≡ fold (λ m leaf. max m (ready_size leaf)) most (map (ready_leaf delimiter) branches)
+greatest_from delimiter most [] servable = refl
+greatest_from delimiter most (leaf ∷ branches) servable =
+    let own = All-head (IsServable delimiter) leaf branches servable in
+    ap (λ (size : ℕ). fold (λ m branch. max m (leaf_size delimiter branch)) (max most size) branches) (leaf_size-ready delimiter leaf own.0 own.1)
+    ∙ greatest_from delimiter (max most (ready_size (ready_leaf delimiter leaf))) branches (All-tail (IsServable delimiter) leaf branches servable)
+
+-- ---- picks
+
+sum-positive : (weights : List ℕ) → 1 ≤ length weights → All (λ weight. 1 ≤ weight) weights → 0 < sum weights
+sum-positive [] some positive = absurd (omega arith)
+sum-positive (weight ∷ weights) some positive =
+    omega (arith, sum-cons weight weights, All-head (λ weight. 1 ≤ weight) weight weights positive)
+
+entry_of-ready : (delimiter : ℕ) (kind : KindLayout) (draw : Draws) → entry_of kind draw ≡ ready_entry (ready_kind delimiter kind) draw
+entry_of-ready delimiter key_kind draw = refl
+entry_of-ready delimiter born_kind draw = refl
+entry_of-ready delimiter changed_kind draw = refl
+entry_of-ready delimiter (leaf_kind (int_leaf lo hi step)) draw = refl
+entry_of-ready delimiter (leaf_kind (fixed_leaf lo hi decimals)) draw = refl
+entry_of-ready delimiter (leaf_kind (date_leaf lo hi)) draw = refl
+entry_of-ready delimiter (leaf_kind (pick_leaf entries weights)) draw = refl
+entry_of-ready delimiter (leaf_kind (skew_leaf lo size power)) draw = refl
+entry_of-ready delimiter (leaf_kind (dict_leaf dictionary)) draw = refl
+entry_of-ready delimiter (leaf_kind (words_leaf dictionary lo hi)) draw = refl
+entry_of-ready delimiter (leaf_kind (chars_leaf alphabet lo hi)) draw = refl
+entry_of-ready delimiter (template_kind parts) draw = refl
+entry_of-ready delimiter (case_kind on branches) draw = refl
+entry_of-ready delimiter (reference_kind parent window spread) draw = refl
+entry_of-ready delimiter (lookup_kind via parent name) draw = refl
+
+-- what is known of the kind of a pick column of so many entries
+pick_elim : (P : KindLayout → Type 0) (columns : List ColumnLayout) (place count : ℕ) (kind : KindLayout) → IsPickOf count kind → IsKindInLimits columns place kind →
+    ((entries : List (List ℕ)) (weights : List ℕ) → length weights ≡ count → 0 < sum weights → P (leaf_kind (pick_leaf entries weights))) → P kind
+pick_elim P columns place count (leaf_kind (pick_leaf entries weights)) pick limits each =
+    each entries weights (limits.one_each ∙ pick) (sum-positive weights (omega (arith, limits.one_each, limits.some_entry)) limits.positive)
+pick_elim P columns place count _ pick limits each = absurd pick
+
+entry_within : (null count : ℕ) (draw : Draws) (entries : List (List ℕ)) (weights : List ℕ) → length weights ≡ count → 0 < sum weights →
+    IfSome (unless_null null draw (entry_of (leaf_kind (pick_leaf entries weights)) draw)) (λ entry. entry < count)
+entry_within null count draw entries weights many some =
+    let drawn : ℕ = draw 1 % sum weights in
+    let within : drawn < sum weights = omega arith in
+    let chosen = (Selects-selected weights drawn within).within in
+    elim (is_null null draw) as (λ b. IfSome (if b then None else Some (chosen_group weights (draw 1))) (λ entry. entry < count)) [
+      | true ↦ tt
+      | false ↦ omega (arith, chosen, many)
+    ]
+
+-- ---- columns of units and of drawn values
+
+-- a column of this kind is one of them, within its limits, and tables can be made of it
+pub record IsOwn (delimiter : ℕ) (columns : List ColumnLayout) (place : ℕ) (kind : KindLayout) : Type 0 where
+  pub own : is_own kind ≡ true
+  pub limits : IsKindInLimits columns place kind
+  pub served : is_served_kind (ready_kind delimiter kind) ≡ true
+
+-- the columns that a field is chosen by are those of the limits
+abbrev pub IsAllInLimits : List ColumnLayout → Type 0
+IsAllInLimits columns = (place : ℕ) → place < length columns → IsKindInLimits columns place (column_at columns place).kind
+
+pub chooser_of-within : (delimiter : ℕ) (columns : List ColumnLayout) (place : ℕ) (kind : KindLayout) → IsOwn delimiter columns place kind → place < length columns →
+    chooser_of place (ready_kind delimiter kind) < length columns
+chooser_of-within delimiter columns place key_kind of within = absurd (let own = of.own in cc)
+chooser_of-within delimiter columns place born_kind of within = within
+chooser_of-within delimiter columns place changed_kind of within = absurd (let own = of.own in cc)
+chooser_of-within delimiter columns place (leaf_kind leaf) of within = within
+chooser_of-within delimiter columns place (template_kind parts) of within = absurd (let own = of.own in cc)
+chooser_of-within delimiter columns place (case_kind on branches) of within = omega (arith, of.limits.earlier)
+chooser_of-within delimiter columns place (reference_kind parent window spread) of within = absurd (let own = of.own in cc)
+chooser_of-within delimiter columns place (lookup_kind via parent name) of within = absurd (let own = of.own in cc)
+
+-- what is kept of it can be written
+case_is_ready : (delimiter on : ℕ) (branches : List LeafLayout) (columns : List ColumnLayout) (place : ℕ) → IsCase columns place on branches → IsKindInLimits columns on (column_at columns on).kind →
+    list_all is_served_leaf (map (ready_leaf delimiter) branches) ≡ true →
+    IsReadyKind (ready_kind delimiter (column_at columns on).kind) (ready_kind delimiter (case_kind on branches))
+case_is_ready delimiter on branches columns place limits pick_limits served =
+    let servable = branches_servable delimiter branches limits.each served in
+    let many : length (map (ready_leaf delimiter) branches) ≡ length branches = length-map branches (ready_leaf delimiter) in
+    pick_elim (λ kind. IsReadyKind (ready_kind delimiter kind) (ready_kind delimiter (case_kind on branches))) columns on (length branches) (column_at columns on).kind limits.pick pick_limits
+    (λ entries weights same some. (
+      All-map IsReady (ready_leaf delimiter) branches (λ i d within. leaf_is_ready delimiter (get_or branches i d) (servable i d within).0 (servable i d within).1),
+      refl,
+      same ∙ sym many,
+    ))
+
+pub kind_is_ready : (delimiter : ℕ) (columns : List ColumnLayout) (place : ℕ) (kind : KindLayout) → IsOwn delimiter columns place kind →
+    IsAllInLimits columns → place < length columns →
+    IsReadyKind (ready_kind delimiter (column_at columns (chooser_of place (ready_kind delimiter kind))).kind) (ready_kind delimiter kind)
+kind_is_ready delimiter columns place key_kind of all within = absurd (let own = of.own in cc)
+kind_is_ready delimiter columns place born_kind of all within = tt
+kind_is_ready delimiter columns place changed_kind of all within = absurd (let own = of.own in cc)
+kind_is_ready delimiter columns place (leaf_kind leaf) of all within = leaf_is_ready delimiter leaf of.limits of.served
+kind_is_ready delimiter columns place (template_kind parts) of all within = absurd (let own = of.own in cc)
+kind_is_ready delimiter columns place (case_kind on branches) of all within =
+    case_is_ready delimiter on branches columns place of.limits (all on (omega (arith, of.limits.earlier))) of.served
+kind_is_ready delimiter columns place (reference_kind parent window spread) of all within = absurd (let own = of.own in cc)
+kind_is_ready delimiter columns place (lookup_kind via parent name) of all within = absurd (let own = of.own in cc)
+
+-- its greatest size
+pub bounds_of-ready : (delimiter : ℕ) (tables : List TableLayout) (table : TableLayout) (columns : List ColumnLayout) (place : ℕ) (kind : KindLayout) → IsOwn delimiter columns place kind →
+    (bounds_of delimiter tables table kind).size ≡ max 2 (ready_kind_size (ready_kind delimiter kind))
+bounds_of-ready delimiter tables table columns place key_kind of = absurd (let own = of.own in cc)
+bounds_of-ready delimiter tables table columns place born_kind of = refl
+bounds_of-ready delimiter tables table columns place changed_kind of = absurd (let own = of.own in cc)
+bounds_of-ready delimiter tables table columns place (leaf_kind leaf) of = ap (max 2) (leaf_size-ready delimiter leaf of.limits of.served)
+bounds_of-ready delimiter tables table columns place (template_kind parts) of = absurd (let own = of.own in cc)
+bounds_of-ready delimiter tables table columns place (case_kind on branches) of = ap (max 2) (greatest_from delimiter 0 branches (branches_servable delimiter branches of.limits.each of.served))
+bounds_of-ready delimiter tables table columns place (reference_kind parent window spread) of = absurd (let own = of.own in cc)
+bounds_of-ready delimiter tables table columns place (lookup_kind via parent name) of = absurd (let own = of.own in cc)
+
+-- and what a row holds in it
+held_entry-ready : (delimiter : ℕ) (column : ColumnLayout) (draw : Draws) → held_entry column draw ≡ ready_held_entry (ready_column delimiter column) draw
+held_entry-ready delimiter column draw = ap (unless_null column.null draw) (entry_of-ready delimiter column.kind draw)
+
+held_entry-within : (columns : List ColumnLayout) (on count : ℕ) (draw : Draws) → IsPickOf count (column_at columns on).kind → IsKindInLimits columns on (column_at columns on).kind →
+    IfSome (held_entry (column_at columns on) draw) (λ entry. entry < count)
+held_entry-within columns on count draw pick limits =
+    pick_elim (λ kind. IfSome (unless_null (column_at columns on).null draw (entry_of kind draw)) (λ entry. entry < count)) columns on count (column_at columns on).kind pick limits
+    (entry_within (column_at columns on).null count draw)
+
+-- what is written for a value that isn't null
+abbrev ready_value_at : ℕ → List ColumnLayout → RowAt → RowDraws → ℕ → KindLayout → Option (List ℕ)
+ready_value_at delimiter columns at draws place kind =
+    let chooser : ℕ = chooser_of place (ready_kind delimiter kind) in
+    ready_value (decimal at.born) (ready_held_entry (ready_column delimiter (column_at columns chooser)) (draws chooser)) (draws place) (ready_kind delimiter kind)
+
+own_value-written : (delimiter : ℕ) (columns : List ColumnLayout) (at : RowAt) (draws : RowDraws) (place : ℕ) (kind : KindLayout) → IsOwn delimiter columns place kind →
+    IsAllInLimits columns → place < length columns →
+    option_map (piece_text delimiter) (own_value columns at draws place kind) ≡ ready_value_at delimiter columns at draws place kind
+own_value-written delimiter columns at draws place key_kind of all within = absurd (let own = of.own in cc)
+own_value-written delimiter columns at draws place born_kind of all within = ap Some (piece_text-plain delimiter (decimal at.born) (plain-decimal at.born))
+own_value-written delimiter columns at draws place changed_kind of all within = absurd (let own = of.own in cc)
+own_value-written delimiter columns at draws place (leaf_kind leaf) of all within = leaf_value-written delimiter leaf (draws place) of.limits of.served
+own_value-written delimiter columns at draws place (template_kind parts) of all within = absurd (let own = of.own in cc)
+own_value-written delimiter columns at draws place (case_kind on branches) of all within =
+    let pick : ColumnLayout = column_at columns on in
+    branch_written delimiter branches (draws place) (held_entry pick (draws on)) (branches_servable delimiter branches of.limits.each of.served)
+    (held_entry-within columns on (length branches) (draws on) of.limits.pick (all on (omega (arith, of.limits.earlier))))
+    ∙ ap (option_map (λ entry. ready_text (ready_branch (map (ready_leaf delimiter) branches) entry) (draws place))) (held_entry-ready delimiter pick (draws on))
+own_value-written delimiter columns at draws place (reference_kind parent window spread) of all within = absurd (let own = of.own in cc)
+own_value-written delimiter columns at draws place (lookup_kind via parent name) of all within = absurd (let own = of.own in cc)
+
+option_map-if : {A B : Type 0} (f : A → B) (null : Bool) (held : Option A) → option_map f (if null then None else held) ≡ (if null then None else option_map f held)
+option_map-if f true held = refl
+option_map-if f false held = refl
+
+pub own_field-written : (delimiter : ℕ) (columns : List ColumnLayout) (at : RowAt) (draws : RowDraws) (place chooser : ℕ) → IsOwn delimiter columns place (column_at columns place).kind →
+    IsAllInLimits columns → place < length columns → chooser ≡ chooser_of place (ready_kind delimiter (column_at columns place).kind) →
+    option_map (piece_text delimiter) (own_field columns at draws place)
+    ≡ ready_field (decimal at.born) (ready_column delimiter (column_at columns chooser)) (draws chooser) (ready_column delimiter (column_at columns place)) (draws place)
+own_field-written delimiter columns at draws place chooser of all within chosen =
+    let column : ColumnLayout = column_at columns place in
+    option_map-if (piece_text delimiter) (is_null column.null (draws place)) (own_value columns at draws place column.kind)
+    ∙ ap (unless_null column.null (draws place)) (own_value-written delimiter columns at draws place column.kind of all within)
+    ∙ ap (λ (by : ℕ). ready_field (decimal at.born) (ready_column delimiter (column_at columns by)) (draws by) (ready_column delimiter column) (draws place)) (sym chosen)

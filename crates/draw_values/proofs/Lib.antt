@@ -2,8 +2,10 @@ pub mod DigitLemmas
 pub mod WalkLemmas
 pub mod DateLemmas
 pub mod SizeLemmas
+pub mod CharacterLemmas
 pub mod PlainLemmas
 pub mod ReadyLemmas
 pub mod ColumnLemmas
+pub mod FieldLemmas
 pub mod CohortLemmas
 pub mod LineLemmas

@@ -1,59 +1,46 @@
 -- What a plan keeps ready for a drawn value gives that value, as it is written.
-use Rattle.std.proofs.Common.{◌≡◌, ◌≤◌, ℕ, ℤ, ◌-◌, ◌^◌, pos, ◌+ℤ◌, ◌<ℤ◌, true, max, List, [], map, length, Option, Some, None, refl, ap, sym, subst, ◌∙◌, arith}
+use Rattle.std.proofs.Common.{◌≡◌, ◌≤◌, ℕ, ℤ, ◌+◌, ◌-◌, ◌*◌, ◌%◌, ◌^◌, pos, ◌+ℤ◌, ◌<ℤ◌, true, max, List, [], map, length, encode_utf8, option_map, Option, Some, None, refl, ap, sym, subst, ◌∙◌, arith}
 use Rattle.std.specs.Prelude.{slice_index_or}
 use Rattle.std.specs.Fmt.{signed_decimal}
+use Rattle.std.specs.Str.{chars}
 use Rattle.std.proofs.lemmas.List.{length-map}
 use Rattle.std.proofs.lemmas.List.Folds.{fold-map}
 use Rattle.std.proofs.Math.ListN.{get_or-map}
 use Rattle.weight_tables.specs.Harmonic.{harmonic_weights}
 use Rattle.weight_tables.proofs.HarmonicLemmas.{length-harmonic_weights}
-use Rattle.row_text.specs.Fields.{field_text, piece_text}
-use Rattle.schema_check.specs.FieldBounds.{leaf_size}
+use Rattle.row_text.specs.Fields.{piece_text}
+use Rattle.schema_check.specs.FieldBounds.{greatest_by, leaf_size, written_size}
 use Rattle.schema_check.specs.Layout.{LeafLayout, int_leaf, fixed_leaf, date_leaf, pick_leaf, skew_leaf, dict_leaf, words_leaf, chars_leaf}
 use Rattle.schema_check.specs.Limits.{IsLeafInLimits}
 use Rattle.schema_check.specs.Ready.{is_served_leaf, ready_leaf}
-use Rattle.draw_values.specs.declared.values.Put.TheVariants.{Text}
 use Rattle.draw_values.specs.Dates.{date_text}
 use Rattle.draw_values.specs.Digits.{signed_pointed}
 use Rattle.draw_values.specs.ReadyValues.{IsReady, ready_size, ready_text}
-use Rattle.draw_values.specs.Values.{Draws, chosen, chosen_group, leaf_value, put_of, written}
+use Rattle.draw_values.specs.Values.{Draws, chosen, chosen_group, leaf_value}
+use Rattle.draw_values.proofs.CharacterLemmas.{piece_text-drawn_characters}
 use Rattle.draw_values.proofs.PlainLemmas.{piece_text-plain, plain-date_text, plain-signed_decimal, plain-signed_pointed}
 
--- a value that is a text, and how it is written
-pub record Gives (delimiter : ℕ) (value : Option (List ℕ)) (text : List ℕ) : Type 0 where
-  pub some : put_of value ≡ Text
-  pub alone : written delimiter value ≡ text
-  pub field : field_text delimiter value ≡ text
-
-pub gives : (delimiter : ℕ) (value : Option (List ℕ)) (bytes text : List ℕ) → value ≡ Some bytes → piece_text delimiter bytes ≡ text → Gives delimiter value text
-gives delimiter value bytes text is written_as = record {
-  some = ap put_of is;
-  alone = ap (written delimiter) is ∙ written_as;
-  field = ap (field_text delimiter) is ∙ written_as;
-}
-
 -- the drawn value
-pub leaf_gives : (delimiter : ℕ) (layout : LeafLayout) (draw : Draws) → is_served_leaf (ready_leaf delimiter layout) ≡ true →
-    Gives delimiter (leaf_value layout draw) (ready_text (ready_leaf delimiter layout) (draw 1))
-leaf_gives delimiter (int_leaf lo hi step) draw served =
-    let bytes : List ℕ = signed_decimal (chosen lo hi step (draw 1)) in
-    gives delimiter (Some bytes) bytes bytes refl (piece_text-plain delimiter bytes (plain-signed_decimal (chosen lo hi step (draw 1))))
-leaf_gives delimiter (fixed_leaf lo hi decimals) draw served =
-    let bytes : List ℕ = signed_pointed decimals (chosen lo hi 1 (draw 1)) in
-    gives delimiter (Some bytes) bytes bytes refl (piece_text-plain delimiter bytes (plain-signed_pointed decimals (chosen lo hi 1 (draw 1))))
-leaf_gives delimiter (date_leaf lo hi) draw served =
-    let bytes : List ℕ = date_text (chosen lo hi 1 (draw 1)) in
-    gives delimiter (Some bytes) bytes bytes refl (piece_text-plain delimiter bytes (plain-date_text (chosen lo hi 1 (draw 1))))
-leaf_gives delimiter (pick_leaf entries weights) draw served =
-    let group : ℕ = chosen_group weights (draw 1) in
-    gives delimiter (Some (slice_index_or entries group [])) (slice_index_or entries group []) (slice_index_or (map (piece_text delimiter) entries) group []) refl
-    (sym (get_or-map (piece_text delimiter) entries group []))
-leaf_gives delimiter (skew_leaf lo size power) draw served =
+pub leaf_value-written : (delimiter : ℕ) (layout : LeafLayout) (draw : Draws) → IsLeafInLimits layout → is_served_leaf (ready_leaf delimiter layout) ≡ true →
+    option_map (piece_text delimiter) (leaf_value layout draw) ≡ Some (ready_text (ready_leaf delimiter layout) draw)
+leaf_value-written delimiter (int_leaf lo hi step) draw limits served =
+    let number : ℤ = chosen lo hi step (draw 1) in
+    ap Some (piece_text-plain delimiter (signed_decimal number) (plain-signed_decimal number))
+leaf_value-written delimiter (fixed_leaf lo hi decimals) draw limits served =
+    let number : ℤ = chosen lo hi 1 (draw 1) in
+    ap Some (piece_text-plain delimiter (signed_pointed decimals number) (plain-signed_pointed decimals number))
+leaf_value-written delimiter (date_leaf lo hi) draw limits served =
+    let day : ℤ = chosen lo hi 1 (draw 1) in
+    ap Some (piece_text-plain delimiter (date_text day) (plain-date_text day))
+leaf_value-written delimiter (pick_leaf entries weights) draw limits served =
+    ap Some (sym (get_or-map (piece_text delimiter) entries (chosen_group weights (draw 1)) []))
+leaf_value-written delimiter (skew_leaf lo size power) draw limits served =
     let number : ℤ = lo +ℤ pos (chosen_group (harmonic_weights size power) (draw 1)) in
-    gives delimiter (Some (signed_decimal number)) (signed_decimal number) (signed_decimal number) refl (piece_text-plain delimiter (signed_decimal number) (plain-signed_decimal number))
-leaf_gives delimiter (dict_leaf dictionary) draw served = absurd (cc)
-leaf_gives delimiter (words_leaf dictionary lo hi) draw served = absurd (cc)
-leaf_gives delimiter (chars_leaf alphabet lo hi) draw served = absurd (cc)
+    ap Some (piece_text-plain delimiter (signed_decimal number) (plain-signed_decimal number))
+leaf_value-written delimiter (dict_leaf dictionary) draw limits served = absurd (cc)
+leaf_value-written delimiter (words_leaf dictionary lo hi) draw limits served = absurd (cc)
+leaf_value-written delimiter (chars_leaf alphabet lo hi) draw limits served =
+    ap Some (piece_text-drawn_characters delimiter (chars alphabet) draw (lo + draw 1 % (hi - lo + 1)) limits.0.some_character)
 
 -- its limits
 pub leaf_is_ready : (delimiter : ℕ) (layout : LeafLayout) → IsLeafInLimits layout → is_served_leaf (ready_leaf delimiter layout) ≡ true → IsReady (ready_leaf delimiter layout)
@@ -69,16 +56,23 @@ leaf_is_ready delimiter (skew_leaf lo size power) limits served =
     )
 leaf_is_ready delimiter (dict_leaf dictionary) limits served = absurd (cc)
 leaf_is_ready delimiter (words_leaf dictionary lo hi) limits served = absurd (cc)
-leaf_is_ready delimiter (chars_leaf alphabet lo hi) limits served = absurd (cc)
+leaf_is_ready delimiter (chars_leaf alphabet lo hi) limits served = (
+  omega (arith, limits.1.ordered, limits.1.length_limit),
+  sym (length-map (chars alphabet) (λ c. piece_text delimiter (encode_utf8 c))),
+)
 
 -- and its greatest size
-pub leaf_size-ready : (delimiter : ℕ) (layout : LeafLayout) → is_served_leaf (ready_leaf delimiter layout) ≡ true → leaf_size delimiter layout ≡ ready_size (ready_leaf delimiter layout)
-leaf_size-ready delimiter (int_leaf lo hi step) served = refl
-leaf_size-ready delimiter (fixed_leaf lo hi decimals) served = refl
-leaf_size-ready delimiter (date_leaf lo hi) served = refl
-leaf_size-ready delimiter (pick_leaf entries weights) served =
+pub leaf_size-ready : (delimiter : ℕ) (layout : LeafLayout) → IsLeafInLimits layout → is_served_leaf (ready_leaf delimiter layout) ≡ true → leaf_size delimiter layout ≡ ready_size (ready_leaf delimiter layout)
+leaf_size-ready delimiter (int_leaf lo hi step) limits served = refl
+leaf_size-ready delimiter (fixed_leaf lo hi decimals) limits served = refl
+leaf_size-ready delimiter (date_leaf lo hi) limits served = refl
+leaf_size-ready delimiter (pick_leaf entries weights) limits served =
     sym (fold-map (λ (most : ℕ) (text : List ℕ). max most (length text)) (piece_text delimiter) 0 entries)
-leaf_size-ready delimiter (skew_leaf lo size power) served = refl
-leaf_size-ready delimiter (dict_leaf dictionary) served = absurd (cc)
-leaf_size-ready delimiter (words_leaf dictionary lo hi) served = absurd (cc)
-leaf_size-ready delimiter (chars_leaf alphabet lo hi) served = absurd (cc)
+leaf_size-ready delimiter (skew_leaf lo size power) limits served = refl
+leaf_size-ready delimiter (dict_leaf dictionary) limits served = absurd (cc)
+leaf_size-ready delimiter (words_leaf dictionary lo hi) limits served = absurd (cc)
+leaf_size-ready delimiter (chars_leaf alphabet lo hi) limits served =
+    let most : hi ≡ lo + (hi - lo + 1) - 1 = omega (arith, limits.1.ordered) in
+    ap (λ (number : ℕ). number * greatest_by (λ c. written_size delimiter (encode_utf8 c)) (chars alphabet)) most
+    ∙ ap (λ (greatest : ℕ). (lo + (hi - lo + 1) - 1) * greatest)
+    (sym (fold-map (λ (most : ℕ) (text : List ℕ). max most (length text)) (λ c. piece_text delimiter (encode_utf8 c)) 0 (chars alphabet)))

@@ -1,0 +1,91 @@
+-- What a row holds in a column of units or of drawn values, as it is written, by what a plan keeps of the columns.
+use Rattle.std.proofs.Common.{◌≡◌, ◌<◌, ◌≤◌, ℕ, true, max, List, [], decimal, length, get_or, option_map, Option, None, Some, ap, sym, ◌∙◌, subst, arith}
+use Rattle.std.specs.Prelude.{All, unwrap_or}
+use Rattle.row_text.specs.Fields.{field_text, piece_text}
+use Rattle.schema_check.specs.declared.ready.ReadyColumn.{ReadyColumn}
+use Rattle.schema_check.specs.declared.ready.ReadyKind.{ReadyKind}
+use Rattle.schema_check.specs.Layout.{ColumnLayout, Layout, column_at, table_at}
+use Rattle.schema_check.specs.Limits.{IsTableInLimits}
+use Rattle.schema_check.specs.Ready.{is_served, ready_column, ready_columns, ready_kind}
+use Rattle.draw_values.specs.declared.values.RowAt.{RowAt}
+use Rattle.draw_values.specs.ReadyValues.{IsReadyKind, chooser_of, ready_field, ready_kind_size}
+use Rattle.draw_values.specs.Values.{Draws, draws_at, is_own, put_of, size_at, value_at, written}
+use Rattle.draw_values.proofs.ColumnLemmas.{IsAllInLimits, IsOwn, bounds_of-ready, chooser_of-within, kind_is_ready, length-ready_columns, own_field-written, ready_column-at}
+
+-- ---- a value that is known as it is written
+
+pub put_of-written : (delimiter : ℕ) (value held : Option (List ℕ)) → option_map (piece_text delimiter) value ≡ held → put_of held ≡ put_of value
+put_of-written delimiter None held is = ap put_of (sym is)
+put_of-written delimiter (Some text) held is = ap put_of (sym is)
+
+pub unwrap_or-written : (delimiter : ℕ) (value held : Option (List ℕ)) → option_map (piece_text delimiter) value ≡ held → unwrap_or held [] ≡ written delimiter value
+unwrap_or-written delimiter None held is = ap (λ (text : Option (List ℕ)). unwrap_or text []) (sym is)
+unwrap_or-written delimiter (Some text) held is = ap (λ (text : Option (List ℕ)). unwrap_or text []) (sym is)
+
+pub length-field_text : (delimiter size : ℕ) (value held : Option (List ℕ)) → option_map (piece_text delimiter) value ≡ held → length (unwrap_or held []) ≤ size → length (field_text delimiter value) ≤ max 2 size
+length-field_text delimiter size None held is fits = omega arith
+length-field_text delimiter size (Some text) held is fits = omega (arith, ap (λ (text : Option (List ℕ)). length (unwrap_or text [])) is, fits)
+
+-- ---- the columns that are kept
+
+-- a column that is kept for a field, and the one that it is chosen by
+pub record IsKeptField (layout : Layout) (table place by : ℕ) (column chooser : ReadyColumn) : Type 0 where
+  pub own : IsOwn layout.delimiter (table_at layout.tables table).columns place (column_at (table_at layout.tables table).columns place).kind
+  pub limits : IsAllInLimits (table_at layout.tables table).columns
+  pub within : place < length (table_at layout.tables table).columns
+  pub by_within : by < length (table_at layout.tables table).columns
+  pub column_is : column ≡ ready_column layout.delimiter (column_at (table_at layout.tables table).columns place)
+  pub chooser_is : chooser ≡ ready_column layout.delimiter (column_at (table_at layout.tables table).columns by)
+  pub by_is : by ≡ chooser_of place (ready_kind layout.delimiter (column_at (table_at layout.tables table).columns place).kind)
+
+pub kept_field : (layout : Layout) (table place by units : ℕ) (kept : List ReadyColumn) (column chooser : ReadyColumn) → kept ≡ ready_columns layout table → All (λ column. is_served column ≡ true) kept →
+    IsTableInLimits units (table_at layout.tables table) → place < length (table_at layout.tables table).columns → is_own (column_at (table_at layout.tables table).columns place).kind ≡ true →
+    column ≡ get_or kept place column → by ≡ chooser_of place column.kind → chooser ≡ get_or kept by chooser → IsKeptField layout table place by column chooser
+kept_field layout table place by units kept column chooser kept_is served limits within own at by_at chooser_at =
+    let columns : List ColumnLayout = (table_at layout.tables table).columns in
+    let many : length kept ≡ length columns = ap length kept_is ∙ length-ready_columns layout table in
+    let column_is : column ≡ ready_column layout.delimiter (column_at columns place) = ready_column-at layout.delimiter columns kept place column kept_is within at in
+    let by_is : by ≡ chooser_of place (ready_kind layout.delimiter (column_at columns place).kind) = by_at ∙ ap (λ (found : ReadyColumn). chooser_of place found.kind) column_is in
+    let is : IsOwn layout.delimiter columns place (column_at columns place).kind = record {
+      own = own;
+      limits = limits.kinds place within;
+      served = ap is_served (sym column_is) ∙ ap is_served at ∙ served place column (omega arith);
+    } in
+    let by_within : by < length columns = omega (arith, by_is, chooser_of-within layout.delimiter columns place (column_at columns place).kind is within) in
+    record {
+      own = is;
+      limits = limits.kinds;
+      within = within;
+      by_within = by_within;
+      column_is = column_is;
+      chooser_is = ready_column-at layout.delimiter columns kept by chooser kept_is by_within chooser_at;
+      by_is = by_is;
+    }
+
+pub field_is_ready : (layout : Layout) (table place by : ℕ) (column chooser : ReadyColumn) → IsKeptField layout table place by column chooser → IsReadyKind chooser.kind column.kind
+field_is_ready layout table place by column chooser kept =
+    let columns : List ColumnLayout = (table_at layout.tables table).columns in
+    let d : ℕ = layout.delimiter in
+    let ready = kind_is_ready d columns place (column_at columns place).kind kept.own kept.limits kept.within in
+    let chooser_kind : ready_kind d (column_at columns (chooser_of place (ready_kind d (column_at columns place).kind))).kind ≡ chooser.kind =
+    ap (λ (n : ℕ). ready_kind d (column_at columns n).kind) (sym kept.by_is) ∙ ap (λ (found : ReadyColumn). found.kind) (sym kept.chooser_is) in
+    subst (λ (kind : ReadyKind). IsReadyKind chooser.kind kind) (ap (λ (found : ReadyColumn). found.kind) (sym kept.column_is))
+    (subst (λ (kind : ReadyKind). IsReadyKind kind (ready_kind d (column_at columns place).kind)) chooser_kind ready)
+
+pub size_at-kept : (layout : Layout) (table place by : ℕ) (column chooser : ReadyColumn) → IsKeptField layout table place by column chooser →
+    size_at layout table place ≡ max 2 (ready_kind_size column.kind)
+size_at-kept layout table place by column chooser kept =
+    bounds_of-ready layout.delimiter layout.tables (table_at layout.tables table) (table_at layout.tables table).columns place (column_at (table_at layout.tables table).columns place).kind kept.own
+    ∙ ap (λ (found : ReadyColumn). max 2 (ready_kind_size found.kind)) (sym kept.column_is)
+
+pub value_at-kept : (layout : Layout) (table place by : ℕ) (column chooser : ReadyColumn) → IsKeptField layout table place by column chooser →
+    (at : RowAt) (birth : List ℕ) (draws chooser_draws : Draws) → birth ≡ decimal at.born → draws ≡ draws_at layout table at place → chooser_draws ≡ draws_at layout table at by →
+    option_map (piece_text layout.delimiter) (value_at layout table place at) ≡ ready_field birth chooser chooser_draws column draws
+value_at-kept layout table place by column chooser kept at birth draws chooser_draws birth_is draws_are chooser_draws_are =
+    let columns : List ColumnLayout = (table_at layout.tables table).columns in
+    own_field-written layout.delimiter columns at (draws_at layout table at) place by kept.own kept.limits kept.within kept.by_is
+    ∙ ap (λ (text : List ℕ). ready_field text (ready_column layout.delimiter (column_at columns by)) (draws_at layout table at by) (ready_column layout.delimiter (column_at columns place)) (draws_at layout table at place)) (sym birth_is)
+    ∙ ap (λ (found : ReadyColumn). ready_field birth found (draws_at layout table at by) (ready_column layout.delimiter (column_at columns place)) (draws_at layout table at place)) (sym kept.chooser_is)
+    ∙ ap (λ (found : ReadyColumn). ready_field birth chooser (draws_at layout table at by) found (draws_at layout table at place)) (sym kept.column_is)
+    ∙ ap (λ (drawn : Draws). ready_field birth chooser drawn column (draws_at layout table at place)) (sym chooser_draws_are)
+    ∙ ap (λ (drawn : Draws). ready_field birth chooser chooser_draws column drawn) (sym draws_are)
