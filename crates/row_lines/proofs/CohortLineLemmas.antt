@@ -17,7 +17,7 @@ use Rattle.schema_check.specs.Ready.{is_served, is_served_kind, ready_column, re
 use Rattle.schema_check.specs.TableFacts.{line_cost, max_line}
 use Rattle.draw_values.specs.declared.values.RowAt.{RowAt}
 use Rattle.draw_values.specs.CohortValues.{ValuesOf, value_for}
-use Rattle.draw_values.specs.declared.values.Put.TheVariants.{Text}
+use Rattle.draw_values.specs.declared.values.Put.TheVariants.{Text, Null}
 use Rattle.draw_values.specs.Values.{is_own, own_field, put_of, written}
 use Rattle.life_intervals.specs.CohortKeys.{CohortOf}
 use Rattle.life_intervals.specs.Generator.{Generator, generator_of, last_unit}
@@ -151,6 +151,14 @@ text-own lines values place index ordinal values_are ordinal_is own within below
 pub written-text : (delimiter : ℕ) (value : Option (List ℕ)) → Text ≡ put_of value → written delimiter value ≡ field_text delimiter value
 written-text delimiter (Some text) is = refl
 written-text delimiter None is = cc
+
+pub written-null : (delimiter : ℕ) (value : Option (List ℕ)) → Null ≡ put_of value → written delimiter value ≡ []
+written-null delimiter (Some text) is = cc
+written-null delimiter None is = refl
+
+pub field_text-null : (delimiter : ℕ) (value : Option (List ℕ)) → Null ≡ put_of value → field_text delimiter value ≡ codes "\\N"
+field_text-null delimiter (Some text) is = cc
+field_text-null delimiter None is = refl
 
 pub length-delimiter : (column delimiter : ℕ) → length (if column == 0 then [] else delimiter ∷ []) ≡ min column 1
 length-delimiter zero delimiter = refl

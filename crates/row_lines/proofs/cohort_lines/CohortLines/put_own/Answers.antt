@@ -1,4 +1,6 @@
-use Rattle.std.proofs.Common.{◌≡◌, ◌≤◌, ◌++◌, ◌+◌, ℕ, List, ap, sym, subst, ◌∙◌, arith, length}
+use Rattle.std.proofs.Common.{◌≡◌, ◌≤◌, ◌++◌, ◌+◌, ℕ, List, ap, sym, subst, ◌∙◌, arith, codes, length}
+use Rattle.std.proofs.lemmas.List.{append-nil}
+use Rattle.pd_outside.specs.Pages.{Page}
 use Rattle.row_text.specs.Fields.{field_text}
 use Rattle.schema_check.specs.Layout.{layout_of}
 use Rattle.draw_values.specs.CohortValues.{ValuesOf, size_for, value_for}
@@ -6,7 +8,7 @@ use Rattle.draw_values.specs.Values.{written}
 use Rattle.life_intervals.specs.Generator.{last_unit}
 use Rattle.life_intervals.proofs.CohortLemmas.{cohort-within}
 use Rattle.row_lines.specs.CohortLines.{LinesOf, layout_for, text_in_cohort}
-use Rattle.row_lines.proofs.CohortLineLemmas.{AreLinesOf-view, text-own, written-text}
+use Rattle.row_lines.proofs.CohortLineLemmas.{AreLinesOf-view, field_text-null, text-own, written-null, written-text}
 use Rattle.row_lines.proofs.cohort_lines.CohortLines.put_own.Goals as goal
 
 pub overflow_add-self-inside : goal.overflow_add-self-inside
@@ -41,6 +43,38 @@ returns-in-Text-clause-text c =
 
 pub returns-in-Text-clause-size : goal.returns-in-Text-clause-size
 returns-in-Text-clause-size c =
+    let lines : LinesOf = c.args.self.now in
+    let known = AreLinesOf-view _ lines c.self.inside.keys c.self.inside.values c.self.inside.columns.now c.self.inside.first c.self.inside.delimiter c.self.view_is c.self.invariant in
+    let ordinal : ℕ = c.self.inside.first + c.args.index in
+    let value = value_for c.self.inside.values c.args.column ordinal in
+    let is = text-own lines c.self.inside.values c.args.column c.args.index ordinal known.values_are (ap (λ (first : ℕ). first + c.args.index) known.first_is) c.requires.own known.born c.requires.row in
+    let size : length (field_text (layout_of lines.plan.schema).delimiter value) ≤ size_for (record { plan = lines.plan; table = lines.table; unit = lines.born }) c.args.column =
+    subst (λ (of : ValuesOf). length (field_text (layout_of of.plan.schema).delimiter value) ≤ size_for of c.args.column) known.values_are c.put.ensures.size in
+    subst (λ (text : List ℕ). length text ≤ size_for (record { plan = lines.plan; table = lines.table; unit = lines.born }) c.args.column) (sym is) size
+
+-- a null field is written as such
+text_is_null : (c : goal.After-put_null) → text_in_cohort c.args.self.now c.args.index c.args.column ≡ codes "\\N"
+text_is_null c =
+    let lines : LinesOf = c.args.self.now in
+    let known = AreLinesOf-view _ lines c.self.inside.keys c.self.inside.values c.self.inside.columns.now c.self.inside.first c.self.inside.delimiter c.self.view_is c.self.invariant in
+    let ordinal : ℕ = c.self.inside.first + c.args.index in
+    text-own lines c.self.inside.values c.args.column c.args.index ordinal known.values_are (ap (λ (first : ℕ). first + c.args.index) known.first_is) c.requires.own known.born c.requires.row
+    ∙ field_text-null (layout_of lines.plan.schema).delimiter (value_for c.self.inside.values c.args.column ordinal) (sym c.in-Null.is ∙ c.put.ensures.put)
+
+pub returns-in-Null-clause-text : goal.returns-in-Null-clause-text
+returns-in-Null-clause-text c =
+    let before : List ℕ = c.args.buf.now.text in
+    let room : ℕ = c.args.buf.now.room in
+    let value = value_for c.self.inside.values c.args.column (c.self.inside.first + c.args.index) in
+    c.put_null.ensures
+    ∙ ap (λ (page : Page). record { text = page.text ++ codes "\\N"; room = page.room }) c.put.ensures.text
+    ∙ ap (λ (text : List ℕ). record { text = (before ++ text) ++ codes "\\N"; room = room })
+    (written-null (layout_of c.self.inside.values.plan.schema).delimiter value (sym c.in-Null.is ∙ c.put.ensures.put))
+    ∙ ap (λ (text : List ℕ). record { text = text ++ codes "\\N"; room = room }) (append-nil before)
+    ∙ ap (λ (text : List ℕ). record { text = before ++ text; room = room }) (sym (text_is_null c))
+
+pub returns-in-Null-clause-size : goal.returns-in-Null-clause-size
+returns-in-Null-clause-size c =
     let lines : LinesOf = c.args.self.now in
     let known = AreLinesOf-view _ lines c.self.inside.keys c.self.inside.values c.self.inside.columns.now c.self.inside.first c.self.inside.delimiter c.self.view_is c.self.invariant in
     let ordinal : ℕ = c.self.inside.first + c.args.index in
