@@ -9,6 +9,7 @@ use Rattle.std.proofs.lemmas.List.FromFn.{map-range_with_len_more}
 use Rattle.row_text.specs.Fields.{escaped, piece_text}
 use Rattle.draw_values.specs.ReadyValues.{chosen_texts}
 use Rattle.draw_values.specs.Values.{Draws, drawn_characters}
+use std.Path.{fun_ext}
 
 -- one text more
 pub chosen_texts-more : (texts : List (List ℕ)) (draw : Draws) (n : ℕ) →
@@ -22,23 +23,26 @@ chosen_texts-more texts draw n =
     ∙ ap (λ (front : List ℕ). front ++ (chosen n ++ [])) (flat_map-map (λ (text : List ℕ). text) chosen (range_with_len 0 n))
     ∙ ap (λ (last : List ℕ). chosen_texts texts draw n ++ last) (append-nil (chosen n))
 
--- characters are written one by one
-written_characters : (delimiter : ℕ) (alphabet : List ℕ) (draw : Draws) (numbers : List ℕ) → 1 ≤ length alphabet →
-    piece_text delimiter (flat_map (λ k. encode_utf8 (slice_index alphabet (draw (2 + k) % length alphabet))) numbers)
-    ≡ flat_map (λ k. slice_index_or (map (λ c. piece_text delimiter (encode_utf8 c)) alphabet) (draw (2 + k) % length (map (λ c. piece_text delimiter (encode_utf8 c)) alphabet)) []) numbers
-written_characters delimiter alphabet draw [] some = refl
-written_characters delimiter alphabet draw (k ∷ numbers) some =
-    let text_of : ℕ → List ℕ = λ (c : ℕ). piece_text delimiter (encode_utf8 c) in
-    let place : ℕ = draw (2 + k) % length alphabet in
-    let within : place < length alphabet = omega arith in
-    let own : text_of (slice_index alphabet place) ≡ slice_index_or (map text_of alphabet) (draw (2 + k) % length (map text_of alphabet)) [] =
-    sym (get_or-map text_of alphabet place 0 [] within)
-    ∙ ap (λ (many : ℕ). slice_index_or (map text_of alphabet) (draw (2 + k) % many) []) (sym (length-map alphabet text_of)) in
-    let rest = written_characters delimiter alphabet draw numbers some in
-    flat_map-append (escaped delimiter) (encode_utf8 (slice_index alphabet place)) (flat_map (λ n. encode_utf8 (slice_index alphabet (draw (2 + n) % length alphabet))) numbers)
-    ∙ ap (λ (front : List ℕ). front ++ piece_text delimiter (flat_map (λ n. encode_utf8 (slice_index alphabet (draw (2 + n) % length alphabet))) numbers)) own
-    ∙ ap (λ (back : List ℕ). slice_index_or (map text_of alphabet) (draw (2 + k) % length (map text_of alphabet)) [] ++ back) rest
+-- a text of pieces is written piece by piece
+pub piece_text-flat_map : {X : Type 0} (delimiter : ℕ) (piece : X → List ℕ) (xs : List X) → piece_text delimiter (flat_map piece xs) ≡ flat_map (λ x. piece_text delimiter (piece x)) xs
+piece_text-flat_map delimiter piece [] = refl
+piece_text-flat_map delimiter piece (x ∷ xs) =
+    flat_map-append (escaped delimiter) (piece x) (flat_map piece xs)
+    ∙ ap (λ (rest : List ℕ). piece_text delimiter (piece x) ++ rest) (piece_text-flat_map delimiter piece xs)
 
+-- a character as it is written is the one at its place among those that are kept
+written_character : (delimiter : ℕ) (alphabet : List ℕ) (drawn : ℕ) → 1 ≤ length alphabet →
+    piece_text delimiter (encode_utf8 (slice_index alphabet (drawn % length alphabet)))
+    ≡ slice_index_or (map (λ c. piece_text delimiter (encode_utf8 c)) alphabet) (drawn % length (map (λ c. piece_text delimiter (encode_utf8 c)) alphabet)) []
+written_character delimiter alphabet drawn some =
+    let text_of : ℕ → List ℕ = λ (c : ℕ). piece_text delimiter (encode_utf8 c) in
+    let within : drawn % length alphabet < length alphabet = omega arith in
+    sym (get_or-map text_of alphabet (drawn % length alphabet) 0 [] within)
+    ∙ ap (λ (many : ℕ). slice_index_or (map text_of alphabet) (drawn % many) []) (sym (length-map alphabet text_of))
+
+-- characters that draws choose
 pub piece_text-drawn_characters : (delimiter : ℕ) (alphabet : List ℕ) (draw : Draws) (count : ℕ) → 1 ≤ length alphabet →
     piece_text delimiter (drawn_characters alphabet draw count) ≡ chosen_texts (map (λ c. piece_text delimiter (encode_utf8 c)) alphabet) draw count
-piece_text-drawn_characters delimiter alphabet draw count some = written_characters delimiter alphabet draw (range_with_len 0 count) some
+piece_text-drawn_characters delimiter alphabet draw count some =
+    piece_text-flat_map delimiter (λ k. encode_utf8 (slice_index alphabet (draw (2 + k) % length alphabet))) (range_with_len 0 count)
+    ∙ ap (λ (text_of : ℕ → List ℕ). flat_map text_of (range_with_len 0 count)) (fun_ext (λ (k : ℕ). written_character delimiter alphabet (draw (2 + k)) some))

@@ -1,5 +1,5 @@
 -- The values of a cohort's rows, by what is kept of them.
-use Rattle.std.proofs.Common.{◌≡◌, ◌<◌, ℕ, List, get_or, length, ap, subst, ◌∙◌, arith}
+use Rattle.std.proofs.Common.{◌≡◌, ◌<◌, ℕ, List, get_or, length, ap, subst, arith}
 use Rattle.pd_outside.specs.declared.piece.Piece.{Piece}
 use Rattle.schema_check.specs.declared.ready.ReadyColumn.{ReadyColumn}
 use Rattle.schema_check.specs.Layout.{layout_of}

@@ -1,26 +1,24 @@
 -- What a plan keeps ready for a column gives what a row holds there, as it is written.
-use Rattle.std.proofs.Common.{◌≡◌, ◌<◌, ◌≤◌, ℕ, suc, Bool, true, false, max, List, [], ◌∷◌, map, decimal, fold, length, get_or, ◌+◌, ◌%◌, IfSome, option_map, Option, None, Some, if◌then◌else◌, refl, ap, sym, subst, ◌∙◌, arith}
+use Rattle.std.proofs.Common.{◌≡◌, ◌<◌, ◌≤◌, ℕ, Bool, true, false, max, List, [], ◌∷◌, map, decimal, fold, length, get_or, ◌%◌, IfSome, option_map, Option, None, Some, if◌then◌else◌, refl, ap, sym, ◌∙◌, arith}
 use Rattle.std.specs.Prelude.{All, option_and_then, sum}
 use Rattle.std.specs.List.{list_all}
 use Rattle.std.proofs.lemmas.Fmt.{length-decimal-le}
-use Rattle.std.proofs.lemmas.List.{get_or-map, get_or_default, length-map}
+use Rattle.std.proofs.lemmas.List.{get_or-map, length-map}
 use Rattle.std.proofs.lemmas.List.Elements.{All-head, All-map, All-tail}
 use Rattle.std.proofs.lemmas.List.Folds.{list_all-map}
 use Rattle.weight_tables.proofs.PrefixSumLemmas.{sum-cons}
 use Rattle.weight_tables.proofs.SelectionLemmas.{Selects-selected}
 use Rattle.row_text.specs.Fields.{piece_text}
 use Rattle.schema_check.specs.declared.ready.ReadyColumn.{ReadyColumn}
-use Rattle.schema_check.specs.declared.ready.ReadyKind.{ReadyKind}
-use Rattle.schema_check.specs.declared.ready.ReadyKind.TheVariants as ready
 use Rattle.schema_check.specs.declared.ready.ReadyLeaf.{ReadyLeaf}
 use Rattle.schema_check.specs.declared.ready.ReadyLeaf.TheVariants.{Unserved}
-use Rattle.schema_check.specs.FieldBounds.{bounds_of, greatest_by, leaf_size}
+use Rattle.schema_check.specs.FieldBounds.{bounds_of, leaf_size}
 use Rattle.schema_check.specs.Layout.{LeafLayout, int_leaf, fixed_leaf, date_leaf, pick_leaf, skew_leaf, dict_leaf, words_leaf, chars_leaf, KindLayout, key_kind, born_kind, changed_kind, leaf_kind, template_kind, case_kind, reference_kind, lookup_kind, ColumnLayout, Layout, TableLayout, column_at, no_column, table_at}
 use Rattle.schema_check.specs.Limits.{IsCase, IsKindInLimits, IsLeafInLimits, IsPickOf}
-use Rattle.schema_check.specs.Ready.{is_served, is_served_kind, is_served_leaf, ready_column, ready_columns, ready_kind, ready_leaf}
+use Rattle.schema_check.specs.Ready.{is_served_kind, is_served_leaf, ready_column, ready_columns, ready_kind, ready_leaf}
 use Rattle.schema_check.proofs.FromTests.{passes_each}
 use Rattle.draw_values.specs.declared.values.RowAt.{RowAt}
-use Rattle.draw_values.specs.ReadyValues.{IsReady, IsReadyKind, IsReadyPick, chooser_of, entry_count, ready_branch, ready_entry, ready_field, ready_held_entry, ready_kind_size, ready_size, ready_text, ready_value}
+use Rattle.draw_values.specs.ReadyValues.{IsReady, IsReadyKind, chooser_of, ready_branch, ready_entry, ready_field, ready_held_entry, ready_kind_size, ready_size, ready_text, ready_value}
 use Rattle.draw_values.specs.Values.{Draws, RowDraws, branch_at, chosen_group, entry_of, held_entry, is_null, is_own, leaf_value, own_field, own_value, unless_null}
 use Rattle.draw_values.proofs.PlainLemmas.{piece_text-plain, plain-decimal}
 use Rattle.draw_values.proofs.ReadyLemmas.{leaf_is_ready, leaf_size-ready, leaf_value-written}

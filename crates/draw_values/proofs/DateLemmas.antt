@@ -1,8 +1,8 @@
 -- The text of a date, and its day number.
-use Rattle.std.proofs.Common.{◌≡◌, ◌<◌, ◌≤◌, ◌≤ℤ◌, ℕ, ℤ, pos, negsuc, neg_ℤ, suc, ◌+◌, ◌-◌, ◌+ℤ◌, List, ◌∷◌, ◌++◌, length, inl, inr, refl, ap, subst, sym, ◌∙◌, length-append, arith}
+use Rattle.std.proofs.Common.{◌≡◌, ◌≤◌, ◌≤ℤ◌, ℕ, ℤ, pos, negsuc, neg_ℤ, ◌+◌, ◌-◌, ◌+ℤ◌, ◌∷◌, ◌++◌, length, inl, inr, refl, ap, subst, sym, ◌∙◌, length-append, arith}
 use Rattle.std.proofs.lemmas.Bool.{cases_lt}
 use Rattle.std.proofs.lemmas.Int.{by_lt_z}
-use Rattle.jiff_core.specs.Calendar.{IsCivilDate, days_from_civil, days_in_year, days_of_months, day_count, day_of_year}
+use Rattle.jiff_core.specs.Calendar.{IsCivilDate, days_from_civil, day_count, day_of_year}
 use Rattle.jiff_core.specs.Date.{epoch_day}
 use Rattle.jiff_core.specs.declared.civil.date.Date.{Date}
 use Rattle.jiff_core.proofs.CalendarLemmas.{day_count-day_of_year, day_count-later_year, day_count-lt_year, day_of_year_bound, days_from_civil-day_count, days_of_months-zero}

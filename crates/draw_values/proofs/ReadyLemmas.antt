@@ -1,6 +1,5 @@
 -- What a plan keeps ready for a drawn value gives that value, as it is written.
-use Rattle.std.proofs.Common.{◌≡◌, ◌≤◌, ℕ, ℤ, ◌+◌, ◌-◌, ◌*◌, ◌%◌, ◌^◌, pos, ◌+ℤ◌, ◌<ℤ◌, true, max, List, [], map, length, encode_utf8, option_map, Option, Some, None, refl, ap, sym, subst, ◌∙◌, arith}
-use Rattle.std.specs.Prelude.{slice_index_or}
+use Rattle.std.proofs.Common.{◌≡◌, ℕ, ℤ, ◌+◌, ◌-◌, ◌*◌, ◌%◌, ◌^◌, pos, ◌+ℤ◌, ◌<ℤ◌, true, max, List, [], length, encode_utf8, option_map, Some, refl, ap, sym, subst, ◌∙◌, arith}
 use Rattle.std.specs.Fmt.{signed_decimal}
 use Rattle.std.specs.Str.{chars}
 use Rattle.std.proofs.lemmas.List.{length-map}

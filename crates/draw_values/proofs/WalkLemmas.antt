@@ -1,10 +1,10 @@
 -- The walk over years and months ends where a date lies.
-use Rattle.std.proofs.Common.{◌≡◌, ◌<◌, ◌≤◌, ℕ, ℤ, pos, zero, suc, ◌+◌, ◌-◌, true, false, if◌then◌else◌, nat_lt, inl, inr, refl, ap, sym, ◌∙◌, arith}
+use Rattle.std.proofs.Common.{◌≡◌, ◌<◌, ◌≤◌, ℕ, ℤ, pos, zero, suc, ◌+◌, ◌-◌, if◌then◌else◌, inl, inr, refl, ap, ◌∙◌, arith}
 use Rattle.std.proofs.lemmas.Bool.{cases_lt, lt-ltb, le-ltb}
 use Rattle.jiff_core.specs.Calendar.{days_in_month, days_in_year, days_of_months, day_count}
 use Rattle.jiff_core.proofs.CalendarLemmas.{day_count-later_year, day_count-next_year, days_of_months_more, days_of_months_mono}
 use Rattle.jiff_core.proofs.SignedLemmas.{signed_arith}
-use Rattle.draw_values.specs.Dates.{Found, month_from, year_from}
+use Rattle.draw_values.specs.Dates.{month_from, year_from}
 
 -- a day of the first year ends the walk, and a later one goes on
 year_from-here : (years year day : ℕ) → day < days_in_year (pos year) → year_from years year day ≡ record { number = year; rest = day }

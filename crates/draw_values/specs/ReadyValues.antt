@@ -1,5 +1,5 @@
 -- What is written for a field by what a plan keeps ready for its column, and what has to be kept so that it can be.
-use Rattle.std.specs.Prelude.{◌≡◌, ◌<◌, ◌≤◌, ℕ, ℤ, pos, ◌+◌, ◌-◌, ◌*◌, ◌%◌, ◌^◌, ◌+ℤ◌, ◌<ℤ◌, List, [], All, Option, Some, None, flat_map, length, option_map, sum, slice_index_or, ⊤}
+use Rattle.std.specs.Prelude.{◌≡◌, ◌≤◌, ℕ, pos, ◌+◌, ◌-◌, ◌*◌, ◌%◌, ◌^◌, ◌+ℤ◌, ◌<ℤ◌, List, [], All, Option, Some, None, flat_map, length, option_map, sum, slice_index_or, ⊤}
 use Rattle.std.specs.Fmt.{signed_decimal}
 use Rattle.std.specs.List.{range_with_len}
 use Rattle.philox_seeds.specs.SeedTree.{draw, row_seed}

@@ -2,15 +2,16 @@
 //!
 //! Days are counted from 1970-01-01, which is day 0.
 
-ghost use Rattle.std.specs.Prelude.{◌≡◌, ℕ, ◌+◌, ◌*◌, ◌^◌, ◌<◌, ◌≤◌, ℤ, pos, neg_ℤ, ◌+ℤ◌, ◌≤ℤ◌, [], ◌∷◌, Some, codes};
+ghost use Rattle.std.specs.Prelude.{◌≡◌, ℕ, ◌+◌, ◌*◌, ◌^◌, ◌<◌, ◌≤◌, ℤ, pos, neg_ℤ, ◌+ℤ◌, ◌≤ℤ◌, ◌%◌, List, [], ◌∷◌, None, Some, codes, encode_utf8, flat_map, length, slice_index};
 ghost use Rattle.std.specs.Fmt.{signed_decimal};
+ghost use Rattle.std.specs.List.{range_with_len};
 ghost use Rattle.jiff_core.specs.Calendar.{IsCivilDate, days_from_civil};
 ghost use Rattle.row_text.specs.Fields.{piece_text};
 ghost use Rattle.schema_check.specs.Choices.{choices};
-ghost use Rattle.schema_check.specs.Layout.{date_leaf, fixed_leaf, int_leaf, pick_leaf, skew_leaf};
+ghost use Rattle.schema_check.specs.Layout.{chars_leaf, date_leaf, fixed_leaf, int_leaf, pick_leaf, skew_leaf};
 ghost use Rattle.draw_values.specs.Dates.{date_digits, date_text};
 ghost use Rattle.draw_values.specs.Digits.{signed_pointed};
-ghost use Rattle.draw_values.specs.Values.{chosen, leaf_value};
+ghost use Rattle.draw_values.specs.Values.{Draws, chosen, drawn_characters, leaf_value, unless_null};
 
 /// A draw chooses a number of the range, so many steps past its first, and each of them is chosen by as many steps.
 pub fn a_draw_chooses_a_number_of_the_range()
@@ -36,7 +37,14 @@ pub fn numbers_and_dates_are_written_as_they_are()
         piece_text delimiter (date_text day) ≡ date_text day }
 {}
 
-/// Values worked out by hand, where draw n is 2 * n + 1, so that the one that is taken is 3; in the last, where it is n * 10^9.
+/// A text of characters is written character by character.
+pub fn characters_are_written_one_by_one()
+    ensures { (delimiter : ℕ) (characters : List ℕ) (draw : Draws) (count : ℕ) →
+        piece_text delimiter (drawn_characters characters draw count)
+        ≡ flat_map (λ k. piece_text delimiter (encode_utf8 (slice_index characters (draw (2 + k) % length characters)))) (range_with_len 0 count) }
+{}
+
+/// Values worked out by hand, where draw n is 2 * n + 1, so that the one that is taken is 3; for the skew, where it is n * 10^9.
 pub fn worked_values()
     ensures int { leaf_value (int_leaf (neg_ℤ (pos 5)) (pos 9) 4) (λ n. 2 * n + 1) ≡ Some (codes "7") }
     ensures fixed { leaf_value (fixed_leaf (neg_ℤ (pos 8)) (pos 0) 2) (λ n. 2 * n + 1) ≡ Some (codes "-0.05") }
@@ -44,6 +52,14 @@ pub fn worked_values()
     ensures date { leaf_value (date_leaf (pos 19779) (pos 20000)) (λ n. 2 * n + 1) ≡ Some (codes "2024-02-29") }
     ensures pick { leaf_value (pick_leaf (codes "a" ∷ codes "b" ∷ codes "c" ∷ []) (1 ∷ 2 ∷ 3 ∷ [])) (λ n. 2 * n + 1) ≡ Some (codes "c") }
     ensures skew { leaf_value (skew_leaf (neg_ℤ (pos 2)) 2 1) (λ n. n * 10 ^ 9) ≡ Some (codes "-1") }
+    ensures chars { leaf_value (chars_leaf (codes "ab|") 1 2) (λ n. 2 * n + 1) ≡ Some (codes "|b") }
+{}
+
+/// Of a thousand fields, those are null whose draw 0 is less than their number: here it is 1,003.
+pub fn worked_nulls()
+    ensures null { unless_null 4 (λ n. n + 1003) (Some (codes "7")) ≡ None }
+    ensures held { unless_null 3 (λ n. n + 1003) (Some (codes "7")) ≡ Some (codes "7") }
+    ensures never { unless_null 0 (λ n. n + 1003) (Some (codes "7")) ≡ Some (codes "7") }
 {}
 
 /// Dates of the standard calendar: the first day, the day before day 0, a leap day, the day behind the February of a century,

@@ -15,7 +15,7 @@ use fixed_divisors::FixedDivisor;
 use pd_outside::{Memory, PageBuf};
 use schema_check::{Plan, ReadyKind, check, unbuilt};
 use schema_model::{
-    Column, Columns, Delimiter, Kind, Leaf, Longs, Schema, Table, Tables, Text, Texts,
+    Column, Columns, Delimiter, Kind, Leaf, Leaves, Longs, Schema, Table, Tables, Text, Texts,
 };
 use std::alloc::{AllocError, Global};
 use std::process::Abort;
@@ -171,24 +171,63 @@ fn picked(alloc: Global) -> Result<Leaf, AllocError> {
     Ok(Leaf::Pick { entries, weights })
 }
 
-fn with_column(alloc: Global, columns: Columns, kind: Kind) -> Result<Columns, AllocError> {
-    let mut columns = columns;
+/// Up to five characters of an alphabet that holds a letter of two bytes, and one that is escaped between bars.
+fn characters(alloc: Global) -> Result<Leaf, AllocError> {
+    let alphabet = Text::of(alloc, "ab|é").map_err(|_| AllocError)?;
+    Ok(Leaf::Chars {
+        alphabet,
+        lo: 0,
+        hi: 5,
+    })
+}
+
+/// A case by the pick column with a name: four ranges, and characters.
+fn case(alloc: Global, on: Text) -> Result<Kind, AllocError> {
+    let mut branches = Leaves::new(alloc);
+    for lo in [10, 20, 30, 40] {
+        let range = Leaf::Int {
+            lo,
+            hi: lo + 9,
+            step: 1,
+        };
+        branches.push(range).map_err(|_| AllocError)?;
+    }
+    branches.push(characters(alloc)?).map_err(|_| AllocError)?;
+    Ok(Kind::Case { on, branches })
+}
+
+/// The name of the column at a place.
+fn name_of(alloc: Global, place: usize) -> Result<Text, AllocError> {
     let mut name = Text::of(alloc, "c").map_err(|_| AllocError)?;
-    for _ in 0..columns.len() {
+    for _ in 0..place {
         name.push("c").map_err(|_| AllocError)?;
     }
+    Ok(name)
+}
+
+fn with_nulls(
+    alloc: Global,
+    columns: Columns,
+    kind: Kind,
+    null: i64,
+) -> Result<Columns, AllocError> {
+    let mut columns = columns;
     let column = Column {
-        name,
+        name: name_of(alloc, columns.len())?,
         kind,
         changes: false,
-        null: 0,
+        null,
     };
     columns.push(column).map_err(|_| AllocError)?;
     Ok(columns)
 }
 
-/// Columns of keys, of units of birth and of each kind of drawn value.
-fn columns_of_all_kinds(alloc: Global) -> Result<Columns, AllocError> {
+fn with_column(alloc: Global, columns: Columns, kind: Kind) -> Result<Columns, AllocError> {
+    with_nulls(alloc, columns, kind, 0)
+}
+
+/// Columns of keys, of units of birth and of each kind of drawn value, none of them null.
+fn columns_without_nulls(alloc: Global) -> Result<Columns, AllocError> {
     let base = 1;
     let key = Kind::Key {
         base,
@@ -209,7 +248,21 @@ fn columns_of_all_kinds(alloc: Global) -> Result<Columns, AllocError> {
     for (lo, size, power) in [(-3, 7, 1), (100, 4096, 3)] {
         columns = with_column(alloc, columns, Kind::Leaf(Leaf::Skew { lo, size, power }))?;
     }
-    Ok(columns)
+    with_column(alloc, columns, Kind::Leaf(characters(alloc)?))
+}
+
+/// These and three columns that are null at times: of a number, of a pick, and of a case by that pick.
+fn columns_of_all_kinds(alloc: Global) -> Result<Columns, AllocError> {
+    let columns = columns_without_nulls(alloc)?;
+    let digit = Leaf::Int {
+        lo: 0,
+        hi: 9,
+        step: 1,
+    };
+    let columns = with_nulls(alloc, columns, Kind::Leaf(digit), 400)?;
+    let on = name_of(alloc, columns.len())?;
+    let columns = with_nulls(alloc, columns, Kind::Leaf(picked(alloc)?), 300)?;
+    with_nulls(alloc, columns, case(alloc, on)?, 100)
 }
 
 /// The plan of a table of such columns, with seed 7: how many rows at unit 0 and at each of five more, and the delimiter.
@@ -255,7 +308,11 @@ fn is_own_column(plan: &Plan, column: usize) -> bool
     }
 }
 
-/// What a row of the first table holds in its 12 columns behind the key, as both calls put it, each with a semicolon behind.
+/// The place of the case column.
+const CASE: usize = 16;
+
+/// What a row of the first table holds in its 16 columns behind the key, as both calls put it, each with a semicolon behind. Where
+/// a field is null, and no case, the draw says so.
 fn row_text(rt: &impl Abort, alloc: Global, plan: &Plan, at: RowAt) -> Result<Vec<u8>, Fail>
     requires table { 0 < length plan.now.schema.tables }
     requires born { at.born ≤ (layout_of plan.now.schema).units }
@@ -263,14 +320,16 @@ fn row_text(rt: &impl Abort, alloc: Global, plan: &Plan, at: RowAt) -> Result<Ve
     let mut text = Vec::new(alloc);
     let values = CohortValues::new(plan, 0, at.born);
     let room = plan.max_line(0) as usize;
-    for column in 1..13 {
+    for column in 1..17 {
         assert!(rt; is_own_column(plan, column));
         let mut page = page_of(alloc, room)?;
-        assert!(rt; values.put(column, at.ordinal, &mut page) == Put::Text);
+        let put = values.put(column, at.ordinal, &mut page);
         let mut alone = page_of(alloc, room)?;
-        assert!(rt; put_value(plan, 0, column as u32, at, &mut alone) == Put::Text);
+        assert!(rt; put_value(plan, 0, column as u32, at, &mut alone) == put);
         assert_eq!(rt; page.text(), alone.text());
-        text.extend_from_slice(page.text())?;
+        let null = put == Put::Null;
+        assert!(rt; values.is_null(column, at.ordinal) == null || column == CASE);
+        text.extend_from_slice(if null { b"\\N" } else { page.text() })?;
         text.push(b';')?;
     }
     Ok(text)
@@ -297,42 +356,27 @@ fn values_of_some_rows(rt: HostRuntime) -> Result<(), Fail> {
         (
             0,
             0,
-            "0;4;-1301148152031528877;1646713118542009436;-20.21;5;-0.000000130;3308-03-17;2000-03-01;;-3;100;",
+            "0;4;-1301148152031528877;1646713118542009436;-20.21;5;-0.000000130;3308-03-17;2000-03-01;;-3;100;|;\\N;a\\\\b|c\\td;13;",
         ),
         (
             1,
             0,
-            "0;-5;-7168664074685475188;5679114685750042959;35.60;-3;-0.000000675;6556-04-07;2000-02-29;last;-1;100;",
-        ),
-        (
-            2,
-            0,
-            "0;4;-4334189979088422924;4771152447876905272;28.39;-5;0.000000091;9424-08-03;2000-03-01;x|y;1;100;",
+            "0;-5;-7168664074685475188;5679114685750042959;35.60;-3;-0.000000675;6556-04-07;2000-02-29;last;-1;100;||a;4;\\N;\\N;",
         ),
         (
             3,
             0,
-            "0;13;-5141894393530882224;1560041756983882477;-11.36;1;-0.000000988;2557-09-13;2000-03-01;last;3;100;",
+            "0;13;-5141894393530882224;1560041756983882477;-11.36;1;-0.000000988;2557-09-13;2000-03-01;last;3;100;ébaa;0;last;é|;",
         ),
         (
             4,
             1,
-            "1;16;-3708718578705328411;4541888477291126794;6.20;-5;0.000000069;5091-07-05;2000-02-28;last;3;104;",
-        ),
-        (
-            5,
-            1,
-            "1;-2;-6968479219799553289;2761798871907862238;11.13;-1;-0.000000511;3413-07-03;2000-03-01;x|y;0;100;",
+            "1;16;-3708718578705328411;4541888477291126794;6.20;-5;0.000000069;5091-07-05;2000-02-28;last;3;104;é||;5;\\N;\\N;",
         ),
         (
             6,
             2,
-            "2;7;-3485567071594094168;6417096489469501226;-31.13;3;-0.000000186;6229-10-20;2000-03-01;a\\\\b|c\\td;1;100;",
-        ),
-        (
-            7,
-            2,
-            "2;10;-5101991267319917111;6411593278828317564;5.02;-8;0.000000883;8257-01-13;2000-02-29;last;2;100;",
+            "2;7;-3485567071594094168;6417096489469501226;-31.13;3;-0.000000186;6229-10-20;2000-03-01;a\\\\b|c\\td;1;100;a|;3;a\\\\b|c\\td;10;",
         ),
     ];
     for (ordinal, born, text) in cases {
@@ -345,7 +389,7 @@ fn values_of_some_rows(rt: HostRuntime) -> Result<(), Fail> {
     assert!(rt; bars.units() == 5);
     let row = row_text(&rt, alloc, &bars, row_of(6, 2))?;
     let text =
-        "2;7;-3485567071594094168;6417096489469501226;-31.13;3;-0.000000186;6229-10-20;2000-03-01;a\\\\b\\|c\\td;1;100;";
+        "2;7;-3485567071594094168;6417096489469501226;-31.13;3;-0.000000186;6229-10-20;2000-03-01;a\\\\b\\|c\\td;1;100;a\\|;3;a\\\\b\\|c\\td;10;";
     assert_eq!(rt; row.as_slice(), text.as_bytes());
     Ok(())
 }
@@ -386,8 +430,8 @@ fn cohort_checksum(
 fn values_of_many_rows(rt: HostRuntime) -> Result<(), Fail> {
     let alloc = rt.alloc();
     for (delimiter, expected) in [
-        (Delimiter::Tab, 8_861_745_839_795_084_364),
-        (Delimiter::Bar, 4_488_389_290_432_044_020),
+        (Delimiter::Tab, 12_429_313_703_229_295_597),
+        (Delimiter::Bar, 14_872_582_688_233_119_221),
     ] {
         let plan = plan(alloc, 1000, 10, delimiter)?;
         assert!(rt; plan.tables() == 1);

@@ -2,7 +2,6 @@ use Rattle.std.proofs.Common.{◌≡◌, ℕ, ◌+◌, ◌%◌, ◌++◌, List, 
 use Rattle.std.specs.Prelude.{slice_index_or}
 use Rattle.philox_seeds.specs.SeedTree.{draw}
 use Rattle.pd_outside.specs.Pages.{Page}
-use Rattle.schema_check.specs.FieldBounds.{greatest_by}
 use Rattle.draw_values.specs.ReadyValues.{chosen_texts}
 use Rattle.draw_values.proofs.CharacterLemmas.{chosen_texts-more}
 use Rattle.draw_values.proofs.characters.put_characters.Goals as goal

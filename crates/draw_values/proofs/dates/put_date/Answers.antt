@@ -1,8 +1,7 @@
-use Rattle.std.proofs.Common.{◌≡◌, ◌≤◌, ℕ, ℤ, pos, ◌++◌, List, length, w16, w64, to_z, of_z, ap, sym, ◌∙◌, arith}
+use Rattle.std.proofs.Common.{◌≡◌, ◌≤◌, ℕ, pos, ◌++◌, List, length, w16, w64, to_z, of_z, ap, sym, ◌∙◌, arith}
 use Rattle.std.specs.Prelude.{unsigned_abs}
 use Rattle.std.proofs.lemmas.Int.{ints, to_z-of_z}
 use Rattle.jiff_core.specs.Date.{epoch_day}
-use Rattle.jiff_core.specs.declared.civil.date.Date.{Date}
 use Rattle.draw_values.specs.Dates.{date_digits, date_text}
 use Rattle.draw_values.proofs.DateLemmas.{date_text-date, date_year, length-date_digits}
 use Rattle.draw_values.proofs.dates.put_date.Goals as goal

@@ -1,4 +1,4 @@
-use Rattle.std.proofs.Common.{◌≡◌, ◌≤◌, ◌+◌, ◌-◌, ◌++◌, length}
+use Rattle.std.proofs.Common.{◌≡◌, ◌+◌, ◌-◌, ◌++◌, length}
 use Rattle.pd_outside.specs.Pieces.{piece_text}
 use Rattle.draw_values.specs.Digits.{last_digits}
 use Rattle.draw_values.proofs.digits.prepend_digits.Given as goal

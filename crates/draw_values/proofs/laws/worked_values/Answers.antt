@@ -1,5 +1,7 @@
 use Rattle.std.proofs.Common.{refl}
+use lib.Utf8.{encode}
 use Rattle.std.specs.Fmt.{digits}
+use Rattle.std.specs.Str.{chars}
 use Rattle.weight_tables.specs.Harmonic.{harmonic_weight, harmonic_weights}
 use Rattle.weight_tables.specs.Weights.{selected}
 use Rattle.draw_values.specs.Dates.{date_text, month_from, year_from}
@@ -29,3 +31,7 @@ returns-clause-pick c = refl
 pub returns-clause-skew : goal.returns-clause-skew
 unfolding digits selected harmonic_weights harmonic_weight
 returns-clause-skew c = refl
+
+pub returns-clause-chars : goal.returns-clause-chars
+unfolding chars encode
+returns-clause-chars c = refl

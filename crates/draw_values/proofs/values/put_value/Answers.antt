@@ -30,7 +30,7 @@ put_field-requires-clause-room c =
     omega (
       arith,
       size_at-kept (layout_of c.args.plan.now.schema) c.args.table c.args.column c.chooser_of-chooser.result c.index-columns-column.result c.index-columns-chooser.result
-      (kept (goal.at.put_field-requires-clause-room c).After-of_number),
+          (kept (goal.at.put_field-requires-clause-room c).After-of_number),
       c.requires.room,
     )
 
@@ -70,7 +70,7 @@ returns-clause-size c =
     omega (
       arith,
       length-field_text (layout_of c.args.plan.now.schema).delimiter (ready_kind_size c.index-columns-column.result.kind) (value_at (layout_of c.args.plan.now.schema) c.args.table c.args.column c.args.at) _
-      (value (goal.at.returns-clause-size c).After-of_number) c.put_field.ensures.size,
+          (value (goal.at.returns-clause-size c).After-of_number) c.put_field.ensures.size,
       size_at-kept (layout_of c.args.plan.now.schema) c.args.table c.args.column c.chooser_of-chooser.result c.index-columns-column.result c.index-columns-chooser.result
-      (kept (goal.at.returns-clause-size c).After-of_number),
+          (kept (goal.at.returns-clause-size c).After-of_number),
     )

@@ -34,7 +34,7 @@ put_field-requires-clause-room c =
     omega (
       arith,
       size_at-kept (layout_of c.args.self.now.plan.schema) c.args.self.now.table c.args.column c.chooser_of-chooser.result c.index-columns-column.result c.index-columns-chooser.result
-      (kept (goal.at.put_field-requires-clause-room c).After-index-columns-chooser),
+          (kept (goal.at.put_field-requires-clause-room c).After-index-columns-chooser),
       c.requires.room,
     )
 
@@ -65,7 +65,7 @@ returns-clause-size c =
     omega (
       arith,
       length-field_text (layout_of c.args.self.now.plan.schema).delimiter (ready_kind_size c.index-columns-column.result.kind) (value_for c.args.self.now c.args.column c.args.ordinal) _
-      (value (goal.at.returns-clause-size c).After-index-columns-chooser) c.put_field.ensures.size,
+          (value (goal.at.returns-clause-size c).After-index-columns-chooser) c.put_field.ensures.size,
       size_at-kept (layout_of c.args.self.now.plan.schema) c.args.self.now.table c.args.column c.chooser_of-chooser.result c.index-columns-column.result c.index-columns-chooser.result
-      (kept (goal.at.returns-clause-size c).After-index-columns-chooser),
+          (kept (goal.at.returns-clause-size c).After-index-columns-chooser),
     )
