@@ -12,12 +12,13 @@ use crate::dates::put_date;
 use crate::fixed::put_fixed;
 use crate::numbers::{chosen, put_whole};
 use fixed_divisors::FixedDivisor;
-use pd_outside::{Memory, PageBuf};
+use pd_outside::PageBuf;
 use schema_check::{Plan, ReadyKind, check, unbuilt};
 use schema_model::{
-    Column, Columns, Delimiter, Kind, Leaf, Leaves, Longs, Schema, Table, Tables, Text, Texts,
+    Column, Columns, Delimiter, Kind, Leaf, Leaves, Longs, Memory, Schema, Table, Tables, Text,
+    Texts,
 };
-use std::alloc::{AllocError, Global};
+use std::alloc::Global;
 use std::process::Abort;
 use std::test::Fail;
 
@@ -26,7 +27,7 @@ fn page_of(alloc: Global, room: usize) -> Result<PageBuf, Fail>
 {
     match PageBuf::with_room(alloc, room) {
         Ok(page) => Ok(page),
-        Err(Memory) => Err(Fail::from("out of memory")),
+        Err(_) => Err(Fail::from("out of memory")),
     }
 }
 
@@ -153,7 +154,7 @@ fn dates_keep_leap_days_apart(rt: HostRuntime) -> Result<(), Fail> {
 }
 
 /// The entries of a pick with their weights. Two of them hold what is escaped.
-fn picked(alloc: Global) -> Result<Leaf, AllocError> {
+fn picked(alloc: Global) -> Result<Leaf, Memory> {
     let cases = [
         ("a\\b|c\td", 3),
         ("plain", 1),
@@ -164,16 +165,16 @@ fn picked(alloc: Global) -> Result<Leaf, AllocError> {
     let mut entries = Texts::new(alloc);
     let mut weights = Longs::new(alloc);
     for (entry, weight) in cases {
-        let text = Text::of(alloc, entry).map_err(|_| AllocError)?;
-        entries.push(text).map_err(|_| AllocError)?;
-        weights.push(weight).map_err(|_| AllocError)?;
+        let text = Text::of(alloc, entry)?;
+        entries.push(text)?;
+        weights.push(weight)?;
     }
     Ok(Leaf::Pick { entries, weights })
 }
 
 /// Up to five characters of an alphabet that holds a letter of two bytes, and one that is escaped between bars.
-fn characters(alloc: Global) -> Result<Leaf, AllocError> {
-    let alphabet = Text::of(alloc, "ab|é").map_err(|_| AllocError)?;
+fn characters(alloc: Global) -> Result<Leaf, Memory> {
+    let alphabet = Text::of(alloc, "ab|é")?;
     Ok(Leaf::Chars {
         alphabet,
         lo: 0,
@@ -182,7 +183,7 @@ fn characters(alloc: Global) -> Result<Leaf, AllocError> {
 }
 
 /// A case by the pick column with a name: four ranges, and characters.
-fn case(alloc: Global, on: Text) -> Result<Kind, AllocError> {
+fn case(alloc: Global, on: Text) -> Result<Kind, Memory> {
     let mut branches = Leaves::new(alloc);
     for lo in [10, 20, 30, 40] {
         let range = Leaf::Int {
@@ -190,27 +191,22 @@ fn case(alloc: Global, on: Text) -> Result<Kind, AllocError> {
             hi: lo + 9,
             step: 1,
         };
-        branches.push(range).map_err(|_| AllocError)?;
+        branches.push(range)?;
     }
-    branches.push(characters(alloc)?).map_err(|_| AllocError)?;
+    branches.push(characters(alloc)?)?;
     Ok(Kind::Case { on, branches })
 }
 
 /// The name of the column at a place.
-fn name_of(alloc: Global, place: usize) -> Result<Text, AllocError> {
-    let mut name = Text::of(alloc, "c").map_err(|_| AllocError)?;
+fn name_of(alloc: Global, place: usize) -> Result<Text, Memory> {
+    let mut name = Text::of(alloc, "c")?;
     for _ in 0..place {
-        name.push("c").map_err(|_| AllocError)?;
+        name.push("c")?;
     }
     Ok(name)
 }
 
-fn with_nulls(
-    alloc: Global,
-    columns: Columns,
-    kind: Kind,
-    null: i64,
-) -> Result<Columns, AllocError> {
+fn with_nulls(alloc: Global, columns: Columns, kind: Kind, null: i64) -> Result<Columns, Memory> {
     let mut columns = columns;
     let column = Column {
         name: name_of(alloc, columns.len())?,
@@ -218,16 +214,16 @@ fn with_nulls(
         changes: false,
         null,
     };
-    columns.push(column).map_err(|_| AllocError)?;
+    columns.push(column)?;
     Ok(columns)
 }
 
-fn with_column(alloc: Global, columns: Columns, kind: Kind) -> Result<Columns, AllocError> {
+fn with_column(alloc: Global, columns: Columns, kind: Kind) -> Result<Columns, Memory> {
     with_nulls(alloc, columns, kind, 0)
 }
 
 /// Columns of keys, of units of birth and of each kind of drawn value, none of them null.
-fn columns_without_nulls(alloc: Global) -> Result<Columns, AllocError> {
+fn columns_without_nulls(alloc: Global) -> Result<Columns, Memory> {
     let base = 1;
     let key = Kind::Key {
         base,
@@ -252,7 +248,7 @@ fn columns_without_nulls(alloc: Global) -> Result<Columns, AllocError> {
 }
 
 /// These and three columns that are null at times: of a number, of a pick, and of a case by that pick.
-fn columns_of_all_kinds(alloc: Global) -> Result<Columns, AllocError> {
+fn columns_of_all_kinds(alloc: Global) -> Result<Columns, Memory> {
     let columns = columns_without_nulls(alloc)?;
     let digit = Leaf::Int {
         lo: 0,
@@ -265,10 +261,10 @@ fn columns_of_all_kinds(alloc: Global) -> Result<Columns, AllocError> {
     with_nulls(alloc, columns, case(alloc, on)?, 100)
 }
 
-/// The plan of a table of such columns, with seed 7: how many rows at unit 0 and at each of five more, and the delimiter.
-fn plan(alloc: Global, rows: i64, insert: i64, delimiter: Delimiter) -> Result<Plan, Fail> {
+/// A schema with one table of such columns, and the seed 7: how many rows at unit 0 and at each of five more, and the delimiter.
+fn schema(alloc: Global, rows: i64, insert: i64, delimiter: Delimiter) -> Result<Schema, Memory> {
     let table = Table {
-        name: Text::of(alloc, "t").map_err(|_| AllocError)?,
+        name: Text::of(alloc, "t")?,
         rows,
         insert,
         life: None,
@@ -276,12 +272,19 @@ fn plan(alloc: Global, rows: i64, insert: i64, delimiter: Delimiter) -> Result<P
         columns: columns_of_all_kinds(alloc)?,
     };
     let mut tables = Tables::new(alloc);
-    tables.push(table).map_err(|_| AllocError)?;
-    let schema = Schema {
+    tables.push(table)?;
+    Ok(Schema {
         seed: 7,
         units: 5,
         delimiter,
         tables,
+    })
+}
+
+/// Its plan.
+fn plan(alloc: Global, rows: i64, insert: i64, delimiter: Delimiter) -> Result<Plan, Fail> {
+    let Ok(schema) = schema(alloc, rows, insert, delimiter) else {
+        return Err(Fail::from("out of memory"));
     };
     if unbuilt(&schema) {
         return Err(Fail::from("not built"));

@@ -8,16 +8,19 @@ use Rattle.draw_values.specs.Values.{size_at}
 use Rattle.draw_values.proofs.ColumnLemmas.{length-ready_columns}
 use Rattle.draw_values.proofs.LineLemmas.{size_at-within}
 use Rattle.draw_values.proofs.tests.is_own_column.Goals as goal
+use Rattle.draw_values.proofs.tests.is_own_column.Goals.{In-Some}
 
-size_fits : (layout : Layout) (kept : List ReadyColumn) (place : ℕ) → kept ≡ ready_columns layout 0 → true ≡ nat_lt place (length kept) → size_at layout 0 place ≤ max_line layout 0
-size_fits layout kept place is found =
-    let within : place < length kept = ltb-true place (length kept) (sym found) in
-    size_at-within layout 0 place (omega (arith, ap length is, length-ready_columns layout 0))
+size_fits : (c : In-Some) → size_at (layout_of c.args.plan.now.schema) 0 c.args.column ≤ max_line (layout_of c.args.plan.now.schema) 0
+size_fits c =
+    let layout : Layout = layout_of c.args.plan.now.schema in
+    let within : c.args.column < length c.columns.result.now = ltb-true c.args.column (length c.columns.result.now) (sym c.in-Some.ensures.lookup.0) in
+    size_at-within layout 0 c.args.column (omega (arith, ap length c.columns.ensures.columns, length-ready_columns layout 0))
 
-pub returns-in-Some-Born-clause-size : goal.returns-in-Some-Born-clause-size
-returns-in-Some-Born-clause-size c =
-    size_fits (layout_of c.args.plan.now.schema) c.columns.result.now c.args.column c.columns.ensures.columns c.in-Some-Born.ensures.lookup.0
+pub returns-in-Born-clause-size : goal.returns-in-Born-clause-size
+returns-in-Born-clause-size c = size_fits (goal.at.returns-in-Born-clause-size c).In-Some
 
-pub returns-in-Some-Born-2-clause-size : goal.returns-in-Some-Born-2-clause-size
-returns-in-Some-Born-2-clause-size c =
-    size_fits (layout_of c.args.plan.now.schema) c.columns.result.now c.args.column c.columns.ensures.columns c.in-Some-Born.ensures.lookup.0
+pub returns-in-Born-2-clause-size : goal.returns-in-Born-2-clause-size
+returns-in-Born-2-clause-size c = size_fits (goal.at.returns-in-Born-2-clause-size c).In-Some
+
+pub returns-in-Born-3-clause-size : goal.returns-in-Born-3-clause-size
+returns-in-Born-3-clause-size c = size_fits (goal.at.returns-in-Born-3-clause-size c).In-Some
