@@ -74,8 +74,8 @@ impl<'a> CohortValues<'a> {
         is_null(columns[column].null, self.seeds[column], ordinal)
     }
 
-    /// Appends what the row with an ordinal holds in the column at a place, one of units or of drawn values, as it is written;
-    /// nothing where it is null. The greatest size of the column's fields has to be free.
+    /// Appends what the row with an ordinal holds in the column at a place, one of units, of drawn values or of cases, as it is
+    /// written; nothing where it is null. The greatest size of the column's fields has to be free.
     #[inline(always)]
     pub fn put(&self, column: usize, ordinal: u64, buf: &mut PageBuf) -> Put
         requires column { column < length (layout_for self.now).columns }

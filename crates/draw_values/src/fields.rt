@@ -1,4 +1,4 @@
-//! The field of a row in a column of units or of drawn values, onto a page.
+//! The field of a row in a column of units, of drawn values or of cases, onto a page.
 
 ghost use Rattle.std.specs.Prelude.{◌≡◌, ◌<◌, ◌≤◌, ◌+◌, ◌++◌, [], All, IfSome, length, option_map, slice_index_or, unwrap_or};
 ghost use Rattle.philox_seeds.specs.SeedTree.{draw as draw_of};

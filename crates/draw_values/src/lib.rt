@@ -1,4 +1,5 @@
-//! What fields hold that need no other row: the unit of birth of their row, and values that are drawn for them.
+//! What fields hold that need no other row: the unit of birth of their row, and values that are drawn for them, of which a case
+//! is chosen by what the row's field in a pick column holds. Any of them may be drawn to be null instead.
 //!
 //! A table and a column are named by their places in the schema and in the table, and a row by its ordinal, its place in the order
 //! of birth in its table; all count from 0. A value is appended to a page as it is written (PostgreSQL's manual, "COPY", text

@@ -30,8 +30,8 @@ pub enum Put {
     Null,
 }
 
-/// Appends what a row of a table holds in a column of units or of drawn values, as it is written; nothing where it is null.
-/// The greatest size of the column's fields has to be free.
+/// Appends what a row of a table holds in a column of units, of drawn values or of cases, as it is written; nothing where it is
+/// null. The greatest size of the column's fields has to be free.
 pub fn put_value(plan: &Plan, table: u32, column: u32, at: RowAt, buf: &mut PageBuf) -> Put
     requires table { table < length plan.now.schema.tables }
     requires column { column < length (table_at (layout_of plan.now.schema).tables table).columns }
