@@ -63,7 +63,7 @@ fn schema(alloc: Global) -> Schema {
 }
 
 /// The first fault of a schema, whether or not tables can be made of it.
-pub(crate) fn first_fault(schema: &Schema) -> Option<CheckFault> {
+fn first_fault(schema: &Schema) -> Option<CheckFault> {
     let mut facts = [NO_FACTS; MAX_ITEMS];
     let count = schema.tables.len().min(MAX_ITEMS);
     fill_facts(schema, &mut facts[..count]);
@@ -120,61 +120,6 @@ fn dearest_rows(rt: HostRuntime) -> Result<(), Fail> {
             column: 0,
         };
         assert_eq!(rt; first_fault(&schema), Some(broken));
-    }
-    Ok(())
-}
-
-/// A schema of one table with words, a reference that is null at times, a lookup, and a template that cites a column.
-fn unbuilt_schema(alloc: Global, words: i64, null: i64, cited: &str) -> Result<Schema, AllocError> {
-    let mut table = table(alloc, "t", false)?;
-    let columns = &mut table.columns;
-    let words = Leaf::Words {
-        file: text(alloc, "words")?,
-        lo: 1,
-        hi: words,
-    };
-    push_column(alloc, columns, "w", Kind::Leaf(words))?;
-    let own = Column {
-        name: text(alloc, "r")?,
-        kind: reference(alloc, "t", Window::All)?,
-        changes: false,
-        null,
-    };
-    columns.push(own).map_err(|_| AllocError)?;
-    let lookup = Kind::Lookup {
-        via: text(alloc, "r")?,
-        column: text(alloc, "id")?,
-    };
-    push_column(alloc, columns, "n", lookup)?;
-    let mut parts = Parts::new(alloc);
-    let part = Part::Cited(text(alloc, cited)?);
-    parts.push(part).map_err(|_| AllocError)?;
-    push_column(alloc, columns, "label", Kind::Template { parts })?;
-    let mut schema = schema(alloc);
-    schema.tables.push(table).map_err(|_| AllocError)?;
-    Ok(schema)
-}
-
-// No table can be made of words, references and lookups yet, but rules that are tried speak of them.
-#[test]
-fn rules_of_what_is_not_built(rt: HostRuntime) -> Result<(), Fail> {
-    let alloc = rt.alloc();
-    for (words, null, cited, broken) in [
-        (1_000, 0, "r", None),
-        (1_001, 1, "n", Some((14, 2))),
-        (1_000, 1, "n", Some((15, 5))),
-        (1_000, 1, "r", Some((25, 3))),
-    ] {
-        let fault = match broken {
-            Some((number, column)) => Some(CheckFault::Rule {
-                number,
-                table: 1,
-                column,
-            }),
-            None => None,
-        };
-        let schema = unbuilt_schema(alloc, words, null, cited)?;
-        assert_eq!(rt; first_fault(&schema), fault, "{words} words, {cited} cited");
     }
     Ok(())
 }

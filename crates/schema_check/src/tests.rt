@@ -1,8 +1,6 @@
 use super::*;
-use crate::fact_tests::first_fault;
 use schema_model::{
-    Column, Columns, Delimiter, Kind, Leaf, Leaves, Life, Longs, Part, Parts, Schema, Table,
-    Tables, Text, Texts,
+    Column, Columns, Delimiter, Kind, Leaf, Life, Longs, Parts, Schema, Table, Tables, Text, Texts,
 };
 use std::alloc::{AllocError, Global};
 use std::test::Fail;
@@ -101,29 +99,21 @@ fn single(
     with_table(alloc, schema(alloc, 1, 2), "t", counts, cases)
 }
 
-/// What the check of a schema tells: the rule, the table and the column, or None where it is accepted. A schema that isn't built is
-/// handed to the search for the first broken rule alone.
+/// What the check of a built schema tells: the rule, the table and the column, or None where it is accepted.
 fn told(alloc: Global, schema: Schema) -> Result<Option<(u32, u64, u64)>, Fail> {
     if unbuilt(&schema) {
-        return told_by(first_fault(&schema));
+        return Err(Fail::from("not built"));
     }
     match check(alloc, schema) {
         Ok(_) => Ok(None),
-        Err(fault) => told_by(Some(fault)),
-    }
-}
-
-fn told_by(fault: Option<CheckFault>) -> Result<Option<(u32, u64, u64)>, Fail> {
-    match fault {
-        None => Ok(None),
-        Some(
+        Err(
             CheckFault::Rule {
                 number,
                 table,
                 column,
             },
         ) => Ok(Some((number, table, column))),
-        Some(CheckFault::Memory) => Err(Fail::from("out of memory")),
+        Err(CheckFault::Memory) => Err(Fail::from("out of memory")),
     }
 }
 
@@ -283,11 +273,11 @@ fn numbers_of_rows(rt: HostRuntime) -> Result<(), Fail> {
     Ok(())
 }
 
-/// A text of so many times a piece.
-fn repeated(alloc: Global, piece: &str, count: u64) -> Result<Text, AllocError> {
+/// A text of some letters x.
+fn letters(alloc: Global, count: u64) -> Result<Text, AllocError> {
     let mut text = Text::new(alloc);
     for _ in 0..count {
-        text.push(piece).map_err(|_| AllocError)?;
+        text.push("x").map_err(|_| AllocError)?;
     }
     Ok(text)
 }
@@ -296,7 +286,7 @@ fn repeated(alloc: Global, piece: &str, count: u64) -> Result<Text, AllocError> 
 fn pick(alloc: Global, entries: u64, size: u64, runs: &[(u64, i64)]) -> Result<Leaf, AllocError> {
     let mut picked = Texts::new(alloc);
     for _ in 0..entries {
-        let entry = repeated(alloc, "x", size)?;
+        let entry = letters(alloc, size)?;
         picked.push(entry).map_err(|_| AllocError)?;
     }
     let mut weights = Longs::new(alloc);
@@ -311,29 +301,18 @@ fn pick(alloc: Global, entries: u64, size: u64, runs: &[(u64, i64)]) -> Result<L
     })
 }
 
-/// The table with one more column.
-fn with_column(
-    alloc: Global,
-    table: Table,
-    name: &str,
-    kind: Kind,
-    null: i64,
-) -> Result<Table, AllocError> {
+/// The table with one more column, which holds a drawn value.
+fn with_leaf(alloc: Global, table: Table, name: &str, leaf: Leaf) -> Result<Table, AllocError> {
     let mut table = table;
     let name = text(alloc, name)?;
     let column = Column {
         name,
-        kind,
+        kind: Kind::Leaf(leaf),
         changes: false,
-        null,
+        null: 0,
     };
     table.columns.push(column).map_err(|_| AllocError)?;
     Ok(table)
-}
-
-/// The table with one more column, which holds a drawn value.
-fn with_leaf(alloc: Global, table: Table, name: &str, leaf: Leaf) -> Result<Table, AllocError> {
-    with_column(alloc, table, name, Kind::Leaf(leaf), 0)
 }
 
 /// What is told of a schema whose second table holds a drawn value in its third column.
@@ -471,207 +450,6 @@ fn ranges_of_skews(rt: HostRuntime) -> Result<(), Fail> {
     Ok(())
 }
 
-// Characters of one, two and four bytes.
-#[test]
-fn lengths_and_alphabets(rt: HostRuntime) -> Result<(), Fail> {
-    let alloc = rt.alloc();
-    for (piece, characters, lo, hi, is_kept) in [
-        ("x", 1, 0, 0, true),
-        ("x", 1, 0, 1_000, true),
-        ("x", 1, 0, 1_001, false),
-        ("x", 1, 1_000, 1_000, true),
-        ("x", 1, -1, 1, false),
-        ("x", 1, 2, 1, false),
-        ("x", 1, i64::MIN, i64::MAX, false),
-        ("x", 0, 1, 2, false),
-        ("x", 256, 1, 2, true),
-        ("x", 257, 1, 2, false),
-        ("é", 1, 1, 2, true),
-        ("é", 256, 1, 2, true),
-        ("é", 257, 1, 2, false),
-        ("🌊", 256, 1, 2, true),
-        ("🌊", 257, 1, 2, false),
-    ] {
-        let alphabet = repeated(alloc, piece, characters)?;
-        assert_eq!(rt;
-            told_of(alloc, Leaf::Chars { alphabet, lo, hi })?,
-            broken_unless(is_kept, 14),
-            "{lo} to {hi} of {characters} times {piece}"
-        );
-    }
-    Ok(())
-}
-
-/// A template of so many parts, each of which cites a column.
-fn template(alloc: Global, parts: u64, cited: &str) -> Result<Kind, AllocError> {
-    let mut cites = Parts::new(alloc);
-    for _ in 0..parts {
-        let cited = text(alloc, cited)?;
-        cites.push(Part::Cited(cited)).map_err(|_| AllocError)?;
-    }
-    Ok(Kind::Template { parts: cites })
-}
-
-/// A case of so many branches, each a number from `lo` to 2.
-fn case(alloc: Global, on: &str, branches: u64, lo: i64) -> Result<Kind, AllocError> {
-    let mut numbers = Leaves::new(alloc);
-    for _ in 0..branches {
-        let number = Leaf::Int { lo, hi: 2, step: 1 };
-        numbers.push(number).map_err(|_| AllocError)?;
-    }
-    let on = text(alloc, on)?;
-    Ok(Kind::Case {
-        on,
-        branches: numbers,
-    })
-}
-
-/// What is told of a schema whose second table holds a kind in its sixth column, behind a key, a unit of birth, a pick of
-/// two entries, a template and a case, and before another such pick.
-fn told_among(alloc: Global, kind: Kind, null: i64) -> Result<Option<(u32, u64, u64)>, Fail> {
-    let two = [(2, 1)];
-    let mut label = Parts::new(alloc);
-    label
-        .push(Part::Literal(text(alloc, "a label")?))
-        .map_err(|_| AllocError)?;
-    let label = Kind::Template { parts: label };
-    let table = table(alloc, "u", (1, 1), &ONE)?;
-    let table = with_leaf(alloc, table, "pick", pick(alloc, 2, 1, &two)?)?;
-    let table = with_column(alloc, table, "label", label, 0)?;
-    let table = with_column(alloc, table, "case", case(alloc, "pick", 2, 1)?, 0)?;
-    let table = with_column(alloc, table, "own", kind, null)?;
-    let table = with_leaf(alloc, table, "later", pick(alloc, 2, 1, &two)?)?;
-    let mut schema = single(alloc, (1, 1), &ONE)?;
-    schema.tables.push(table).map_err(|_| AllocError)?;
-    told(alloc, schema)
-}
-
-/// A rule of the sixth column of the second table where it is broken there.
-fn broken_among(number: Option<u32>) -> Option<(u32, u64, u64)> {
-    match number {
-        Some(number) => Some((number, 2, 6)),
-        None => None,
-    }
-}
-
-#[test]
-fn parts_of_templates(rt: HostRuntime) -> Result<(), Fail> {
-    let alloc = rt.alloc();
-    for (parts, cited, broken) in [
-        (0, "id", Some(15)),
-        (1, "id", None),
-        (32, "id", None),
-        (33, "id", Some(15)),
-        (1, "born", None),
-        (1, "pick", None),
-        (1, "label", Some(15)),
-        (1, "case", Some(15)),
-        (1, "own", Some(15)),
-        (1, "later", Some(15)),
-        (1, "unknown", Some(15)),
-    ] {
-        assert_eq!(rt;
-            told_among(alloc, template(alloc, parts, cited)?, 0)?,
-            broken_among(broken),
-            "{parts} times {cited}"
-        );
-    }
-    Ok(())
-}
-
-#[test]
-fn branches_of_cases(rt: HostRuntime) -> Result<(), Fail> {
-    let alloc = rt.alloc();
-    for (on, branches, lo, broken) in [
-        ("pick", 2, 1, None),
-        ("pick", 1, 1, Some(16)),
-        ("pick", 3, 1, Some(16)),
-        ("pick", 0, 1, Some(16)),
-        ("born", 2, 1, Some(16)),
-        ("case", 2, 1, Some(16)),
-        ("own", 2, 1, Some(16)),
-        ("later", 2, 1, Some(16)),
-        ("unknown", 2, 1, Some(16)),
-        ("pick", 2, 3, Some(9)),
-        ("unknown", 2, 3, Some(9)),
-    ] {
-        assert_eq!(rt;
-            told_among(alloc, case(alloc, on, branches, lo)?, 0)?,
-            broken_among(broken),
-            "{branches} branches from {lo} on {on}"
-        );
-    }
-    Ok(())
-}
-
-#[test]
-fn shares_of_nulls(rt: HostRuntime) -> Result<(), Fail> {
-    let alloc = rt.alloc();
-    for (null, is_kept) in [
-        (-1, false),
-        (0, true),
-        (999, true),
-        (1_000, false),
-        (i64::MIN, false),
-        (i64::MAX, false),
-    ] {
-        let broken = broken_among(if is_kept { None } else { Some(25) });
-        assert_eq!(rt; told_among(alloc, Kind::Born, null)?, broken, "{null}");
-        assert_eq!(rt;
-            told_among(alloc, template(alloc, 1, "id")?, null)?,
-            broken,
-            "{null} of a template"
-        );
-    }
-    for (null, broken) in [(0, None), (1, Some((25, 1, 1))), (-1, Some((25, 1, 1)))] {
-        let key = Kind::Key {
-            base: 1,
-            scramble: false,
-        };
-        let table = with_column(alloc, table(alloc, "t", (1, 1), &[])?, "id", key, null)?;
-        let mut schema = schema(alloc, 1, 2);
-        schema.tables.push(table).map_err(|_| AllocError)?;
-        assert_eq!(rt; told(alloc, schema)?, broken, "{null} of a key");
-    }
-    Ok(())
-}
-
-// An earlier rule at a later place is told before a later rule at an earlier place.
-#[test]
-fn rules_of_columns_in_order(rt: HostRuntime) -> Result<(), Fail> {
-    let alloc = rt.alloc();
-    for (lo, broken) in [(2, (14, 1, 5)), (1, (15, 1, 4))] {
-        let table = table(alloc, "t", (1, 1), &ONE)?;
-        let table = with_column(alloc, table, "case", case(alloc, "case", 1, 1)?, 0)?;
-        let table = with_column(alloc, table, "own", template(alloc, 1, "own")?, 0)?;
-        let alphabet = text(alloc, "x")?;
-        let table = with_leaf(
-            alloc,
-            table,
-            "drawn",
-            Leaf::Chars {
-                alphabet,
-                lo,
-                hi: 1,
-            },
-        )?;
-        let mut schema = schema(alloc, 1, 2);
-        schema.tables.push(table).map_err(|_| AllocError)?;
-        assert_eq!(rt; told(alloc, schema)?, Some(broken), "from {lo} to 1");
-    }
-    for (size, broken) in [(70_000, (24, 2, 0)), (1, (25, 1, 3))] {
-        let nulls = table(alloc, "t", (1, 1), &ONE)?;
-        let nulls = with_column(alloc, nulls, "null", Kind::Born, 1_000)?;
-        let long = table(alloc, "u", (1, 1), &ONE)?;
-        let long = with_leaf(alloc, long, "drawn", pick(alloc, 1, size, &[(1, 1)])?)?;
-        let mut schema = schema(alloc, 1, 2);
-        schema.tables.push(nulls).map_err(|_| AllocError)?;
-        schema.tables.push(long).map_err(|_| AllocError)?;
-        assert_eq!(rt; told(alloc, schema)?, Some(broken), "{size} letters");
-    }
-    Ok(())
-}
-
 // An earlier rule at a later column is told before a later rule at an earlier column.
 #[test]
 fn rules_of_drawn_values_in_order(rt: HostRuntime) -> Result<(), Fail> {
@@ -749,6 +527,24 @@ fn schemas_that_are_not_built(rt: HostRuntime) -> Result<(), Fail> {
     Ok(())
 }
 
+#[test]
+fn lengths_of_characters(rt: HostRuntime) -> Result<(), Fail> {
+    let alloc = rt.alloc();
+    for (alphabet, lo, hi, is_kept) in [
+        ("a", 0, 1_000, true),
+        ("a", 0, 1_001, false),
+        ("é", 1, 1, true),
+        ("a", 2, 1, false),
+        ("a", -1, 1, false),
+        ("", 0, 1, false),
+    ] {
+        let alphabet = text(alloc, alphabet)?;
+        let told = told_of(alloc, Leaf::Chars { alphabet, lo, hi })?;
+        assert_eq!(rt; told, broken_unless(is_kept, 14));
+    }
+    Ok(())
+}
+
 /// Whether a schema with this column behind the key is unbuilt.
 fn is_unbuilt_with(
     alloc: Global,
@@ -773,22 +569,17 @@ fn is_unbuilt_with(
 #[test]
 fn columns_that_are_not_built(rt: HostRuntime) -> Result<(), Fail> {
     let alloc = rt.alloc();
-    for null in [-1, 0, 1, 1_000] {
-        assert!(rt; !is_unbuilt_with(alloc, Kind::Born, false, null)?);
-    }
-    assert!(rt; is_unbuilt_with(alloc, Kind::Born, true, 0)?);
+    assert!(rt; !is_unbuilt_with(alloc, Kind::Born, false, 0)?);
     assert!(rt; is_unbuilt_with(alloc, Kind::Changed, false, 0)?);
-    let via = text(alloc, "c")?;
-    let column = text(alloc, "id")?;
-    assert!(rt; is_unbuilt_with(alloc, Kind::Lookup { via, column }, false, 0)?);
+    assert!(rt; is_unbuilt_with(alloc, Kind::Born, true, 0)?);
+    assert!(rt; !is_unbuilt_with(alloc, Kind::Born, false, 1)?);
+    assert!(rt; !is_unbuilt_with(alloc, Kind::Born, false, -1)?);
     for scramble in [false, true] {
         let key = Kind::Key { base: 1, scramble };
         assert!(rt; !is_unbuilt_with(alloc, key, false, 0)?);
     }
-    for parts in [0, 1] {
-        let template = template(alloc, parts, "id")?;
-        assert!(rt; is_unbuilt_with(alloc, template, false, 0)?);
-    }
+    let parts = Parts::new(alloc);
+    assert!(rt; is_unbuilt_with(alloc, Kind::Template { parts }, false, 0)?);
     Ok(())
 }
 
@@ -836,18 +627,6 @@ fn drawn_values_that_are_not_built(rt: HostRuntime) -> Result<(), Fail> {
     ] {
         assert_eq!(rt;
             is_unbuilt_with(alloc, Kind::Leaf(leaf), false, 0)?,
-            is_unbuilt
-        );
-    }
-    let entry = Leaf::Dict { file: name()? };
-    for (leaf, is_unbuilt) in [(Leaf::Date { lo: 1, hi: 2 }, false), (entry, true)] {
-        let on = text(alloc, "c")?;
-        let mut branches = Leaves::new(alloc);
-        for branch in [Leaf::Int { lo, hi, step: 1 }, leaf] {
-            branches.push(branch).map_err(|_| AllocError)?;
-        }
-        assert_eq!(rt;
-            is_unbuilt_with(alloc, Kind::Case { on, branches }, false, 0)?,
             is_unbuilt
         );
     }
