@@ -13,10 +13,12 @@ use Rattle.schema_model.specs.declared.column.Leaf.{Leaf}
 use Rattle.schema_model.specs.declared.column.Leaf.TheVariants as drawn
 use Rattle.schema_model.specs.declared.column.Part.{Part}
 use Rattle.schema_model.specs.declared.column.Part.TheVariants as part
+use Rattle.schema_check.specs.Citations.{leaves_of}
 use Rattle.schema_check.specs.Counts.{count}
-use Rattle.schema_check.specs.Layout.{ColumnLayout, LeafLayout, column_at, column_layout, dictionary_names, kind_layout, leaf_layout, no_column, part_layout, place_of_column}
+use Rattle.schema_check.specs.Dictionaries.{AreWordLists, Dictionary, Project}
+use Rattle.schema_check.specs.Layout.{ColumnLayout, LeafLayout, column_at, column_layout, kind_layout, leaf_layout, no_column, part_layout, place_of_column}
 use Rattle.schema_check.specs.Limits.{AreParts, IsCase, IsKindInLimits, IsLeafInLimits, IsPart, IsPickOf, is_cited}
-use Rattle.schema_check.specs.Rules.{is_between, is_case, is_citable, is_date_range, is_key_in_range, is_length_range, is_null_share, is_number_range, is_part, is_pick_of, is_skew_range, is_template, is_weighted, kind_at, leaves_of, null_at}
+use Rattle.schema_check.specs.Rules.{are_supplied, is_between, is_case, is_citable, is_date_range, is_key_in_range, is_length_range, is_null_share, is_number_range, is_part, is_pick_of, is_skew_range, is_template, is_weighted, kind_at, null_at}
 use Rattle.schema_check.proofs.FromTests.{limit_from_test, passes_each}
 use Rattle.schema_check.proofs.LeafLimits.{leaf_in_limits, leaves_in_limits}
 
@@ -27,36 +29,36 @@ a_column = record { name = []; kind = kind.Born; changes = false; null = pos 0 }
 
 -- the columns of a table as its layout has them
 abbrev pub columns_layout : List Table → List Column → List ColumnLayout
-columns_layout tables columns = map (column_layout tables columns) columns
+columns_layout dictionaries tables columns = map (column_layout dictionaries tables columns) columns
 
-pub kind_at-layout : (tables : List Table) (columns : List Column) (j : ℕ) → j < length columns → (column_at (columns_layout tables columns) j).kind ≡ kind_layout tables columns (kind_at columns j)
-kind_at-layout tables columns j h =
-    ap (λ (c : ColumnLayout). c.kind) (get_or-map (column_layout tables columns) columns j a_column no_column h)
-    ∙ ap (kind_layout tables columns) (sym (get_or-map (λ (c : Column). c.kind) columns j a_column kind.Born h))
+pub kind_at-layout : (dictionaries : List Dictionary) (tables : List Table) (columns : List Column) (j : ℕ) → j < length columns → (column_at (columns_layout dictionaries tables columns) j).kind ≡ kind_layout dictionaries tables columns (kind_at columns j)
+kind_at-layout dictionaries tables columns j h =
+    ap (λ (c : ColumnLayout). c.kind) (get_or-map (column_layout dictionaries tables columns) columns j a_column no_column h)
+    ∙ ap (kind_layout dictionaries tables columns) (sym (get_or-map (λ (c : Column). c.kind) columns j a_column kind.Born h))
 
-pub null_at-layout : (tables : List Table) (columns : List Column) (j : ℕ) → j < length columns → (column_at (columns_layout tables columns) j).null ≡ count (null_at columns j)
-null_at-layout tables columns j h =
-    ap (λ (c : ColumnLayout). c.null) (get_or-map (column_layout tables columns) columns j a_column no_column h)
+pub null_at-layout : (dictionaries : List Dictionary) (tables : List Table) (columns : List Column) (j : ℕ) → j < length columns → (column_at (columns_layout dictionaries tables columns) j).null ≡ count (null_at columns j)
+null_at-layout dictionaries tables columns j h =
+    ap (λ (c : ColumnLayout). c.null) (get_or-map (column_layout dictionaries tables columns) columns j a_column no_column h)
     ∙ ap count (sym (get_or-map (λ (c : Column). c.null) columns j a_column (pos 0) h))
 
 -- ---- templates
 
-is_cited-layout : (tables : List Table) (columns : List Column) (kind : Kind) → is_cited (kind_layout tables columns kind) ≡ is_citable kind
-is_cited-layout tables columns (kind.Template parts) = refl
-is_cited-layout tables columns (kind.Case on branches) = refl
-is_cited-layout tables columns (kind.Lookup via column) = refl
-is_cited-layout tables columns _ = refl
+is_cited-layout : (dictionaries : List Dictionary) (tables : List Table) (columns : List Column) (kind : Kind) → is_cited (kind_layout dictionaries tables columns kind) ≡ is_citable kind
+is_cited-layout dictionaries tables columns (kind.Template parts) = refl
+is_cited-layout dictionaries tables columns (kind.Case on branches) = refl
+is_cited-layout dictionaries tables columns (kind.Lookup via column) = refl
+is_cited-layout dictionaries tables columns _ = refl
 
-part_from_test : (tables : List Table) (columns : List Column) (place : ℕ) → place ≤ length columns → (of : Part) → is_part columns place of ≡ true → IsPart (columns_layout tables columns) place (part_layout columns of)
-part_from_test tables columns place within (part.Literal text) h = tt
-part_from_test tables columns place within (part.Cited name) h =
+part_from_test : (dictionaries : List Dictionary) (tables : List Table) (columns : List Column) (place : ℕ) → place ≤ length columns → (of : Part) → is_part columns place of ≡ true → IsPart (columns_layout dictionaries tables columns) place (part_layout columns of)
+part_from_test dictionaries tables columns place within (part.Literal text) h = tt
+part_from_test dictionaries tables columns place within (part.Cited name) h =
     let cited = place_of_column columns name in
     let parts = and_parts (nat_lt cited place) (is_citable (kind_at columns cited)) h in
     let earlier : cited < place = ltb-true cited place parts.0 in
-    (earlier, ap is_cited (kind_at-layout tables columns cited (omega arith)) ∙ is_cited-layout tables columns (kind_at columns cited) ∙ parts.1)
+    (earlier, ap is_cited (kind_at-layout dictionaries tables columns cited (omega arith)) ∙ is_cited-layout dictionaries tables columns (kind_at columns cited) ∙ parts.1)
 
-template_from_test : (tables : List Table) (columns : List Column) (place : ℕ) → place ≤ length columns → (parts : List Part) → is_template columns place (kind.Template parts) ≡ true → AreParts (columns_layout tables columns) place (map (part_layout columns) parts)
-template_from_test tables columns place within parts h =
+template_from_test : (dictionaries : List Dictionary) (tables : List Table) (columns : List Column) (place : ℕ) → place ≤ length columns → (parts : List Part) → is_template columns place (kind.Template parts) ≡ true → AreParts (columns_layout dictionaries tables columns) place (map (part_layout columns) parts)
+template_from_test dictionaries tables columns place within parts h =
     let v = and_parts (nat_le 1 (length parts) && nat_le (length parts) 32) (list_all (is_part columns place) parts) h in
     let w = and_parts (nat_le 1 (length parts)) (nat_le (length parts) 32) v.0 in
     let same : length (map (part_layout columns) parts) ≡ length parts = length-map parts (part_layout columns) in
@@ -65,45 +67,46 @@ template_from_test tables columns place within parts h =
       part_limit = omega (arith, same, leb-true (length parts) 32 w.1);
       each = λ i d lt.
           let at : i < length parts = omega (arith, lt, same) in
-          subst (IsPart (columns_layout tables columns) place) (sym (get_or-map (part_layout columns) parts i (part.Literal []) d at))
-          (part_from_test tables columns place within (get_or parts i (part.Literal [])) (passes_each (is_part columns place) parts i (part.Literal []) at v.1));
+          subst (IsPart (columns_layout dictionaries tables columns) place) (sym (get_or-map (part_layout columns) parts i (part.Literal []) d at))
+          (part_from_test dictionaries tables columns place within (get_or parts i (part.Literal [])) (passes_each (is_part columns place) parts i (part.Literal []) at v.1));
     }
 
 -- ---- cases
 
-pick_from_test : (tables : List Table) (columns : List Column) (n : ℕ) (kind : Kind) → is_pick_of n kind ≡ true → IsPickOf n (kind_layout tables columns kind)
-pick_from_test tables columns n (kind.Leaf (drawn.Pick entries weights)) h = eqb-true (length entries) n h
-pick_from_test tables columns n _ h = cc
+pick_from_test : (dictionaries : List Dictionary) (tables : List Table) (columns : List Column) (n : ℕ) (kind : Kind) → is_pick_of n kind ≡ true → IsPickOf n (kind_layout dictionaries tables columns kind)
+pick_from_test dictionaries tables columns n (kind.Leaf (drawn.Pick entries weights)) h = eqb-true (length entries) n h
+pick_from_test dictionaries tables columns n _ h = cc
 
-case_from_test : (tables : List Table) (columns : List Column) (place : ℕ) → place ≤ length columns → (on : List ℕ) (branches : List Leaf) → is_case columns place (kind.Case on branches) ≡ true → All IsLeafInLimits (map (leaf_layout (dictionary_names tables)) branches) → IsCase (columns_layout tables columns) place (place_of_column columns on) (map (leaf_layout (dictionary_names tables)) branches)
-case_from_test tables columns place within on branches h each =
+case_from_test : (dictionaries : List Dictionary) (tables : List Table) (columns : List Column) (place : ℕ) → place ≤ length columns → (on : List ℕ) (branches : List Leaf) → is_case columns place (kind.Case on branches) ≡ true → All IsLeafInLimits (map (leaf_layout dictionaries) branches) → IsCase (columns_layout dictionaries tables columns) place (place_of_column columns on) (map (leaf_layout dictionaries) branches)
+case_from_test dictionaries tables columns place within on branches h each =
     let pick = place_of_column columns on in
     let parts = and_parts (nat_lt pick place) (is_pick_of (length branches) (kind_at columns pick)) h in
     let earlier : pick < place = ltb-true pick place parts.0 in
-    let as_many = length-map branches (leaf_layout (dictionary_names tables)) in
-    let is_pick = pick_from_test tables columns (length branches) (kind_at columns pick) parts.1 in
+    let as_many = length-map branches (leaf_layout dictionaries) in
+    let is_pick = pick_from_test dictionaries tables columns (length branches) (kind_at columns pick) parts.1 in
     record {
       earlier = earlier;
-      pick = subst (λ n. IsPickOf n (column_at (columns_layout tables columns) pick).kind) (sym as_many)
-          (subst (IsPickOf (length branches)) (sym (kind_at-layout tables columns pick (omega arith))) is_pick);
+      pick = subst (λ n. IsPickOf n (column_at (columns_layout dictionaries tables columns) pick).kind) (sym as_many)
+          (subst (IsPickOf (length branches)) (sym (kind_at-layout dictionaries tables columns pick (omega arith))) is_pick);
       each = each;
     }
 
 -- ---- a column by its kind
 
-pub kind_in_limits : (tables : List Table) (columns : List Column) (place : ℕ) → place ≤ length columns → (kind : Kind) → list_all is_number_range (leaves_of kind) ≡ true → list_all is_date_range (leaves_of kind) ≡ true → list_all is_weighted (leaves_of kind) ≡ true → list_all is_skew_range (leaves_of kind) ≡ true → list_all is_length_range (leaves_of kind) ≡ true → is_template columns place kind ≡ true → is_case columns place kind ≡ true → IsKindInLimits (columns_layout tables columns) place (kind_layout tables columns kind)
-kind_in_limits tables columns place within (kind.Leaf leaf) numbers dates picks skews lengths parts case =
-    leaf_in_limits (dictionary_names tables) leaf
+pub kind_in_limits : (project : Project) → AreWordLists project.dictionaries → (tables : List Table) (columns : List Column) (place : ℕ) → place ≤ length columns → (kind : Kind) → list_all (are_supplied project) (leaves_of kind) ≡ true → list_all is_number_range (leaves_of kind) ≡ true → list_all is_date_range (leaves_of kind) ≡ true → list_all is_weighted (leaves_of kind) ≡ true → list_all is_skew_range (leaves_of kind) ≡ true → list_all is_length_range (leaves_of kind) ≡ true → is_template columns place kind ≡ true → is_case columns place kind ≡ true → IsKindInLimits (columns_layout project.dictionaries tables columns) place (kind_layout project.dictionaries tables columns kind)
+kind_in_limits project lists tables columns place within (kind.Leaf leaf) supplied numbers dates picks skews lengths parts case =
+    leaf_in_limits project lists leaf
+    ((and_parts (are_supplied project leaf) true supplied).0)
     ((and_parts (is_number_range leaf) true numbers).0)
     ((and_parts (is_date_range leaf) true dates).0)
     ((and_parts (is_weighted leaf) true picks).0)
     ((and_parts (is_skew_range leaf) true skews).0)
     ((and_parts (is_length_range leaf) true lengths).0)
-kind_in_limits tables columns place within (kind.Template of) numbers dates picks skews lengths parts case =
-    template_from_test tables columns place within of parts
-kind_in_limits tables columns place within (kind.Case on branches) numbers dates picks skews lengths parts case =
-    case_from_test tables columns place within on branches case (leaves_in_limits (dictionary_names tables) branches numbers dates picks skews lengths)
-kind_in_limits tables columns place within _ numbers dates picks skews lengths parts case = tt
+kind_in_limits project lists tables columns place within (kind.Template of) supplied numbers dates picks skews lengths parts case =
+    template_from_test project.dictionaries tables columns place within of parts
+kind_in_limits project lists tables columns place within (kind.Case on branches) supplied numbers dates picks skews lengths parts case =
+    case_from_test project.dictionaries tables columns place within on branches case (leaves_in_limits project lists branches supplied numbers dates picks skews lengths)
+kind_in_limits project lists tables columns place within _ supplied numbers dates picks skews lengths parts case = tt
 
 -- ---- nulls
 

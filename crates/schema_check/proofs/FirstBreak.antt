@@ -1,17 +1,17 @@
 -- The site of a broken rule is the first at which it is broken.
 use Rattle.std.proofs.Common.{◌≡◌, ◌⊎◌, inl, inr, ℕ, suc, ◌<◌, if◌then◌else◌, Bool, true, false, length, List, slice_get, Option, Some, None, refl, ap, ◌∙◌, subst, arith}
 use Rattle.std.specs.Option.{option_or, option_map}
-use Rattle.schema_model.specs.declared.table.Schema.{Schema}
 use Rattle.schema_check.specs.declared.broken.Broken.{Broken}
 use Rattle.schema_check.specs.declared.rules.Rule.{Rule}
 use Rattle.schema_check.specs.declared.site.Site.{Site}
 use Rattle.schema_check.specs.declared.site.Site.TheVariants.{Whole, OfTable, OfColumn}
+use Rattle.schema_check.specs.Dictionaries.{Project}
 use Rattle.schema_check.specs.Rules.{holds, first_found, break_at, break_in_table, first_break, broken_rule, IsFirstBreak, Keeps}
 use Rattle.schema_check.specs.Sites.{columns_at, IsSiteOf, table_number, column_number}
 use Rattle.schema_check.proofs.Kept.{table_holds, found_at_first_place, holds_from_none, one_of_some, keeps_from_none, FoundAt}
 
-broken_from_some : (rule : Rule) (schema : Schema) (at site : Site) → break_at rule schema at ≡ Some site → (holds rule schema at ≡ false) × (at ≡ site)
-broken_from_some rule schema at site h = of_test (holds rule schema at) h
+broken_from_some : (rule : Rule) (project : Project) (at site : Site) → break_at rule project at ≡ Some site → (holds rule project at ≡ false) × (at ≡ site)
+broken_from_some rule project at site h = of_test (holds rule project at) h
   where
     of_test : (test : Bool) → if test then None else Some at ≡ Some site → (test ≡ false) × (at ≡ site)
     of_test true h = cc
@@ -24,58 +24,58 @@ found_cases (Some x) rest b h = inl h
 
 -- a rule holds at the sites of one table before a column
 abbrev HoldsBefore : Rule → Schema → ℕ → ℕ → Type 0
-HoldsBefore rule schema table column =
-    (other : Site) → IsSiteOf schema other → table_number other ≡ suc table → column_number other < column → holds rule schema other ≡ true
+HoldsBefore rule project table column =
+    (other : Site) → IsSiteOf project.schema other → table_number other ≡ suc table → column_number other < column → holds rule project other ≡ true
 
 -- what holds of the whole, in the tables before one and in it before a column holds at each site before
-before_site : (rule : Rule) (schema : Schema) (i column : ℕ) → holds rule schema Whole ≡ true → ((k : ℕ) → k < i → break_in_table rule schema k ≡ None) → HoldsBefore rule schema i column → (other : Site) → IsSiteOf schema other → (table_number other < suc i) ⊎ ((table_number other ≡ suc i) × (column_number other < column)) → holds rule schema other ≡ true
-before_site rule schema i column whole tables own Whole is_site before = whole
-before_site rule schema i column whole tables own (OfTable k) is_site (inl lt) = table_holds rule schema k (tables k (omega arith)) (OfTable k) is_site refl
-before_site rule schema i column whole tables own (OfColumn k c) is_site (inl lt) = table_holds rule schema k (tables k (omega arith)) (OfColumn k c) is_site refl
-before_site rule schema i column whole tables own other is_site (inr e) = own other is_site e.0 e.1
+before_site : (rule : Rule) (project : Project) (i column : ℕ) → holds rule project Whole ≡ true → ((k : ℕ) → k < i → break_in_table rule project k ≡ None) → HoldsBefore rule project i column → (other : Site) → IsSiteOf project.schema other → (table_number other < suc i) ⊎ ((table_number other ≡ suc i) × (column_number other < column)) → holds rule project other ≡ true
+before_site rule project i column whole tables own Whole is_site before = whole
+before_site rule project i column whole tables own (OfTable k) is_site (inl lt) = table_holds rule project k (tables k (omega arith)) (OfTable k) is_site refl
+before_site rule project i column whole tables own (OfColumn k c) is_site (inl lt) = table_holds rule project k (tables k (omega arith)) (OfColumn k c) is_site refl
+before_site rule project i column whole tables own other is_site (inr e) = own other is_site e.0 e.1
 
-own_columns : (rule : Rule) (schema : Schema) (i j : ℕ) → holds rule schema (OfTable i) ≡ true → ((k : ℕ) → k < j → break_at rule schema (OfColumn i k) ≡ None) → HoldsBefore rule schema i (suc j)
-own_columns rule schema i j table columns Whole is_site at lt = absurd (omega arith)
-own_columns rule schema i j table columns (OfTable t) is_site at lt =
+own_columns : (rule : Rule) (project : Project) (i j : ℕ) → holds rule project (OfTable i) ≡ true → ((k : ℕ) → k < j → break_at rule project (OfColumn i k) ≡ None) → HoldsBefore rule project i (suc j)
+own_columns rule project i j table columns Whole is_site at lt = absurd (omega arith)
+own_columns rule project i j table columns (OfTable t) is_site at lt =
     let same : i ≡ t = omega arith in
-    subst (λ (p : ℕ). holds rule schema (OfTable p) ≡ true) same table
-own_columns rule schema i j table columns (OfColumn t c) is_site at lt =
+    subst (λ (p : ℕ). holds rule project (OfTable p) ≡ true) same table
+own_columns rule project i j table columns (OfColumn t c) is_site at lt =
     let same : i ≡ t = omega arith in
-    subst (λ (p : ℕ). holds rule schema (OfColumn p c) ≡ true) same (holds_from_none rule schema (OfColumn i c) (columns c (omega arith)))
+    subst (λ (p : ℕ). holds rule project (OfColumn p c) ≡ true) same (holds_from_none rule project (OfColumn i c) (columns c (omega arith)))
 
-in_tables : (rule : Rule) (schema : Schema) (site : Site) (i : ℕ) → i < length schema.tables → holds rule schema Whole ≡ true → ((k : ℕ) → k < i → break_in_table rule schema k ≡ None) → break_in_table rule schema i ≡ Some site → IsFirstBreak rule schema site
-in_tables rule schema site i within whole tables h =
-    elim (found_cases (break_at rule schema (OfTable i)) (first_found (λ column. break_at rule schema (OfColumn i column)) _) site h) [
+in_tables : (rule : Rule) (project : Project) (site : Site) (i : ℕ) → i < length project.schema.tables → holds rule project Whole ≡ true → ((k : ℕ) → k < i → break_in_table rule project k ≡ None) → break_in_table rule project i ≡ Some site → IsFirstBreak rule project site
+in_tables rule project site i within whole tables h =
+    elim (found_cases (break_at rule project (OfTable i)) (first_found (λ column. break_at rule project (OfColumn i column)) _) site h) [
       | inl here ↦
-          let out = broken_from_some rule schema (OfTable i) site here in
-          subst (IsFirstBreak rule schema) out.1 (record {
+          let out = broken_from_some rule project (OfTable i) site here in
+          subst (IsFirstBreak rule project) out.1 (record {
             is_site = within;
             breaks = out.0;
-            before = before_site rule schema i 0 whole tables (λ other is_site at lt. absurd (omega arith));
+            before = before_site rule project i 0 whole tables (λ other is_site at lt. absurd (omega arith));
           })
       | inr behind ↦
-          let found = found_at_first_place (λ column. break_at rule schema (OfColumn i column)) (length (columns_at schema i)) site behind.1 in
-          let out = broken_from_some rule schema (OfColumn i found.0) site found.2 in
-          subst (IsFirstBreak rule schema) out.1 (record {
+          let found = found_at_first_place (λ column. break_at rule project (OfColumn i column)) (length (columns_at project.schema i)) site behind.1 in
+          let out = broken_from_some rule project (OfColumn i found.0) site found.2 in
+          subst (IsFirstBreak rule project) out.1 (record {
             is_site = (within, found.1);
             breaks = out.0;
-            before = before_site rule schema i (suc found.0) whole tables (own_columns rule schema i found.0 (holds_from_none rule schema (OfTable i) behind.0) found.3);
+            before = before_site rule project i (suc found.0) whole tables (own_columns rule project i found.0 (holds_from_none rule project (OfTable i) behind.0) found.3);
           })
     ]
 
-pub is_first_break : (rule : Rule) (schema : Schema) (site : Site) → first_break rule schema ≡ Some site → IsFirstBreak rule schema site
-is_first_break rule schema site h =
-    elim (found_cases (break_at rule schema Whole) (first_found (break_in_table rule schema) _) site h) [
+pub is_first_break : (rule : Rule) (project : Project) (site : Site) → first_break rule project ≡ Some site → IsFirstBreak rule project site
+is_first_break rule project site h =
+    elim (found_cases (break_at rule project Whole) (first_found (break_in_table rule project) _) site h) [
       | inl here ↦
-          let out = broken_from_some rule schema Whole site here in
-          subst (IsFirstBreak rule schema) out.1 (record {
+          let out = broken_from_some rule project Whole site here in
+          subst (IsFirstBreak rule project) out.1 (record {
             is_site = tt;
             breaks = out.0;
             before = λ other is_site before. elim before [ inl lt ↦ absurd (omega arith) | inr e ↦ absurd (omega (arith, e.1)) ];
           })
       | inr behind ↦
-          let found = found_at_first_place (break_in_table rule schema) (length schema.tables) site behind.1 in
-          in_tables rule schema site found.0 found.1 (holds_from_none rule schema Whole behind.0) found.3 found.2
+          let found = found_at_first_place (break_in_table rule project) (length project.schema.tables) site behind.1 in
+          in_tables rule project site found.0 found.1 (holds_from_none rule project Whole behind.0) found.3 found.2
     ]
 
 -- ---- a rule with its site
@@ -87,11 +87,11 @@ none_of_map : {A B : Type 0} (f : A → B) (o : Option A) → option_map f o ≡
 none_of_map f None h = refl
 none_of_map f (Some x) h = cc
 
-pub none_of_rule : (schema : Schema) (rule : Rule) → broken_rule schema rule ≡ None → first_break rule schema ≡ None
-none_of_rule schema rule h = none_of_map _ (first_break rule schema) h
+pub none_of_rule : (project : Project) (rule : Rule) → broken_rule project rule ≡ None → first_break rule project ≡ None
+none_of_rule project rule h = none_of_map _ (first_break rule project) h
 
-pub none_for_rule : (schema : Schema) (rule : Rule) → first_break rule schema ≡ None → broken_rule schema rule ≡ None
-none_for_rule schema rule h = ap (option_map (λ site. record { rule = rule; site = site })) h
+pub none_for_rule : (project : Project) (rule : Rule) → first_break rule project ≡ None → broken_rule project rule ≡ None
+none_for_rule project rule h = ap (option_map (λ site. record { rule = rule; site = site })) h
 
 some_of_rule : (rule : Rule) (o : Option Site) (broken : Broken) → option_map (λ (site : Site). broken_at rule site) o ≡ Some broken → (o ≡ Some broken.site) × (rule ≡ broken.rule)
 some_of_rule rule None broken h = cc
@@ -100,11 +100,11 @@ some_of_rule rule (Some site) broken h =
     (ap (λ (b : Broken). Some b.site) same, ap (λ (b : Broken). b.rule) same)
 
 -- the first rule of a list that is broken, at its first site
-pub first_rule : (schema : Schema) (rules : List Rule) (broken : Broken) → FoundAt (broken_rule schema) rules broken → (i : ℕ) × (slice_get rules i ≡ Some broken.rule) × IsFirstBreak broken.rule schema broken.site × ((k : ℕ) (other : Rule) → k < i → slice_get rules k ≡ Some other → Keeps other schema)
-first_rule schema rules broken found =
-    let out = some_of_rule found.1 (first_break found.1 schema) broken found.3 in (
+pub first_rule : (project : Project) (rules : List Rule) (broken : Broken) → FoundAt (broken_rule project) rules broken → (i : ℕ) × (slice_get rules i ≡ Some broken.rule) × IsFirstBreak broken.rule project broken.site × ((k : ℕ) (other : Rule) → k < i → slice_get rules k ≡ Some other → Keeps other project)
+first_rule project rules broken found =
+    let out = some_of_rule found.1 (first_break found.1 project) broken found.3 in (
       found.0,
       found.2 ∙ ap (λ rule. Some rule) out.1,
-      subst (λ (rule : Rule). IsFirstBreak rule schema broken.site) out.1 (is_first_break found.1 schema broken.site out.0),
-      λ k other lt at. keeps_from_none other schema (none_of_rule schema other (found.4 k other lt at)),
+      subst (λ (rule : Rule). IsFirstBreak rule project broken.site) out.1 (is_first_break found.1 project broken.site out.0),
+      λ k other lt at. keeps_from_none other project (none_of_rule project other (found.4 k other lt at)),
     )

@@ -3,16 +3,16 @@ use Rattle.std.proofs.Common.{◌≡◌, ◌≢◌, ℕ, pos, suc, ◌<◌, ◌�
 use Rattle.std.specs.List.{position_or_len}
 use Rattle.std.proofs.lemmas.Bool.{and_parts, leb-true}
 use Rattle.std.proofs.lemmas.List.{get_or-map, length-map}
-use Rattle.schema_model.specs.declared.table.Schema.{Schema}
 use Rattle.schema_model.specs.declared.table.Table.{Table}
 use Rattle.schema_model.specs.declared.column.Column.{Column}
 use Rattle.schema_model.specs.declared.column.Kind.{Kind}
 use Rattle.schema_model.specs.declared.column.Kind.TheVariants.{Key}
 use Rattle.schema_check.specs.declared.rules.Rule.{Rule}
-use Rattle.schema_check.specs.declared.rules.Rule.TheVariants.{SeedAndUnits, TableCount, Columns, KeyColumn, RowCount, NumberRange, DateRange, PickEntries, SkewRange, LengthRange, TemplateParts, CaseBranches, RowCost, LineSize, NullShare}
+use Rattle.schema_check.specs.declared.rules.Rule.TheVariants.{Dictionaries, SeedAndUnits, TableCount, Columns, KeyColumn, RowCount, NumberRange, DateRange, PickEntries, SkewRange, LengthRange, TemplateParts, CaseBranches, RowCost, LineSize, NullShare}
 use Rattle.schema_check.specs.declared.site.Site.TheVariants.{Whole, OfTable, OfColumn}
 use Rattle.schema_check.specs.Cohorts.{born_count}
 use Rattle.schema_check.specs.Counts.{count}
+use Rattle.schema_check.specs.Dictionaries.{AreWordLists, Dictionary, Project}
 use Rattle.schema_check.specs.Layout.{births_of, column_at, column_layout, key_kind, keys_of_kind, kind_layout, layout_of, table_layout}
 use Rattle.schema_check.specs.Limits.{IsKindInLimits, IsTableInLimits, IsInLimits}
 use Rattle.schema_check.specs.Rules.{broken_rule, first_broken, number_of, rules, is_between, is_key, is_key_in_range, is_key_first, is_null_share, is_one_to_64, kind_at, null_at, schema_table, IsAccepted, Keeps}
@@ -28,10 +28,10 @@ use Rattle.schema_check.proofs.RuleLemmas.{columns_at-is}
 abbrev index_of : Rule → ℕ
 index_of rule = position_or_len (λ other. number_of other == number_of rule) rules
 
-keeps : (schema : Schema) → IsAccepted schema → (rule : Rule) → slice_get rules (index_of rule) ≡ Some rule → Keeps rule schema
+keeps : (project : Project) → IsAccepted project → (rule : Rule) → slice_get rules (index_of rule) ≡ Some rule → Keeps rule project
 unfolding first_broken
-keeps schema accepted rule at =
-    keeps_from_none rule schema (none_of_rule schema rule (none_at (broken_rule schema) rules accepted (index_of rule) rule at))
+keeps project accepted rule at =
+    keeps_from_none rule project (none_of_rule project rule (none_at (broken_rule project) rules accepted (index_of rule) rule at))
 
 -- ---- columns
 
@@ -39,60 +39,62 @@ base_from_range : (kind : Kind) → is_key_in_range kind ≡ true → (keys_of_k
 base_from_range (Key base scramble) h = limit_from_test base (2 ^ 62) ((and_parts (int_le (pos 0) base) (int_le base (pos (2 ^ 62))) h).1)
 base_from_range _ h = cc
 
-key_from_range : (tables : List Table) (columns : List Column) (kind : Kind) → is_key_in_range kind ≡ true → kind_layout tables columns kind ≡ key_kind
-key_from_range tables columns (Key base scramble) h = refl
-key_from_range tables columns _ h = cc
+key_from_range : (dictionaries : List Dictionary) (tables : List Table) (columns : List Column) (kind : Kind) → is_key_in_range kind ≡ true → kind_layout dictionaries tables columns kind ≡ key_kind
+key_from_range dictionaries tables columns (Key base scramble) h = refl
+key_from_range dictionaries tables columns _ h = cc
 
-no_key : (tables : List Table) (columns : List Column) (kind : Kind) → not (is_key kind) ≡ true → kind_layout tables columns kind ≢ key_kind
-no_key tables columns (Key base scramble) h = cc
-no_key tables columns _ h = λ e. cc
+no_key : (dictionaries : List Dictionary) (tables : List Table) (columns : List Column) (kind : Kind) → not (is_key kind) ≡ true → kind_layout dictionaries tables columns kind ≢ key_kind
+no_key dictionaries tables columns (Key base scramble) h = cc
+no_key dictionaries tables columns _ h = λ e. cc
 
 -- a column of an accepted schema, as the layout has it
-column_in_limits : (schema : Schema) → IsAccepted schema → (i j : ℕ) → i < length schema.tables → j < length (columns_at schema i) → (tables : List Table) → IsKindInLimits (columns_layout tables (columns_at schema i)) j (column_at (columns_layout tables (columns_at schema i)) j).kind
-column_in_limits schema accepted i j table column tables =
-    let columns = columns_at schema i in
-    subst (IsKindInLimits (columns_layout tables columns) j) (sym (kind_at-layout tables columns j column))
-    (kind_in_limits tables columns j (omega arith) (kind_at columns j)
-    (keeps schema accepted NumberRange refl (OfColumn i j) (table, column))
-    (keeps schema accepted DateRange refl (OfColumn i j) (table, column))
-    (keeps schema accepted PickEntries refl (OfColumn i j) (table, column))
-    (keeps schema accepted SkewRange refl (OfColumn i j) (table, column))
-    (keeps schema accepted LengthRange refl (OfColumn i j) (table, column))
-    (keeps schema accepted TemplateParts refl (OfColumn i j) (table, column))
-    (keeps schema accepted CaseBranches refl (OfColumn i j) (table, column)))
+column_in_limits : (project : Project) → AreWordLists project.dictionaries → IsAccepted project → (i j : ℕ) → i < length project.schema.tables → j < length (columns_at project.schema i) → (tables : List Table) → IsKindInLimits (columns_layout project.dictionaries tables (columns_at project.schema i)) j (column_at (columns_layout project.dictionaries tables (columns_at project.schema i)) j).kind
+column_in_limits project lists accepted i j table column tables =
+    let dictionaries = project.dictionaries in
+    let columns = columns_at project.schema i in
+    subst (IsKindInLimits (columns_layout dictionaries tables columns) j) (sym (kind_at-layout dictionaries tables columns j column))
+    (kind_in_limits project lists tables columns j (omega arith) (kind_at columns j)
+    (keeps project accepted Dictionaries refl (OfColumn i j) (table, column))
+    (keeps project accepted NumberRange refl (OfColumn i j) (table, column))
+    (keeps project accepted DateRange refl (OfColumn i j) (table, column))
+    (keeps project accepted PickEntries refl (OfColumn i j) (table, column))
+    (keeps project accepted SkewRange refl (OfColumn i j) (table, column))
+    (keeps project accepted LengthRange refl (OfColumn i j) (table, column))
+    (keeps project accepted TemplateParts refl (OfColumn i j) (table, column))
+    (keeps project accepted CaseBranches refl (OfColumn i j) (table, column)))
 
 -- ---- tables
 
-table_in_limits : (schema : Schema) → IsAccepted schema → (i : ℕ) → i < length schema.tables → IsTableInLimits (count schema.units) (table_layout schema.tables (schema_table schema i))
-table_in_limits schema accepted i h =
-    let t = schema_table schema i in
-    let same : columns_at schema i ≡ t.columns = columns_at-is schema i _ h in
-    let v4 : is_one_to_64 (length t.columns) ≡ true = ap (λ columns. is_one_to_64 (length columns)) (sym same) ∙ keeps schema accepted Columns refl (OfTable i) h in
+table_in_limits : (project : Project) → AreWordLists project.dictionaries → IsAccepted project → (i : ℕ) → i < length project.schema.tables → IsTableInLimits (count project.schema.units) (table_layout project.dictionaries project.schema.tables (schema_table project.schema i))
+table_in_limits project lists accepted i h =
+    let t = schema_table project.schema i in
+    let same : columns_at project.schema i ≡ t.columns = columns_at-is project.schema i _ h in
+    let v4 : is_one_to_64 (length t.columns) ≡ true = ap (λ columns. is_one_to_64 (length columns)) (sym same) ∙ keeps project accepted Columns refl (OfTable i) h in
     let counted = and_parts (nat_le 1 (length t.columns)) (nat_le (length t.columns) 64) v4 in
-    let v6 = and_parts (int_le (pos 0) t.rows && int_le (pos 0) t.insert) (nat_le (born_count (births_of t) (count schema.units)) (2 ^ 40)) (keeps schema accepted RowCount refl (OfTable i) h) in
+    let v6 = and_parts (int_le (pos 0) t.rows && int_le (pos 0) t.insert) (nat_le (born_count (births_of t) (count project.schema.units)) (2 ^ 40)) (keeps project accepted RowCount refl (OfTable i) h) in
     let some : 1 ≤ length t.columns = leb-true 1 (length t.columns) counted.0 in
-    let v5 = λ (j : ℕ) (lt : j < length t.columns). ap (λ columns. is_key_first j (kind_at columns j)) (sym same) ∙ keeps schema accepted KeyColumn refl (OfColumn i j) (h, subst (λ (columns : List Column). j < length columns) (sym same) lt) in
-    let v25 = λ (j : ℕ) (lt : j < length t.columns). ap (λ columns. is_null_share (kind_at columns j) (null_at columns j)) (sym same) ∙ keeps schema accepted NullShare refl (OfColumn i j) (h, subst (λ (columns : List Column). j < length columns) (sym same) lt) in
-    let layouts : length (columns_layout schema.tables t.columns) ≡ length t.columns = length-map t.columns (column_layout schema.tables t.columns) in
+    let v5 = λ (j : ℕ) (lt : j < length t.columns). ap (λ columns. is_key_first j (kind_at columns j)) (sym same) ∙ keeps project accepted KeyColumn refl (OfColumn i j) (h, subst (λ (columns : List Column). j < length columns) (sym same) lt) in
+    let v25 = λ (j : ℕ) (lt : j < length t.columns). ap (λ columns. is_null_share (kind_at columns j) (null_at columns j)) (sym same) ∙ keeps project accepted NullShare refl (OfColumn i j) (h, subst (λ (columns : List Column). j < length columns) (sym same) lt) in
+    let layouts : length (columns_layout project.dictionaries project.schema.tables t.columns) ≡ length t.columns = length-map t.columns (column_layout project.dictionaries project.schema.tables t.columns) in
     record {
-      row_limit = leb-true (born_count (births_of t) (count schema.units)) (2 ^ 40) v6.1;
+      row_limit = leb-true (born_count (births_of t) (count project.schema.units)) (2 ^ 40) v6.1;
       base_limit = base_from_range (kind_at t.columns 0) (v5 0 some);
       some_column = omega (arith, layouts, some);
       column_limit = omega (arith, layouts, leb-true (length t.columns) 64 counted.1);
-      key_first = kind_at-layout schema.tables t.columns 0 some ∙ key_from_range schema.tables t.columns (kind_at t.columns 0) (v5 0 some);
+      key_first = kind_at-layout project.dictionaries project.schema.tables t.columns 0 some ∙ key_from_range project.dictionaries project.schema.tables t.columns (kind_at t.columns 0) (v5 0 some);
       no_other_key = λ place lt is_key_at.
           let within : suc place < length t.columns = omega (arith, layouts, lt) in
-          no_key schema.tables t.columns (kind_at t.columns (suc place)) (v5 (suc place) within)
-          (sym (kind_at-layout schema.tables t.columns (suc place) within) ∙ is_key_at);
+          no_key project.dictionaries project.schema.tables t.columns (kind_at t.columns (suc place)) (v5 (suc place) within)
+          (sym (kind_at-layout project.dictionaries project.schema.tables t.columns (suc place) within) ∙ is_key_at);
       kinds = λ place lt.
           let within : place < length t.columns = omega (arith, layouts, lt) in
-          let at : place < length (columns_at schema i) = subst (λ (columns : List Column). place < length columns) (sym same) within in
-          subst (λ columns. IsKindInLimits (columns_layout schema.tables columns) place (column_at (columns_layout schema.tables columns) place).kind) same
-          (column_in_limits schema accepted i place h at schema.tables);
+          let at : place < length (columns_at project.schema i) = subst (λ (columns : List Column). place < length columns) (sym same) within in
+          subst (λ columns. IsKindInLimits (columns_layout project.dictionaries project.schema.tables columns) place (column_at (columns_layout project.dictionaries project.schema.tables columns) place).kind) same
+          (column_in_limits project lists accepted i place h at project.schema.tables);
       nulls = λ place lt.
           let within : place < length t.columns = omega (arith, layouts, lt) in
-          omega (arith, null_at-layout schema.tables t.columns place within, null_limit (kind_at t.columns place) (null_at t.columns place) (v25 place within));
-      key_never_null = null_at-layout schema.tables t.columns 0 some ∙ key_never_null (kind_at t.columns 0) (null_at t.columns 0) (v5 0 some) (v25 0 some);
+          omega (arith, null_at-layout project.dictionaries project.schema.tables t.columns place within, null_limit (kind_at t.columns place) (null_at t.columns place) (v25 place within));
+      key_never_null = null_at-layout project.dictionaries project.schema.tables t.columns 0 some ∙ key_never_null (kind_at t.columns 0) (null_at t.columns 0) (v5 0 some) (v25 0 some);
     }
 
 -- a number of one of the first 64 tables is at most its limit
@@ -103,21 +105,21 @@ within_limit place n limit h asked = of_test (nat_le 64 place) refl asked
     of_test true is asked = absurd (omega (arith, leb-true 64 place is))
     of_test false is asked = leb-true n limit asked
 
-pub in_limits : (schema : Schema) → IsAccepted schema → IsInLimits schema
-in_limits schema accepted =
-    let v1 = and_parts (int_le (pos 0) schema.seed) (is_between 0 10000 schema.units) (keeps schema accepted SeedAndUnits refl Whole tt) in
-    let units = and_parts (int_le (pos 0) schema.units) (int_le schema.units (pos 10000)) v1.1 in
-    let v2 = and_parts (nat_le 1 (length schema.tables)) (nat_le (length schema.tables) 64) (keeps schema accepted TableCount refl Whole tt) in
-    let few : length schema.tables ≤ 64 = leb-true (length schema.tables) 64 v2.1 in
+pub in_limits : (project : Project) → AreWordLists project.dictionaries → IsAccepted project → IsInLimits project
+in_limits project lists accepted =
+    let v1 = and_parts (int_le (pos 0) project.schema.seed) (is_between 0 10000 project.schema.units) (keeps project accepted SeedAndUnits refl Whole tt) in
+    let units = and_parts (int_le (pos 0) project.schema.units) (int_le project.schema.units (pos 10000)) v1.1 in
+    let v2 = and_parts (nat_le 1 (length project.schema.tables)) (nat_le (length project.schema.tables) 64) (keeps project accepted TableCount refl Whole tt) in
+    let few : length project.schema.tables ≤ 64 = leb-true (length project.schema.tables) 64 v2.1 in
     record {
-      seed = count_from_test schema.seed v1.0;
-      units = count_from_test schema.units units.0;
-      unit_limit = limit_from_test schema.units 10000 units.1;
-      some_table = leb-true 1 (length schema.tables) v2.0;
+      seed = count_from_test project.schema.seed v1.0;
+      units = count_from_test project.schema.units units.0;
+      unit_limit = limit_from_test project.schema.units 10000 units.1;
+      some_table = leb-true 1 (length project.schema.tables) v2.0;
       table_limit = few;
       tables = λ i d h.
-          let within : i < length schema.tables = omega (arith, h, length-map schema.tables (table_layout schema.tables)) in
-          subst (IsTableInLimits (count schema.units)) (sym (get_or-map (table_layout schema.tables) schema.tables i _ d within)) (table_in_limits schema accepted i within);
-      costs = λ place h. within_limit place (cost (layout_of schema) place) 4096 (omega (arith, h, few)) (keeps schema accepted RowCost refl (OfTable place) h);
-      lines = λ place h. within_limit place (max_line (layout_of schema) place) 65536 (omega (arith, h, few)) (keeps schema accepted LineSize refl (OfTable place) h);
+          let within : i < length project.schema.tables = omega (arith, h, length-map project.schema.tables (table_layout project.dictionaries project.schema.tables)) in
+          subst (IsTableInLimits (count project.schema.units)) (sym (get_or-map (table_layout project.dictionaries project.schema.tables) project.schema.tables i _ d within)) (table_in_limits project lists accepted i within);
+      costs = λ place h. within_limit place (cost (layout_of project) place) 4096 (omega (arith, h, few)) (keeps project accepted RowCost refl (OfTable place) h);
+      lines = λ place h. within_limit place (max_line (layout_of project) place) 65536 (omega (arith, h, few)) (keeps project accepted LineSize refl (OfTable place) h);
     }

@@ -4,10 +4,10 @@ use Rattle.std.specs.List.{range_with_len}
 use Rattle.std.specs.Option.{option_or}
 use Rattle.std.proofs.lemmas.List.FromFn.{length-range_with_len, get_or-range_with_len}
 use Rattle.std.proofs.lemmas.Option.{slice_get_within, slice_get-get_or}
-use Rattle.schema_model.specs.declared.table.Schema.{Schema}
 use Rattle.schema_check.specs.declared.rules.Rule.{Rule}
 use Rattle.schema_check.specs.declared.site.Site.{Site}
 use Rattle.schema_check.specs.declared.site.Site.TheVariants.{Whole, OfTable, OfColumn}
+use Rattle.schema_check.specs.Dictionaries.{Project}
 use Rattle.schema_check.specs.Rules.{holds, first_found, break_at, break_in_table, first_break, Keeps}
 use Rattle.schema_check.specs.Sites.{columns_at, IsSiteOf, table_number}
 
@@ -88,43 +88,43 @@ found_at_first_place look n b h =
 
 -- ---- rules
 
-pub holds_from_none : (rule : Rule) (schema : Schema) (site : Site) → break_at rule schema site ≡ None → holds rule schema site ≡ true
-holds_from_none rule schema site h = of_test (holds rule schema site) site h
+pub holds_from_none : (rule : Rule) (project : Project) (site : Site) → break_at rule project site ≡ None → holds rule project site ≡ true
+holds_from_none rule project site h = of_test (holds rule project site) site h
   where
     of_test : (test : Bool) (site : Site) → if test then None else Some site ≡ None → test ≡ true
     of_test true site h = refl
     of_test false site h = cc
 
-pub none_from_holds : (rule : Rule) (schema : Schema) (site : Site) → holds rule schema site ≡ true → break_at rule schema site ≡ None
-none_from_holds rule schema site h = ap (λ test. if test then None else Some site) h
+pub none_from_holds : (rule : Rule) (project : Project) (site : Site) → holds rule project site ≡ true → break_at rule project site ≡ None
+none_from_holds rule project site h = ap (λ test. if test then None else Some site) h
 
-pub some_from_broken : (rule : Rule) (schema : Schema) (site : Site) → holds rule schema site ≡ false → break_at rule schema site ≡ Some site
-some_from_broken rule schema site h = ap (λ test. if test then None else Some site) h
+pub some_from_broken : (rule : Rule) (project : Project) (site : Site) → holds rule project site ≡ false → break_at rule project site ≡ Some site
+some_from_broken rule project site h = ap (λ test. if test then None else Some site) h
 
 -- a table in which a rule isn't broken keeps it, itself and its columns
-pub table_holds : (rule : Rule) (schema : Schema) (k : ℕ) → break_in_table rule schema k ≡ None → (site : Site) → IsSiteOf schema site → table_number site ≡ suc k → holds rule schema site ≡ true
-table_holds rule schema k none Whole is_site at = absurd (omega arith)
-table_holds rule schema k none (OfTable t) is_site at =
+pub table_holds : (rule : Rule) (project : Project) (k : ℕ) → break_in_table rule project k ≡ None → (site : Site) → IsSiteOf project.schema site → table_number site ≡ suc k → holds rule project site ≡ true
+table_holds rule project k none Whole is_site at = absurd (omega arith)
+table_holds rule project k none (OfTable t) is_site at =
     let same : k ≡ t = omega arith in
-    subst (λ (p : ℕ). holds rule schema (OfTable p) ≡ true) same
-    (holds_from_none rule schema (OfTable k) ((option_or-None _ _ none).0))
-table_holds rule schema k none (OfColumn t c) is_site at =
+    subst (λ (p : ℕ). holds rule project (OfTable p) ≡ true) same
+    (holds_from_none rule project (OfTable k) ((option_or-None _ _ none).0))
+table_holds rule project k none (OfColumn t c) is_site at =
     let same : k ≡ t = omega arith in
-    let within : c < length (columns_at schema k) = subst (λ (p : ℕ). c < length (columns_at schema p)) (sym same) is_site.1 in
-    subst (λ (p : ℕ). holds rule schema (OfColumn p c) ≡ true) same
-    (holds_from_none rule schema (OfColumn k c) (none_at_place (λ column. break_at rule schema (OfColumn k column)) (length (columns_at schema k)) ((option_or-None _ _ none).1) c within))
+    let within : c < length (columns_at project.schema k) = subst (λ (p : ℕ). c < length (columns_at project.schema p)) (sym same) is_site.1 in
+    subst (λ (p : ℕ). holds rule project (OfColumn p c) ≡ true) same
+    (holds_from_none rule project (OfColumn k c) (none_at_place (λ column. break_at rule project (OfColumn k column)) (length (columns_at project.schema k)) ((option_or-None _ _ none).1) c within))
 
-pub keeps_from_none : (rule : Rule) (schema : Schema) → first_break rule schema ≡ None → Keeps rule schema
-keeps_from_none rule schema h Whole is_site = holds_from_none rule schema Whole ((option_or-None _ _ h).0)
-keeps_from_none rule schema h (OfTable t) is_site =
-    table_holds rule schema t (none_at_place (break_in_table rule schema) (length schema.tables) ((option_or-None _ _ h).1) t is_site) (OfTable t) is_site refl
-keeps_from_none rule schema h (OfColumn t c) is_site =
-    table_holds rule schema t (none_at_place (break_in_table rule schema) (length schema.tables) ((option_or-None _ _ h).1) t is_site.0) (OfColumn t c) is_site refl
+pub keeps_from_none : (rule : Rule) (project : Project) → first_break rule project ≡ None → Keeps rule project
+keeps_from_none rule project h Whole is_site = holds_from_none rule project Whole ((option_or-None _ _ h).0)
+keeps_from_none rule project h (OfTable t) is_site =
+    table_holds rule project t (none_at_place (break_in_table rule project) (length project.schema.tables) ((option_or-None _ _ h).1) t is_site) (OfTable t) is_site refl
+keeps_from_none rule project h (OfColumn t c) is_site =
+    table_holds rule project t (none_at_place (break_in_table rule project) (length project.schema.tables) ((option_or-None _ _ h).1) t is_site.0) (OfColumn t c) is_site refl
 
-pub none_from_keeps : (rule : Rule) (schema : Schema) → Keeps rule schema → first_break rule schema ≡ None
-none_from_keeps rule schema keeps =
-    both_none _ _ (none_from_holds rule schema Whole (keeps Whole tt))
-    (none_at_places (break_in_table rule schema) (length schema.tables)
-    (λ t within. both_none _ _ (none_from_holds rule schema (OfTable t) (keeps (OfTable t) within))
-    (none_at_places (λ column. break_at rule schema (OfColumn t column)) (length (columns_at schema t))
-    (λ c below. none_from_holds rule schema (OfColumn t c) (keeps (OfColumn t c) (within, below))))))
+pub none_from_keeps : (rule : Rule) (project : Project) → Keeps rule project → first_break rule project ≡ None
+none_from_keeps rule project keeps =
+    both_none _ _ (none_from_holds rule project Whole (keeps Whole tt))
+    (none_at_places (break_in_table rule project) (length project.schema.tables)
+    (λ t within. both_none _ _ (none_from_holds rule project (OfTable t) (keeps (OfTable t) within))
+    (none_at_places (λ column. break_at rule project (OfColumn t column)) (length (columns_at project.schema t))
+    (λ c below. none_from_holds rule project (OfColumn t c) (keeps (OfColumn t c) (within, below))))))

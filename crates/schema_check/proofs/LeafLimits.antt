@@ -1,16 +1,21 @@
 -- Drawn values that pass the tests of the rules are within their limits.
-use Rattle.std.proofs.Common.{◌≡◌, ◌∙◌, ℕ, ℤ, pos, negsuc, neg_ℤ, ◌+ℤ◌, ◌-ℤ◌, ◌<ℤ◌, ◌≤ℤ◌, ◌<◌, ◌≤◌, ◌-◌, ◌^◌, ◌==◌, ◌&&◌, All, Bool, true, List, length, map, sum, get_or, nat_le, int_le, sym, subst, arith}
-use Rattle.std.specs.List.{list_all}
+use Rattle.std.proofs.Common.{◌≡◌, ◌∙◌, ℕ, ℤ, pos, negsuc, neg_ℤ, ◌+ℤ◌, ◌-ℤ◌, ◌<ℤ◌, ◌≤ℤ◌, ◌<◌, ◌≤◌, ◌-◌, ◌^◌, ◌==◌, ◌&&◌, All, Bool, true, false, suc, List, [], ◌∷◌, length, map, sum, get_or, nat_le, int_le, cond, Some, None, is_some, sym, subst, arith}
+use Rattle.std.specs.List.{find, list_all}
+use Rattle.std.specs.Option.{option_map, unwrap_or}
 use Rattle.std.specs.Str.{chars}
 use Rattle.std.proofs.lemmas.Bool.{and_parts, eqb-true, leb-true}
 use Rattle.std.proofs.lemmas.Int.{ints}
 use Rattle.std.proofs.lemmas.List.{get_or-map, length-map}
+use Rattle.dictionaries.specs.WordList.{IsWordList}
 use Rattle.schema_model.specs.declared.column.Leaf.{Leaf}
 use Rattle.schema_model.specs.declared.column.Leaf.TheVariants as drawn
+use Rattle.schema_check.specs.Citations.{cited_names, may_cite}
 use Rattle.schema_check.specs.Counts.{count}
+use Rattle.schema_check.specs.Dictionaries.{AreWordLists, Dictionary, Project, dictionary_named, no_words, words_named}
 use Rattle.schema_check.specs.Layout.{leaf_layout}
 use Rattle.schema_check.specs.Limits.{IsAlphabet, IsDateRange, IsLeafInLimits, IsLengthRange, IsRange, IsSkew, IsWeighted}
-use Rattle.schema_check.specs.Rules.{is_between, is_date_range, is_length_between, is_length_range, is_number_range, is_range, is_skew_range, is_weighted}
+use Rattle.schema_check.specs.Names.{same_text}
+use Rattle.schema_check.specs.Rules.{are_supplied, is_between, is_date_range, is_length_between, is_length_range, is_number_range, is_range, is_skew_range, is_supplied, is_weighted}
 use Rattle.schema_check.proofs.FromTests.{le_from_test, least_from_test, limit_from_test, passes_each}
 
 range_from_test : (lo hi : ℤ) → is_range lo hi ≡ true → IsRange lo hi
@@ -99,24 +104,42 @@ characters_from_test alphabet lo hi h =
 
 -- ---- a drawn value, and some of them
 
-pub leaf_in_limits : (names : List (List ℕ)) (leaf : Leaf) → is_number_range leaf ≡ true → is_date_range leaf ≡ true → is_weighted leaf ≡ true → is_skew_range leaf ≡ true → is_length_range leaf ≡ true → IsLeafInLimits (leaf_layout names leaf)
-leaf_in_limits names (drawn.Int lo hi step) numbers dates picks skews lengths =
+-- ---- dictionaries
+
+-- what is found among word lists is one
+list_found : (test : Dictionary → Bool) (dictionaries : List Dictionary) → AreWordLists dictionaries → is_some (option_map (λ (d : Dictionary). d.words) (find test dictionaries)) ≡ true → IsWordList (unwrap_or (option_map (λ (d : Dictionary). d.words) (find test dictionaries)) no_words)
+list_found test [] lists h = cc
+list_found test (d ∷ dictionaries) lists h = of_test (test d) h
+  where
+    of_test : (passes : Bool) → is_some (option_map (λ (d : Dictionary). d.words) (cond passes (Some d) (find test dictionaries))) ≡ true → IsWordList (unwrap_or (option_map (λ (d : Dictionary). d.words) (cond passes (Some d) (find test dictionaries))) no_words)
+    of_test true h = lists 0 d (omega arith)
+    of_test false h = list_found test dictionaries (λ i e lt. lists (suc i) e (omega arith)) h
+
+words_from_test : (project : Project) → AreWordLists project.dictionaries → (name : List ℕ) → (is_supplied project name && true) ≡ true → IsWordList (words_named project.dictionaries name)
+words_from_test project lists name h =
+    let supplied = (and_parts (is_supplied project name) true h).0 in
+    let there = (and_parts (may_cite (cited_names project.schema.tables) name) (is_some (dictionary_named project.dictionaries name)) supplied).1 in
+    list_found (λ (d : Dictionary). same_text d.name name) project.dictionaries lists there
+
+pub leaf_in_limits : (project : Project) → AreWordLists project.dictionaries → (leaf : Leaf) → are_supplied project leaf ≡ true → is_number_range leaf ≡ true → is_date_range leaf ≡ true → is_weighted leaf ≡ true → is_skew_range leaf ≡ true → is_length_range leaf ≡ true → IsLeafInLimits (leaf_layout project.dictionaries leaf)
+leaf_in_limits project lists (drawn.Int lo hi step) supplied numbers dates picks skews lengths =
     let parts = and_parts (is_range lo hi) (int_le (pos 1) step) numbers in
     (range_from_test lo hi parts.0, least_from_test step 1 parts.1)
-leaf_in_limits names (drawn.Fixed lo hi decimals) numbers dates picks skews lengths =
+leaf_in_limits project lists (drawn.Fixed lo hi decimals) supplied numbers dates picks skews lengths =
     let parts = and_parts (is_range lo hi) (is_between 0 9 decimals) numbers in
     (range_from_test lo hi parts.0, limit_from_test decimals 9 ((and_parts (int_le (pos 0) decimals) (int_le decimals (pos 9)) parts.1).1))
-leaf_in_limits names (drawn.Date lo hi) numbers dates picks skews lengths = dates_from_test lo hi dates
-leaf_in_limits names (drawn.Pick entries weights) numbers dates picks skews lengths = weights_from_test entries weights picks
-leaf_in_limits names (drawn.Skew lo size power) numbers dates picks skews lengths = skew_from_test lo size power skews
-leaf_in_limits names (drawn.Dict file) numbers dates picks skews lengths = tt
-leaf_in_limits names (drawn.Words file lo hi) numbers dates picks skews lengths = lengths_from_test lo hi lengths
-leaf_in_limits names (drawn.Chars alphabet lo hi) numbers dates picks skews lengths = characters_from_test alphabet lo hi lengths
+leaf_in_limits project lists (drawn.Date lo hi) supplied numbers dates picks skews lengths = dates_from_test lo hi dates
+leaf_in_limits project lists (drawn.Pick entries weights) supplied numbers dates picks skews lengths = weights_from_test entries weights picks
+leaf_in_limits project lists (drawn.Skew lo size power) supplied numbers dates picks skews lengths = skew_from_test lo size power skews
+leaf_in_limits project lists (drawn.Dict file) supplied numbers dates picks skews lengths = words_from_test project lists file supplied
+leaf_in_limits project lists (drawn.Words file lo hi) supplied numbers dates picks skews lengths =
+    (words_from_test project lists file supplied, lengths_from_test lo hi lengths)
+leaf_in_limits project lists (drawn.Chars alphabet lo hi) supplied numbers dates picks skews lengths = characters_from_test alphabet lo hi lengths
 
-pub leaves_in_limits : (names : List (List ℕ)) (leaves : List Leaf) → list_all is_number_range leaves ≡ true → list_all is_date_range leaves ≡ true → list_all is_weighted leaves ≡ true → list_all is_skew_range leaves ≡ true → list_all is_length_range leaves ≡ true → All IsLeafInLimits (map (leaf_layout names) leaves)
-leaves_in_limits names leaves numbers dates picks skews lengths = λ i d lt.
-    let within : i < length leaves = omega (arith, lt, length-map leaves (leaf_layout names)) in
+pub leaves_in_limits : (project : Project) → AreWordLists project.dictionaries → (leaves : List Leaf) → list_all (are_supplied project) leaves ≡ true → list_all is_number_range leaves ≡ true → list_all is_date_range leaves ≡ true → list_all is_weighted leaves ≡ true → list_all is_skew_range leaves ≡ true → list_all is_length_range leaves ≡ true → All IsLeafInLimits (map (leaf_layout project.dictionaries) leaves)
+leaves_in_limits project lists leaves supplied numbers dates picks skews lengths = λ i d lt.
+    let within : i < length leaves = omega (arith, lt, length-map leaves (leaf_layout project.dictionaries)) in
     let leaf = get_or leaves i (drawn.Date (pos 0) (pos 0)) in
     let passes = λ (test : Leaf → Bool) (all : list_all test leaves ≡ true). passes_each test leaves i (drawn.Date (pos 0) (pos 0)) within all in
-    subst IsLeafInLimits (sym (get_or-map (leaf_layout names) leaves i (drawn.Date (pos 0) (pos 0)) d within))
-    (leaf_in_limits names leaf (passes is_number_range numbers) (passes is_date_range dates) (passes is_weighted picks) (passes is_skew_range skews) (passes is_length_range lengths))
+    subst IsLeafInLimits (sym (get_or-map (leaf_layout project.dictionaries) leaves i (drawn.Date (pos 0) (pos 0)) d within))
+    (leaf_in_limits project lists leaf (passes (are_supplied project) supplied) (passes is_number_range numbers) (passes is_date_range dates) (passes is_weighted picks) (passes is_skew_range skews) (passes is_length_range lengths))

@@ -15,6 +15,7 @@ use Rattle.schema_check.specs.declared.lineage.Lineage.{Lineage}
 use Rattle.schema_check.specs.Capped.{capped, capped_lineage}
 use Rattle.schema_check.specs.Layout.{TableLayout, ColumnLayout, no_table, table_at, column_layout, kind_layout, place_of_table, table_layout, window_layout}
 use Rattle.schema_check.specs.Lineage.{endless, lineage_at, lineage_of, lineages, own_lineage, with_kind, with_parent}
+use Rattle.schema_check.specs.Dictionaries.{Dictionary}
 use Rattle.schema_check.proofs.Lists.{length-in_turn, get_or-in_turn}
 
 pub lineage_at-capped : (given : List Lineage) (place : ℕ) → lineage_at (map capped_lineage given) place ≡ capped_lineage (lineage_at given place)
@@ -30,13 +31,13 @@ own_lineage-capped None = refl
 own_lineage-capped (Some life) = refl
 
 -- a kind that is no reference adds nothing
-pub no_parent : (given : List Lineage) (own : Lineage) (tables : List Table) (columns : List Column) (kind : Kind) → ((table : List ℕ) (window : Window) (spread : List ℤ) → kind ≡ Ref table window spread → ⊥) → own ≡ with_kind given own (kind_layout tables columns kind)
-no_parent given own tables columns (Ref table window spread) other = absurd (other table window spread refl)
-no_parent given own tables columns _ other = refl
+pub no_parent : (given : List Lineage) (own : Lineage) (dictionaries : List Dictionary) (tables : List Table) (columns : List Column) (kind : Kind) → ((table : List ℕ) (window : Window) (spread : List ℤ) → kind ≡ Ref table window spread → ⊥) → own ≡ with_kind given own (kind_layout dictionaries tables columns kind)
+no_parent given own dictionaries tables columns (Ref table window spread) other = absurd (other table window spread refl)
+no_parent given own dictionaries tables columns _ other = refl
 
 -- a reference adds its parent
-pub parent_added : (given earlier : List Lineage) (before own parent after : Lineage) (tables : List Table) (columns : List Column) (kind : Kind) (table : List ℕ) (window : Window) (spread : List ℤ) (place : ℕ) → kind ≡ Ref table window spread → earlier ≡ map capped_lineage given → own ≡ capped_lineage before → place ≡ place_of_table tables table → parent ≡ lineage_at earlier place → after ≡ capped_lineage (with_parent own parent (window_layout window)) → after ≡ capped_lineage (with_kind given before (kind_layout tables columns kind))
-parent_added given earlier before own parent after tables columns kind table window spread place kind_is earlier_is own_is place_is parent_is after_is =
+pub parent_added : (given earlier : List Lineage) (before own parent after : Lineage) (dictionaries : List Dictionary) (tables : List Table) (columns : List Column) (kind : Kind) (table : List ℕ) (window : Window) (spread : List ℤ) (place : ℕ) → kind ≡ Ref table window spread → earlier ≡ map capped_lineage given → own ≡ capped_lineage before → place ≡ place_of_table tables table → parent ≡ lineage_at earlier place → after ≡ capped_lineage (with_parent own parent (window_layout window)) → after ≡ capped_lineage (with_kind given before (kind_layout dictionaries tables columns kind))
+parent_added given earlier before own parent after dictionaries tables columns kind table window spread place kind_is earlier_is own_is place_is parent_is after_is =
     let older = window_layout window in
     let at = place_of_table tables table in
     let parent_at : parent ≡ capped_lineage (lineage_at given at) =
@@ -45,7 +46,7 @@ parent_added given earlier before own parent after tables columns kind table win
     ∙ ap (λ lineage. capped_lineage (with_parent lineage parent older)) own_is
     ∙ ap (λ lineage. capped_lineage (with_parent (capped_lineage before) lineage older)) parent_at
     ∙ with_parent-capped before (lineage_at given at) older
-    ∙ ap (λ k. capped_lineage (with_kind given before (kind_layout tables columns k))) (sym kind_is)
+    ∙ ap (λ k. capped_lineage (with_kind given before (kind_layout dictionaries tables columns k))) (sym kind_is)
 
 -- of the table at a place, by those of the tables before it
 pub lineage_at-lineages : (tables : List TableLayout) (place : ℕ) → place < length tables → lineage_at (lineages tables) place ≡ lineage_of (take place (lineages tables)) (table_at tables place)
@@ -66,6 +67,6 @@ earlier_lineages tables place h =
     ∙ ap capped_lineage (get_or-take place (lineages tables) k endless below)))
 
 -- the lineage of a table as it is folded from its columns
-pub lineage_of-columns : (given : List Lineage) (tables : List Table) (table : Table) → fold (λ own (column : Column). with_kind given own (kind_layout tables table.columns column.kind)) (own_lineage (table_layout tables table).life) table.columns ≡ lineage_of given (table_layout tables table)
-lineage_of-columns given tables table =
-    sym (fold-map (λ own (column : ColumnLayout). with_kind given own column.kind) (column_layout tables table.columns) (own_lineage (table_layout tables table).life) table.columns)
+pub lineage_of-columns : (given : List Lineage) (dictionaries : List Dictionary) (tables : List Table) (table : Table) → fold (λ own (column : Column). with_kind given own (kind_layout dictionaries tables table.columns column.kind)) (own_lineage (table_layout dictionaries tables table).life) table.columns ≡ lineage_of given (table_layout dictionaries tables table)
+lineage_of-columns given dictionaries tables table =
+    sym (fold-map (λ own (column : ColumnLayout). with_kind given own column.kind) (column_layout dictionaries tables table.columns) (own_lineage (table_layout dictionaries tables table).life) table.columns)

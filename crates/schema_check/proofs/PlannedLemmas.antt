@@ -9,6 +9,7 @@ use Rattle.schema_model.specs.declared.table.Schema.{Schema}
 use Rattle.schema_model.specs.declared.table.Table.{Table}
 use Rattle.schema_check.specs.declared.facts.TableFacts.{TableFacts}
 use Rattle.schema_check.specs.Capped.{capped, capped_facts, first_facts}
+use Rattle.schema_check.specs.Dictionaries.{Project}
 use Rattle.schema_check.specs.FieldBounds.{greatest_by}
 use Rattle.schema_check.specs.Layout.{Layout, TableLayout, layout_of, no_table, table_at, table_layout}
 use Rattle.schema_check.specs.Limits.{IsInLimits}
@@ -18,9 +19,9 @@ use Rattle.schema_check.proofs.FromTests.{fails_each}
 use Rattle.schema_check.proofs.Lists.{map-same}
 
 -- no fact of an accepted schema is past the end of 64 bits
-not_capped : (schema : Schema) → IsInLimits schema → (place : ℕ) → place < length schema.tables → capped_facts (facts_at (layout_of schema) place) ≡ facts_at (layout_of schema) place
-not_capped schema limits place h =
-    let facts = facts_at (layout_of schema) place in
+not_capped : (project : Project) → IsInLimits project → (place : ℕ) → place < length project.schema.tables → capped_facts (facts_at (layout_of project) place) ≡ facts_at (layout_of project) place
+not_capped project limits place h =
+    let facts = facts_at (layout_of project) place in
     let cost : capped facts.cost ≡ facts.cost = omega (arith, limits.costs place h) in
     let death : capped facts.lineage.death_cost ≡ facts.lineage.death_cost = omega (arith, limits.costs place h) in
     let line : capped facts.max_line ≡ facts.max_line = omega (arith, limits.lines place h) in
@@ -28,19 +29,19 @@ not_capped schema limits place h =
     ∙ ap (λ n. record facts { cost = n; max_line = capped facts.max_line }) cost
     ∙ ap (λ n. record facts { max_line = n }) line
 
-pub facts_whole : (schema : Schema) → IsInLimits schema → first_facts schema ≡ map (facts_at (layout_of schema)) (range_with_len 0 (length schema.tables))
-facts_whole schema limits =
-    let all : min (length schema.tables) 64 ≡ length schema.tables = omega (arith, limits.table_limit) in
-    ap (λ n. map (λ place. capped_facts (facts_at (layout_of schema) place)) (range_with_len 0 n)) all
-    ∙ map-same (λ place. capped_facts (facts_at (layout_of schema) place)) (facts_at (layout_of schema)) (length schema.tables) (λ k h. not_capped schema limits k h)
+pub facts_whole : (project : Project) → IsInLimits project → first_facts project ≡ map (facts_at (layout_of project)) (range_with_len 0 (length project.schema.tables))
+facts_whole project limits =
+    let all : min (length project.schema.tables) 64 ≡ length project.schema.tables = omega (arith, limits.table_limit) in
+    ap (λ n. map (λ place. capped_facts (facts_at (layout_of project) place)) (range_with_len 0 n)) all
+    ∙ map-same (λ place. capped_facts (facts_at (layout_of project) place)) (facts_at (layout_of project)) (length project.schema.tables) (λ k h. not_capped project limits k h)
 
 -- the reach is the greatest of the lines
-pub reach-is : (schema : Schema) → greatest_by (λ (fact : TableFacts). fact.max_line) (map (facts_at (layout_of schema)) (range_with_len 0 (length schema.tables))) ≡ reach (layout_of schema)
+pub reach-is : (project : Project) → greatest_by (λ (fact : TableFacts). fact.max_line) (map (facts_at (layout_of project)) (range_with_len 0 (length project.schema.tables))) ≡ reach (layout_of project)
 unfolding max_line reach
-reach-is schema =
-    let layout = layout_of schema in
-    let places = range_with_len 0 (length schema.tables) in
-    let in_row : layout.tables ≡ map (table_at layout.tables) places = fill_by_all (table_at layout.tables) layout.tables (length schema.tables) no_table (length-map schema.tables (table_layout schema.tables)) (λ k h. refl) in
+reach-is project =
+    let layout = layout_of project in
+    let places = range_with_len 0 (length project.schema.tables) in
+    let in_row : layout.tables ≡ map (table_at layout.tables) places = fill_by_all (table_at layout.tables) layout.tables (length project.schema.tables) no_table (length-map project.schema.tables (table_layout project.dictionaries project.schema.tables)) (λ k h. refl) in
     fold-map (λ most (fact : TableFacts). max most fact.max_line) (facts_at layout) 0 places
     ∙ sym (ap (greatest_by (line_of_table layout)) in_row
     ∙ fold-map (λ most (table : TableLayout). max most (line_of_table layout table)) (table_at layout.tables) 0 places)

@@ -15,6 +15,7 @@ use Rattle.schema_check.specs.declared.site.Site.TheVariants.{OfTable}
 use Rattle.schema_check.specs.Capped.{capped, capped_facts, first_facts, is_known_at_most}
 use Rattle.schema_check.specs.Cohorts.{born_count}
 use Rattle.schema_check.specs.Counts.{count}
+use Rattle.schema_check.specs.Dictionaries.{Project}
 use Rattle.schema_check.specs.Layout.{births_of, layout_of}
 use Rattle.schema_check.specs.Names.{same_text, is_name}
 use Rattle.schema_check.specs.Rules.{holds, is_new_name, is_new_at, is_row_count}
@@ -71,19 +72,19 @@ is_known-range number count place limit within below =
         ∙ capped-test (number place) limit below
 
 -- a test of a rule at a site
-pub holds_at : (rule own : Rule) (schema : Schema) (site at : Site) (test : Bool) → rule ≡ own → site ≡ at → test ≡ holds own schema at → test ≡ holds rule schema site
-holds_at rule own schema site at test p q r = cc
+pub holds_at : (rule own : Rule) (project : Project) (site at : Site) (test : Bool) → rule ≡ own → site ≡ at → test ≡ holds own project at → test ≡ holds rule project site
+holds_at rule own project site at test p q r = cc
 
-pub row_cost-is : (schema : Schema) (table : ℕ) → table < length schema.tables → is_known_at_most (map (λ (fact : TableFacts). fact.cost) (first_facts schema)) table 4096 ≡ holds RowCost schema (OfTable table)
-row_cost-is schema table h =
-    ap (λ costs. is_known_at_most costs table 4096) (map-map (λ (fact : TableFacts). fact.cost) (λ place. capped_facts (facts_at (layout_of schema) place)) (range_with_len 0 (min (length schema.tables) 64)))
-    ∙ is_known-range (cost (layout_of schema)) (length schema.tables) table 4096 h (omega arith)
+pub row_cost-is : (project : Project) (table : ℕ) → table < length project.schema.tables → is_known_at_most (map (λ (fact : TableFacts). fact.cost) (first_facts project)) table 4096 ≡ holds RowCost project (OfTable table)
+row_cost-is project table h =
+    ap (λ costs. is_known_at_most costs table 4096) (map-map (λ (fact : TableFacts). fact.cost) (λ place. capped_facts (facts_at (layout_of project) place)) (range_with_len 0 (min (length project.schema.tables) 64)))
+    ∙ is_known-range (cost (layout_of project)) (length project.schema.tables) table 4096 h (omega arith)
 
-pub line_size-is : (schema : Schema) (table : ℕ) → table < length schema.tables → is_known_at_most (map (λ (fact : TableFacts). fact.max_line) (first_facts schema)) table 65536 ≡ holds LineSize schema (OfTable table)
-line_size-is schema table h =
-    ap (λ lines. is_known_at_most lines table 65536) (map-map (λ (fact : TableFacts). fact.max_line) (λ place. capped_facts (facts_at (layout_of schema) place)) (range_with_len 0 (min (length schema.tables) 64)))
-    ∙ is_known-range (max_line (layout_of schema)) (length schema.tables) table 65536 h (omega arith)
+pub line_size-is : (project : Project) (table : ℕ) → table < length project.schema.tables → is_known_at_most (map (λ (fact : TableFacts). fact.max_line) (first_facts project)) table 65536 ≡ holds LineSize project (OfTable table)
+line_size-is project table h =
+    ap (λ lines. is_known_at_most lines table 65536) (map-map (λ (fact : TableFacts). fact.max_line) (λ place. capped_facts (facts_at (layout_of project) place)) (range_with_len 0 (min (length project.schema.tables) 64)))
+    ∙ is_known-range (max_line (layout_of project)) (length project.schema.tables) table 65536 h (omega arith)
 
 -- the columns of the table at a place
-pub columns_at-is : (schema : Schema) (table : ℕ) (d : Table) → table < length schema.tables → columns_at schema table ≡ (get_or schema.tables table d).columns
-columns_at-is schema table d h = get_or-map (λ (t : Table). t.columns) schema.tables table d [] h
+pub columns_at-is : (project : Project) (table : ℕ) (d : Table) → table < length project.schema.tables → columns_at project.schema table ≡ (get_or project.schema.tables table d).columns
+columns_at-is project.schema table d h = get_or-map (λ (t : Table). t.columns) project.schema.tables table d [] h

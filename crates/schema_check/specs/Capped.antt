@@ -1,10 +1,10 @@
 -- Numbers as the code adds them up while nothing bounds them: those past the end of 64 bits stand at the end.
 use Rattle.std.specs.Prelude.{ℕ, ◌-◌, ◌^◌, min, Bool, ◌||◌, nat_le, List, length, map, slice_index}
 use Rattle.std.specs.List.{range_with_len}
-use Rattle.schema_model.specs.declared.table.Schema.{Schema}
 use Rattle.schema_check.specs.declared.field_bounds.FieldBounds.{FieldBounds}
 use Rattle.schema_check.specs.declared.lineage.Lineage.{Lineage}
 use Rattle.schema_check.specs.declared.facts.TableFacts.{TableFacts}
+use Rattle.schema_check.specs.Dictionaries.{Project}
 use Rattle.schema_check.specs.Layout.{layout_of}
 use Rattle.schema_check.specs.TableFacts.{facts_at}
 
@@ -26,9 +26,9 @@ capped_facts facts = record facts {
 }
 
 -- the facts of the first 64 tables of a schema, or of all where there are fewer, in order
-abbrev pub first_facts : Schema → List TableFacts
-first_facts schema =
-    map (λ place. capped_facts (facts_at (layout_of schema) place)) (range_with_len 0 (min (length schema.tables) 64))
+abbrev pub first_facts : Project → List TableFacts
+first_facts project =
+    map (λ place. capped_facts (facts_at (layout_of project) place)) (range_with_len 0 (min (length project.schema.tables) 64))
 
 -- of some numbers, the one at a place is at most a limit, where it is known
 abbrev pub is_known_at_most : List ℕ → ℕ → ℕ → Bool

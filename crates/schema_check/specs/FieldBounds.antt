@@ -2,6 +2,7 @@
 use Rattle.std.specs.Prelude.{ℕ, ◌+◌, ◌*◌, ◌-◌, max, List, sum_by, length, map, encode_utf8}
 use Rattle.std.specs.List.{fold}
 use Rattle.std.specs.Str.{chars}
+use Rattle.dictionaries.specs.WordList.{WordList}
 use Rattle.row_text.specs.Fields.{piece_text}
 use Rattle.schema_check.specs.declared.field_bounds.FieldBounds.{FieldBounds}
 use Rattle.schema_check.specs.Layout.{LeafLayout, int_leaf, fixed_leaf, date_leaf, pick_leaf, skew_leaf, dict_leaf, words_leaf, chars_leaf, PartLayout, literal_part, cited_part, KindLayout, key_kind, born_kind, changed_kind, leaf_kind, template_kind, case_kind, reference_kind, lookup_kind, ColumnLayout, TableLayout, table_at, column_at}
@@ -15,9 +16,9 @@ greatest_by number xs = fold (λ most x. max most (number x)) 0 xs
 abbrev pub written_size : ℕ → List ℕ → ℕ
 written_size delimiter bytes = length (piece_text delimiter bytes)
 
--- the greatest entry of a dictionary isn't counted: no table can be made of dictionaries yet
-abbrev pub uncounted_entry : ℕ
-uncounted_entry = 0
+-- the size of the greatest entry of a word list as it is written
+abbrev pub entry_size : ℕ → WordList → ℕ
+entry_size delimiter words = greatest_by (written_size delimiter) words.entries
 
 -- some items of at most a size, and a byte between two
 abbrev pub joined_size : ℕ → ℕ → ℕ
@@ -30,8 +31,8 @@ leaf_size delimiter (fixed_leaf lo hi decimals) = 21
 leaf_size delimiter (date_leaf lo hi) = 10
 leaf_size delimiter (pick_leaf entries weights) = greatest_by (written_size delimiter) entries
 leaf_size delimiter (skew_leaf lo size power) = 20
-leaf_size delimiter (dict_leaf dictionary) = uncounted_entry
-leaf_size delimiter (words_leaf dictionary lo hi) = joined_size hi uncounted_entry
+leaf_size delimiter (dict_leaf words) = entry_size delimiter words
+leaf_size delimiter (words_leaf words lo hi) = joined_size hi (entry_size delimiter words)
 leaf_size delimiter (chars_leaf alphabet lo hi) =
     hi * greatest_by (λ c. written_size delimiter (encode_utf8 c)) (chars alphabet)
 

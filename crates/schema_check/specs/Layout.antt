@@ -1,9 +1,10 @@
--- The layout of a schema: its tables and columns with each name resolved to the place of what it names, counted from 0. It is
--- total: a name that nothing has stands for the place past the last one, and a number below 0 counts as 0.
+-- The layout of a schema with its dictionaries: its tables and columns with each name resolved to what it names, a table or a
+-- column to its place, counted from 0, and a dictionary to its words. It is total: a name that nothing has stands for the place
+-- past the last one or for no words, and a number below 0 counts as 0.
 use Rattle.std.specs.Prelude.{ℕ, ℤ, Bool, false, if◌then◌else◌, List, [], ◌∷◌, ◌++◌, map, flat_map, length, Option, Some, None, slice_index_or}
 use Rattle.std.specs.List.{fold, list_any, position_or_len}
 use Rattle.std.specs.Option.{option_map}
-use Rattle.schema_model.specs.declared.table.Schema.{Schema}
+use Rattle.dictionaries.specs.WordList.{WordList}
 use Rattle.schema_model.specs.declared.table.Table.{Table}
 use Rattle.schema_model.specs.declared.table.Life.{Life}
 use Rattle.schema_model.specs.declared.column.Column.{Column}
@@ -20,19 +21,20 @@ use Rattle.schema_check.specs.declared.layout.Keys.{Keys}
 use Rattle.schema_check.specs.declared.layout.Span.{Span}
 use Rattle.schema_check.specs.Counts.{count}
 use Rattle.schema_check.specs.Delimiters.{delimiter_byte}
+use Rattle.schema_check.specs.Dictionaries.{Dictionary, Project, words_named}
 use Rattle.schema_check.specs.Names.{same_text}
 
 -- ---- the types
 
--- a value that is drawn for a field alone; a dictionary is named by its place among those of the schema
+-- a value that is drawn for a field alone
 pub data LeafLayout : Type 0 where
   int_leaf : ℤ → ℤ → ℕ → LeafLayout
   fixed_leaf : ℤ → ℤ → ℕ → LeafLayout
   date_leaf : ℤ → ℤ → LeafLayout
   pick_leaf : List (List ℕ) → List ℕ → LeafLayout
   skew_leaf : ℤ → ℕ → ℕ → LeafLayout
-  dict_leaf : ℕ → LeafLayout
-  words_leaf : ℕ → ℕ → ℕ → LeafLayout
+  dict_leaf : WordList → LeafLayout
+  words_leaf : WordList → ℕ → ℕ → LeafLayout
   chars_leaf : List ℕ → ℕ → ℕ → LeafLayout
 
 -- a part of a template: a text, or the place of a column of the same table
@@ -126,44 +128,17 @@ abbrev pub parent_via : List Table → List Column → List ℕ → ℕ
 parent_via tables columns via =
     parent_of tables (slice_index_or (kinds_of columns) (place_of_column columns via) kind.Born)
 
--- ---- dictionaries
-
--- the dictionaries that a drawn value names
-abbrev pub names_in_leaf : Leaf → List (List ℕ)
-names_in_leaf (drawn.Dict file) = file ∷ []
-names_in_leaf (drawn.Words file lo hi) = file ∷ []
-names_in_leaf _ = []
-
--- the dictionaries that a column names, in order
-abbrev pub names_in_kind : Kind → List (List ℕ)
-names_in_kind (kind.Leaf leaf) = names_in_leaf leaf
-names_in_kind (kind.Case on branches) = flat_map names_in_leaf branches
-names_in_kind _ = []
-
--- some names with one more, where it isn't among them
-abbrev pub with_name : List (List ℕ) → List ℕ → List (List ℕ)
-with_name names file = if list_any (λ name. same_text name file) names then names else names ++ file ∷ []
-
--- the dictionaries that tables name, each once, in the order of their first citations
-abbrev pub dictionary_names : List Table → List (List ℕ)
-dictionary_names tables =
-    fold with_name [] (flat_map (λ table. flat_map (λ column. names_in_kind column.kind) table.columns) tables)
-
--- the place of the dictionary with a name
-abbrev pub place_of_dictionary : List (List ℕ) → List ℕ → ℕ
-place_of_dictionary names file = position_or_len (λ name. same_text name file) names
-
 -- ---- the layout of a schema
 
-abbrev pub leaf_layout : List (List ℕ) → Leaf → LeafLayout
-leaf_layout names (drawn.Int lo hi step) = int_leaf lo hi (count step)
-leaf_layout names (drawn.Fixed lo hi decimals) = fixed_leaf lo hi (count decimals)
-leaf_layout names (drawn.Date lo hi) = date_leaf lo hi
-leaf_layout names (drawn.Pick entries weights) = pick_leaf entries (map count weights)
-leaf_layout names (drawn.Skew lo size power) = skew_leaf lo (count size) (count power)
-leaf_layout names (drawn.Dict file) = dict_leaf (place_of_dictionary names file)
-leaf_layout names (drawn.Words file lo hi) = words_leaf (place_of_dictionary names file) (count lo) (count hi)
-leaf_layout names (drawn.Chars alphabet lo hi) = chars_leaf alphabet (count lo) (count hi)
+abbrev pub leaf_layout : List Dictionary → Leaf → LeafLayout
+leaf_layout dictionaries (drawn.Int lo hi step) = int_leaf lo hi (count step)
+leaf_layout dictionaries (drawn.Fixed lo hi decimals) = fixed_leaf lo hi (count decimals)
+leaf_layout dictionaries (drawn.Date lo hi) = date_leaf lo hi
+leaf_layout dictionaries (drawn.Pick entries weights) = pick_leaf entries (map count weights)
+leaf_layout dictionaries (drawn.Skew lo size power) = skew_leaf lo (count size) (count power)
+leaf_layout dictionaries (drawn.Dict file) = dict_leaf (words_named dictionaries file)
+leaf_layout dictionaries (drawn.Words file lo hi) = words_leaf (words_named dictionaries file) (count lo) (count hi)
+leaf_layout dictionaries (drawn.Chars alphabet lo hi) = chars_leaf alphabet (count lo) (count hi)
 
 abbrev pub part_layout : List Column → Part → PartLayout
 part_layout columns (part.Literal bytes) = literal_part bytes
@@ -173,23 +148,23 @@ abbrev pub window_layout : Window → Option ℕ
 window_layout (window.Units units) = Some (count units)
 window_layout window.All = None
 
-abbrev pub kind_layout : List Table → List Column → Kind → KindLayout
-kind_layout tables columns (kind.Key base scramble) = key_kind
-kind_layout tables columns kind.Born = born_kind
-kind_layout tables columns kind.Changed = changed_kind
-kind_layout tables columns (kind.Leaf drawn) = leaf_kind (leaf_layout (dictionary_names tables) drawn)
-kind_layout tables columns (kind.Template parts) = template_kind (map (part_layout columns) parts)
-kind_layout tables columns (kind.Case on branches) =
-    case_kind (place_of_column columns on) (map (leaf_layout (dictionary_names tables)) branches)
-kind_layout tables columns (kind.Ref table window spread) =
+abbrev pub kind_layout : List Dictionary → List Table → List Column → Kind → KindLayout
+kind_layout dictionaries tables columns (kind.Key base scramble) = key_kind
+kind_layout dictionaries tables columns kind.Born = born_kind
+kind_layout dictionaries tables columns kind.Changed = changed_kind
+kind_layout dictionaries tables columns (kind.Leaf drawn) = leaf_kind (leaf_layout dictionaries drawn)
+kind_layout dictionaries tables columns (kind.Template parts) = template_kind (map (part_layout columns) parts)
+kind_layout dictionaries tables columns (kind.Case on branches) =
+    case_kind (place_of_column columns on) (map (leaf_layout dictionaries) branches)
+kind_layout dictionaries tables columns (kind.Ref table window spread) =
     reference_kind (place_of_table tables table) (window_layout window) (map count spread)
-kind_layout tables columns (kind.Lookup via column) =
+kind_layout dictionaries tables columns (kind.Lookup via column) =
     lookup_kind (place_of_column columns via) (parent_via tables columns via)
     (place_of_column (columns_of tables (parent_via tables columns via)) column)
 
-abbrev pub column_layout : List Table → List Column → Column → ColumnLayout
-column_layout tables columns column = record {
-  kind = kind_layout tables columns column.kind;
+abbrev pub column_layout : List Dictionary → List Table → List Column → Column → ColumnLayout
+column_layout dictionaries tables columns column = record {
+  kind = kind_layout dictionaries tables columns column.kind;
   changes = column.changes;
   null = count column.null;
 }
@@ -209,24 +184,24 @@ births_of table = record { rows = count table.rows; insert = count table.insert 
 abbrev pub span_of : Life → Span
 span_of life = record { least = count life.lo; most = count life.hi }
 
-abbrev pub table_layout : List Table → Table → TableLayout
-table_layout tables table = record {
+abbrev pub table_layout : List Dictionary → List Table → Table → TableLayout
+table_layout dictionaries tables table = record {
   births = births_of table;
   life = option_map span_of table.life;
   update = option_map count table.update;
   key = keys_of table.columns;
-  columns = map (column_layout tables table.columns) table.columns;
+  columns = map (column_layout dictionaries tables table.columns) table.columns;
 }
 
 -- the tables of a schema, in order
-abbrev pub table_layouts : List Table → List TableLayout
-table_layouts tables = map (table_layout tables) tables
+abbrev pub table_layouts : List Dictionary → List Table → List TableLayout
+table_layouts dictionaries tables = map (table_layout dictionaries tables) tables
 
--- the layout of a schema
-abbrev pub layout_of : Schema → Layout
-layout_of schema = record {
-  seed = count schema.seed;
-  units = count schema.units;
-  delimiter = delimiter_byte schema.delimiter;
-  tables = table_layouts schema.tables;
+-- the layout of a schema with its dictionaries
+abbrev pub layout_of : Project → Layout
+layout_of project = record {
+  seed = count project.schema.seed;
+  units = count project.schema.units;
+  delimiter = delimiter_byte project.schema.delimiter;
+  tables = table_layouts project.dictionaries project.schema.tables;
 }

@@ -1,7 +1,9 @@
 pub mod Counts
 pub mod Choices
+pub mod Citations
 pub mod Names
 pub mod Delimiters
+pub mod Dictionaries
 pub mod Layout
 pub mod Cohorts
 pub mod InTurn
@@ -13,6 +15,7 @@ pub mod Rules
 pub mod Unbuilt
 pub mod Limits
 pub mod Faults
+pub mod ReadyWords
 pub mod Ready
 pub mod Planned
 pub mod Capped

@@ -1,9 +1,10 @@
 -- What the rules give for the numbers of an accepted schema.
 use Rattle.std.specs.Prelude.{◌≡◌, ◌≢◌, Bool, true, false, ℕ, ℤ, suc, pos, neg_ℤ, ◌-◌, ◌^◌, ◌<◌, ◌≤◌, ◌+ℤ◌, ◌-ℤ◌, ◌<ℤ◌, ◌≤ℤ◌, List, length, sum, All, ⊤}
 use Rattle.std.specs.Str.{chars}
-use Rattle.schema_model.specs.declared.table.Schema.{Schema}
+use Rattle.dictionaries.specs.WordList.{IsWordList}
 use Rattle.schema_check.specs.Cohorts.{born_count}
 use Rattle.schema_check.specs.Counts.{count}
+use Rattle.schema_check.specs.Dictionaries.{Project}
 use Rattle.schema_check.specs.Layout.{LeafLayout, int_leaf, fixed_leaf, date_leaf, pick_leaf, skew_leaf, dict_leaf, words_leaf, chars_leaf, PartLayout, literal_part, cited_part, KindLayout, key_kind, leaf_kind, template_kind, case_kind, lookup_kind, ColumnLayout, column_at, TableLayout, layout_of}
 use Rattle.schema_check.specs.TableFacts.{cost, max_line}
 
@@ -48,15 +49,15 @@ pub record IsAlphabet (alphabet : List ℕ) : Type 0 where
   pub some_character : 1 ≤ length (chars alphabet)
   pub character_limit : length (chars alphabet) ≤ 256
 
--- a drawn value within its limits. Of dictionaries no rule is tried yet
+-- a drawn value within its limits
 abbrev pub IsLeafInLimits : LeafLayout → Type 0
 IsLeafInLimits (int_leaf lo hi step) = IsRange lo hi × (1 ≤ step)
 IsLeafInLimits (fixed_leaf lo hi decimals) = IsRange lo hi × (decimals ≤ 9)
 IsLeafInLimits (date_leaf lo hi) = IsDateRange lo hi
 IsLeafInLimits (pick_leaf entries weights) = IsWeighted entries weights
 IsLeafInLimits (skew_leaf lo size power) = IsSkew lo size power
-IsLeafInLimits (dict_leaf dictionary) = ⊤
-IsLeafInLimits (words_leaf dictionary lo hi) = IsLengthRange lo hi
+IsLeafInLimits (dict_leaf words) = IsWordList words
+IsLeafInLimits (words_leaf words lo hi) = IsWordList words × IsLengthRange lo hi
 IsLeafInLimits (chars_leaf alphabet lo hi) = IsAlphabet alphabet × IsLengthRange lo hi
 
 -- a kind that a template may cite
@@ -107,13 +108,13 @@ pub record IsTableInLimits (units : ℕ) (table : TableLayout) : Type 0 where
   pub nulls : (place : ℕ) → place < length table.columns → (column_at table.columns place).null ≤ 999
   pub key_never_null : (column_at table.columns 0).null ≡ 0
 
--- an accepted schema within its limits
-pub record IsInLimits (schema : Schema) : Type 0 where
-  pub seed : IsCount schema.seed
-  pub units : IsCount schema.units
-  pub unit_limit : count schema.units ≤ 10000
-  pub some_table : 1 ≤ length schema.tables
-  pub table_limit : length schema.tables ≤ 64
-  pub tables : All (IsTableInLimits (count schema.units)) (layout_of schema).tables
-  pub costs : (place : ℕ) → place < length schema.tables → cost (layout_of schema) place ≤ 4096
-  pub lines : (place : ℕ) → place < length schema.tables → max_line (layout_of schema) place ≤ 65536
+-- an accepted schema within its limits, with its dictionaries
+pub record IsInLimits (project : Project) : Type 0 where
+  pub seed : IsCount project.schema.seed
+  pub units : IsCount project.schema.units
+  pub unit_limit : count project.schema.units ≤ 10000
+  pub some_table : 1 ≤ length project.schema.tables
+  pub table_limit : length project.schema.tables ≤ 64
+  pub tables : All (IsTableInLimits (count project.schema.units)) (layout_of project).tables
+  pub costs : (place : ℕ) → place < length project.schema.tables → cost (layout_of project) place ≤ 4096
+  pub lines : (place : ℕ) → place < length project.schema.tables → max_line (layout_of project) place ≤ 65536

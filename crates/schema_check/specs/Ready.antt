@@ -1,6 +1,5 @@
 -- What a plan keeps of the columns, so that nothing that stays the same is worked out for a row.
 use Rattle.std.specs.Prelude.{ℕ, ◌+◌, ◌-◌, ◌^◌, Bool, true, false, List, encode_utf8, length, map, sum}
-use Rattle.std.specs.List.{list_all}
 use Rattle.std.specs.Str.{chars}
 use Rattle.weight_tables.specs.Harmonic.{harmonic_weights}
 use Rattle.row_text.specs.Fields.{piece_text}
@@ -13,6 +12,7 @@ use Rattle.schema_check.specs.declared.ready.ReadyLeaf.{ReadyLeaf}
 use Rattle.schema_check.specs.declared.ready.ReadyLeaf.TheVariants as leaf
 use Rattle.schema_check.specs.Choices.{choices}
 use Rattle.schema_check.specs.Layout.{LeafLayout, int_leaf, fixed_leaf, date_leaf, pick_leaf, skew_leaf, dict_leaf, words_leaf, chars_leaf, PartLayout, literal_part, cited_part, KindLayout, key_kind, born_kind, changed_kind, leaf_kind, template_kind, case_kind, reference_kind, lookup_kind, ColumnLayout, Layout, table_at}
+use Rattle.schema_check.specs.ReadyWords.{written_words}
 
 -- a value that is drawn for a field alone: the number of choices of a range, the weights with their sum, entries as they are written
 abbrev pub ready_leaf : ℕ → LeafLayout → ReadyLeaf
@@ -22,8 +22,8 @@ ready_leaf delimiter (date_leaf lo hi) = leaf.Date lo hi (choices lo hi 1)
 ready_leaf delimiter (pick_leaf entries weights) = leaf.Pick (map (piece_text delimiter) entries) weights (sum weights)
 ready_leaf delimiter (skew_leaf lo size power) =
     leaf.Skew lo (harmonic_weights size power) (sum (harmonic_weights size power))
-ready_leaf delimiter (dict_leaf dictionary) = leaf.Unserved
-ready_leaf delimiter (words_leaf dictionary lo hi) = leaf.Unserved
+ready_leaf delimiter (dict_leaf words) = leaf.Dict (written_words delimiter words)
+ready_leaf delimiter (words_leaf words lo hi) = leaf.Words lo (hi - lo + 1) (written_words delimiter words)
 ready_leaf delimiter (chars_leaf alphabet lo hi) =
     leaf.Chars lo (hi - lo + 1) (map (λ c. piece_text delimiter (encode_utf8 c)) (chars alphabet)) (length (chars alphabet))
 
@@ -51,16 +51,10 @@ ready_column delimiter column = record { kind = ready_kind delimiter column.kind
 abbrev pub ready_columns : Layout → ℕ → List ReadyColumn
 ready_columns layout place = map (ready_column layout.delimiter) (table_at layout.tables place).columns
 
--- whether tables can be made of a drawn value, and of a column
-abbrev pub is_served_leaf : ReadyLeaf → Bool
-is_served_leaf leaf.Unserved = false
-is_served_leaf _ = true
-
+-- whether tables can be made of a column
 abbrev pub is_served_kind : ReadyKind → Bool
 is_served_kind kind.Unserved = false
 is_served_kind (kind.Template parts) = false
-is_served_kind (kind.Drawn drawn) = is_served_leaf drawn
-is_served_kind (kind.Case on branches) = list_all is_served_leaf branches
 is_served_kind _ = true
 
 abbrev pub is_served : ReadyColumn → Bool

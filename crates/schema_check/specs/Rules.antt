@@ -1,5 +1,5 @@
 -- The rules of a schema, each at the sites where it asks something, and the first that is broken.
-use Rattle.std.specs.Prelude.{◌≡◌, ℕ, zero, suc, ℤ, pos, neg_ℤ, ◌+ℤ◌, ◌-ℤ◌, ◌-◌, ◌^◌, ◌==◌, List, [], ◌∷◌, length, map, sum, take, Bool, true, false, not, ◌&&◌, ◌||◌, nat_le, nat_lt, int_le, Option, Some, None, slice_index_or, if◌then◌else◌}
+use Rattle.std.specs.Prelude.{◌≡◌, ℕ, zero, suc, ℤ, pos, neg_ℤ, ◌+ℤ◌, ◌-ℤ◌, ◌-◌, ◌^◌, ◌==◌, List, [], ◌∷◌, length, map, sum, take, Bool, true, false, not, ◌&&◌, ◌||◌, nat_le, nat_lt, int_le, Option, Some, None, is_some, slice_index_or, if◌then◌else◌}
 use Rattle.std.specs.List.{list_all, list_any, range_with_len}
 use Rattle.std.specs.Option.{option_or, option_map}
 use Rattle.std.specs.Ordering.{int_eq}
@@ -15,11 +15,13 @@ use Rattle.schema_model.specs.declared.column.Part.{Part}
 use Rattle.schema_model.specs.declared.column.Part.TheVariants as part
 use Rattle.schema_check.specs.declared.broken.Broken.{Broken}
 use Rattle.schema_check.specs.declared.rules.Rule.{Rule}
-use Rattle.schema_check.specs.declared.rules.Rule.TheVariants.{SeedAndUnits, TableCount, TableNames, Columns, KeyColumn, RowCount, NumberRange, DateRange, PickEntries, SkewRange, LengthRange, TemplateParts, CaseBranches, RowCost, LineSize, NullShare}
+use Rattle.schema_check.specs.declared.rules.Rule.TheVariants.{Dictionaries, CitedNames, SeedAndUnits, TableCount, TableNames, Columns, KeyColumn, RowCount, NumberRange, DateRange, PickEntries, SkewRange, LengthRange, TemplateParts, CaseBranches, RowCost, LineSize, NullShare}
 use Rattle.schema_check.specs.declared.site.Site.{Site}
 use Rattle.schema_check.specs.declared.site.Site.TheVariants.{Whole, OfTable, OfColumn}
+use Rattle.schema_check.specs.Citations.{cited_names, leaves_of, may_cite, may_cite_all, names_in_leaf}
 use Rattle.schema_check.specs.Cohorts.{born_count}
 use Rattle.schema_check.specs.Counts.{count}
+use Rattle.schema_check.specs.Dictionaries.{Project, dictionary_named}
 use Rattle.schema_check.specs.Layout.{births_of, layout_of, place_of_column}
 use Rattle.schema_check.specs.Names.{same_text, is_name}
 use Rattle.schema_check.specs.Sites.{columns_at, IsSiteOf, IsBefore}
@@ -84,12 +86,6 @@ is_row_count units table =
 
 -- ---- what rules ask of drawn values
 
--- the values that are drawn for a column: the one of a leaf, or those of the branches of a case
-abbrev pub leaves_of : Kind → List Leaf
-leaves_of (kind.Leaf leaf) = leaf ∷ []
-leaves_of (kind.Case on branches) = branches
-leaves_of _ = []
-
 -- numbers from lo to hi, which is at most 2^63 - 1 past lo
 abbrev pub is_range : ℤ → ℤ → Bool
 is_range lo hi = int_le lo hi && int_le (hi -ℤ lo) (pos (2 ^ 63 - 1))
@@ -133,6 +129,22 @@ is_length_range _ = true
 abbrev pub is_each_leaf : (Leaf → Bool) → Schema → ℕ → ℕ → Bool
 is_each_leaf test schema table column = list_all test (leaves_of (kind_at (columns_at schema table) column))
 
+-- ---- what rules ask of dictionaries
+
+-- a dictionary that may be cited, and is there
+abbrev pub is_supplied : Project → List ℕ → Bool
+is_supplied project name =
+    may_cite (cited_names project.schema.tables) name && is_some (dictionary_named project.dictionaries name)
+
+-- whether all dictionaries that a drawn value cites are so
+abbrev pub are_supplied : Project → Leaf → Bool
+are_supplied project leaf = list_all (is_supplied project) (names_in_leaf leaf)
+
+-- whether a schema may cite all that is cited at a site
+abbrev pub cites_well : Schema → Site → Bool
+cites_well schema (OfColumn table column) = is_each_leaf (may_cite_all (cited_names schema.tables)) schema table column
+cites_well schema site = true
+
 -- ---- what rules ask of columns that speak of others
 
 -- a kind that a template may cite
@@ -174,48 +186,55 @@ is_null_share _ null = is_between 0 999 null
 -- ---- the rules
 
 -- whether a rule holds at a site; where a rule asks nothing, it holds
-abbrev pub holds : Rule → Schema → Site → Bool
+abbrev pub holds : Rule → Project → Site → Bool
+-- V13: a dictionary that is cited has a name of 1 to 255 bytes, at most 64 different ones are cited, and each is there. Tried at
+-- a case for its branches
+holds Dictionaries project (OfColumn table column) = is_each_leaf (are_supplied project) project.schema table column
+-- the same as far as a schema alone tells it
+holds CitedNames project site = cites_well project.schema site
 -- V1: the seed is at least 0, and the last unit is from 0 to 10,000
-holds SeedAndUnits schema Whole = int_le (pos 0) schema.seed && is_between 0 10000 schema.units
+holds SeedAndUnits project Whole = int_le (pos 0) project.schema.seed && is_between 0 10000 project.schema.units
 -- V2: there are 1 to 64 tables
-holds TableCount schema Whole = is_one_to_64 (length schema.tables)
+holds TableCount project Whole = is_one_to_64 (length project.schema.tables)
 -- V3: a table has a name that no table before it has
-holds TableNames schema (OfTable table) = is_new_at (table_names schema) table
+holds TableNames project (OfTable table) = is_new_at (table_names project.schema) table
 -- V4: a table has 1 to 64 columns, and a column has a name that no column of its table before it has
-holds Columns schema (OfTable table) = is_one_to_64 (length (columns_at schema table))
-holds Columns schema (OfColumn table column) = is_new_at (column_names schema table) column
+holds Columns project (OfTable table) = is_one_to_64 (length (columns_at project.schema table))
+holds Columns project (OfColumn table column) = is_new_at (column_names project.schema table) column
 -- V5: the first column is the key, its base is from 0 to 2^62, and no other column is a key
-holds KeyColumn schema (OfColumn table column) = is_key_first column (kind_at (columns_at schema table) column)
+holds KeyColumn project (OfColumn table column) = is_key_first column (kind_at (columns_at project.schema table) column)
 -- V6: a table gains no negative number of rows, and at most 2^40 by the last unit
-holds RowCount schema (OfTable table) = is_row_count schema.units (schema_table schema table)
+holds RowCount project (OfTable table) = is_row_count project.schema.units (schema_table project.schema table)
 -- V9: a number is from lo to hi, which is at most 2^63 - 1 past lo; its step is at least 1, its decimals are 0 to 9. This rule and
 -- the next three are tried on the branches of a case too
-holds NumberRange schema (OfColumn table column) = is_each_leaf is_number_range schema table column
+holds NumberRange project (OfColumn table column) = is_each_leaf is_number_range project.schema table column
 -- V10: a date is from 0001-01-01 to 9999-12-31
-holds DateRange schema (OfColumn table column) = is_each_leaf is_date_range schema table column
+holds DateRange project (OfColumn table column) = is_each_leaf is_date_range project.schema table column
 -- V11: a pick has 1 to 256 entries and as many weights, each at least 1 and together at most 2^32
-holds PickEntries schema (OfColumn table column) = is_each_leaf is_weighted schema table column
+holds PickEntries project (OfColumn table column) = is_each_leaf is_weighted project.schema table column
 -- V12: a skew has 1 to 4,096 numbers up to 2^63 - 1, and a power from 1 to 3
-holds SkewRange schema (OfColumn table column) = is_each_leaf is_skew_range schema table column
+holds SkewRange project (OfColumn table column) = is_each_leaf is_skew_range project.schema table column
 -- V14: words and characters are 0 to 1,000, of an alphabet of 1 to 256 characters. Tried on the branches of a case too
-holds LengthRange schema (OfColumn table column) = is_each_leaf is_length_range schema table column
+holds LengthRange project (OfColumn table column) = is_each_leaf is_length_range project.schema table column
 -- V15: a template has 1 to 32 parts, and cites earlier columns that are no template, case or lookup
-holds TemplateParts schema (OfColumn table column) =
-    is_template (columns_at schema table) column (kind_at (columns_at schema table) column)
+holds TemplateParts project (OfColumn table column) =
+    is_template (columns_at project.schema table) column (kind_at (columns_at project.schema table) column)
 -- V16: a case names an earlier pick column of its table, with as many entries as the case has branches
-holds CaseBranches schema (OfColumn table column) =
-    is_case (columns_at schema table) column (kind_at (columns_at schema table) column)
+holds CaseBranches project (OfColumn table column) =
+    is_case (columns_at project.schema table) column (kind_at (columns_at project.schema table) column)
 -- V23: the cost of a row is at most 4,096. Past 64 tables, where an earlier rule is broken, nothing is asked
-holds RowCost schema (OfTable table) = nat_le 64 table || nat_le (cost (layout_of schema) table) 4096
+holds RowCost project (OfTable table) = nat_le 64 table || nat_le (cost (layout_of project) table) 4096
 -- V24: a line has at most 65,536 bytes. The same
-holds LineSize schema (OfTable table) = nat_le 64 table || nat_le (max_line (layout_of schema) table) 65536
+holds LineSize project (OfTable table) = nat_le 64 table || nat_le (max_line (layout_of project) table) 65536
 -- V25: at most 999 of a thousand fields are null, and none of a key or a reference
-holds NullShare schema (OfColumn table column) =
-    is_null_share (kind_at (columns_at schema table) column) (null_at (columns_at schema table) column)
-holds _ schema site = true
+holds NullShare project (OfColumn table column) =
+    is_null_share (kind_at (columns_at project.schema table) column) (null_at (columns_at project.schema table) column)
+holds _ project site = true
 
 -- the number of a rule in messages, as 1 for V1
 abbrev pub number_of : Rule → ℕ
+number_of Dictionaries = 13
+number_of CitedNames = 13
 number_of SeedAndUnits = 1
 number_of TableCount = 2
 number_of TableNames = 3
@@ -233,9 +252,10 @@ number_of RowCost = 23
 number_of LineSize = 24
 number_of NullShare = 25
 
--- the rules in the order in which they are tried, which for all of V1 to V25 is V13, V1 to V12, V14 to V25
+-- the rules in the order in which they are tried, which for all of V1 to V25 is V13, V1 to V12, V14 to V25. Of V13 the part that a
+-- schema alone tells is no rule beside the whole
 abbrev pub rules : List Rule
-rules = SeedAndUnits ∷ TableCount ∷ TableNames ∷ Columns ∷ KeyColumn ∷ RowCount
+rules = Dictionaries ∷ SeedAndUnits ∷ TableCount ∷ TableNames ∷ Columns ∷ KeyColumn ∷ RowCount
     ∷ NumberRange ∷ DateRange ∷ PickEntries ∷ SkewRange ∷ LengthRange ∷ TemplateParts ∷ CaseBranches
     ∷ RowCost ∷ LineSize ∷ NullShare ∷ []
 
@@ -247,39 +267,40 @@ first_found look [] = None
 first_found look (x ∷ xs) = option_or (look x) (first_found look xs)
 
 -- the site, where the rule is broken there
-abbrev pub break_at : Rule → Schema → Site → Option Site
-break_at rule schema site = if holds rule schema site then None else Some site
+abbrev pub break_at : Rule → Project → Site → Option Site
+break_at rule project site = if holds rule project site then None else Some site
 
 -- the first site of a table at which a rule is broken: the table itself, then its columns
-abbrev pub break_in_table : Rule → Schema → ℕ → Option Site
-break_in_table rule schema table =
-    option_or (break_at rule schema (OfTable table))
-    (first_found (λ column. break_at rule schema (OfColumn table column)) (range_with_len 0 (length (columns_at schema table))))
+abbrev pub break_in_table : Rule → Project → ℕ → Option Site
+break_in_table rule project table =
+    option_or (break_at rule project (OfTable table))
+    (first_found (λ column. break_at rule project (OfColumn table column))
+    (range_with_len 0 (length (columns_at project.schema table))))
 
 -- the first site at which a rule is broken: the whole, then the tables
-abbrev pub first_break : Rule → Schema → Option Site
-first_break rule schema =
-    option_or (break_at rule schema Whole)
-    (first_found (break_in_table rule schema) (range_with_len 0 (length schema.tables)))
+abbrev pub first_break : Rule → Project → Option Site
+first_break rule project =
+    option_or (break_at rule project Whole)
+    (first_found (break_in_table rule project) (range_with_len 0 (length project.schema.tables)))
 
 -- a rule with the first site at which it is broken
-abbrev pub broken_rule : Schema → Rule → Option Broken
-broken_rule schema rule = option_map (λ site. record { rule = rule; site = site }) (first_break rule schema)
+abbrev pub broken_rule : Project → Rule → Option Broken
+broken_rule project rule = option_map (λ site. record { rule = rule; site = site }) (first_break rule project)
 
--- the first rule that a schema breaks, at its first site
-unfoldable pub first_broken : Schema → Option Broken
-first_broken schema = first_found (broken_rule schema) rules
+-- the first rule that a schema breaks with its dictionaries, at its first site
+unfoldable pub first_broken : Project → Option Broken
+first_broken project = first_found (broken_rule project) rules
 
--- a schema that breaks no rule
-abbrev pub IsAccepted : Schema → Type 0
-IsAccepted schema = first_broken schema ≡ None
+-- a schema that breaks no rule with its dictionaries
+abbrev pub IsAccepted : Project → Type 0
+IsAccepted project = first_broken project ≡ None
 
 -- a rule holds at each site of a schema
-abbrev pub Keeps : Rule → Schema → Type 0
-Keeps rule schema = (site : Site) → IsSiteOf schema site → holds rule schema site ≡ true
+abbrev pub Keeps : Rule → Project → Type 0
+Keeps rule project = (site : Site) → IsSiteOf project.schema site → holds rule project site ≡ true
 
 -- a rule is broken at a site, and holds at each site before it
-pub record IsFirstBreak (rule : Rule) (schema : Schema) (site : Site) : Type 0 where
-  pub is_site : IsSiteOf schema site
-  pub breaks : holds rule schema site ≡ false
-  pub before : (other : Site) → IsSiteOf schema other → IsBefore other site → holds rule schema other ≡ true
+pub record IsFirstBreak (rule : Rule) (project : Project) (site : Site) : Type 0 where
+  pub is_site : IsSiteOf project.schema site
+  pub breaks : holds rule project site ≡ false
+  pub before : (other : Site) → IsSiteOf project.schema other → IsBefore other site → holds rule project other ≡ true

@@ -6,21 +6,13 @@ use Rattle.schema_model.specs.declared.table.Table.{Table}
 use Rattle.schema_model.specs.declared.column.Column.{Column}
 use Rattle.schema_model.specs.declared.column.Kind.{Kind}
 use Rattle.schema_model.specs.declared.column.Kind.TheVariants as kind
-use Rattle.schema_model.specs.declared.column.Leaf.{Leaf}
-use Rattle.schema_model.specs.declared.column.Leaf.TheVariants as drawn
 
--- a value of a dictionary
-abbrev pub is_unbuilt_leaf : Leaf → Bool
-is_unbuilt_leaf (drawn.Dict file) = true
-is_unbuilt_leaf (drawn.Words file lo hi) = true
-is_unbuilt_leaf _ = false
-
--- such a value, a case with such a branch, templates, and what speaks of changes or of other rows
+-- a template, and what speaks of changes or of other rows
 abbrev pub is_unbuilt_kind : Kind → Bool
 is_unbuilt_kind (kind.Key base scramble) = false
 is_unbuilt_kind kind.Born = false
-is_unbuilt_kind (kind.Leaf leaf) = is_unbuilt_leaf leaf
-is_unbuilt_kind (kind.Case on branches) = list_any is_unbuilt_leaf branches
+is_unbuilt_kind (kind.Leaf leaf) = false
+is_unbuilt_kind (kind.Case on branches) = false
 is_unbuilt_kind _ = true
 
 -- a column that changes, or has such a kind

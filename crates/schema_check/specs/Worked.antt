@@ -1,14 +1,14 @@
 -- Schemas whose lives, costs and sizes are worked out by hand.
 use Rattle.std.specs.Prelude.{ℕ, pos, true, false, List, [], ◌∷◌, map, Some, None, codes}
-use Rattle.schema_model.specs.declared.table.Schema.{Schema}
 use Rattle.schema_model.specs.declared.table.Table.{Table}
 use Rattle.schema_model.specs.declared.table.Delimiter.TheVariants.{Tab}
 use Rattle.schema_model.specs.declared.column.Column.{Column}
 use Rattle.schema_model.specs.declared.column.Kind.{Kind}
 use Rattle.schema_model.specs.declared.column.Kind.TheVariants.{Key, Born, Changed, Leaf as Drawn, Template, Ref, Lookup}
-use Rattle.schema_model.specs.declared.column.Leaf.TheVariants.{Pick, Chars}
+use Rattle.schema_model.specs.declared.column.Leaf.TheVariants.{Pick, Dict, Words, Chars}
 use Rattle.schema_model.specs.declared.column.Part.TheVariants.{Literal, Cited}
 use Rattle.schema_check.specs.declared.field_bounds.FieldBounds.{FieldBounds}
+use Rattle.schema_check.specs.Dictionaries.{Project, project_of}
 use Rattle.schema_check.specs.FieldBounds.{bounds_of_fields}
 use Rattle.schema_check.specs.Layout.{Layout, TableLayout}
 use Rattle.schema_model.specs.declared.column.Window.TheVariants.{Units}
@@ -57,8 +57,8 @@ lines = record {
   columns = key ∷ reference (codes "orders") 0 ∷ [];
 }
 
-abbrev pub sales : Schema
-sales = record { seed = pos 7; units = pos 5; delimiter = Tab; tables = customer ∷ orders ∷ lines ∷ [] }
+abbrev pub sales : Project
+sales = project_of (record { seed = pos 7; units = pos 5; delimiter = Tab; tables = customer ∷ orders ∷ lines ∷ [] }) []
 
 -- cities with a scrambled key, a picked name and a text made of it
 abbrev pub city : Table
@@ -91,8 +91,26 @@ house = record {
       ∷ [];
 }
 
-abbrev pub places : Schema
-places = record { seed = pos 1; units = pos 0; delimiter = Tab; tables = city ∷ house ∷ [] }
+abbrev pub places : Project
+places = project_of (record { seed = pos 1; units = pos 0; delimiter = Tab; tables = city ∷ house ∷ [] }) []
+
+-- people with a name of the dictionary `n`, and up to three of its words
+abbrev pub person : Table
+person = record {
+  name = codes "person";
+  rows = pos 2;
+  insert = pos 0;
+  life = None;
+  update = None;
+  columns = key ∷ plain (codes "name") (Drawn (Dict (codes "n"))) ∷ plain (codes "remark") (Drawn (Words (codes "n") (pos 0) (pos 3))) ∷ [];
+}
+
+abbrev pub people : Project
+people = project_of
+    (record { seed = pos 1; units = pos 0; delimiter = Tab; tables = person ∷ [] })
+    (record { name = codes "m"; words = record { entries = codes "Methuselah" ∷ []; weights = 1 ∷ [] } }
+    ∷ record { name = codes "n"; words = record { entries = codes "Bo" ∷ codes "An\tn" ∷ []; weights = 1 ∷ 3 ∷ [] } }
+    ∷ [])
 
 -- the greatest sizes of a table's fields
 abbrev pub sizes_of : Layout → TableLayout → List ℕ

@@ -1,18 +1,23 @@
 //! The check of a schema.
 
-ghost use Rattle.std.specs.Prelude.{◌≡◌, ◌≤◌, false, IfOk, OnOk, IfErr};
-ghost use Rattle.schema_check.specs.Faults.{told, Tells};
-ghost use Rattle.schema_check.specs.Planned.{without_dictionaries};
+ghost use Rattle.std.specs.Prelude.{◌≡◌, ◌≢◌, ◌≤◌, false, None, Some, IfErr, IfOk, IfSome, OnOk};
+ghost use Rattle.schema_check.specs.Capped.{first_facts};
+ghost use Rattle.schema_check.specs.Citations.{cited_names};
+ghost use Rattle.schema_check.specs.Dictionaries.{project_of};
+ghost use Rattle.schema_check.specs.Faults.{citation_refusal, refusal_of, told, Tells};
 ghost use Rattle.schema_check.specs.Rules.{IsAccepted};
 ghost use Rattle.schema_check.specs.Sites.{column_number, IsSiteOf};
 ghost use Rattle.schema_check.specs.Unbuilt.{is_unbuilt};
 
 use crate::broken::Broken;
-use crate::facts::{NO_FACTS, fill_facts};
+use crate::candidate::Candidate;
+use crate::cited_names::{CitedNames, copied_names};
+use crate::facts::{NO_FACTS, TableFacts, fill_facts};
 use crate::plan::Plan;
-use crate::rules::{MAX_ITEMS, columns_at, first_broken};
+use crate::rules::{MAX_ITEMS, Rule, columns_at, first_break, first_broken};
 use crate::site::Site;
-use schema_model::Schema;
+use crate::word_lists::Dictionaries;
+use schema_model::{Schema, Texts};
 use std::alloc::Global;
 
 /// Why a schema has no plan.
@@ -29,23 +34,69 @@ pub enum CheckFault {
     Memory,
 }
 
-/// The plan of a schema that keeps all rules, or the first rule that it breaks, at its first place. At a fault the
-/// schema is given up.
-pub fn check(alloc: Global, schema: Schema) -> Result<Plan, CheckFault>
+/// The names of the dictionaries that a schema cites, each once, in the order of their first citations; or the rule of
+/// dictionaries, where the schema may not cite them: a name has 1 to 255 bytes, and at most 64 different ones are cited.
+pub fn citations(alloc: Global, schema: &Schema) -> Result<Texts, CheckFault>
+    requires built { is_unbuilt schema.now ≡ false }
+    ensures names { IfOk result (λ names. names ≡ cited_names schema.now.tables) }
+    ensures citable { OnOk result (citation_refusal schema.now ≡ None) }
+    ensures refused { IfErr result (λ fault. fault ≢ CheckFault.Memory → citation_refusal schema.now ≡ Some fault) }
+{
+    let dictionaries = Dictionaries::new(alloc);
+    let names = CitedNames::of(schema);
+    let mut facts = [NO_FACTS; MAX_ITEMS];
+    let count = schema.tables.len().min(MAX_ITEMS);
+    fill_facts(schema, &dictionaries, &mut facts[..count]);
+    let candidate = Candidate::new(schema, &dictionaries, &names, &facts[..count]);
+    if let Some(site) = first_break(Rule::CitedNames, &candidate) {
+        let rule = Rule::CitedNames;
+        return Err(fault_of(schema, Broken { rule, site }));
+    }
+    match copied_names(alloc, &names) {
+        Ok(names) => Ok(names),
+        Err(_) => Err(CheckFault::Memory),
+    }
+}
+
+/// The plan of a schema that keeps all rules with its dictionaries, or the first rule that it breaks, at its first place. At a
+/// fault the schema and the dictionaries are given up.
+pub fn check(
+    alloc: Global,
+    schema: Schema,
+    dictionaries: Dictionaries,
+) -> Result<Plan, CheckFault>
     requires built { is_unbuilt schema ≡ false }
-    ensures plan { IfOk result (λ plan. plan ≡ without_dictionaries schema) }
-    ensures accepted { OnOk result (IsAccepted schema) }
-    ensures refused { IfErr result (λ fault. Tells fault schema) }
+    ensures plan { IfOk result (λ plan. plan ≡ project_of schema dictionaries) }
+    ensures accepted { OnOk result (IsAccepted (project_of schema dictionaries)) }
+    ensures refused { IfErr result (λ fault. Tells fault (project_of schema dictionaries)) }
 {
     let mut facts = [NO_FACTS; MAX_ITEMS];
     let count = schema.tables.len().min(MAX_ITEMS);
-    fill_facts(&schema, &mut facts[..count]);
-    if let Some(broken) = first_broken(&schema, &facts[..count]) {
-        return Err(fault_of(&schema, broken));
+    fill_facts(&schema, &dictionaries, &mut facts[..count]);
+    if let Some(fault) = first_fault(&schema, &dictionaries, &facts[..count]) {
+        return Err(fault);
     }
-    match Plan::of_accepted(alloc, schema, &facts[..count]) {
+    match Plan::of_accepted(alloc, schema, dictionaries, &facts[..count]) {
         Ok(plan) => Ok(plan),
         Err(_) => Err(CheckFault::Memory),
+    }
+}
+
+/// The first rule that a schema breaks with its dictionaries, as it is told.
+fn first_fault(
+    schema: &Schema,
+    dictionaries: &Dictionaries,
+    facts: &[TableFacts],
+) -> Option<CheckFault>
+    requires { facts.now ≡ first_facts (project_of schema.now dictionaries.now) }
+    ensures first { result ≡ refusal_of (project_of schema.now dictionaries.now) }
+    ensures rule { IfSome result (λ fault. fault ≢ CheckFault.Memory) }
+{
+    let names = CitedNames::of(schema);
+    let candidate = Candidate::new(schema, dictionaries, &names, facts);
+    match first_broken(&candidate) {
+        Some(broken) => Some(fault_of(schema, broken)),
+        None => None,
     }
 }
 

@@ -4,6 +4,7 @@ ghost use Rattle.std.specs.Prelude.{◌≡◌, ◌<◌, length, map, min};
 ghost use Rattle.std.specs.List.{range_with_len};
 ghost use Rattle.schema_check.specs.Capped.{capped_bounds, capped_facts, first_facts};
 ghost use Rattle.schema_check.specs.Delimiters.{delimiter_byte as byte_of};
+ghost use Rattle.schema_check.specs.Dictionaries.{project_of};
 ghost use Rattle.schema_check.specs.FieldBounds.{bounds_of_fields, greatest_by};
 ghost use Rattle.schema_check.specs.Layout.{births_of, layout_of, table_layout, table_layouts};
 ghost use Rattle.schema_check.specs.TableFacts.{facts_at, line_bounds};
@@ -13,6 +14,7 @@ use crate::field_bounds::{FieldBounds, bounds_of};
 use crate::layout::{Births, Keys};
 use crate::lineage::{ENDLESS, Lineage, lineage_of};
 use crate::places::keys_of;
+use crate::word_lists::Dictionaries;
 use schema_model::{Delimiter, Schema, Table};
 
 /// What doesn't change from row to row in a table.
@@ -40,25 +42,30 @@ pub(crate) const NO_FACTS: TableFacts = TableFacts {
 };
 
 /// Puts the facts of the first tables of a schema in place, one for each place that is given. No memory is taken.
-pub(crate) fn fill_facts(schema: &Schema, facts: &mut [TableFacts])
+pub(crate) fn fill_facts(schema: &Schema, dictionaries: &Dictionaries, facts: &mut [TableFacts])
     requires { length facts.old ≡ min (length schema.now.tables) 64 }
-    ensures { facts.new ≡ first_facts schema.now }
+    ensures { facts.new ≡ first_facts (project_of schema.now dictionaries.now) }
 {
     for place in 0..facts.len() {
-        facts[place] = facts_of(schema, &facts[..place], place);
+        facts[place] = facts_of(schema, dictionaries, &facts[..place], place);
     }
 }
 
 /// The facts of the table at a place, by those of the tables before it.
-fn facts_of(schema: &Schema, earlier: &[TableFacts], place: usize) -> TableFacts
+fn facts_of(
+    schema: &Schema,
+    dictionaries: &Dictionaries,
+    earlier: &[TableFacts],
+    place: usize,
+) -> TableFacts
     requires place { place < length schema.now.tables }
-    requires earlier { earlier.now ≡ map (λ p. capped_facts (facts_at (layout_of schema.now) p)) (range_with_len 0 place) }
-    ensures { result ≡ capped_facts (facts_at (layout_of schema.now) place) }
+    requires earlier { earlier.now ≡ map (λ p. capped_facts (facts_at (layout_of (project_of schema.now dictionaries.now)) p)) (range_with_len 0 place) }
+    ensures { result ≡ capped_facts (facts_at (layout_of (project_of schema.now dictionaries.now)) place) }
 {
     let tables = schema.tables.as_slice();
     let table = &tables[place];
     let lineage = lineage_of(tables, earlier, table);
-    let line = line_bounds(delimiter_byte(schema.delimiter), tables, table);
+    let line = line_bounds(delimiter_byte(schema.delimiter), dictionaries, tables, table);
     let death = lineage.death_cost.saturating_add(1);
     let change = u64::from(table.update.is_some());
     TableFacts {
@@ -71,13 +78,18 @@ fn facts_of(schema: &Schema, earlier: &[TableFacts], place: usize) -> TableFacts
 }
 
 /// What the line of a table's rows takes: the sizes of its fields and one byte behind each, and their permutations.
-fn line_bounds(delimiter: u8, tables: &[Table], table: &Table) -> FieldBounds
-    ensures { result ≡ capped_bounds (line_bounds (bounds_of_fields delimiter (table_layouts tables.now) (table_layout tables.now table.now))) }
+fn line_bounds(
+    delimiter: u8,
+    dictionaries: &Dictionaries,
+    tables: &[Table],
+    table: &Table,
+) -> FieldBounds
+    ensures { result ≡ capped_bounds (line_bounds (bounds_of_fields delimiter (table_layouts dictionaries.now tables.now) (table_layout dictionaries.now tables.now table.now))) }
 {
     let mut size: u64 = 0;
     let mut permutations: u64 = 0;
     for column in table.columns.as_slice() {
-        let taken = bounds_of(delimiter, tables, table, &column.kind);
+        let taken = bounds_of(delimiter, dictionaries, tables, table, &column.kind);
         size = size.saturating_add(taken.size.saturating_add(1));
         permutations = permutations.saturating_add(taken.permutations);
     }

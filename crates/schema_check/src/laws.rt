@@ -1,29 +1,29 @@
 //! Laws of the definitions that the contracts cite, each the contract of a function without a body.
 
 ghost use Rattle.std.specs.Prelude.{◌≡◌, ℕ, ◌+◌, ◌*◌, ◌<◌, ◌↔◌, ◌∷◌, [], Some, None, map, slice_get};
-ghost use Rattle.schema_model.specs.declared.table.Schema.{Schema};
 ghost use Rattle.schema_check.specs.declared.broken.Broken.{Broken};
 ghost use Rattle.schema_check.specs.declared.layout.Births.{Births};
 ghost use Rattle.schema_check.specs.declared.rules.Rule.{Rule};
 ghost use Rattle.schema_check.specs.Cohorts.{born_count};
+ghost use Rattle.schema_check.specs.Dictionaries.{Project};
 ghost use Rattle.schema_check.specs.Layout.{layout_of};
 ghost use Rattle.schema_check.specs.Lineage.{longest_life, sure_life};
 ghost use Rattle.schema_check.specs.Rules.{first_broken, IsAccepted, IsFirstBreak, Keeps, rules};
 ghost use Rattle.schema_check.specs.TableFacts.{cost, max_line, reach};
-ghost use Rattle.schema_check.specs.Worked.{places, sales, sizes_of};
+ghost use Rattle.schema_check.specs.Worked.{people, places, sales, sizes_of};
 
 /// A schema is accepted exactly where it keeps each rule.
 pub fn accepted_schemas_keep_each_rule()
-    ensures { (schema : Schema) → IsAccepted schema
-        ↔ ((i : ℕ) (rule : Rule) → slice_get rules i ≡ Some rule → Keeps rule schema) }
+    ensures { (project : Project) → IsAccepted project
+        ↔ ((i : ℕ) (rule : Rule) → slice_get rules i ≡ Some rule → Keeps rule project) }
 {}
 
 /// The first broken rule is one of the rules, it is broken at the site that is told and holds at each site before it,
 /// and each rule before it is kept.
 pub fn first_broken_is_the_first_rule_at_its_first_site()
-    ensures { (schema : Schema) (broken : Broken) → first_broken schema ≡ Some broken →
-        (i : ℕ) × (slice_get rules i ≡ Some broken.rule) × IsFirstBreak broken.rule schema broken.site
-        × ((k : ℕ) (other : Rule) → k < i → slice_get rules k ≡ Some other → Keeps other schema) }
+    ensures { (project : Project) (broken : Broken) → first_broken project ≡ Some broken →
+        (i : ℕ) × (slice_get rules i ≡ Some broken.rule) × IsFirstBreak broken.rule project broken.site
+        × ((k : ℕ) (other : Rule) → k < i → slice_get rules k ≡ Some other → Keeps other project) }
 {}
 
 /// The rows of a table are those of unit 0 and as many more for each unit after it.
@@ -54,11 +54,12 @@ pub fn worked_costs()
     ensures house { cost (layout_of places) 1 ≡ 9 }
 {}
 
-/// Sizes worked out by hand: a tab and a backslash are written as two bytes.
+/// Sizes worked out by hand: a tab and a backslash are written as two bytes; the words of a text have spaces between.
 pub fn worked_sizes()
     ensures customer { max_line (layout_of sales) 0 ≡ 33 }
     ensures orders { max_line (layout_of sales) 1 ≡ 42 }
     ensures most { reach (layout_of sales) ≡ 42 }
     ensures fields { map (sizes_of (layout_of places)) (layout_of places).tables
         ≡ (20 ∷ 6 ∷ 6 ∷ 15 ∷ []) ∷ (20 ∷ 20 ∷ 6 ∷ 40 ∷ []) ∷ [] }
+    ensures words { map (sizes_of (layout_of people)) (layout_of people).tables ≡ (20 ∷ 5 ∷ 17 ∷ []) ∷ [] }
 {}

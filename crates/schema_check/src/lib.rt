@@ -6,7 +6,9 @@
 #![tactic(auto)]
 
 mod broken;
+mod candidate;
 mod checker;
+mod cited_names;
 mod column_rules;
 mod counts;
 mod facts;
@@ -24,14 +26,19 @@ mod ready;
 mod ready_columns;
 mod ready_leaves;
 mod ready_parts;
+mod ready_words;
 mod rules;
 mod site;
+mod word_lists;
 
-pub use checker::{CheckFault, check};
+pub use checker::{CheckFault, check, citations};
 pub use layout::{Births, Keys, Span};
 pub use not_built::unbuilt;
 pub use plan::Plan;
+pub use memory::Memory;
 pub use ready::{ReadyColumn, ReadyKind, ReadyLeaf, ReadyPart};
+pub use ready_words::ReadyWords;
+pub use word_lists::Dictionaries;
 
 #[cfg(test)]
 mod fact_tests;

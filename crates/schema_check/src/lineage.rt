@@ -2,6 +2,7 @@
 
 ghost use Rattle.std.specs.Prelude.{◌≡◌, List, length, map};
 ghost use Rattle.schema_check.specs.Capped.{capped_lineage};
+ghost use Rattle.schema_check.specs.Dictionaries.{Dictionary};
 ghost use Rattle.schema_check.specs.Layout.{kind_layout, span_of, table_layout, table_layouts, window_layout};
 ghost use Rattle.schema_check.specs.Lineage.{lesser_life, lineage_at, lineage_of, own_lineage, with_kind, with_parent};
 ghost use Rattle.std.specs.Option.{option_map};
@@ -33,8 +34,8 @@ pub(crate) const ENDLESS: Lineage = Lineage {
 
 /// The lineage of a table, by what is known of the tables before it.
 pub(crate) fn lineage_of(tables: &[Table], earlier: &[TableFacts], table: &Table) -> Lineage
-    ensures { (given : List Lineage) → map (λ facts. facts.lineage) earlier.now ≡ map capped_lineage given →
-        result ≡ capped_lineage (lineage_of given (table_layout tables.now table.now)) }
+    ensures { (dictionaries : List Dictionary) (given : List Lineage) → map (λ facts. facts.lineage) earlier.now ≡ map capped_lineage given →
+        result ≡ capped_lineage (lineage_of given (table_layout dictionaries tables.now table.now)) }
 {
     let mut lineage = own_lineage(table.life);
     for column in table.columns.as_slice() {
@@ -59,9 +60,9 @@ fn own_lineage(life: Option<Life>) -> Lineage
 
 /// A lineage with what a column of this kind adds: a reference has a parent, and no other kind has.
 fn with_kind(tables: &[Table], earlier: &[TableFacts], own: Lineage, kind: &Kind) -> Lineage
-    ensures { (given : List Lineage) (before : Lineage) (columns : List Column) →
+    ensures { (dictionaries : List Dictionary) (given : List Lineage) (before : Lineage) (columns : List Column) →
         map (λ facts. facts.lineage) earlier.now ≡ map capped_lineage given → own ≡ capped_lineage before →
-        result ≡ capped_lineage (with_kind given before (kind_layout tables.now columns kind.now)) }
+        result ≡ capped_lineage (with_kind given before (kind_layout dictionaries tables.now columns kind.now)) }
 {
     match kind {
         Kind::Ref { table, window, .. } => {

@@ -4,7 +4,7 @@ use std::alloc::{AllocError, AllocFailed};
 
 /// Memory ran out.
 #[derive(Clone, Copy, Debug, PartialEq, Eq)]
-pub(crate) struct Memory;
+pub struct Memory;
 
 impl From<AllocError> for Memory {
     fn from(_error: AllocError) -> Memory {

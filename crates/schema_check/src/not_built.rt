@@ -2,12 +2,12 @@
 
 ghost use Rattle.std.specs.Prelude.{◌≡◌};
 ghost use Rattle.std.specs.List.{list_any};
-ghost use Rattle.schema_check.specs.Unbuilt.{is_unbuilt, is_unbuilt_table, is_unbuilt_column, is_unbuilt_kind, is_unbuilt_leaf};
+ghost use Rattle.schema_check.specs.Unbuilt.{is_unbuilt, is_unbuilt_table, is_unbuilt_column, is_unbuilt_kind};
 
-use schema_model::{Column, Kind, Leaf, Schema, Table};
+use schema_model::{Column, Kind, Schema, Table};
 
 /// Whether a schema holds something that isn't built: a table with a life or updates, a column that changes, holds the unit of
-/// the last change, is a template or speaks of other rows, or a value of a dictionary, be it a column's own or a branch's.
+/// the last change, is a template or speaks of other rows.
 pub fn unbuilt(schema: &Schema) -> bool
     ensures { result ≡ is_unbuilt schema.now }
 {
@@ -46,23 +46,7 @@ fn is_unbuilt_kind(kind: &Kind) -> bool
 {
     match kind {
         Kind::Key { .. } | Kind::Born => false,
-        Kind::Leaf(leaf) => is_unbuilt_leaf(leaf),
-        Kind::Case { branches, .. } => is_any_leaf_unbuilt(branches.as_slice()),
+        Kind::Leaf(_) | Kind::Case { .. } => false,
         _ => true,
-    }
-}
-
-fn is_any_leaf_unbuilt(leaves: &[Leaf]) -> bool
-    ensures { result ≡ list_any is_unbuilt_leaf leaves.now }
-{
-    leaves.iter().any(|leaf| is_unbuilt_leaf(leaf))
-}
-
-fn is_unbuilt_leaf(leaf: &Leaf) -> bool
-    ensures { result ≡ is_unbuilt_leaf leaf.now }
-{
-    match leaf {
-        Leaf::Dict { .. } | Leaf::Words { .. } => true,
-        _ => false,
     }
 }

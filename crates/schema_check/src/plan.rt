@@ -2,12 +2,14 @@
 
 ghost use Rattle.std.specs.Prelude.{◌≡◌, ◌<◌, ◌≤◌, false, true, All, Some, length, slice_get, IfOk};
 ghost use Rattle.std.specs.List.{position};
+ghost use Rattle.std.specs.Option.{option_copied};
 ghost use Rattle.schema_check.specs.Capped.{first_facts};
+ghost use Rattle.schema_check.specs.Dictionaries.{dictionary_named, project_of};
 ghost use Rattle.schema_check.specs.Layout.{layout_of, table_at, table_layout};
 ghost use Rattle.schema_check.specs.Limits.{IsInLimits, IsTableInLimits};
 ghost use Rattle.schema_check.specs.Lineage.{longest_life, sure_life};
 ghost use Rattle.schema_check.specs.Names.{same_text};
-ghost use Rattle.schema_check.specs.Planned.{table_named, without_dictionaries};
+ghost use Rattle.schema_check.specs.Planned.{table_named};
 ghost use Rattle.schema_check.specs.Ready.{is_served, ready_columns};
 ghost use Rattle.schema_check.specs.Rules.{IsAccepted};
 ghost use Rattle.schema_check.specs.TableFacts.{cost, facts_at, max_line, reach};
@@ -18,48 +20,55 @@ use crate::layout::{Births, Keys};
 use crate::memory::Memory;
 use crate::ready::ReadyColumn;
 use crate::ready_columns::ready_tables;
+use crate::word_lists::Dictionaries;
+use dictionaries::Dictionary;
 use schema_model::{Schema, Sequence, Table};
 use std::alloc::Global;
 use std::marker::Model;
 
-/// An accepted schema with its dictionaries, of which there are none yet, and what doesn't change from row to row.
+/// An accepted schema with its dictionaries, and what doesn't change from row to row. A contract sees the two.
 ///
 /// A table is named by its place in the schema, counted from 0. Lives are in units, sizes in bytes.
-#[derive(Debug, Drop)]
+#[derive(Drop)]
 pub struct Plan {
     schema: Schema,
+    dictionaries: Dictionaries,
     facts: Vec<TableFacts>,
     ready: Vec<Sequence<ReadyColumn>>,
     reach: u64,
 }
 
 impl Model for Plan {
-    ghost use Rattle.schema_check.specs.Planned.{IsPlan, Planned, without_dictionaries};
+    ghost use Rattle.schema_check.specs.Dictionaries.{Project, project_of};
+    ghost use Rattle.schema_check.specs.Planned.{IsPlan};
 
-    ghost Value = { Planned };
+    ghost Value = { Project };
 
-    ghost view = { λ p. without_dictionaries p.schema };
+    ghost view = { λ p. project_of p.schema p.dictionaries };
 
-    ghost invariant = { λ p. IsPlan p.schema p.facts.items p.ready.items p.reach };
+    ghost invariant = { λ p. IsPlan (project_of p.schema p.dictionaries) p.facts.items p.ready.items p.reach };
 }
 
 impl Plan {
-    /// The plan of a schema that keeps all rules, by the facts of its tables.
+    /// The plan of a schema that keeps all rules with its dictionaries, by the facts of its tables.
     pub(crate) fn of_accepted(
         alloc: Global,
         schema: Schema,
+        dictionaries: Dictionaries,
         facts: &[TableFacts],
     ) -> Result<Plan, Memory>
         requires built { is_unbuilt schema ≡ false }
-        requires accepted { IsAccepted schema }
-        requires facts { facts.now ≡ first_facts schema }
-        ensures { IfOk result (λ plan. plan ≡ without_dictionaries schema) }
+        requires accepted { IsAccepted (project_of schema dictionaries) }
+        requires facts { facts.now ≡ first_facts (project_of schema dictionaries) }
+        ensures { IfOk result (λ plan. plan ≡ project_of schema dictionaries) }
     {
+        let _lists = dictionaries.len(); // each is a word list
         let reach = greatest_line(facts);
         let facts = Vec::from_slice(alloc, facts)?;
-        let ready = ready_tables(alloc, &schema)?;
+        let ready = ready_tables(alloc, &schema, &dictionaries)?;
         Ok(Plan {
             schema,
+            dictionaries,
             facts,
             ready,
             reach,
@@ -69,23 +78,23 @@ impl Plan {
     /// The schema.
     pub fn schema(&self) -> &Schema
         ensures value { result.now ≡ self.now.schema }
-        ensures accepted { IsAccepted self.now.schema }
+        ensures accepted { IsAccepted self.now }
         ensures built { is_unbuilt self.now.schema ≡ false }
-        ensures limits { IsInLimits self.now.schema }
+        ensures limits { IsInLimits self.now }
     {
         &self.schema
     }
 
     /// The number that all draws begin from.
     pub fn seed(&self) -> u64
-        ensures { result ≡ (layout_of self.now.schema).seed }
+        ensures { result ≡ (layout_of self.now).seed }
     {
         self.schema.seed as u64
     }
 
     /// The last unit.
     pub fn units(&self) -> u64
-        ensures { result ≡ (layout_of self.now.schema).units }
+        ensures { result ≡ (layout_of self.now).units }
     {
         self.schema.units as u64
     }
@@ -107,12 +116,19 @@ impl Plan {
         }
     }
 
+    /// The words of the first dictionary with a name that was handed in; None exactly where none has it.
+    pub fn dictionary(&self, name: &str) -> Option<&Dictionary>
+        ensures { option_copied result ≡ dictionary_named self.now.dictionaries name.now }
+    {
+        self.dictionaries.named(name)
+    }
+
     /// The table at a place, as the schema has it.
     pub fn table(&self, table: u32) -> &Table
         requires { table < length self.now.schema.tables }
         ensures found { slice_get self.now.schema.tables table ≡ Some result.now }
-        ensures layout { table_layout self.now.schema.tables result.now ≡ table_at (layout_of self.now.schema).tables table }
-        ensures limits { IsTableInLimits (layout_of self.now.schema).units (table_at (layout_of self.now.schema).tables table) }
+        ensures layout { table_layout self.now.dictionaries self.now.schema.tables result.now ≡ table_at (layout_of self.now).tables table }
+        ensures limits { IsTableInLimits (layout_of self.now).units (table_at (layout_of self.now).tables table) }
         ensures built { is_unbuilt_table result.now ≡ false }
     {
         self.schema.tables.get(table as usize)
@@ -122,10 +138,10 @@ impl Plan {
     #[inline]
     pub fn columns(&self, table: u32) -> &[ReadyColumn]
         requires { table < length self.now.schema.tables }
-        ensures columns { result.now ≡ ready_columns (layout_of self.now.schema) table }
+        ensures columns { result.now ≡ ready_columns (layout_of self.now) table }
         ensures served { All (λ column. is_served column ≡ true) result.now }
-        ensures limits { IsTableInLimits (layout_of self.now.schema).units (table_at (layout_of self.now.schema).tables table) }
-        ensures units { (layout_of self.now.schema).units ≤ 10000 }
+        ensures limits { IsTableInLimits (layout_of self.now).units (table_at (layout_of self.now).tables table) }
+        ensures units { (layout_of self.now).units ≤ 10000 }
     {
         self.ready[table as usize].as_slice()
     }
@@ -133,7 +149,7 @@ impl Plan {
     /// How many rows of a table are born at each unit.
     pub fn births(&self, table: u32) -> Births
         requires { table < length self.now.schema.tables }
-        ensures { result ≡ (table_at (layout_of self.now.schema).tables table).births }
+        ensures { result ≡ (table_at (layout_of self.now).tables table).births }
     {
         self.facts_of(table).births
     }
@@ -141,7 +157,7 @@ impl Plan {
     /// The keys of a table.
     pub fn keys(&self, table: u32) -> Keys
         requires { table < length self.now.schema.tables }
-        ensures { result ≡ (table_at (layout_of self.now.schema).tables table).key }
+        ensures { result ≡ (table_at (layout_of self.now).tables table).key }
     {
         self.facts_of(table).keys
     }
@@ -149,7 +165,7 @@ impl Plan {
     /// For how many units the rows of a table live at least; None exactly where that is unbounded.
     pub fn sure_life(&self, table: u32) -> Option<u64>
         requires { table < length self.now.schema.tables }
-        ensures { result ≡ sure_life (layout_of self.now.schema).tables table }
+        ensures { result ≡ sure_life (layout_of self.now).tables table }
     {
         self.facts_of(table).lineage.sure_life
     }
@@ -157,7 +173,7 @@ impl Plan {
     /// For how many units the rows of a table live at most; None exactly where that is unbounded.
     pub fn longest_life(&self, table: u32) -> Option<u64>
         requires { table < length self.now.schema.tables }
-        ensures { result ≡ longest_life (layout_of self.now.schema).tables table }
+        ensures { result ≡ longest_life (layout_of self.now).tables table }
     {
         self.facts_of(table).lineage.longest_life
     }
@@ -166,7 +182,7 @@ impl Plan {
     /// and those of its death and of its line.
     pub fn cost(&self, table: u32) -> u64
         requires { table < length self.now.schema.tables }
-        ensures { result ≡ cost (layout_of self.now.schema) table }
+        ensures { result ≡ cost (layout_of self.now) table }
     {
         self.facts_of(table).cost
     }
@@ -174,23 +190,23 @@ impl Plan {
     /// The greatest length of a line of a table, in bytes, with its line feed.
     pub fn max_line(&self, table: u32) -> u64
         requires { table < length self.now.schema.tables }
-        ensures size { result ≡ max_line (layout_of self.now.schema) table }
-        ensures within_reach { result ≤ reach (layout_of self.now.schema) }
+        ensures size { result ≡ max_line (layout_of self.now) table }
+        ensures within_reach { result ≤ reach (layout_of self.now) }
     {
         self.facts_of(table).max_line
     }
 
     /// The greatest length of a line of any table, in bytes.
     pub fn reach(&self) -> u64
-        ensures { result ≡ reach (layout_of self.now.schema) }
+        ensures { result ≡ reach (layout_of self.now) }
     {
         self.reach
     }
 
     fn facts_of(&self, table: u32) -> &TableFacts
         requires { table < length self.now.schema.tables }
-        ensures facts { result.now ≡ facts_at (layout_of self.now.schema) table }
-        ensures within_reach { result.now.max_line ≤ reach (layout_of self.now.schema) }
+        ensures facts { result.now ≡ facts_at (layout_of self.now) table }
+        ensures within_reach { result.now.max_line ≤ reach (layout_of self.now) }
     {
         &self.facts[table as usize]
     }

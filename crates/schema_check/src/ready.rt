@@ -1,12 +1,13 @@
 //! What a plan keeps of the columns, so that nothing that stays the same is worked out for a row.
 
+use crate::ready_words::ReadyWords;
 use fixed_divisors::FixedDivisor;
 use row_text::WrittenTexts;
 use schema_model::Sequence;
 use weight_tables::Weights;
 
 /// A column, ready for rows.
-#[derive(Debug, Drop)]
+#[derive(Drop)]
 pub struct ReadyColumn {
     /// What its fields hold.
     pub kind: ReadyKind,
@@ -15,7 +16,7 @@ pub struct ReadyColumn {
 }
 
 /// What the fields of a column hold, ready for rows. Columns are named by their places in the table, counted from 0.
-#[derive(Debug, Drop)]
+#[derive(Drop)]
 pub enum ReadyKind {
     /// The key of the row.
     Key,
@@ -46,7 +47,7 @@ pub enum ReadyPart {
 }
 
 /// A value that is drawn for a field alone, ready for rows.
-#[derive(Debug, Drop)]
+#[derive(Drop)]
 pub enum ReadyLeaf {
     /// One of so many choices from `lo` to `hi`, each `step` past the one before.
     Int {
@@ -88,6 +89,12 @@ pub enum ReadyLeaf {
         characters: WrittenTexts,
         count: FixedDivisor,
     },
-    /// A value that no table can be made of yet.
-    Unserved,
+    /// One of the words, each as often as its weight says.
+    Dict(ReadyWords),
+    /// `lo` words or more: one of so many numbers of them, each one of the words, as often as its weight says.
+    Words {
+        lo: u64,
+        lengths: FixedDivisor,
+        words: ReadyWords,
+    },
 }

@@ -1,6 +1,6 @@
-//! Drawn values, made ready for rows. What is kept of one doesn't depend on the names of dictionaries, so the clauses name none.
+//! Drawn values, made ready for rows.
 
-ghost use Rattle.std.specs.Prelude.{◌≡◌, ◌≤◌, ◌+◌, ◌-◌, ◌^◌, [], IfOk, encode_utf8, length, map, sum};
+ghost use Rattle.std.specs.Prelude.{◌≡◌, ◌≤◌, ◌+◌, ◌-◌, ◌^◌, IfOk, encode_utf8, length, map, sum};
 ghost use Rattle.std.specs.Str.{chars};
 ghost use Rattle.row_text.specs.Fields.{piece_text};
 ghost use Rattle.weight_tables.specs.Harmonic.{harmonic_weights};
@@ -13,6 +13,7 @@ ghost use Rattle.schema_check.specs.Ready.{ready_leaf};
 use crate::counts::count;
 use crate::memory::Memory;
 use crate::ready::ReadyLeaf;
+use crate::ready_words::{Lexicon, ReadyWords};
 use fixed_divisors::FixedDivisor;
 use row_text::WrittenTexts;
 use schema_model::{Leaf, Text};
@@ -20,10 +21,15 @@ use std::alloc::Global;
 use weight_tables::Weights;
 
 /// A drawn value within its limits, ready for rows.
-pub(crate) fn ready_leaf(alloc: Global, delimiter: u8, leaf: &Leaf) -> Result<ReadyLeaf, Memory>
-    requires { IsLeafInLimits (leaf_layout [] leaf.now) }
-    ensures { IfOk result (λ ready. ready ≡ ready_leaf delimiter (leaf_layout [] leaf.now)) }
+pub(crate) fn ready_leaf(
+    alloc: Global,
+    lexicon: &Lexicon<'_>,
+    leaf: &Leaf,
+) -> Result<ReadyLeaf, Memory>
+    requires { IsLeafInLimits (leaf_layout lexicon.now.dictionaries leaf.now) }
+    ensures { IfOk result (λ ready. ready ≡ ready_leaf lexicon.now.delimiter (leaf_layout lexicon.now.dictionaries leaf.now)) }
 {
+    let delimiter = lexicon.delimiter();
     match leaf {
         Leaf::Int { lo, hi, step } => Ok(ready_int(*lo, *hi, *step)),
         Leaf::Fixed { lo, hi, decimals } => Ok(ready_fixed(*lo, *hi, *decimals)),
@@ -35,7 +41,11 @@ pub(crate) fn ready_leaf(alloc: Global, delimiter: u8, leaf: &Leaf) -> Result<Re
         Leaf::Chars { alphabet, lo, hi } => {
             ready_chars(alloc, delimiter, alphabet.as_str(), *lo, *hi)
         }
-        Leaf::Dict { .. } | Leaf::Words { .. } => Ok(ReadyLeaf::Unserved),
+        Leaf::Dict { file } => Ok(ReadyLeaf::Dict(lexicon.words(file)?)),
+        Leaf::Words { file, lo, hi } => {
+            let words = lexicon.words(file)?;
+            Ok(ready_text(words, *lo, *hi))
+        }
     }
 }
 
@@ -138,6 +148,17 @@ fn ready_skew(alloc: Global, lo: i64, size: i64, power: i64) -> Result<ReadyLeaf
     let weights = Weights::harmonic(alloc, count(size) as u32, count(power) as u32)?;
     let total = FixedDivisor::new(weights.total());
     Ok(ReadyLeaf::Skew { lo, weights, total })
+}
+
+fn ready_text(words: ReadyWords, lo: i64, hi: i64) -> ReadyLeaf
+    requires { IsLengthRange (count lo) (count hi) }
+    ensures { result ≡ ReadyLeaf.Words (count lo) (count hi - count lo + 1) words }
+{
+    ReadyLeaf::Words {
+        lo: count(lo),
+        lengths: FixedDivisor::new(count(hi) - count(lo) + 1),
+        words,
+    }
 }
 
 fn ready_chars(

@@ -2,15 +2,18 @@
 
 ghost use Rattle.std.specs.Prelude.{◌≡◌, ◌<◌, ◌+◌, ◌*◌, ◌&&◌, IfSome, int_le, length, map, pos};
 ghost use Rattle.std.specs.List.{list_any};
-ghost use Rattle.schema_check.specs.Capped.{capped, first_facts, is_known_at_most};
+ghost use Rattle.schema_check.specs.Capped.{capped, is_known_at_most};
 ghost use Rattle.schema_check.specs.Counts.{count};
 ghost use Rattle.schema_check.specs.Names.{same_text};
-ghost use Rattle.schema_check.specs.Rules.{break_in_table, first_break, first_broken, holds, is_key_first, is_new_at, is_one_to_64, is_row_count, kind_at, leaves_of, number_of};
+ghost use Rattle.schema_check.specs.Citations.{leaves_of};
+ghost use Rattle.schema_check.specs.Rules.{break_in_table, first_break, first_broken, holds, is_between, is_key_first, is_new_at, is_one_to_64, is_row_count, kind_at, number_of};
 ghost use Rattle.schema_check.specs.Sites.{columns_at, IsSiteOf};
 
 use crate::broken::Broken;
 use crate::column_rules::{is_case, is_null_share, is_template};
 use crate::counts::count;
+use crate::candidate::Candidate;
+use crate::cited_names::{are_citable, are_supplied};
 use crate::facts::TableFacts;
 use crate::leaf_rules::{
     are_date_ranges, are_length_ranges, are_number_ranges, are_skew_ranges, are_weighted, leaves_of,
@@ -40,6 +43,10 @@ const MAX_LINE: u64 = 65_536;
 /// A rule of a schema, with its number in messages.
 #[derive(Clone, Copy, Debug, PartialEq, Eq)]
 pub(crate) enum Rule {
+    /// V13
+    Dictionaries,
+    /// V13 as far as a schema alone tells it.
+    CitedNames,
     /// V1
     SeedAndUnits,
     /// V2
@@ -75,7 +82,8 @@ pub(crate) enum Rule {
 }
 
 /// The rules in the order in which they are tried.
-const ORDER: [Rule; 16] = [
+const ORDER: [Rule; 17] = [
+    Rule::Dictionaries,
     Rule::SeedAndUnits,
     Rule::TableCount,
     Rule::TableNames,
@@ -94,52 +102,49 @@ const ORDER: [Rule; 16] = [
     Rule::NullShare,
 ];
 
-/// The first rule that a schema breaks, at its first site: the whole before the tables, in their order, and a table
-/// before its columns, in their order. `facts` are those of its first tables.
+/// The first rule that a schema breaks with its dictionaries, at its first site: the whole before the tables, in their order, and
+/// a table before its columns, in their order.
 #[tactic(auto, unfolding(crate::specs::Rules::first_broken))]
-pub(crate) fn first_broken(schema: &Schema, facts: &[TableFacts]) -> Option<Broken>
-    requires { facts.now ≡ first_facts schema.now }
-    ensures first { result ≡ first_broken schema.now }
-    ensures site { IfSome result (λ broken. IsSiteOf schema.now broken.site) }
+pub(crate) fn first_broken(candidate: &Candidate<'_>) -> Option<Broken>
+    ensures first { result ≡ first_broken candidate.now }
+    ensures site { IfSome result (λ broken. IsSiteOf candidate.now.schema broken.site) }
 {
     for rule in &ORDER {
-        if let Some(site) = first_break(*rule, schema, facts) {
+        if let Some(site) = first_break(*rule, candidate) {
             return Some(Broken { rule: *rule, site });
         }
     }
     None
 }
 
-/// The first site at which a schema breaks a rule.
-fn first_break(rule: Rule, schema: &Schema, facts: &[TableFacts]) -> Option<Site>
-    requires { facts.now ≡ first_facts schema.now }
-    ensures first { result ≡ first_break rule schema.now }
-    ensures site { IfSome result (IsSiteOf schema.now) }
+/// The first site at which a rule is broken.
+pub(crate) fn first_break(rule: Rule, candidate: &Candidate<'_>) -> Option<Site>
+    ensures first { result ≡ first_break rule candidate.now }
+    ensures site { IfSome result (IsSiteOf candidate.now.schema) }
 {
-    if !rule.holds(schema, facts, Site::Whole) {
+    if !rule.holds(candidate, Site::Whole) {
         return Some(Site::Whole);
     }
-    for table in 0..schema.tables.len() {
-        if let Some(site) = break_in_table(rule, schema, facts, table) {
+    for table in 0..candidate.schema().tables.len() {
+        if let Some(site) = break_in_table(rule, candidate, table) {
             return Some(site);
         }
     }
     None
 }
 
-/// The first site of a table at which a schema breaks a rule.
-fn break_in_table(rule: Rule, schema: &Schema, facts: &[TableFacts], table: usize) -> Option<Site>
-    requires facts { facts.now ≡ first_facts schema.now }
-    requires table { IsSiteOf schema.now (Site.OfTable table) }
-    ensures first { result ≡ break_in_table rule schema.now table }
-    ensures site { IfSome result (IsSiteOf schema.now) }
+/// The first site of a table at which a rule is broken.
+fn break_in_table(rule: Rule, candidate: &Candidate<'_>, table: usize) -> Option<Site>
+    requires { IsSiteOf candidate.now.schema (Site.OfTable table) }
+    ensures first { result ≡ break_in_table rule candidate.now table }
+    ensures site { IfSome result (IsSiteOf candidate.now.schema) }
 {
-    if !rule.holds(schema, facts, Site::OfTable(table)) {
+    if !rule.holds(candidate, Site::OfTable(table)) {
         return Some(Site::OfTable(table));
     }
-    for column in 0..columns_at(schema, table).len() {
+    for column in 0..columns_at(candidate.schema(), table).len() {
         let site = Site::OfColumn(table, column);
-        if !rule.holds(schema, facts, site) {
+        if !rule.holds(candidate, site) {
             return Some(site);
         }
     }
@@ -152,6 +157,7 @@ impl Rule {
         ensures { result ≡ number_of self }
     {
         match self {
+            Rule::Dictionaries | Rule::CitedNames => 13,
             Rule::SeedAndUnits => 1,
             Rule::TableCount => 2,
             Rule::TableNames => 3,
@@ -172,13 +178,19 @@ impl Rule {
     }
 
     /// Whether the rule holds at a site. Where it asks nothing there, it holds.
-    fn holds(self, schema: &Schema, facts: &[TableFacts], site: Site) -> bool
-        requires facts { facts.now ≡ first_facts schema.now }
-        requires site { IsSiteOf schema.now site }
-        ensures { result ≡ holds self schema.now site }
+    fn holds(self, candidate: &Candidate<'_>, site: Site) -> bool
+        requires { IsSiteOf candidate.now.schema site }
+        ensures { result ≡ holds self candidate.now site }
     {
+        let schema = candidate.schema();
         let tables = schema.tables.as_slice();
         match (self, site) {
+            (Rule::Dictionaries, Site::OfColumn(table, column)) => {
+                are_supplied(candidate, leaves_at(schema, table, column))
+            }
+            (Rule::CitedNames, Site::OfColumn(table, column)) => {
+                are_citable(candidate.names(), leaves_at(schema, table, column))
+            }
             (Rule::SeedAndUnits, Site::Whole) => is_seed_and_units(schema),
             (Rule::TableCount, Site::Whole) => is_one_to_64(tables.len()),
             (Rule::TableNames, Site::OfTable(table)) => is_new_table(tables, table),
@@ -211,8 +223,8 @@ impl Rule {
             (Rule::CaseBranches, Site::OfColumn(table, column)) => {
                 is_case(columns_at(schema, table), column)
             }
-            (Rule::RowCost, Site::OfTable(table)) => is_row_cost(facts, table),
-            (Rule::LineSize, Site::OfTable(table)) => is_line_size(facts, table),
+            (Rule::RowCost, Site::OfTable(table)) => is_row_cost(candidate.facts(), table),
+            (Rule::LineSize, Site::OfTable(table)) => is_line_size(candidate.facts(), table),
             (Rule::NullShare, Site::OfColumn(table, column)) => {
                 is_null_share(&columns_at(schema, table)[column])
             }
@@ -238,7 +250,7 @@ fn leaves_at(schema: &Schema, table: usize, column: usize) -> &[Leaf]
 }
 
 fn is_seed_and_units(schema: &Schema) -> bool
-    ensures { result ≡ holds Rule.SeedAndUnits schema.now Site.Whole }
+    ensures { result ≡ (int_le (pos 0) schema.now.seed && is_between 0 10000 schema.now.units) }
 {
     0 <= schema.seed && 0 <= schema.units && schema.units <= MAX_UNITS
 }

@@ -1,6 +1,7 @@
 use Rattle.std.proofs.Common.{◌≡◌, map, take, length, min}
 use Rattle.std.specs.List.{range_with_len}
 use Rattle.schema_check.specs.Capped.{capped_facts}
+use Rattle.schema_check.specs.Dictionaries.{project_of}
 use Rattle.schema_check.specs.Layout.{layout_of}
 use Rattle.schema_check.specs.TableFacts.{facts_at}
 use Rattle.schema_check.proofs.facts.fill_facts.Given as goal
@@ -8,5 +9,5 @@ use Rattle.schema_check.proofs.facts.fill_facts.Given as goal
 abbrev pub invariant-loop-place : goal.invariant-loop-place
 invariant-loop-place l = record {
   size : length l.facts ≡ min (length l.schema.tables) 64;
-  filled : take l.place l.facts ≡ map (λ p. capped_facts (facts_at (layout_of l.schema) p)) (range_with_len 0 l.place);
+  filled : take l.place l.facts ≡ map (λ p. capped_facts (facts_at (layout_of (project_of l.schema l.dictionaries)) p)) (range_with_len 0 l.place);
 }

@@ -13,9 +13,10 @@ use Rattle.schema_check.proofs.facts.line_bounds.Goals as goal
 pub loop-column-preserved : goal.loop-column-preserved
 loop-column-preserved c =
     let tables = c.args.tables.now in
+    let dictionaries = c.args.dictionaries.now in
     let table = c.args.table.now in
     let columns = c.as_slice-column-items.result.now in
-    let taken = λ (column : Column). bounds_of c.args.delimiter (table_layouts tables) (table_layout tables table) (kind_layout tables table.columns column.kind) in
+    let taken = λ (column : Column). bounds_of c.args.delimiter (table_layouts dictionaries tables) (table_layout dictionaries tables table) (kind_layout dictionaries tables table.columns column.kind) in
     let is = c.bounds_of-taken.ensures in
     record {
       size =
@@ -31,8 +32,9 @@ loop-column-preserved c =
 pub returns : goal.returns
 returns c =
     let tables = c.args.tables.now in
+    let dictionaries = c.args.dictionaries.now in
     let table = c.args.table.now in
     let all = take_all c.loop-column.column-index c.as_slice-column-items.result.now c.loop-column-test.false ∙ c.as_slice-column-items.ensures in
-    let taken = λ (column : Column). bounds_of c.args.delimiter (table_layouts tables) (table_layout tables table) (kind_layout tables table.columns column.kind) in
-    ap (λ size. of_parts size c.loop-column.permutations) (c.loop-column.invariant.size ∙ ap (λ columns. capped (sum_by (λ (column : Column). (taken column).size + 1) columns)) all ∙ ap capped (line_size-columns c.args.delimiter tables table))
-    ∙ ap (of_parts (capped (line_size (bounds_of_fields c.args.delimiter (table_layouts tables) (table_layout tables table))))) (c.loop-column.invariant.permutations ∙ ap (λ columns. capped (sum_by (λ (column : Column). (taken column).permutations) columns)) all ∙ ap capped (line_permutations-columns c.args.delimiter tables table))
+    let taken = λ (column : Column). bounds_of c.args.delimiter (table_layouts dictionaries tables) (table_layout dictionaries tables table) (kind_layout dictionaries tables table.columns column.kind) in
+    ap (λ size. of_parts size c.loop-column.permutations) (c.loop-column.invariant.size ∙ ap (λ columns. capped (sum_by (λ (column : Column). (taken column).size + 1) columns)) all ∙ ap capped (line_size-columns c.args.delimiter dictionaries tables table))
+    ∙ ap (of_parts (capped (line_size (bounds_of_fields c.args.delimiter (table_layouts dictionaries tables) (table_layout dictionaries tables table))))) (c.loop-column.invariant.permutations ∙ ap (λ columns. capped (sum_by (λ (column : Column). (taken column).permutations) columns)) all ∙ ap capped (line_permutations-columns c.args.delimiter dictionaries tables table))

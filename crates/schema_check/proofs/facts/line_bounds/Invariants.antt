@@ -7,7 +7,7 @@ use Rattle.schema_check.proofs.facts.line_bounds.Given as goal
 
 abbrev pub invariant-loop-column : goal.invariant-loop-column
 invariant-loop-column l =
-    let taken = λ (column : Column). bounds_of l.delimiter (table_layouts l.tables) (table_layout l.tables l.table) (kind_layout l.tables l.table.columns column.kind) in
+    let taken = λ (column : Column). bounds_of l.delimiter (table_layouts l.dictionaries l.tables) (table_layout l.dictionaries l.tables l.table) (kind_layout l.dictionaries l.tables l.table.columns column.kind) in
     record {
       size : l.size ≡ capped (sum_by (λ column. (taken column).size + 1) (take l.column-index l.column-items));
       permutations : l.permutations ≡ capped (sum_by (λ column. (taken column).permutations) (take l.column-index l.column-items));

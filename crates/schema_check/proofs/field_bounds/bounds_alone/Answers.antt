@@ -1,7 +1,7 @@
 use Rattle.std.proofs.Common.{◌∙◌, ap, sym, map}
 use Rattle.schema_check.specs.Capped.{capped, capped_bounds}
 use Rattle.schema_check.specs.FieldBounds.{bounds, bounds_alone, greatest_by, leaf_size}
-use Rattle.schema_check.specs.Layout.{dictionary_names, kind_layout, leaf_layout, table_layout, table_layouts}
+use Rattle.schema_check.specs.Layout.{kind_layout, leaf_layout, table_layout, table_layouts}
 use Rattle.schema_check.proofs.BoundsLemmas.{bounds-capped}
 use Rattle.schema_check.proofs.field_bounds.bounds_alone.Goals as goal
 
@@ -10,8 +10,8 @@ returns-in-Case c =
     let tables = c.args.tables.now in
     let table = c.args.table.now in
     let size = leaf_size c.args.delimiter in
-    let names = dictionary_names tables in
+    let dictionaries = c.args.dictionaries.now in
     c.bounds-in-Case.ensures
-    ∙ ap (λ most. bounds most 0) (c.greatest_leaf.ensures names ∙ ap (λ leaves. capped (greatest_by size (map (leaf_layout names) leaves))) c.as_slice-in-Case.ensures)
-    ∙ bounds-capped (greatest_by size (map (leaf_layout names) c.in-Case.branches)) 0
-    ∙ ap (λ kind. capped_bounds (bounds_alone c.args.delimiter (table_layouts tables) (table_layout tables table) (kind_layout tables table.columns kind))) (sym c.in-Case.is)
+    ∙ ap (λ most. bounds most 0) (c.greatest_leaf.ensures ∙ ap (λ leaves. capped (greatest_by size (map (leaf_layout dictionaries) leaves))) c.as_slice-in-Case.ensures)
+    ∙ bounds-capped (greatest_by size (map (leaf_layout dictionaries) c.in-Case.branches)) 0
+    ∙ ap (λ kind. capped_bounds (bounds_alone c.args.delimiter (table_layouts dictionaries tables) (table_layout dictionaries tables table) (kind_layout dictionaries tables table.columns kind))) (sym c.in-Case.is)

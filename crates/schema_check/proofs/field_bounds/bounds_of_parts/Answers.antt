@@ -13,9 +13,10 @@ use Rattle.schema_check.proofs.field_bounds.bounds_of_parts.Goals as goal
 pub loop-part-preserved : goal.loop-part-preserved
 loop-part-preserved c =
     let tables = c.args.tables.now in
+    let dictionaries = c.args.dictionaries.now in
     let table = c.args.table.now in
     let parts = c.args.parts.now in
-    let taken = λ (part : Part). bounds_of_part c.args.delimiter (table_layouts tables) (table_layout tables table) (part_layout table.columns part) in
+    let taken = λ (part : Part). bounds_of_part c.args.delimiter (table_layouts dictionaries tables) (table_layout dictionaries tables table) (part_layout table.columns part) in
     record {
       size =
           c.saturating_add-size.ensures
@@ -30,10 +31,11 @@ loop-part-preserved c =
 pub returns : goal.returns
 returns c =
     let tables = c.args.tables.now in
+    let dictionaries = c.args.dictionaries.now in
     let table = c.args.table.now in
     let parts = c.args.parts.now in
     let all = take_all c.loop-part.part-index parts c.loop-part-test.false in
-    let of = λ (part : PartLayout). bounds_of_part c.args.delimiter (table_layouts tables) (table_layout tables table) part in
+    let of = λ (part : PartLayout). bounds_of_part c.args.delimiter (table_layouts dictionaries tables) (table_layout dictionaries tables table) part in
     let taken = λ (part : Part). of (part_layout table.columns part) in
     let layouts = map (part_layout table.columns) parts in
     c.bounds.ensures

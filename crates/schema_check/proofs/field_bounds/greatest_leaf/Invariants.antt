@@ -6,4 +6,4 @@ use Rattle.schema_check.proofs.field_bounds.greatest_leaf.Given as goal
 
 abbrev pub invariant-loop-leaf : goal.invariant-loop-leaf
 invariant-loop-leaf l =
-    (names : List (List ℕ)) → l.most ≡ capped (greatest_by (λ leaf. leaf_size l.delimiter (leaf_layout names leaf)) (take l.leaf-index l.leaves))
+    l.most ≡ capped (greatest_by (λ leaf. leaf_size l.delimiter (leaf_layout l.dictionaries leaf)) (take l.leaf-index l.leaves))

@@ -6,4 +6,4 @@ use Rattle.schema_check.proofs.ready_columns.ready_branches.Given as goal
 
 abbrev pub invariant-loop-branch : goal.invariant-loop-branch
 invariant-loop-branch l =
-    l.ready ≡ map (λ (leaf : Leaf). ready_leaf l.delimiter (leaf_layout [] leaf)) (take l.branch-index l.branches)
+    l.ready ≡ map (λ (leaf : Leaf). ready_leaf l.lexicon.delimiter (leaf_layout l.lexicon.dictionaries leaf)) (take l.branch-index l.branches)

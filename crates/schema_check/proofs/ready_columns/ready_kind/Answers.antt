@@ -9,21 +9,23 @@ use Rattle.schema_check.proofs.ready_columns.ready_kind.Goals as goal
 
 pub returns-in_ok-parts-in-Template : goal.returns-in_ok-parts-in-Template
 returns-in_ok-parts-in-Template c =
-    let delimiter = c.args.delimiter in
+    let delimiter = c.args.lexicon.now.delimiter in
+    let dictionaries = c.args.lexicon.now.dictionaries in
     let columns = c.args.columns.now in
     ap Template
     (c.in_ok-parts-in-Template.ensures
     ∙ ap (map (λ (part : Part). ready_part delimiter (part_layout columns part))) c.as_slice.ensures
     ∙ sym (map-map (ready_part delimiter) (part_layout columns) c.in-Template.parts))
-    ∙ ap (λ kind. ready_kind delimiter (kind_layout [] columns kind)) (sym c.in-Template.is)
+    ∙ ap (λ kind. ready_kind delimiter (kind_layout dictionaries [] columns kind)) (sym c.in-Template.is)
 
 pub returns-in_ok-branches-in-Case : goal.returns-in_ok-branches-in-Case
 returns-in_ok-branches-in-Case c =
-    let delimiter = c.args.delimiter in
+    let delimiter = c.args.lexicon.now.delimiter in
+    let dictionaries = c.args.lexicon.now.dictionaries in
     let columns = c.args.columns.now in
     ap (Case c.place_of_column-on.result)
     (c.in_ok-branches-in-Case.ensures
-    ∙ ap (map (λ (leaf : Leaf). ready_leaf delimiter (leaf_layout [] leaf))) c.as_slice-in-Case.ensures
-    ∙ sym (map-map (ready_leaf delimiter) (leaf_layout []) c.in-Case.branches))
-    ∙ ap (λ on. Case on (map (ready_leaf delimiter) (map (leaf_layout []) c.in-Case.branches))) c.place_of_column-on.ensures.place
-    ∙ ap (λ kind. ready_kind delimiter (kind_layout [] columns kind)) (sym c.in-Case.is)
+    ∙ ap (map (λ (leaf : Leaf). ready_leaf delimiter (leaf_layout dictionaries leaf))) c.as_slice-in-Case.ensures
+    ∙ sym (map-map (ready_leaf delimiter) (leaf_layout dictionaries) c.in-Case.branches))
+    ∙ ap (λ on. Case on (map (ready_leaf delimiter) (map (leaf_layout dictionaries) c.in-Case.branches))) c.place_of_column-on.ensures.place
+    ∙ ap (λ kind. ready_kind delimiter (kind_layout dictionaries [] columns kind)) (sym c.in-Case.is)

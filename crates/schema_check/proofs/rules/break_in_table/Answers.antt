@@ -11,21 +11,21 @@ use Rattle.schema_check.proofs.rules.break_in_table.Goals as goal
 pub returns-then-not-holds-2-clause-first : goal.returns-then-not-holds-2-clause-first
 returns-then-not-holds-2-clause-first c =
     let rule = c.args.rule in
-    let schema = c.args.schema.now in
+    let project = c.args.candidate.now in
     let table = c.args.table in
-    let look = λ (column : ℕ). break_at rule schema (OfColumn table column) in
-    let rest = first_found look (range_with_len 0 (length (columns_at schema table))) in
-    let within : c.loop-column.column < length (columns_at schema table) = omega (arith, ap length c.columns_at-column-end.ensures) in
-    sym (ap (λ found. option_or found rest) (none_from_holds rule schema (OfTable table) (sym c.holds.ensures ∙ c.if-not-holds.false))
+    let look = λ (column : ℕ). break_at rule project (OfColumn table column) in
+    let rest = first_found look (range_with_len 0 (length (columns_at project.schema table))) in
+    let within : c.loop-column.column < length (columns_at project.schema table) = omega (arith, ap length c.columns_at-column-end.ensures) in
+    sym (ap (λ found. option_or found rest) (none_from_holds rule project (OfTable table) (sym c.holds.ensures ∙ c.if-not-holds.false))
     ∙ c.loop-column.invariant
-    ∙ found_at_place look c.loop-column.column (length (columns_at schema table)) (OfColumn table c.loop-column.column) within (some_from_broken rule schema (OfColumn table c.loop-column.column) (sym c.holds-in-loop-column.ensures ∙ c.if-not-holds-2.true)))
+    ∙ found_at_place look c.loop-column.column (length (columns_at project.schema table)) (OfColumn table c.loop-column.column) within (some_from_broken rule project (OfColumn table c.loop-column.column) (sym c.holds-in-loop-column.ensures ∙ c.if-not-holds-2.true)))
 
 pub loop-column-preserved : goal.loop-column-preserved
 loop-column-preserved c =
     let rule = c.args.rule in
-    let schema = c.args.schema.now in
+    let project = c.args.candidate.now in
     let table = c.args.table in
-    let within : c.loop-column.column < length (columns_at schema table) = omega (arith, ap length c.columns_at-column-end.ensures) in
+    let within : c.loop-column.column < length (columns_at project.schema table) = omega (arith, ap length c.columns_at-column-end.ensures) in
     c.loop-column.invariant
-    ∙ found_past_place (λ (column : ℕ). break_at rule schema (OfColumn table column)) c.loop-column.column (length (columns_at schema table)) within
-    (none_from_holds rule schema (OfColumn table c.loop-column.column) (sym c.holds-in-loop-column.ensures ∙ c.if-not-holds-2.false))
+    ∙ found_past_place (λ (column : ℕ). break_at rule project (OfColumn table column)) c.loop-column.column (length (columns_at project.schema table)) within
+    (none_from_holds rule project (OfColumn table c.loop-column.column) (sym c.holds-in-loop-column.ensures ∙ c.if-not-holds-2.false))

@@ -1,21 +1,23 @@
 use Rattle.std.proofs.Common.{ap, ◌∙◌}
+use Rattle.schema_check.specs.Dictionaries.{project_of}
 use Rattle.schema_check.specs.FieldBounds.{greatest_by}
 use Rattle.schema_check.proofs.InLimits.{in_limits}
 use Rattle.schema_check.proofs.PlannedLemmas.{facts_whole, reach-is}
 use Rattle.schema_check.proofs.plan.Plan.of_accepted.Goals as goal
 
 pub ready_tables-requires : goal.ready_tables-requires
-ready_tables-requires c = in_limits c.args.schema c.requires.accepted
+ready_tables-requires c = in_limits (project_of c.args.schema c.args.dictionaries) c.len.ensures.lists c.requires.accepted
 
 pub invariant_of-result : goal.invariant_of-result
 invariant_of-result c =
-    let limits = in_limits c.args.schema c.requires.accepted in
-    let known = c.requires.facts ∙ facts_whole c.args.schema limits in
+    let project = project_of c.args.schema c.args.dictionaries in
+    let limits = in_limits project c.len.ensures.lists c.requires.accepted in
+    let known = c.requires.facts ∙ facts_whole project limits in
     record {
       accepted = c.requires.accepted;
       built = c.requires.built;
       limits = limits;
       facts = c.in_ok-facts.ensures.items ∙ known;
       columns = c.in_ok-ready.ensures;
-      reach = c.greatest_line-reach.ensures ∙ ap (greatest_by (λ fact. fact.max_line)) known ∙ reach-is c.args.schema;
+      reach = c.greatest_line-reach.ensures ∙ ap (greatest_by (λ fact. fact.max_line)) known ∙ reach-is project;
     }

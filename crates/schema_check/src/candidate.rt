@@ -1,0 +1,83 @@
+//! A schema with its dictionaries, while its rules are tried.
+
+use crate::cited_names::CitedNames;
+use crate::facts::TableFacts;
+use crate::word_lists::Dictionaries;
+use schema_model::Schema;
+use std::marker::Model;
+
+/// A schema with its dictionaries, and what is worked out of them before rules are tried. A contract sees the two.
+#[derive(Drop)]
+pub(crate) struct Candidate<'a> {
+    schema: &'a Schema,
+    dictionaries: &'a Dictionaries,
+    names: &'a CitedNames<'a>,
+    facts: &'a [TableFacts],
+}
+
+impl<'a> Model for Candidate<'a> {
+    ghost use Rattle.std.specs.Prelude.{◌≡◌};
+    ghost use Rattle.schema_check.specs.Capped.{first_facts};
+    ghost use Rattle.schema_check.specs.Citations.{cited_names};
+    ghost use Rattle.schema_check.specs.Dictionaries.{Project, project_of};
+
+    ghost Value = { Project };
+
+    ghost view = { λ c. project_of c.schema.now c.dictionaries.now };
+
+    ghost invariant = { λ c. (c.names.now ≡ cited_names c.schema.now.tables) × (c.facts.now ≡ first_facts (project_of c.schema.now c.dictionaries.now)) };
+}
+
+impl<'a> Candidate<'a> {
+    ghost use Rattle.std.specs.Prelude.{◌≡◌};
+    ghost use Rattle.schema_check.specs.Capped.{first_facts};
+    ghost use Rattle.schema_check.specs.Citations.{cited_names};
+    ghost use Rattle.schema_check.specs.Dictionaries.{project_of};
+
+    /// A schema with dictionaries, the names that it cites, and the facts of its first tables.
+    pub(crate) fn new(
+        schema: &'a Schema,
+        dictionaries: &'a Dictionaries,
+        names: &'a CitedNames<'a>,
+        facts: &'a [TableFacts],
+    ) -> Candidate<'a>
+        requires names { names.now ≡ cited_names schema.now.tables }
+        requires facts { facts.now ≡ first_facts (project_of schema.now dictionaries.now) }
+        ensures { result ≡ project_of schema.now dictionaries.now }
+    {
+        Candidate {
+            schema,
+            dictionaries,
+            names,
+            facts,
+        }
+    }
+
+    /// The schema.
+    pub(crate) fn schema(&self) -> &'a Schema
+        ensures { result.now ≡ self.now.schema }
+    {
+        self.schema
+    }
+
+    /// The dictionaries.
+    pub(crate) fn dictionaries(&self) -> &'a Dictionaries
+        ensures { result.now ≡ self.now.dictionaries }
+    {
+        self.dictionaries
+    }
+
+    /// The names of the dictionaries that the schema cites.
+    pub(crate) fn names(&self) -> &'a CitedNames<'a>
+        ensures { result.now ≡ cited_names self.now.schema.tables }
+    {
+        self.names
+    }
+
+    /// The facts of the first tables.
+    pub(crate) fn facts(&self) -> &'a [TableFacts]
+        ensures { result.now ≡ first_facts self.now }
+    {
+        self.facts
+    }
+}

@@ -1,0 +1,175 @@
+//! The dictionaries that a schema cites.
+
+ghost use Rattle.std.specs.Prelude.{◌≡◌, IfOk, is_some};
+ghost use Rattle.std.specs.List.{list_all};
+ghost use Rattle.schema_check.specs.Citations.{cited_names, may_cite, may_cite_all};
+ghost use Rattle.schema_check.specs.Dictionaries.{dictionary_named};
+ghost use Rattle.schema_check.specs.Rules.{are_supplied, is_supplied};
+
+use crate::candidate::Candidate;
+use crate::leaf_rules::leaves_of;
+use crate::memory::Memory;
+use schema_model::{Column, Leaf, Schema, Table, Text, Texts};
+use std::alloc::Global;
+use std::marker::Model;
+
+/// The most dictionaries that a schema cites.
+const MAX_NAMES: usize = 64;
+
+/// The most bytes of a dictionary's name.
+const MAX_LEN: usize = 255;
+
+/// The first different names that are cited, at most 64. A contract sees the list.
+#[derive(Drop)]
+pub(crate) struct CitedNames<'a> {
+    names: [&'a str; MAX_NAMES],
+    count: usize,
+}
+
+impl<'a> Model for CitedNames<'a> {
+    ghost use Rattle.std.specs.Prelude.{ℕ, ◌≤◌, List, map, take};
+
+    ghost Value = { List (List ℕ) };
+
+    ghost view = { λ n. map (λ name. name.now) (take n.count n.names) };
+
+    ghost invariant = { λ n. n.count ≤ 64 };
+}
+
+impl<'a> CitedNames<'a> {
+    ghost use Rattle.std.specs.Prelude.{◌≡◌, ℕ, List, [], flat_map, map, take};
+    ghost use Rattle.std.specs.List.{fold};
+    ghost use Rattle.schema_check.specs.Citations.{cited_names, has_name, leaves_of, names_in_columns, names_in_leaf, with_name};
+
+    /// No name.
+    fn none() -> CitedNames<'a>
+        ensures { result ≡ [] }
+    {
+        CitedNames {
+            names: [""; MAX_NAMES],
+            count: 0,
+        }
+    }
+
+    /// The names, in order.
+    pub(crate) fn as_slice(&self) -> &[&'a str]
+        ensures { map (λ name. name.now) result.now ≡ self.now }
+    {
+        &self.names[..self.count]
+    }
+
+    /// Whether a name is one of them.
+    fn has(&self, name: &str) -> bool
+        ensures { result ≡ has_name self.now name.now }
+    {
+        self.as_slice().iter().any(|other| *other == name)
+    }
+
+    /// The first names that the tables of a schema cite.
+    pub(crate) fn of(schema: &'a Schema) -> CitedNames<'a>
+        ensures { result ≡ cited_names schema.now.tables }
+    {
+        let mut names = CitedNames::none();
+        for table in schema.tables.as_slice() {
+            names.add_table(table);
+        }
+        names
+    }
+
+    /// Those of a table too.
+    fn add_table(&mut self, table: &'a Table)
+        ensures { (before : List (List ℕ)) → self.old ≡ take 64 before →
+            self.new ≡ take 64 (fold with_name before (names_in_columns table.now.columns)) }
+    {
+        for column in table.columns.as_slice() {
+            self.add_column(column);
+        }
+    }
+
+    /// Those of a column too.
+    fn add_column(&mut self, column: &'a Column)
+        ensures { (before : List (List ℕ)) → self.old ≡ take 64 before →
+            self.new ≡ take 64 (fold with_name before (flat_map names_in_leaf (leaves_of column.now.kind))) }
+    {
+        for leaf in leaves_of(&column.kind) {
+            self.add_leaf(leaf);
+        }
+    }
+
+    /// That of a drawn value too, where it has one.
+    fn add_leaf(&mut self, leaf: &'a Leaf)
+        ensures { (before : List (List ℕ)) → self.old ≡ take 64 before →
+            self.new ≡ take 64 (fold with_name before (names_in_leaf leaf.now)) }
+    {
+        match leaf {
+            Leaf::Dict { file } | Leaf::Words { file, .. } => self.add(file.as_str()),
+            _ => {}
+        }
+    }
+
+    /// A name too, where it isn't one of them and there is room.
+    fn add(&mut self, name: &'a str)
+        ensures { (before : List (List ℕ)) → self.old ≡ take 64 before →
+            self.new ≡ take 64 (with_name before name.now) }
+    {
+        if self.count < MAX_NAMES && !self.has(name) {
+            self.names[self.count] = name;
+            self.count += 1;
+        }
+    }
+}
+
+/// Whether all that some drawn values cite may be cited: names of 1 to 255 bytes that are among the first ones.
+pub(crate) fn are_citable(names: &CitedNames<'_>, leaves: &[Leaf]) -> bool
+    ensures { result ≡ list_all (may_cite_all names.now) leaves.now }
+{
+    leaves.iter().all(|leaf| is_citable_leaf(names, leaf))
+}
+
+fn is_citable_leaf(names: &CitedNames<'_>, leaf: &Leaf) -> bool
+    ensures { result ≡ may_cite_all names.now leaf.now }
+{
+    match leaf {
+        Leaf::Dict { file } | Leaf::Words { file, .. } => is_citable(names, file),
+        _ => true,
+    }
+}
+
+fn is_citable(names: &CitedNames<'_>, name: &Text) -> bool
+    ensures { result ≡ may_cite names.now name.now }
+{
+    1 <= name.len() && name.len() <= MAX_LEN && names.has(name.as_str())
+}
+
+/// Whether all that some drawn values cite may be cited, and is there.
+pub(crate) fn are_supplied(candidate: &Candidate<'_>, leaves: &[Leaf]) -> bool
+    ensures { result ≡ list_all (are_supplied candidate.now) leaves.now }
+{
+    leaves.iter().all(|leaf| is_supplied_leaf(candidate, leaf))
+}
+
+fn is_supplied_leaf(candidate: &Candidate<'_>, leaf: &Leaf) -> bool
+    ensures { result ≡ are_supplied candidate.now leaf.now }
+{
+    match leaf {
+        Leaf::Dict { file } | Leaf::Words { file, .. } => is_supplied(candidate, file),
+        _ => true,
+    }
+}
+
+fn is_supplied(candidate: &Candidate<'_>, name: &Text) -> bool
+    ensures { result ≡ is_supplied candidate.now name.now }
+{
+    is_citable(candidate.names(), name) && candidate.dictionaries().has(name.as_str())
+}
+
+/// The names as texts of their own.
+pub(crate) fn copied_names(alloc: Global, names: &CitedNames<'_>) -> Result<Texts, Memory>
+    ensures { IfOk result (λ copied. copied ≡ names.now) }
+{
+    let mut copied = Texts::new(alloc);
+    for name in names.as_slice() {
+        copied.push(Text::of(alloc, name)?)?;
+    }
+    Ok(copied)
+}
