@@ -28,7 +28,7 @@ a_column : Column
 a_column = record { name = []; kind = kind.Born; changes = false; null = pos 0 }
 
 -- the columns of a table as its layout has them
-abbrev pub columns_layout : List Table → List Column → List ColumnLayout
+abbrev pub columns_layout : List Dictionary → List Table → List Column → List ColumnLayout
 columns_layout dictionaries tables columns = map (column_layout dictionaries tables columns) columns
 
 pub kind_at-layout : (dictionaries : List Dictionary) (tables : List Table) (columns : List Column) (j : ℕ) → j < length columns → (column_at (columns_layout dictionaries tables columns) j).kind ≡ kind_layout dictionaries tables columns (kind_at columns j)

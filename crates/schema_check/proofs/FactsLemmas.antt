@@ -73,13 +73,13 @@ facts_are project place table births keys lineage change permutations line given
     sum deaths death updates change fields permutations p q r = omega arith
 
 -- the lineage of the table at a place, by the facts of the tables before it
-pub lineage_is : (project : Project) (place : ℕ) (table : Table) (earlier : List TableFacts) (lineage : Lineage) → place < length project.schema.tables → table ≡ get_or project.schema.tables place table → earlier ≡ map (λ p. capped_facts (facts_at (layout_of project) p)) (range_with_len 0 place) → ((dictionaries : List Dictionary) (given : List Lineage) → map (λ (facts : TableFacts). facts.lineage) earlier ≡ map capped_lineage given → lineage ≡ capped_lineage (lineage_of given (table_layout project.dictionaries project.schema.tables table))) → lineage ≡ capped_lineage (lineage_at (lineages (table_layouts project.dictionaries project.schema.tables)) place)
+pub lineage_is : (project : Project) (place : ℕ) (table : Table) (earlier : List TableFacts) (lineage : Lineage) → place < length project.schema.tables → table ≡ get_or project.schema.tables place table → earlier ≡ map (λ p. capped_facts (facts_at (layout_of project) p)) (range_with_len 0 place) → ((given : List Lineage) → map (λ (facts : TableFacts). facts.lineage) earlier ≡ map capped_lineage given → lineage ≡ capped_lineage (lineage_of given (table_layout project.dictionaries project.schema.tables table))) → lineage ≡ capped_lineage (lineage_at (lineages (table_layouts project.dictionaries project.schema.tables)) place)
 lineage_is project place table earlier lineage within table_is earlier_is by_given =
     let layouts = table_layouts project.dictionaries project.schema.tables in
     let in_layouts : place < length layouts = omega (arith, length-map project.schema.tables (table_layout project.dictionaries project.schema.tables)) in
     let before = take place (lineages layouts) in
     let at : table_at layouts place ≡ table_layout project.dictionaries project.schema.tables table = table_at-is project.dictionaries project.schema.tables place table within ∙ ap (table_layout project.dictionaries project.schema.tables) (sym table_is) in
-    by_given project.dictionaries before
+    by_given before
     (ap (map (λ (facts : TableFacts). facts.lineage)) earlier_is
     ∙ map-map (λ (facts : TableFacts). facts.lineage) (λ p. capped_facts (facts_at (layout_of project) p)) (range_with_len 0 place)
     ∙ earlier_lineages layouts place in_layouts)

@@ -23,7 +23,7 @@ found_cases None rest b h = inr (refl, h)
 found_cases (Some x) rest b h = inl h
 
 -- a rule holds at the sites of one table before a column
-abbrev HoldsBefore : Rule → Schema → ℕ → ℕ → Type 0
+abbrev HoldsBefore : Rule → Project → ℕ → ℕ → Type 0
 HoldsBefore rule project table column =
     (other : Site) → IsSiteOf project.schema other → table_number other ≡ suc table → column_number other < column → holds rule project other ≡ true
 

@@ -1,12 +1,12 @@
 -- Drawn values that pass the tests of the rules are within their limits.
-use Rattle.std.proofs.Common.{◌≡◌, ◌∙◌, ℕ, ℤ, pos, negsuc, neg_ℤ, ◌+ℤ◌, ◌-ℤ◌, ◌<ℤ◌, ◌≤ℤ◌, ◌<◌, ◌≤◌, ◌-◌, ◌^◌, ◌==◌, ◌&&◌, All, Bool, true, false, suc, List, [], ◌∷◌, length, map, sum, get_or, nat_le, int_le, cond, Some, None, is_some, sym, subst, arith}
+use Rattle.std.proofs.Common.{◌≡◌, ◌∙◌, ℕ, ℤ, pos, negsuc, neg_ℤ, ◌+ℤ◌, ◌-ℤ◌, ◌<ℤ◌, ◌≤ℤ◌, ◌<◌, ◌≤◌, ◌-◌, ◌^◌, ◌==◌, ◌&&◌, All, Bool, true, false, suc, List, [], ◌∷◌, length, map, sum, get_or, nat_le, int_le, cond, Option, Some, None, is_some, sym, subst, arith}
 use Rattle.std.specs.List.{find, list_all}
 use Rattle.std.specs.Option.{option_map, unwrap_or}
 use Rattle.std.specs.Str.{chars}
 use Rattle.std.proofs.lemmas.Bool.{and_parts, eqb-true, leb-true}
 use Rattle.std.proofs.lemmas.Int.{ints}
 use Rattle.std.proofs.lemmas.List.{get_or-map, length-map}
-use Rattle.dictionaries.specs.WordList.{IsWordList}
+use Rattle.dictionaries.specs.WordList.{WordList, IsWordList}
 use Rattle.schema_model.specs.declared.column.Leaf.{Leaf}
 use Rattle.schema_model.specs.declared.column.Leaf.TheVariants as drawn
 use Rattle.schema_check.specs.Citations.{cited_names, may_cite}
@@ -109,11 +109,15 @@ characters_from_test alphabet lo hi h =
 -- what is found among word lists is one
 list_found : (test : Dictionary → Bool) (dictionaries : List Dictionary) → AreWordLists dictionaries → is_some (option_map (λ (d : Dictionary). d.words) (find test dictionaries)) ≡ true → IsWordList (unwrap_or (option_map (λ (d : Dictionary). d.words) (find test dictionaries)) no_words)
 list_found test [] lists h = cc
-list_found test (d ∷ dictionaries) lists h = of_test (test d) h
+list_found test (d ∷ dictionaries) lists h =
+    of_test (test d) h (λ rest. list_found test dictionaries (λ i e lt. lists (suc i) e (omega arith)) rest)
   where
-    of_test : (passes : Bool) → is_some (option_map (λ (d : Dictionary). d.words) (cond passes (Some d) (find test dictionaries))) ≡ true → IsWordList (unwrap_or (option_map (λ (d : Dictionary). d.words) (cond passes (Some d) (find test dictionaries))) no_words)
-    of_test true h = lists 0 d (omega arith)
-    of_test false h = list_found test dictionaries (λ i e lt. lists (suc i) e (omega arith)) h
+    words : Option Dictionary → Option WordList
+    words = option_map (λ (d : Dictionary). d.words)
+
+    of_test : (passes : Bool) → is_some (words (cond passes (Some d) (find test dictionaries))) ≡ true → (is_some (words (find test dictionaries)) ≡ true → IsWordList (unwrap_or (words (find test dictionaries)) no_words)) → IsWordList (unwrap_or (words (cond passes (Some d) (find test dictionaries))) no_words)
+    of_test true h later = lists 0 d (omega arith)
+    of_test false h later = later h
 
 words_from_test : (project : Project) → AreWordLists project.dictionaries → (name : List ℕ) → (is_supplied project name && true) ≡ true → IsWordList (words_named project.dictionaries name)
 words_from_test project lists name h =

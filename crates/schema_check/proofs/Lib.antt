@@ -16,3 +16,4 @@ pub mod ColumnLimits
 pub mod InLimits
 pub mod ReadyLemmas
 pub mod PlannedLemmas
+pub mod WordListLemmas

@@ -1,6 +1,6 @@
 -- Lists made of numbers in a row, and in turn.
-use Rattle.std.proofs.Common.{◌≡◌, ℕ, zero, suc, ◌<◌, List, [], ◌∷◌, ◌++◌, length, map, get_or, take, refl, sym, ap, ◌∙◌, arith, append_assoc}
-use Rattle.std.specs.List.{range_with_len}
+use Rattle.std.proofs.Common.{◌≡◌, Bool, ◌||◌, ℕ, zero, suc, ◌<◌, List, [], ◌∷◌, ◌++◌, length, map, get_or, take, refl, sym, ap, ◌∙◌, arith, append_assoc}
+use Rattle.std.specs.List.{list_any, range_with_len}
 use Rattle.std.proofs.lemmas.List.{append-nil}
 use Rattle.std.proofs.lemmas.List.FromFn.{fill_by_all, length-map-range_with_len, get_or-map-range_with_len}
 use Rattle.schema_check.specs.InTurn.{in_turn}
@@ -29,3 +29,7 @@ in_turn_from give given (x ∷ xs) (suc i) d e h =
 
 pub get_or-in_turn : {A B : Type 0} (give : List B → A → B) (xs : List A) (i : ℕ) (d : B) (e : A) → i < length xs → get_or (in_turn give [] xs) i d ≡ give (take i (in_turn give [] xs)) (get_or xs i e)
 get_or-in_turn give xs i d e h = in_turn_from give [] xs i d e h
+
+pub list_any-map : {A B : Type 0} (test : B → Bool) (f : A → B) (xs : List A) → list_any test (map f xs) ≡ list_any (λ x. test (f x)) xs
+list_any-map test f [] = refl
+list_any-map test f (x ∷ xs) = ap (λ rest. test (f x) || rest) (list_any-map test f xs)

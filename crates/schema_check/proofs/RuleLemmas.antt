@@ -22,16 +22,12 @@ use Rattle.schema_check.specs.Rules.{holds, is_new_name, is_new_at, is_row_count
 use Rattle.schema_check.specs.Sites.{columns_at}
 use Rattle.schema_check.specs.TableFacts.{cost, facts_at, max_line}
 use Rattle.schema_check.proofs.CohortLemmas.{born_count-is}
-use Rattle.schema_check.proofs.Lists.{map-map}
+use Rattle.schema_check.proofs.Lists.{list_any-map, map-map}
 
 take-map : {A B : Type 0} (f : A → B) (i : ℕ) (xs : List A) → take i (map f xs) ≡ map f (take i xs)
 take-map f zero xs = refl
 take-map f (suc i) [] = refl
 take-map f (suc i) (x ∷ xs) = ap (λ ys. f x ∷ ys) (take-map f i xs)
-
-list_any-map : {A B : Type 0} (test : B → Bool) (f : A → B) (xs : List A) → list_any test (map f xs) ≡ list_any (λ x. test (f x)) xs
-list_any-map test f [] = refl
-list_any-map test f (x ∷ xs) = ap (λ rest. test (f x) || rest) (list_any-map test f xs)
 
 -- of some items, the one at a place has a name that none before it has
 pub is_new_at-item : {A : Type 0} (name_of : A → List ℕ) (xs : List A) (i : ℕ) (d : A) (any : Bool) → i < length xs → is_name (name_of (get_or xs i d)) ≡ true → any ≡ list_any (λ other. same_text (name_of other) (name_of (get_or xs i d))) (take i xs) → not any ≡ is_new_at (map name_of xs) i
@@ -86,5 +82,5 @@ line_size-is project table h =
     ∙ is_known-range (max_line (layout_of project)) (length project.schema.tables) table 65536 h (omega arith)
 
 -- the columns of the table at a place
-pub columns_at-is : (project : Project) (table : ℕ) (d : Table) → table < length project.schema.tables → columns_at project.schema table ≡ (get_or project.schema.tables table d).columns
-columns_at-is project.schema table d h = get_or-map (λ (t : Table). t.columns) project.schema.tables table d [] h
+pub columns_at-is : (schema : Schema) (table : ℕ) (d : Table) → table < length schema.tables → columns_at schema table ≡ (get_or schema.tables table d).columns
+columns_at-is schema table d h = get_or-map (λ (t : Table). t.columns) schema.tables table d [] h

@@ -1,5 +1,5 @@
 -- Dictionaries as a plan keeps them for rows.
-use Rattle.std.specs.Prelude.{◌≡◌, ℕ, ◌≤◌, ◌^◌, List, length, map, sum}
+use Rattle.std.specs.Prelude.{◌≡◌, ℕ, List, length, map, sum}
 use Rattle.dictionaries.specs.WordList.{WordList}
 use Rattle.row_text.specs.Fields.{piece_text}
 use Rattle.schema_check.specs.Dictionaries.{Dictionary}
@@ -8,12 +8,10 @@ use Rattle.schema_check.specs.Dictionaries.{Dictionary}
 abbrev pub written_words : ℕ → WordList → WordList
 written_words delimiter words = record words { entries = map (piece_text delimiter) words.entries }
 
--- the divisor that is kept of ready words is the sum of their weights, of which there is one for each entry
-pub record AreReadyWords (words : WordList) (divisor : ℕ) : Type 0 where
-  pub paired : length words.weights ≡ length words.entries
-  pub total : divisor ≡ sum words.weights
-  pub some : 1 ≤ divisor
-  pub small : divisor ≤ 2 ^ 40
+-- what is kept of words: a written text for each entry, and the sum of the weights
+pub record AreReadyWords (written : List (List ℕ)) (words : WordList) (total : ℕ) : Type 0 where
+  pub each : length written ≡ length words.entries
+  pub total_is : total ≡ sum words.weights
 
 -- how the entries of dictionaries are written
 pub record Spelling : Type 0 where

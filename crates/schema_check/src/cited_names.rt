@@ -1,9 +1,10 @@
 //! The dictionaries that a schema cites.
 
 ghost use Rattle.std.specs.Prelude.{◌≡◌, IfOk, is_some};
-ghost use Rattle.std.specs.List.{list_all};
+ghost use Rattle.std.specs.List.{list_all, list_any};
 ghost use Rattle.schema_check.specs.Citations.{cited_names, may_cite, may_cite_all};
 ghost use Rattle.schema_check.specs.Dictionaries.{dictionary_named};
+ghost use Rattle.schema_check.specs.Names.{same_text};
 ghost use Rattle.schema_check.specs.Rules.{are_supplied, is_supplied};
 
 use crate::candidate::Candidate;
@@ -37,7 +38,7 @@ impl<'a> Model for CitedNames<'a> {
 }
 
 impl<'a> CitedNames<'a> {
-    ghost use Rattle.std.specs.Prelude.{◌≡◌, ℕ, List, [], flat_map, map, take};
+    ghost use Rattle.std.specs.Prelude.{◌≡◌, ℕ, ◌<◌, List, [], ◌∷◌, ◌++◌, flat_map, length, map, take};
     ghost use Rattle.std.specs.List.{fold};
     ghost use Rattle.schema_check.specs.Citations.{cited_names, has_name, leaves_of, names_in_columns, names_in_leaf, with_name};
 
@@ -62,10 +63,11 @@ impl<'a> CitedNames<'a> {
     fn has(&self, name: &str) -> bool
         ensures { result ≡ has_name self.now name.now }
     {
-        self.as_slice().iter().any(|other| *other == name)
+        is_among(self.as_slice(), name)
     }
 
     /// The first names that the tables of a schema cite.
+    #[tactic(auto, unfolding(crate::specs::Citations::cited_names))]
     pub(crate) fn of(schema: &'a Schema) -> CitedNames<'a>
         ensures { result ≡ cited_names schema.now.tables }
     {
@@ -112,11 +114,33 @@ impl<'a> CitedNames<'a> {
         ensures { (before : List (List ℕ)) → self.old ≡ take 64 before →
             self.new ≡ take 64 (with_name before name.now) }
     {
-        if self.count < MAX_NAMES && !self.has(name) {
-            self.names[self.count] = name;
-            self.count += 1;
+        if self.len() < MAX_NAMES && !self.has(name) {
+            self.push(name);
         }
     }
+
+    /// The number of names.
+    fn len(&self) -> usize
+        ensures { result ≡ length self.now }
+    {
+        self.count
+    }
+
+    /// A name behind the others.
+    fn push(&mut self, name: &'a str)
+        requires { length self.old < 64 }
+        ensures { self.new ≡ self.old ++ name.now ∷ [] }
+    {
+        self.names[self.count] = name;
+        self.count += 1;
+    }
+}
+
+/// Whether one of some names is this one.
+fn is_among(names: &[&str], name: &str) -> bool
+    ensures { result ≡ list_any (λ other. same_text other.now name.now) names.now }
+{
+    names.iter().any(|other| *other == name)
 }
 
 /// Whether all that some drawn values cite may be cited: names of 1 to 255 bytes that are among the first ones.

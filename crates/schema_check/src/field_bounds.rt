@@ -52,7 +52,7 @@ fn bounds(size: u64, permutations: u64) -> FieldBounds
 }
 
 /// The size of a text as it is written.
-fn written_size(delimiter: u8, bytes: &[u8]) -> u64
+pub(crate) fn written_size(delimiter: u8, bytes: &[u8]) -> u64
     ensures { result ≡ written_size delimiter bytes.now }
 {
     field_size(Some(bytes), delimiter) as u64

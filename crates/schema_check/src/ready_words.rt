@@ -34,7 +34,7 @@ impl Model for ReadyWords {
 
     ghost view = { λ r. record { entries = arc_value r.entries; weights = (arc_value r.words).weights } };
 
-    ghost invariant = { λ r. AreReadyWords (record { entries = arc_value r.entries; weights = (arc_value r.words).weights }) r.total };
+    ghost invariant = { λ r. AreReadyWords (arc_value r.entries) (arc_value r.words) r.total };
 }
 
 impl ReadyWords {
@@ -164,8 +164,16 @@ impl<'a> Lexicon<'a> {
         requires { IsWordList (words_named self.now.dictionaries name.now) }
         ensures { IfOk result (λ ready. ready ≡ written_words self.now.delimiter (words_named self.now.dictionaries name.now)) }
     {
+        self.ready_words(name).shared()
+    }
+
+    /// The same as they are kept.
+    fn ready_words(&self, name: &Text) -> &ReadyWords
+        requires { IsWordList (words_named self.now.dictionaries name.now) }
+        ensures { result.now ≡ written_words self.now.delimiter (words_named self.now.dictionaries name.now) }
+    {
         let place = self.dictionaries.place_of(name.as_str());
-        self.ready[place].shared()
+        &self.ready[place]
     }
 }
 

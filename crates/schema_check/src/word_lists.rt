@@ -3,9 +3,9 @@
 ghost use Rattle.std.specs.Prelude.{◌≡◌, length};
 ghost use Rattle.schema_check.specs.FieldBounds.{entry_size};
 
+use crate::field_bounds::written_size;
 use crate::memory::Memory;
 use dictionaries::Dictionary;
-use row_text::field_size;
 use schema_model::Text;
 use std::alloc::Global;
 use std::marker::Model;
@@ -87,7 +87,7 @@ fn greatest_entry(delimiter: u8, words: &Dictionary) -> u64
 {
     let mut most = 0;
     for i in 0..words.len() {
-        most = most.max(field_size(Some(words.entry(i).as_bytes()), delimiter) as u64);
+        most = most.max(written_size(delimiter, words.entry(i).as_bytes()));
     }
     most
 }
@@ -101,16 +101,18 @@ pub struct Dictionaries {
 
 impl Model for Dictionaries {
     ghost use Rattle.std.specs.Prelude.{List};
-    ghost use Rattle.schema_check.specs.Dictionaries.{Dictionary};
+    ghost use Rattle.schema_check.specs.Dictionaries.{AreWordLists, Dictionary};
 
     ghost Value = { List Dictionary };
 
     ghost view = { λ d. d.items.items };
+
+    ghost invariant = { λ d. AreWordLists d.items.items };
 }
 
 impl Dictionaries {
     ghost use Rattle.std.specs.Prelude.{◌≡◌, ◌==◌, [], ◌∷◌, ◌++◌, OnErr, OnOk, find, is_some, length};
-    ghost use Rattle.std.specs.List.{position_or_len};
+    ghost use Rattle.std.specs.List.{position, position_or_len};
     ghost use Rattle.std.specs.Option.{option_copied};
     ghost use Rattle.schema_check.specs.Dictionaries.{AreWordLists, dictionary_named, words_named};
     ghost use Rattle.schema_check.specs.FieldBounds.{entry_size};
@@ -132,6 +134,7 @@ impl Dictionaries {
         ensures appended { OnOk result (self.new ≡ self.old ++ record { name = name.now; words = dictionary } ∷ []) }
         ensures unchanged { OnErr result (self.new ≡ self.old) }
     {
+        let _limits = dictionary.len(); // it is a word list
         let named = NamedWords::new(self.alloc, name, dictionary)?;
         self.items.push(named)?;
         Ok(())
@@ -180,8 +183,16 @@ impl Dictionaries {
     pub(crate) fn place_of(&self, name: &str) -> usize
         ensures { result ≡ position_or_len (λ named. same_text named.name name.now) self.now }
     {
-        let place = self.items.iter().position(|named| named.name.as_str() == name);
-        place.unwrap_or(self.items.len())
+        self.position(name).unwrap_or(self.len())
+    }
+
+    /// The place of the first dictionary with a name.
+    fn position(&self, name: &str) -> Option<usize>
+        ensures { result ≡ position (λ named. same_text named.name name.now) self.now }
+    {
+        self.items
+            .iter()
+            .position(|named| named.name.as_str() == name)
     }
 
     /// The size of the greatest entry of a named dictionary as it is written, in bytes; 0 where none has the name.

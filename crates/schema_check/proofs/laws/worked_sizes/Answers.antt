@@ -7,4 +7,4 @@ use Rattle.schema_check.proofs.laws.worked_sizes.Goals as goal
 
 pub returns : goal.returns
 unfolding max_line reach chars encode escaped
-returns c = record { customer = refl; orders = refl; most = refl; fields = refl }
+returns c = record { customer = refl; orders = refl; most = refl; fields = refl; words = refl }

@@ -13,7 +13,7 @@ returns-in_ok-parts-in-Template c =
     let dictionaries = c.args.lexicon.now.dictionaries in
     let columns = c.args.columns.now in
     ap Template
-    (c.in_ok-parts-in-Template.ensures
+    (rw c.delimiter.ensures at c.in_ok-parts-in-Template.ensures
     ∙ ap (map (λ (part : Part). ready_part delimiter (part_layout columns part))) c.as_slice.ensures
     ∙ sym (map-map (ready_part delimiter) (part_layout columns) c.in-Template.parts))
     ∙ ap (λ kind. ready_kind delimiter (kind_layout dictionaries [] columns kind)) (sym c.in-Template.is)

@@ -12,7 +12,7 @@ ready_columns-requires c =
     let all : c.as_slice-table-items.result.now ≡ tables = c.as_slice-table-items.ensures in
     let within : place < length tables = subst (λ (ts : List Table). place < length ts) all c.loop-table-test.true in
     let is : table ≡ get_or tables place table = c.table-item.is ∙ ap (λ (ts : List Table). get_or ts place table) all in
-    rw c.as_slice.ensures (columns_in_limits (project_of c.args.schema.now c.args.dictionaries.now) place table c.requires within is)
+    rw (c.as_slice.ensures, c.in_ok-lexicon.ensures) (columns_in_limits (project_of c.args.schema.now c.args.dictionaries.now) place table c.requires within is)
 
 pub loop-table-preserved : goal.loop-table-preserved
 loop-table-preserved c =
@@ -24,4 +24,4 @@ loop-table-preserved c =
     let is : table ≡ get_or tables place table = c.table-item.is ∙ ap (λ (ts : List Table). get_or ts place table) all in
     c.in_ok-push.ensures.items
     ∙ one_table_more (project_of c.args.schema.now c.args.dictionaries.now) place table c.in_ok-ready_columns.field-0 c.loop-table.ready.items within is
-    (rw (c.as_slice.ensures, c.delimiter_byte-delimiter.ensures) at c.in_ok-ready_columns.ensures) c.loop-table.invariant
+    (rw (c.as_slice.ensures, c.in_ok-lexicon.ensures, c.delimiter_byte.ensures) at c.in_ok-ready_columns.ensures) c.loop-table.invariant

@@ -6,12 +6,12 @@ use Rattle.schema_check.proofs.PlannedLemmas.{facts_whole, reach-is}
 use Rattle.schema_check.proofs.plan.Plan.of_accepted.Goals as goal
 
 pub ready_tables-requires : goal.ready_tables-requires
-ready_tables-requires c = in_limits (project_of c.args.schema c.args.dictionaries) c.len.ensures.lists c.requires.accepted
+ready_tables-requires c = in_limits (project_of c.args.schema c.args.dictionaries) c.len-lists.ensures.lists c.requires.accepted
 
 pub invariant_of-result : goal.invariant_of-result
 invariant_of-result c =
     let project = project_of c.args.schema c.args.dictionaries in
-    let limits = in_limits project c.len.ensures.lists c.requires.accepted in
+    let limits = in_limits project c.len-lists.ensures.lists c.requires.accepted in
     let known = c.requires.facts ∙ facts_whole project limits in
     record {
       accepted = c.requires.accepted;
