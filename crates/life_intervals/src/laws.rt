@@ -5,9 +5,9 @@
 
 ghost use Rattle.std.specs.Prelude.{◌≡◌, ℕ, ◌+◌, ◌*◌, ◌/◌, ◌-◌, ◌<◌, ◌≤◌, flat_map, if◌then◌else◌, length, nat_lt};
 ghost use Rattle.std.specs.List.{range_with_len};
-ghost use Rattle.schema_model.specs.declared.table.Schema.{Schema};
 ghost use Rattle.schema_check.specs.declared.layout.Births.{Births};
 ghost use Rattle.schema_check.specs.Cohorts.{born_count, cohort_size, first_ordinal};
+ghost use Rattle.schema_check.specs.Dictionaries.{Project};
 ghost use Rattle.schema_check.specs.Layout.{TableLayout, table_at};
 ghost use Rattle.life_intervals.specs.Generator.{Generator, generator_of};
 ghost use Rattle.life_intervals.specs.Intervals.{LiesIn, birth, interval_state, living, rows_of};
@@ -32,7 +32,7 @@ pub fn birth_by_division()
 
 /// The permutations that the seed of a schema gives its cohorts are bijections, for each purpose.
 pub fn seeds_order_each_cohort()
-    ensures { (schema : Schema) (place : ℕ) → OrdersCohorts (generator_of schema) place }
+    ensures { (project : Project) (place : ℕ) → OrdersCohorts (generator_of project) place }
 {}
 
 /// The key of a row is that of its index in its cohort.

@@ -6,12 +6,12 @@ use Rattle.row_lines.proofs.rows.put_line.Goals as goal
 
 pub birth-born-requires-clause-row : goal.birth-born-requires-clause-row
 birth-born-requires-clause-row g c =
-    omega (arith, c.requires.born, born_count-le (table_of c.args.plan.now.schema c.args.table).births c.args.t (last_unit c.args.plan.now.schema) c.requires.unit)
+    omega (arith, c.requires.born, born_count-le (table_of c.args.plan.now c.args.table).births c.args.t (last_unit c.args.plan.now) c.requires.unit)
 
 pub new-requires-clause-born : goal.new-requires-clause-born
 new-requires-clause-born g c =
     omega (
       arith,
       c.birth-born.ensures.unit,
-      birth-within (table_of c.args.plan.now.schema c.args.table).births (last_unit c.args.plan.now.schema) c.args.t c.args.j c.requires.unit c.requires.born,
+      birth-within (table_of c.args.plan.now c.args.table).births (last_unit c.args.plan.now) c.args.t c.args.j c.requires.unit c.requires.born,
     )
