@@ -1,14 +1,18 @@
 -- Texts that draws choose, one after the other.
 use Rattle.std.proofs.Common.{◌≡◌, ◌<◌, ◌≤◌, ℕ, ◌+◌, ◌%◌, List, [], ◌∷◌, ◌++◌, map, length, append-nil, encode_utf8, refl, ap, sym, ◌∙◌, arith}
 use Rattle.std.specs.Prelude.{slice_index, slice_index_or}
-use Rattle.std.specs.List.{flat_map, range_with_len}
+use Rattle.std.specs.List.{flat_map, join_with_byte, range_with_len}
+use Rattle.std.proofs.Math.ListN as N
 use Rattle.std.proofs.lemmas.List.{get_or-map, length-map}
 use Rattle.std.proofs.lemmas.List.Concat.{flat_map-append}
 use Rattle.std.proofs.lemmas.List.Folds.{flat_map-map}
 use Rattle.std.proofs.lemmas.List.FromFn.{map-range_with_len_more}
+use Rattle.dictionaries.specs.WordList.{WordList}
 use Rattle.row_text.specs.Fields.{escaped, piece_text}
+use Rattle.schema_check.specs.ReadyWords.{written_words}
+use Rattle.schema_check.proofs.Lists.{map-map}
 use Rattle.draw_values.specs.ReadyValues.{chosen_texts}
-use Rattle.draw_values.specs.Values.{Draws, drawn_characters}
+use Rattle.draw_values.specs.Values.{Draws, chosen_group, drawn_characters, drawn_words}
 use std.Path.{fun_ext}
 
 -- one text more
@@ -46,3 +50,29 @@ pub piece_text-drawn_characters : (delimiter : ℕ) (alphabet : List ℕ) (draw 
 piece_text-drawn_characters delimiter alphabet draw count some =
     piece_text-flat_map delimiter (λ k. encode_utf8 (slice_index alphabet (draw (2 + k) % length alphabet))) (range_with_len 0 count)
     ∙ ap (λ (text_of : ℕ → List ℕ). flat_map text_of (range_with_len 0 count)) (fun_ext (λ (k : ℕ). written_character delimiter alphabet (draw (2 + k)) some))
+
+-- a space isn't escaped
+written_space : (delimiter : ℕ) → escaped delimiter 32 ≡ 32 ∷ []
+unfolding escaped
+written_space delimiter = refl
+
+-- pieces that are joined by a space are written piece by piece, with the space between them
+piece_text-joined : (delimiter : ℕ) (pieces : List (List ℕ)) → piece_text delimiter (join_with_byte 32 pieces) ≡ join_with_byte 32 (map (piece_text delimiter) pieces)
+piece_text-joined delimiter [] = refl
+piece_text-joined delimiter (piece ∷ []) = refl
+piece_text-joined delimiter (piece ∷ next ∷ pieces) =
+    flat_map-append (escaped delimiter) piece (32 ∷ join_with_byte 32 (next ∷ pieces))
+    ∙ ap (λ (space : List ℕ). piece_text delimiter piece ++ (space ++ piece_text delimiter (join_with_byte 32 (next ∷ pieces)))) (written_space delimiter)
+    ∙ ap (λ (rest : List ℕ). piece_text delimiter piece ++ (32 ∷ rest)) (piece_text-joined delimiter (next ∷ pieces))
+
+-- words that draws choose
+pub piece_text-drawn_words : (delimiter : ℕ) (words : WordList) (draw : Draws) (count : ℕ) →
+    piece_text delimiter (drawn_words words draw count) ≡ drawn_words (written_words delimiter words) draw count
+piece_text-drawn_words delimiter words draw count =
+    let group : ℕ → ℕ = λ (k : ℕ). chosen_group words.weights (draw (2 + k)) in
+    let word : ℕ → List ℕ = λ (k : ℕ). slice_index_or words.entries (group k) [] in
+    let written : ℕ → List ℕ = λ (k : ℕ). slice_index_or (map (piece_text delimiter) words.entries) (group k) [] in
+    piece_text-joined delimiter (map word (range_with_len 0 count))
+    ∙ ap (join_with_byte 32)
+    (map-map (piece_text delimiter) word (range_with_len 0 count)
+    ∙ ap (λ (text_of : ℕ → List ℕ). map text_of (range_with_len 0 count)) (fun_ext (λ (k : ℕ). sym (N.get_or-map (piece_text delimiter) words.entries (group k) []))))

@@ -1,22 +1,18 @@
 -- What a plan keeps ready for a column gives what a row holds there, as it is written.
 use Rattle.std.proofs.Common.{◌≡◌, ◌<◌, ◌≤◌, ℕ, Bool, true, false, max, List, [], ◌∷◌, map, decimal, fold, length, get_or, ◌%◌, IfSome, option_map, Option, None, Some, if◌then◌else◌, refl, ap, sym, ◌∙◌, arith}
 use Rattle.std.specs.Prelude.{All, option_and_then, sum}
-use Rattle.std.specs.List.{list_all}
 use Rattle.std.proofs.lemmas.Fmt.{length-decimal-le}
 use Rattle.std.proofs.lemmas.List.{get_or-map, length-map}
 use Rattle.std.proofs.lemmas.List.Elements.{All-head, All-map, All-tail}
-use Rattle.std.proofs.lemmas.List.Folds.{list_all-map}
 use Rattle.weight_tables.proofs.PrefixSumLemmas.{sum-cons}
 use Rattle.weight_tables.proofs.SelectionLemmas.{Selects-selected}
 use Rattle.row_text.specs.Fields.{piece_text}
 use Rattle.schema_check.specs.declared.ready.ReadyColumn.{ReadyColumn}
 use Rattle.schema_check.specs.declared.ready.ReadyLeaf.{ReadyLeaf}
-use Rattle.schema_check.specs.declared.ready.ReadyLeaf.TheVariants.{Unserved}
 use Rattle.schema_check.specs.FieldBounds.{bounds_of, leaf_size}
 use Rattle.schema_check.specs.Layout.{LeafLayout, int_leaf, fixed_leaf, date_leaf, pick_leaf, skew_leaf, dict_leaf, words_leaf, chars_leaf, KindLayout, key_kind, born_kind, changed_kind, leaf_kind, template_kind, case_kind, reference_kind, lookup_kind, ColumnLayout, Layout, TableLayout, column_at, no_column, table_at}
 use Rattle.schema_check.specs.Limits.{IsCase, IsKindInLimits, IsLeafInLimits, IsPickOf}
-use Rattle.schema_check.specs.Ready.{is_served_kind, is_served_leaf, ready_column, ready_columns, ready_kind, ready_leaf}
-use Rattle.schema_check.proofs.FromTests.{passes_each}
+use Rattle.schema_check.specs.Ready.{is_served_kind, ready_column, ready_columns, ready_kind, ready_leaf}
 use Rattle.draw_values.specs.declared.values.RowAt.{RowAt}
 use Rattle.draw_values.specs.ReadyValues.{IsReady, IsReadyKind, chooser_of, ready_branch, ready_entry, ready_field, ready_held_entry, ready_kind_size, ready_size, ready_text, ready_value}
 use Rattle.draw_values.specs.Values.{Draws, RowDraws, branch_at, chosen_group, entry_of, held_entry, is_null, is_own, leaf_value, own_field, own_value, unless_null}
@@ -39,33 +35,23 @@ ready_column-at delimiter columns kept place found kept_is within at =
 
 -- ---- branches
 
--- a drawn value within its limits that tables can be made of
-abbrev IsServable : ℕ → LeafLayout → Type 0
-IsServable delimiter leaf = IsLeafInLimits leaf × (is_served_leaf (ready_leaf delimiter leaf) ≡ true)
-
-branches_servable : (delimiter : ℕ) (branches : List LeafLayout) → All IsLeafInLimits branches → list_all is_served_leaf (map (ready_leaf delimiter) branches) ≡ true → All (IsServable delimiter) branches
-branches_servable delimiter branches limits served = λ i d within. (
-  limits i d within,
-  passes_each (λ (leaf : LeafLayout). is_served_leaf (ready_leaf delimiter leaf)) branches i d within (sym (list_all-map is_served_leaf (ready_leaf delimiter) branches) ∙ served),
-)
-
-branch_written : (delimiter : ℕ) (branches : List LeafLayout) (draw : Draws) (entry : Option ℕ) → All (IsServable delimiter) branches → IfSome entry (λ place. place < length branches) →
+branch_written : (delimiter : ℕ) (branches : List LeafLayout) (draw : Draws) (entry : Option ℕ) → All IsLeafInLimits branches → IfSome entry (λ place. place < length branches) →
     option_map (piece_text delimiter) (option_and_then (λ place. leaf_value (branch_at branches place) draw) entry)
     ≡ option_map (λ place. ready_text (ready_branch (map (ready_leaf delimiter) branches) place) draw) entry
-branch_written delimiter branches draw None servable within = refl
-branch_written delimiter branches draw (Some place) servable within =
+branch_written delimiter branches draw None limits within = refl
+branch_written delimiter branches draw (Some place) limits within =
     let branch : LeafLayout = branch_at branches place in
-    let own = servable place (branch_at [] 0) within in
-    leaf_value-written delimiter branch draw own.0 own.1
-    ∙ ap (λ (leaf : ReadyLeaf). Some (ready_text leaf draw)) (sym (get_or-map (ready_leaf delimiter) branches place (branch_at [] 0) Unserved within))
+    let own = limits place (branch_at [] 0) within in
+    leaf_value-written delimiter branch draw own
+    ∙ ap (λ (leaf : ReadyLeaf). Some (ready_text leaf draw)) (sym (get_or-map (ready_leaf delimiter) branches place (branch_at [] 0) (ready_branch [] 0) within))
 
-greatest_from : (delimiter most : ℕ) (branches : List LeafLayout) → All (IsServable delimiter) branches →
+greatest_from : (delimiter most : ℕ) (branches : List LeafLayout) → All IsLeafInLimits branches →
     fold (λ m leaf. max m (leaf_size delimiter leaf)) most branches ≡ fold (λ m leaf. max m (ready_size leaf)) most (map (ready_leaf delimiter) branches)
-greatest_from delimiter most [] servable = refl
-greatest_from delimiter most (leaf ∷ branches) servable =
-    let own = All-head (IsServable delimiter) leaf branches servable in
-    ap (λ (size : ℕ). fold (λ m branch. max m (leaf_size delimiter branch)) (max most size) branches) (leaf_size-ready delimiter leaf own.0 own.1)
-    ∙ greatest_from delimiter (max most (ready_size (ready_leaf delimiter leaf))) branches (All-tail (IsServable delimiter) leaf branches servable)
+greatest_from delimiter most [] limits = refl
+greatest_from delimiter most (leaf ∷ branches) limits =
+    let own = All-head IsLeafInLimits leaf branches limits in
+    ap (λ (size : ℕ). fold (λ m branch. max m (leaf_size delimiter branch)) (max most size) branches) (leaf_size-ready delimiter leaf own)
+    ∙ greatest_from delimiter (max most (ready_size (ready_leaf delimiter leaf))) branches (All-tail IsLeafInLimits leaf branches limits)
 
 -- ---- picks
 
@@ -134,14 +120,12 @@ chooser_of-within delimiter columns place (lookup_kind via parent name) of withi
 
 -- what is kept of it can be written
 case_is_ready : (delimiter on : ℕ) (branches : List LeafLayout) (columns : List ColumnLayout) (place : ℕ) → IsCase columns place on branches → IsKindInLimits columns on (column_at columns on).kind →
-    list_all is_served_leaf (map (ready_leaf delimiter) branches) ≡ true →
     IsReadyKind (ready_kind delimiter (column_at columns on).kind) (ready_kind delimiter (case_kind on branches))
-case_is_ready delimiter on branches columns place limits pick_limits served =
-    let servable = branches_servable delimiter branches limits.each served in
+case_is_ready delimiter on branches columns place limits pick_limits =
     let many : length (map (ready_leaf delimiter) branches) ≡ length branches = length-map branches (ready_leaf delimiter) in
     pick_elim (λ kind. IsReadyKind (ready_kind delimiter kind) (ready_kind delimiter (case_kind on branches))) columns on (length branches) (column_at columns on).kind limits.pick pick_limits
     (λ entries weights same some. (
-      All-map IsReady (ready_leaf delimiter) branches (λ i d within. leaf_is_ready delimiter (get_or branches i d) (servable i d within).0 (servable i d within).1),
+      All-map IsReady (ready_leaf delimiter) branches (λ i d within. leaf_is_ready delimiter (get_or branches i d) (limits.each i d within)),
       refl,
       same ∙ sym many,
     ))
@@ -152,10 +136,10 @@ pub kind_is_ready : (delimiter : ℕ) (columns : List ColumnLayout) (place : ℕ
 kind_is_ready delimiter columns place key_kind of all within = absurd (let own = of.own in cc)
 kind_is_ready delimiter columns place born_kind of all within = tt
 kind_is_ready delimiter columns place changed_kind of all within = absurd (let own = of.own in cc)
-kind_is_ready delimiter columns place (leaf_kind leaf) of all within = leaf_is_ready delimiter leaf of.limits of.served
+kind_is_ready delimiter columns place (leaf_kind leaf) of all within = leaf_is_ready delimiter leaf of.limits
 kind_is_ready delimiter columns place (template_kind parts) of all within = absurd (let own = of.own in cc)
 kind_is_ready delimiter columns place (case_kind on branches) of all within =
-    case_is_ready delimiter on branches columns place of.limits (all on (omega (arith, of.limits.earlier))) of.served
+    case_is_ready delimiter on branches columns place of.limits (all on (omega (arith, of.limits.earlier)))
 kind_is_ready delimiter columns place (reference_kind parent window spread) of all within = absurd (let own = of.own in cc)
 kind_is_ready delimiter columns place (lookup_kind via parent name) of all within = absurd (let own = of.own in cc)
 
@@ -165,9 +149,9 @@ pub bounds_of-ready : (delimiter : ℕ) (tables : List TableLayout) (table : Tab
 bounds_of-ready delimiter tables table columns place key_kind of = absurd (let own = of.own in cc)
 bounds_of-ready delimiter tables table columns place born_kind of = refl
 bounds_of-ready delimiter tables table columns place changed_kind of = absurd (let own = of.own in cc)
-bounds_of-ready delimiter tables table columns place (leaf_kind leaf) of = ap (max 2) (leaf_size-ready delimiter leaf of.limits of.served)
+bounds_of-ready delimiter tables table columns place (leaf_kind leaf) of = ap (max 2) (leaf_size-ready delimiter leaf of.limits)
 bounds_of-ready delimiter tables table columns place (template_kind parts) of = absurd (let own = of.own in cc)
-bounds_of-ready delimiter tables table columns place (case_kind on branches) of = ap (max 2) (greatest_from delimiter 0 branches (branches_servable delimiter branches of.limits.each of.served))
+bounds_of-ready delimiter tables table columns place (case_kind on branches) of = ap (max 2) (greatest_from delimiter 0 branches of.limits.each)
 bounds_of-ready delimiter tables table columns place (reference_kind parent window spread) of = absurd (let own = of.own in cc)
 bounds_of-ready delimiter tables table columns place (lookup_kind via parent name) of = absurd (let own = of.own in cc)
 
@@ -193,11 +177,11 @@ own_value-written : (delimiter : ℕ) (columns : List ColumnLayout) (at : RowAt)
 own_value-written delimiter columns at draws place key_kind of all within = absurd (let own = of.own in cc)
 own_value-written delimiter columns at draws place born_kind of all within = ap Some (piece_text-plain delimiter (decimal at.born) (plain-decimal at.born))
 own_value-written delimiter columns at draws place changed_kind of all within = absurd (let own = of.own in cc)
-own_value-written delimiter columns at draws place (leaf_kind leaf) of all within = leaf_value-written delimiter leaf (draws place) of.limits of.served
+own_value-written delimiter columns at draws place (leaf_kind leaf) of all within = leaf_value-written delimiter leaf (draws place) of.limits
 own_value-written delimiter columns at draws place (template_kind parts) of all within = absurd (let own = of.own in cc)
 own_value-written delimiter columns at draws place (case_kind on branches) of all within =
     let pick : ColumnLayout = column_at columns on in
-    branch_written delimiter branches (draws place) (held_entry pick (draws on)) (branches_servable delimiter branches of.limits.each of.served)
+    branch_written delimiter branches (draws place) (held_entry pick (draws on)) of.limits.each
     (held_entry-within columns on (length branches) (draws on) of.limits.pick (all on (omega (arith, of.limits.earlier))))
     ∙ ap (option_map (λ entry. ready_text (ready_branch (map (ready_leaf delimiter) branches) entry) (draws place))) (held_entry-ready delimiter pick (draws on))
 own_value-written delimiter columns at draws place (reference_kind parent window spread) of all within = absurd (let own = of.own in cc)

@@ -2,6 +2,7 @@ pub mod DigitLemmas
 pub mod WalkLemmas
 pub mod DateLemmas
 pub mod SizeLemmas
+pub mod JoinLemmas
 pub mod CharacterLemmas
 pub mod PlainLemmas
 pub mod ReadyLemmas

@@ -9,11 +9,11 @@ use Rattle.schema_check.specs.declared.ready.ReadyKind.TheVariants as kind
 use Rattle.schema_check.specs.declared.ready.ReadyLeaf.{ReadyLeaf}
 use Rattle.schema_check.specs.declared.ready.ReadyLeaf.TheVariants as leaf
 use Rattle.schema_check.specs.Choices.{choices}
-use Rattle.schema_check.specs.FieldBounds.{greatest_by}
+use Rattle.schema_check.specs.FieldBounds.{greatest_by, joined_size}
 use Rattle.schema_check.specs.Limits.{IsDateRange, IsRange}
 use Rattle.draw_values.specs.Dates.{date_text}
 use Rattle.draw_values.specs.Digits.{signed_pointed}
-use Rattle.draw_values.specs.Values.{Draws, chosen, chosen_group, unless_null}
+use Rattle.draw_values.specs.Values.{Draws, chosen, chosen_group, drawn_words, unless_null}
 
 -- the draws of the field of the row with an ordinal, by the seed of its column at its unit
 abbrev pub row_draws : ℕ → ℕ → Draws
@@ -32,7 +32,8 @@ ready_text (leaf.Date lo hi count) draw = date_text (chosen lo hi 1 (draw 1))
 ready_text (leaf.Pick entries weights total) draw = slice_index_or entries (chosen_group weights (draw 1)) []
 ready_text (leaf.Skew lo weights total) draw = signed_decimal (lo +ℤ pos (chosen_group weights (draw 1)))
 ready_text (leaf.Chars lo lengths characters count) draw = chosen_texts characters draw (lo + draw 1 % lengths)
-ready_text leaf.Unserved draw = []
+ready_text (leaf.Dict words) draw = slice_index_or words.entries (chosen_group words.weights (draw 1)) []
+ready_text (leaf.Words lo lengths words) draw = drawn_words words draw (lo + draw 1 % lengths)
 
 -- the greatest size of such a text, in bytes
 abbrev pub ready_size : ReadyLeaf → ℕ
@@ -42,9 +43,10 @@ ready_size (leaf.Date lo hi count) = 10
 ready_size (leaf.Pick entries weights total) = greatest_by length entries
 ready_size (leaf.Skew lo weights total) = 20
 ready_size (leaf.Chars lo lengths characters count) = (lo + lengths - 1) * greatest_by length characters
-ready_size leaf.Unserved = 0
+ready_size (leaf.Dict words) = greatest_by length words.entries
+ready_size (leaf.Words lo lengths words) = joined_size (lo + lengths - 1) (greatest_by length words.entries)
 
--- a table can be made of the value, and its numbers are within their limits and what they are kept for
+-- its numbers are within their limits and what they are kept for
 abbrev pub IsReady : ReadyLeaf → Type 0
 IsReady (leaf.Int lo hi step count) = IsRange lo hi × (1 ≤ step) × (count ≡ choices lo hi step)
 IsReady (leaf.Fixed lo hi count decimals unit) = IsRange lo hi × (count ≡ choices lo hi 1) × (decimals ≤ 9) × (unit ≡ 10 ^ decimals)
@@ -52,7 +54,8 @@ IsReady (leaf.Date lo hi count) = IsDateRange lo hi × (count ≡ choices lo hi 
 IsReady (leaf.Pick entries weights total) = (length weights ≡ length entries) × (total ≡ sum weights)
 IsReady (leaf.Skew lo weights total) = (length weights ≤ 4096) × ((lo +ℤ pos (length weights - 1)) <ℤ pos (2 ^ 63)) × (total ≡ sum weights)
 IsReady (leaf.Chars lo lengths characters count) = (lo + lengths ≤ 1001) × (count ≡ length characters)
-IsReady leaf.Unserved = ⊥
+IsReady (leaf.Dict words) = ⊤
+IsReady (leaf.Words lo lengths words) = lo + lengths ≤ 1001
 
 -- the place of the column that a field is chosen by: the pick column of a case; any other field goes by its own column
 abbrev pub chooser_of : ℕ → ReadyKind → ℕ
@@ -70,7 +73,7 @@ ready_held_entry column draw = unless_null column.null draw (ready_entry column.
 
 -- the branch at a place
 abbrev pub ready_branch : List ReadyLeaf → ℕ → ReadyLeaf
-ready_branch branches place = slice_index_or branches place leaf.Unserved
+ready_branch branches place = slice_index_or branches place (leaf.Int (pos 0) (pos 0) 1 1)
 
 -- what is written for a field of units or of draws that isn't null, by its unit of birth as it is written, the entry that its
 -- pick column holds, and its draws; None where its pick column's field is null

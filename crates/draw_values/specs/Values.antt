@@ -1,9 +1,10 @@
 -- What fields hold that need no other row: the units of their row, and what is drawn for them.
-use Rattle.std.specs.Prelude.{ℕ, ℤ, pos, ◌+◌, ◌-◌, ◌*◌, ◌%◌, ◌+ℤ◌, List, [], Option, Some, None, Bool, true, false, decimal, encode_utf8, flat_map, if◌then◌else◌, length, nat_lt, slice_index, slice_index_or, sum}
+use Rattle.std.specs.Prelude.{ℕ, ℤ, pos, ◌+◌, ◌-◌, ◌*◌, ◌%◌, ◌+ℤ◌, List, [], Option, Some, None, Bool, true, false, decimal, encode_utf8, flat_map, if◌then◌else◌, length, map, nat_lt, slice_index, slice_index_or, sum}
 use Rattle.std.specs.Fmt.{signed_decimal}
-use Rattle.std.specs.List.{range_with_len}
+use Rattle.std.specs.List.{join_with_byte, range_with_len}
 use Rattle.std.specs.Option.{option_and_then}
 use Rattle.std.specs.Str.{chars}
+use Rattle.dictionaries.specs.WordList.{WordList}
 use Rattle.philox_seeds.specs.SeedTree.{field_draw}
 use Rattle.weight_tables.specs.Harmonic.{harmonic_weights}
 use Rattle.weight_tables.specs.Weights.{selected}
@@ -39,6 +40,11 @@ abbrev pub drawn_characters : List ℕ → Draws → ℕ → List ℕ
 drawn_characters characters draw count =
     flat_map (λ k. encode_utf8 (slice_index characters (draw (2 + k) % length characters))) (range_with_len 0 count)
 
+-- so many words, each chosen by its weight and a draw of its own, the first by draw 2, with a space between two
+abbrev pub drawn_words : WordList → Draws → ℕ → List ℕ
+drawn_words words draw count =
+    join_with_byte 32 (map (λ k. slice_index_or words.entries (chosen_group words.weights (draw (2 + k))) []) (range_with_len 0 count))
+
 -- a value that is drawn for a field alone. Draw 0 is kept for null fields, so values begin with draw 1
 abbrev pub leaf_value : LeafLayout → Draws → Option (List ℕ)
 leaf_value (int_leaf lo hi step) draw = Some (signed_decimal (chosen lo hi step (draw 1)))
@@ -47,8 +53,8 @@ leaf_value (date_leaf lo hi) draw = Some (date_text (chosen lo hi 1 (draw 1)))
 leaf_value (pick_leaf entries weights) draw = Some (slice_index_or entries (chosen_group weights (draw 1)) [])
 leaf_value (skew_leaf lo size power) draw =
     Some (signed_decimal (lo +ℤ pos (chosen_group (harmonic_weights size power) (draw 1))))
-leaf_value (dict_leaf dictionary) draw = not_served
-leaf_value (words_leaf dictionary lo hi) draw = not_served
+leaf_value (dict_leaf words) draw = Some (slice_index_or words.entries (chosen_group words.weights (draw 1)) [])
+leaf_value (words_leaf words lo hi) draw = Some (drawn_words words draw (lo + draw 1 % (hi - lo + 1)))
 leaf_value (chars_leaf alphabet lo hi) draw = Some (drawn_characters (chars alphabet) draw (lo + draw 1 % (hi - lo + 1)))
 
 -- the draws of a row's fields, by the column's place

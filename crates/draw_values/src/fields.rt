@@ -1,11 +1,10 @@
 //! The field of a row in a column of units, of drawn values or of cases, onto a page.
 
-ghost use Rattle.std.specs.Prelude.{◌≡◌, ◌<◌, ◌≤◌, ◌+◌, ◌++◌, [], All, IfSome, length, option_map, slice_index_or, unwrap_or};
+ghost use Rattle.std.specs.Prelude.{◌≡◌, ◌<◌, ◌≤◌, ◌+◌, ◌++◌, [], All, IfSome, length, option_map, unwrap_or};
 ghost use Rattle.philox_seeds.specs.SeedTree.{draw as draw_of};
 ghost use Rattle.pd_outside.specs.Pieces.{piece_text};
-ghost use Rattle.schema_check.specs.declared.ready.ReadyLeaf.TheVariants.{Unserved};
 ghost use Rattle.schema_check.specs.FieldBounds.{greatest_by};
-ghost use Rattle.draw_values.specs.ReadyValues.{IsReady, IsReadyKind, IsReadyPick, chooser_of, entry_count, ready_field, ready_held_entry, ready_kind_size, ready_size, ready_text, row_draws};
+ghost use Rattle.draw_values.specs.ReadyValues.{IsReady, IsReadyKind, IsReadyPick, chooser_of, entry_count, ready_branch, ready_field, ready_held_entry, ready_kind_size, ready_size, ready_text, row_draws};
 ghost use Rattle.draw_values.specs.Values.{is_null, put_of};
 
 use crate::Put;
@@ -63,9 +62,9 @@ fn put_branch(branches: &[ReadyLeaf], entry: Option<usize>, seed: u64, buf: &mut
     requires ready { All IsReady branches.now }
     requires entry { IfSome entry (λ place. place < length branches.now) }
     requires room { length buf.old.text + greatest_by ready_size branches.now ≤ buf.old.room }
-    ensures put { result ≡ put_of (option_map (λ place. ready_text (slice_index_or branches.now place Unserved) (draw_of seed)) entry) }
-    ensures text { buf.new ≡ record buf.old { text = buf.old.text ++ unwrap_or (option_map (λ place. ready_text (slice_index_or branches.now place Unserved) (draw_of seed)) entry) [] } }
-    ensures size { length (unwrap_or (option_map (λ place. ready_text (slice_index_or branches.now place Unserved) (draw_of seed)) entry) []) ≤ greatest_by ready_size branches.now }
+    ensures put { result ≡ put_of (option_map (λ place. ready_text (ready_branch branches.now place) (draw_of seed)) entry) }
+    ensures text { buf.new ≡ record buf.old { text = buf.old.text ++ unwrap_or (option_map (λ place. ready_text (ready_branch branches.now place) (draw_of seed)) entry) [] } }
+    ensures size { length (unwrap_or (option_map (λ place. ready_text (ready_branch branches.now place) (draw_of seed)) entry) []) ≤ greatest_by ready_size branches.now }
 {
     match entry {
         Some(place) => {

@@ -9,6 +9,7 @@ use crate::dates::put_date;
 use crate::fixed::put_fixed;
 use crate::numbers::{chosen, put_whole};
 use crate::weighted::{chosen_group, put_entry, skewed};
+use crate::words::{put_word, put_words};
 use pd_outside::PageBuf;
 use philox_seeds::draw;
 use schema_check::ReadyLeaf;
@@ -57,6 +58,9 @@ pub(crate) fn put_leaf(leaf: &ReadyLeaf, seed: u64, buf: &mut PageBuf)
             characters,
             count,
         } => put_characters(characters, count, *lo + lengths.remainder(draw), seed, buf),
-        ReadyLeaf::Unserved => unreachable!(),
+        ReadyLeaf::Dict(words) => put_word(words, draw, buf),
+        ReadyLeaf::Words { lo, lengths, words } => {
+            put_words(words, *lo + lengths.remainder(draw), seed, buf);
+        }
     }
 }

@@ -17,6 +17,7 @@ mod leaves;
 mod numbers;
 mod values;
 mod weighted;
+mod words;
 
 pub use cohort_values::CohortValues;
 pub use values::{Put, RowAt, put_value};

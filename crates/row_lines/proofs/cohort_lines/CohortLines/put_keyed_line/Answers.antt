@@ -6,7 +6,7 @@ use Rattle.schema_check.specs.Layout.{ColumnLayout, layout_of, no_column}
 use Rattle.pd_outside.specs.Pages.{Page}
 use Rattle.row_lines.specs.CohortLines.{LinesOf, layout_for, text_in_cohort}
 use Rattle.row_lines.proofs.CohortLineLemmas.{AreLinesOf-view, length-columns, length-delimiter, line_in_cohort-fields, max_line-columns, room_in}
-use Rattle.row_lines.proofs.ListLemmas.{join_with_byte-range_more}
+use Rattle.draw_values.proofs.JoinLemmas.{join_with_byte-range_more}
 use Rattle.row_lines.proofs.cohort_lines.CohortLines.put_keyed_line.Goals as goal
 
 pub put_delimiter-requires : goal.put_delimiter-requires
