@@ -11,7 +11,8 @@ use Rattle.draw_values.proofs.words.put_words.Goals as goal
 between_size : (k : ℕ) → length {A = ℕ} (if k == 0 then [] else 32 ∷ []) ≤ min k 1
 between_size zero = omega arith
 between_size (suc k) =
-    let later : (if suc k == 0 then [] else 32 ∷ []) ≡ 32 ∷ [] = grind (arith, nat_tests) in
+    let space : List ℕ = 32 ∷ [] in
+    let later : (if suc k == 0 then [] else space) ≡ space = grind (arith, nat_tests) in
     omega (arith, ap (length {A = ℕ}) later)
 
 pub loop-k-preserved : goal.loop-k-preserved
