@@ -131,6 +131,7 @@ served_kind : (delimiter : ℕ) (columns : List Column) (kind : Kind) → is_unb
 served_kind delimiter columns (kind.Key base scramble) h = refl
 served_kind delimiter columns kind.Born h = refl
 served_kind delimiter columns (kind.Leaf leaf) h = served_leaf delimiter leaf h
+served_kind delimiter columns (kind.Template parts) h = refl
 served_kind delimiter columns (kind.Case on branches) h = served_branches delimiter branches h
 served_kind delimiter columns _ h = cc
 

@@ -58,7 +58,6 @@ is_served_leaf _ = true
 
 abbrev pub is_served_kind : ReadyKind → Bool
 is_served_kind kind.Unserved = false
-is_served_kind (kind.Template parts) = false
 is_served_kind (kind.Drawn drawn) = is_served_leaf drawn
 is_served_kind (kind.Case on branches) = list_all is_served_leaf branches
 is_served_kind _ = true

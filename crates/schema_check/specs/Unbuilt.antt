@@ -15,11 +15,12 @@ is_unbuilt_leaf (drawn.Dict file) = true
 is_unbuilt_leaf (drawn.Words file lo hi) = true
 is_unbuilt_leaf _ = false
 
--- such a value, a case with such a branch, templates, and what speaks of changes or of other rows
+-- such a value, a case with such a branch, and what speaks of changes or of other rows
 abbrev pub is_unbuilt_kind : Kind → Bool
 is_unbuilt_kind (kind.Key base scramble) = false
 is_unbuilt_kind kind.Born = false
 is_unbuilt_kind (kind.Leaf leaf) = is_unbuilt_leaf leaf
+is_unbuilt_kind (kind.Template parts) = false
 is_unbuilt_kind (kind.Case on branches) = list_any is_unbuilt_leaf branches
 is_unbuilt_kind _ = true
 

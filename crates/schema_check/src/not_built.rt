@@ -7,7 +7,7 @@ ghost use Rattle.schema_check.specs.Unbuilt.{is_unbuilt, is_unbuilt_table, is_un
 use schema_model::{Column, Kind, Leaf, Schema, Table};
 
 /// Whether a schema holds something that isn't built: a table with a life or updates, a column that changes, holds the unit of
-/// the last change, is a template or speaks of other rows, or a value of a dictionary, be it a column's own or a branch's.
+/// the last change or speaks of other rows, or a value of a dictionary, be it a column's own or a branch's.
 pub fn unbuilt(schema: &Schema) -> bool
     ensures { result ≡ is_unbuilt schema.now }
 {
@@ -45,7 +45,7 @@ fn is_unbuilt_kind(kind: &Kind) -> bool
     ensures { result ≡ is_unbuilt_kind kind.now }
 {
     match kind {
-        Kind::Key { .. } | Kind::Born => false,
+        Kind::Key { .. } | Kind::Born | Kind::Template { .. } => false,
         Kind::Leaf(leaf) => is_unbuilt_leaf(leaf),
         Kind::Case { branches, .. } => is_any_leaf_unbuilt(branches.as_slice()),
         _ => true,
