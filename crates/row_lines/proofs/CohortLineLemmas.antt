@@ -204,3 +204,14 @@ cohort_size-limit lines keys values columns first byte known =
       known.limits.row_limit,
       cohort-within (layout_for lines).births lines.born (last_unit lines.plan.schema) (omega (arith, known.born, known.unit)),
     )
+
+-- the ordinal of a row is no sum past 64 bits
+pub ordinal-limit : (lines : LinesOf) (keys : CohortOf) (values : ValuesOf) (columns : List ReadyColumn) (first byte : ℕ) → AreLinesOf lines keys values columns first byte →
+    (index : ℕ) → index < cohort_size (layout_for lines).births lines.born → first + index < 2 ^ 64
+ordinal-limit lines keys values columns first byte known index below =
+    omega (
+      arith,
+      known.first_is,
+      known.limits.row_limit,
+      cohort-within (layout_for lines).births lines.born (last_unit lines.plan.schema) (omega (arith, known.born, known.unit)),
+    )

@@ -7,12 +7,11 @@ use Rattle.std.proofs.lemmas.List.Elements.{All-map}
 use Rattle.std.proofs.lemmas.List.Folds.{flat_map-map, fold-map}
 use Rattle.row_text.specs.Fields.{escaped, field_text, piece_text}
 use Rattle.row_text.proofs.DigitLemmas.{piece_text-decimal}
-use Rattle.schema_check.specs.declared.ready.ReadyKind.{ReadyKind}
 use Rattle.schema_check.specs.declared.ready.ReadyKind.TheVariants.{Key, Template}
 use Rattle.schema_check.specs.declared.ready.ReadyPart.{ReadyPart}
 use Rattle.schema_check.specs.Cohorts.{cohort_size}
 use Rattle.schema_check.specs.FieldBounds.{bounds_alone, bounds_of, bounds_of_part}
-use Rattle.schema_check.specs.Layout.{ColumnLayout, KindLayout, PartLayout, TableLayout, born_kind, changed_kind, cited_part, column_at, key_kind, layout_of, leaf_kind, literal_part, reference_kind, template_kind}
+use Rattle.schema_check.specs.Layout.{KindLayout, PartLayout, TableLayout, born_kind, changed_kind, cited_part, column_at, key_kind, layout_of, leaf_kind, literal_part, reference_kind, template_kind}
 use Rattle.schema_check.specs.Limits.{AreParts, IsKindInLimits, IsPart, is_cited}
 use Rattle.schema_check.specs.Ready.{is_served_kind, ready_kind, ready_part}
 use Rattle.draw_values.specs.CohortValues.{ValuesOf, is_null_for, value_for}
@@ -47,6 +46,11 @@ bounds_of-cited delimiter tables table changed_kind cited = refl
 bounds_of-cited delimiter tables table (leaf_kind leaf) cited = refl
 bounds_of-cited delimiter tables table (reference_kind parent window spread) cited = refl
 bounds_of-cited delimiter tables table _ cited = cc
+
+-- a key takes 20 bytes
+pub cited_size-key : (lines : LinesOf) (place : ℕ) → (column_at (layout_for lines).columns place).kind ≡ key_kind → cited_size lines place ≡ 20
+cited_size-key lines place is =
+    ap (λ (kind : KindLayout). (bounds_alone (layout_of lines.plan.schema).delimiter (layout_of lines.plan.schema).tables (layout_for lines) kind).size) is
 
 pub size_for-cited : (lines : LinesOf) (column : ℕ) → IsCitable lines column → size_for lines column ≡ cited_size lines column
 size_for-cited lines column citable =

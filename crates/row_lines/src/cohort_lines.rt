@@ -232,7 +232,7 @@ impl<'a> CohortLines<'a> {
         match &columns[column].kind {
             ReadyKind::Key => buf.put_number(key),
             _ => {
-                let _put = self.values.put(column, self.first + index, buf);
+                self.values.put(column, self.first + index, buf);
             }
         }
     }

@@ -14,7 +14,7 @@ ghost use Rattle.life_intervals.specs.Intervals.{is_live, living, row_at};
 ghost use Rattle.life_intervals.specs.Keys.{key_of};
 ghost use Rattle.life_intervals.specs.Rows.{Row};
 ghost use Rattle.row_lines.specs.Lines.{cohort_text, field, first_lines, key_line_of, line_of, part_text, table_text, text_before};
-ghost use Rattle.row_lines.specs.Worked.{one, pairs};
+ghost use Rattle.row_lines.specs.Worked.{labels, one, pairs};
 
 /// The text of a table at a unit is the lines of the ordinals that are born by then and alive.
 pub fn text_is_the_lines_of_the_living()
@@ -116,4 +116,5 @@ pub fn worked_texts()
     ensures empty { table_text pairs 0 0 ≡ [] }
     ensures at_unit_0_alone { table_text pairs 2 1 ≡ codes "0\n1\n" }
     ensures past_the_tables { table_text pairs 2 2 ≡ [] }
+    ensures templates { table_text labels 1 0 ≡ codes "1\t\\N\tr1!\t[]\ta\\tb\\\\\t11\t\\N\n2\t\\N\tr2!\t[]\ta\\tb\\\\\t22\t\\N\n" }
 {}
