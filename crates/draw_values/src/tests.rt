@@ -13,7 +13,7 @@ use crate::fixed::put_fixed;
 use crate::numbers::{chosen, put_whole};
 use fixed_divisors::FixedDivisor;
 use pd_outside::PageBuf;
-use schema_check::{Plan, ReadyKind, check, unbuilt};
+use schema_check::{Dictionaries, Plan, ReadyKind, check, unbuilt};
 use schema_model::{
     Column, Columns, Delimiter, Kind, Leaf, Leaves, Longs, Memory, Schema, Table, Tables, Text,
     Texts,
@@ -289,7 +289,7 @@ fn plan(alloc: Global, rows: i64, insert: i64, delimiter: Delimiter) -> Result<P
     if unbuilt(&schema) {
         return Err(Fail::from("not built"));
     }
-    match check(alloc, schema) {
+    match check(alloc, schema, Dictionaries::new(alloc)) {
         Ok(plan) => Ok(plan),
         Err(fault) => Err(Fail::from(fault)),
     }

@@ -7,7 +7,7 @@ ghost use Rattle.life_intervals.specs.KeyOrders.{key_orders};
 
 use super::*;
 use id_permutation::Order;
-use schema_check::{Plan, check, unbuilt};
+use schema_check::{Dictionaries, Plan, check, unbuilt};
 use schema_model::{Column, Columns, Delimiter, Kind, Schema, Table, Tables, Text};
 use std::alloc::{AllocError, Global};
 use std::marker::Brand;
@@ -61,7 +61,7 @@ fn plan(alloc: Global, keys: KeyTable) -> Result<Plan, Fail> {
     if unbuilt(&schema) {
         return Err(Fail::from("not built"));
     }
-    match check(alloc, schema) {
+    match check(alloc, schema, Dictionaries::new(alloc)) {
         Ok(plan) => Ok(plan),
         Err(fault) => Err(Fail::from(fault)),
     }

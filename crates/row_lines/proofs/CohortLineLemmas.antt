@@ -8,10 +8,11 @@ use Rattle.std.proofs.lemmas.List.Sums.{sum_by_more_le}
 use Rattle.row_text.specs.Fields.{field_text}
 use Rattle.row_text.proofs.DigitLemmas.{piece_text-decimal}
 use Rattle.schema_check.specs.declared.ready.ReadyColumn.{ReadyColumn}
-use Rattle.schema_check.specs.declared.ready.ReadyKind.TheVariants.{Key}
+use Rattle.schema_check.specs.declared.ready.ReadyKind.TheVariants.{Key, Template}
+use Rattle.schema_check.specs.declared.ready.ReadyPart.{ReadyPart}
 use Rattle.schema_check.specs.Cohorts.{cohort_size}
 use Rattle.schema_check.specs.FieldBounds.{bounds_of}
-use Rattle.schema_check.specs.Layout.{ColumnLayout, KindLayout, born_kind, case_kind, column_at, key_kind, layout_of, leaf_kind, no_column}
+use Rattle.schema_check.specs.Layout.{ColumnLayout, KindLayout, born_kind, case_kind, column_at, key_kind, layout_of, leaf_kind, no_column, template_kind}
 use Rattle.schema_check.specs.Lineage.{one_if}
 use Rattle.schema_check.specs.Ready.{is_served, is_served_kind, ready_column, ready_kind}
 use Rattle.schema_check.specs.TableFacts.{line_cost, max_line}
@@ -21,10 +22,11 @@ use Rattle.draw_values.specs.declared.values.Put.TheVariants.{Text, Null}
 use Rattle.draw_values.specs.Values.{is_own, own_field, put_of, written}
 use Rattle.life_intervals.specs.CohortKeys.{CohortOf}
 use Rattle.life_intervals.specs.Generator.{Generator, generator_of, last_unit}
+use Rattle.life_intervals.specs.Intervals.{row_at}
 use Rattle.life_intervals.proofs.CohortLemmas.{birth-first_ordinal, cohort-within}
 use Rattle.life_intervals.proofs.KeyLemmas.{key_of-first_ordinal}
 use Rattle.row_lines.specs.CohortLines.{AreLinesOf, LinesOf, key_for, layout_for, line_in_cohort, ordinal_of, size_for, text_in_cohort}
-use Rattle.row_lines.specs.Lines.{line}
+use Rattle.row_lines.specs.Lines.{field, line}
 use Rattle.row_lines.proofs.FieldLemmas.{field-key, field-own}
 
 -- what the field of a column takes at most: bytes, with the one behind, and permutations
@@ -85,17 +87,19 @@ pub served_at : (columns : List ReadyColumn) → All (λ column. is_served colum
     place < length columns → column ≡ get_or columns place column → is_served column ≡ true
 served_at columns served place column within is = ap is_served is ∙ served place column within
 
--- a column that is ready as a key is one, and any other that is served needs no other row
+-- a column that is ready as a key is one, and any other that is served and no template is made of units and of draws
 pub key_from_ready : (delimiter : ℕ) (kind : KindLayout) → ready_kind delimiter kind ≡ Key → kind ≡ key_kind
 key_from_ready delimiter key_kind is = refl
 key_from_ready delimiter _ is = cc
 
-pub own_from_ready : (delimiter : ℕ) (kind : KindLayout) → is_served_kind (ready_kind delimiter kind) ≡ true → (ready_kind delimiter kind ≡ Key → ⊥) → is_own kind ≡ true
-own_from_ready delimiter key_kind served no_key = absurd (no_key refl)
-own_from_ready delimiter born_kind served no_key = refl
-own_from_ready delimiter (leaf_kind leaf) served no_key = refl
-own_from_ready delimiter (case_kind on branches) served no_key = refl
-own_from_ready delimiter _ served no_key = cc
+pub own_from_ready : (delimiter : ℕ) (kind : KindLayout) → is_served_kind (ready_kind delimiter kind) ≡ true → (ready_kind delimiter kind ≡ Key → ⊥) →
+    ((parts : List ReadyPart) → ready_kind delimiter kind ≡ Template parts → ⊥) → is_own kind ≡ true
+own_from_ready delimiter key_kind served no_key no_template = absurd (no_key refl)
+own_from_ready delimiter born_kind served no_key no_template = refl
+own_from_ready delimiter (leaf_kind leaf) served no_key no_template = refl
+own_from_ready delimiter (template_kind parts) served no_key no_template = absurd (no_template _ refl)
+own_from_ready delimiter (case_kind on branches) served no_key no_template = refl
+own_from_ready delimiter _ served no_key no_template = cc
 
 -- a line may ask the permutation of its key, which is its first field
 pub scramble-line_cost : (lines : LinesOf) (keys : CohortOf) (values : ValuesOf) (columns : List ReadyColumn) (first byte : ℕ) → AreLinesOf lines keys values columns first byte →
@@ -117,35 +121,53 @@ pub key_never_null : (columns : List ColumnLayout) (place : ℕ) → (column_at 
 key_never_null columns zero never no_other within is = never
 key_never_null columns (suc other) never no_other within is = absurd (no_other other within is)
 
+-- what the row with an index in the cohort holds in the column at a place
+abbrev pub held_in_cohort : LinesOf → ℕ → ℕ → Option (List ℕ)
+held_in_cohort lines index place =
+    field (generator_of lines.plan) lines.unit lines.table (row_at (layout_for lines) lines.unit (ordinal_of lines index)) place
+
 -- what a key takes, and how it is written
 pub size-key : (lines : LinesOf) (place : ℕ) → (column_at (layout_for lines).columns place).kind ≡ key_kind → size_for lines place ≡ 20
 size-key lines place is =
     ap (λ (kind : KindLayout). (bounds_of (layout_of lines.plan).delimiter (layout_of lines.plan).tables (layout_for lines) kind).size) is
+
+pub held-key : (lines : LinesOf) (place index key : ℕ) → (column_at (layout_for lines).columns place).kind ≡ key_kind →
+    (column_at (layout_for lines).columns place).null ≡ 0 → lines.born ≤ lines.unit →
+    index < cohort_size (layout_for lines).births lines.born → key ≡ key_for lines index →
+    held_in_cohort lines index place ≡ Some (decimal key)
+held-key lines place index key is never within below key_is =
+    let generator : Generator = generator_of lines.plan in
+    field-key generator lines.unit lines.table (ordinal_of lines index) place is never
+    ∙ ap (λ (k : ℕ). Some (decimal k)) (key_of-first_ordinal generator lines.table lines.unit lines.born index within below ∙ sym key_is)
 
 pub text-key : (lines : LinesOf) (place index key : ℕ) → (column_at (layout_for lines).columns place).kind ≡ key_kind →
     (column_at (layout_for lines).columns place).null ≡ 0 → lines.born ≤ lines.unit →
     index < cohort_size (layout_for lines).births lines.born → key ≡ key_for lines index → key < 2 ^ 64 →
     text_in_cohort lines index place ≡ decimal key
 text-key lines place index key is never within below key_is small =
-    let generator : Generator = generator_of lines.plan in
-    ap (field_text generator.delimiter) (field-key generator lines.unit lines.table (ordinal_of lines index) place is never)
-    ∙ ap (λ (k : ℕ). field_text generator.delimiter (Some (decimal k))) (key_of-first_ordinal generator lines.table lines.unit lines.born index within below ∙ sym key_is)
-    ∙ piece_text-decimal generator.delimiter key small
+    ap (field_text (layout_of lines.plan).delimiter) (held-key lines place index key is never within below key_is)
+    ∙ piece_text-decimal (layout_of lines.plan).delimiter key small
 
 -- what a column holds that needs no other row, as the values of the cohort have it
+pub held-own : (lines : LinesOf) (values : ValuesOf) (place index ordinal : ℕ) → values ≡ record { plan = lines.plan; table = lines.table; unit = lines.born } →
+    ordinal ≡ ordinal_of lines index → is_own (column_at (layout_for lines).columns place).kind ≡ true → lines.born ≤ lines.unit →
+    index < cohort_size (layout_for lines).births lines.born →
+    held_in_cohort lines index place ≡ value_for values place ordinal
+held-own lines values place index ordinal values_are ordinal_is own within below =
+    let generator : Generator = generator_of lines.plan in
+    let at : ℕ → RowAt = λ born. record { ordinal = ordinal_of lines index; born = born; changed = born } in
+    let held : ℕ → Option (List ℕ) = λ born. own_field (layout_for lines).columns (at born) (λ column. generator.draw lines.table column born (ordinal_of lines index)) place in
+    field-own generator lines.unit lines.table (ordinal_of lines index) place own
+    ∙ ap held (birth-first_ordinal (layout_for lines).births lines.unit lines.born index within below)
+    ∙ ap (value_for (record { plan = lines.plan; table = lines.table; unit = lines.born }) place) (sym ordinal_is)
+    ∙ ap (λ (of : ValuesOf). value_for of place ordinal) (sym values_are)
+
 pub text-own : (lines : LinesOf) (values : ValuesOf) (place index ordinal : ℕ) → values ≡ record { plan = lines.plan; table = lines.table; unit = lines.born } →
     ordinal ≡ ordinal_of lines index → is_own (column_at (layout_for lines).columns place).kind ≡ true → lines.born ≤ lines.unit →
     index < cohort_size (layout_for lines).births lines.born →
     text_in_cohort lines index place ≡ field_text (layout_of lines.plan).delimiter (value_for values place ordinal)
 text-own lines values place index ordinal values_are ordinal_is own within below =
-    let generator : Generator = generator_of lines.plan in
-    let at : ℕ → RowAt = λ born. record { ordinal = ordinal_of lines index; born = born; changed = born } in
-    let held : ℕ → Option (List ℕ) = λ born. own_field (layout_for lines).columns (at born) (λ column. generator.draw lines.table column born (ordinal_of lines index)) place in
-    ap (field_text generator.delimiter)
-    (field-own generator lines.unit lines.table (ordinal_of lines index) place own
-    ∙ ap held (birth-first_ordinal (layout_for lines).births lines.unit lines.born index within below)
-    ∙ ap (value_for (record { plan = lines.plan; table = lines.table; unit = lines.born }) place) (sym ordinal_is)
-    ∙ ap (λ (of : ValuesOf). value_for of place ordinal) (sym values_are))
+    ap (field_text (layout_of lines.plan).delimiter) (held-own lines values place index ordinal values_are ordinal_is own within below)
 
 -- a value that isn't null is written as its field, and a null one leaves nothing before it
 pub written-text : (delimiter : ℕ) (value : Option (List ℕ)) → Text ≡ put_of value → written delimiter value ≡ field_text delimiter value
@@ -179,6 +201,17 @@ pub cohort_size-limit : (lines : LinesOf) (keys : CohortOf) (values : ValuesOf) 
 cohort_size-limit lines keys values columns first byte known =
     omega (
       arith,
+      known.limits.row_limit,
+      cohort-within (layout_for lines).births lines.born (last_unit lines.plan) (omega (arith, known.born, known.unit)),
+    )
+
+-- the ordinal of a row is no sum past 64 bits
+pub ordinal-limit : (lines : LinesOf) (keys : CohortOf) (values : ValuesOf) (columns : List ReadyColumn) (first byte : ℕ) → AreLinesOf lines keys values columns first byte →
+    (index : ℕ) → index < cohort_size (layout_for lines).births lines.born → first + index < 2 ^ 64
+ordinal-limit lines keys values columns first byte known index below =
+    omega (
+      arith,
+      known.first_is,
       known.limits.row_limit,
       cohort-within (layout_for lines).births lines.born (last_unit lines.plan) (omega (arith, known.born, known.unit)),
     )

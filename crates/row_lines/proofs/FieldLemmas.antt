@@ -1,16 +1,17 @@
 -- What a row holds in a column, and how long it is.
-use Rattle.std.proofs.Common.{◌≡◌, ◌<◌, ◌≤◌, ◌^◌, ℕ, ◌%◌, ◌++◌, Bool, Option, Some, None, length, codes, decimal, false, true, if◌then◌else◌, nat_lt, refl, ap, sym, ◌∙◌, arith}
+use Rattle.std.proofs.Common.{◌≡◌, ◌<◌, ◌≤◌, ◌^◌, ℕ, ◌%◌, List, [], ◌++◌, flat_map, unwrap_or, Bool, Option, Some, None, length, codes, decimal, false, true, if◌then◌else◌, nat_lt, refl, ap, sym, ◌∙◌, arith}
 use Rattle.std.proofs.lemmas.Bool.Decides.{nat_tests}
 use Rattle.std.proofs.lemmas.Fmt.{length-decimal-le}
 use Rattle.row_text.specs.Fields.{field_text}
 use Rattle.schema_check.specs.Cohorts.{born_count}
-use Rattle.schema_check.specs.Layout.{ColumnLayout, KindLayout, LeafLayout, born_kind, case_kind, column_at, key_kind, leaf_kind, table_at}
+use Rattle.schema_check.specs.Layout.{ColumnLayout, KindLayout, LeafLayout, PartLayout, born_kind, case_kind, changed_kind, cited_part, column_at, key_kind, leaf_kind, reference_kind, table_at, template_kind}
+use Rattle.schema_check.specs.Limits.{is_cited}
 use Rattle.draw_values.specs.Values.{Draws, is_own, leaf_value, own_field, own_value, unless_null}
 use Rattle.life_intervals.specs.Generator.{Generator}
 use Rattle.life_intervals.specs.Intervals.{row_at}
 use Rattle.life_intervals.specs.Keys.{key_of}
 use Rattle.life_intervals.specs.Rows.{Row}
-use Rattle.row_lines.specs.Lines.{at_row, draws_of, field, key_line_of, value}
+use Rattle.row_lines.specs.Lines.{at_row, draws_of, field, field_alone, key_line_of, part_text, value, value_alone}
 use Rattle.row_lines.proofs.LineLemmas.{key_of-by}
 
 -- a field of a column that is never null
@@ -46,6 +47,36 @@ field-own generator unit place ordinal column own =
     let row : Row = row_at (table_at generator.tables place) unit ordinal in
     let of : ColumnLayout = column_at (table_at generator.tables place).columns column in
     ap (unless_null of.null (draws_of generator place row column)) (value-own generator place column row of.kind own)
+
+-- what a template may cite is the field itself
+value-cited : (generator : Generator) (place column : ℕ) (row : Row) (kind : KindLayout) → is_cited kind ≡ true →
+    value generator place row column kind ≡ value_alone generator place row column kind
+value-cited generator place column row key_kind cited = refl
+value-cited generator place column row born_kind cited = refl
+value-cited generator place column row changed_kind cited = refl
+value-cited generator place column row (leaf_kind leaf) cited = refl
+value-cited generator place column row (reference_kind parent window spread) cited = refl
+value-cited generator place column row _ cited = cc
+
+pub field-cited : (generator : Generator) (unit place column : ℕ) (row : Row) → is_cited (column_at (table_at generator.tables place).columns column).kind ≡ true →
+    field generator unit place row column ≡ field_alone generator place row column
+field-cited generator unit place column row cited =
+    let of : ColumnLayout = column_at (table_at generator.tables place).columns column in
+    ap (unless_null of.null (draws_of generator place row column)) (value-cited generator place column row of.kind cited)
+
+pub part_text-cited : (generator : Generator) (unit place column : ℕ) (row : Row) → is_cited (column_at (table_at generator.tables place).columns column).kind ≡ true →
+    part_text generator place row (cited_part column) ≡ unwrap_or (field generator unit place row column) []
+part_text-cited generator unit place column row cited =
+    ap (λ (held : Option (List ℕ)). unwrap_or held []) (sym (field-cited generator unit place column row cited))
+
+-- the parts of a template
+pub field-template : (generator : Generator) (unit place ordinal column : ℕ) (parts : List PartLayout) → (column_at (table_at generator.tables place).columns column).kind ≡ template_kind parts →
+    field generator unit place (row_at (table_at generator.tables place) unit ordinal) column
+    ≡ unless_null (column_at (table_at generator.tables place).columns column).null (draws_of generator place (row_at (table_at generator.tables place) unit ordinal) column)
+    (Some (flat_map (part_text generator place (row_at (table_at generator.tables place) unit ordinal)) parts))
+field-template generator unit place ordinal column parts is =
+    let row : Row = row_at (table_at generator.tables place) unit ordinal in
+    ap (λ (kind : KindLayout). unless_null (column_at (table_at generator.tables place).columns column).null (draws_of generator place row column) (value generator place row column kind)) is
 
 -- its unit of birth
 pub field-born : (generator : Generator) (unit place ordinal column : ℕ) → (column_at (table_at generator.tables place).columns column).kind ≡ born_kind →

@@ -1,3 +1,4 @@
 pub mod Lines
 pub mod CohortLines
+pub mod Parts
 pub mod Worked

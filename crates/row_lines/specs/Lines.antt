@@ -1,9 +1,9 @@
 -- The text of a table: a line for each row, in COPY text form (PostgreSQL's manual, "COPY").
-use Rattle.std.specs.Prelude.{ℕ, List, ◌++◌, filter, map, flat_map, length, Option, Some, codes, decimal}
+use Rattle.std.specs.Prelude.{ℕ, List, [], ◌++◌, filter, map, flat_map, length, Option, Some, codes, decimal, unwrap_or}
 use Rattle.std.specs.List.{join_with_byte, range_with_len}
 use Rattle.row_text.specs.Fields.{field_text}
 use Rattle.schema_check.specs.Cohorts.{cohort_size, first_ordinal}
-use Rattle.schema_check.specs.Layout.{KindLayout, key_kind, template_kind, reference_kind, lookup_kind, table_at, column_at}
+use Rattle.schema_check.specs.Layout.{PartLayout, literal_part, cited_part, KindLayout, key_kind, template_kind, reference_kind, lookup_kind, table_at, column_at}
 use Rattle.draw_values.specs.declared.values.RowAt.{RowAt}
 use Rattle.draw_values.specs.Values.{RowDraws, own_value, not_served, unless_null}
 use Rattle.life_intervals.specs.Generator.{Generator}
@@ -20,15 +20,32 @@ at_row row = record { ordinal = row.ordinal; born = row.born; changed = row.chan
 abbrev pub draws_of : Generator → ℕ → Row → RowDraws
 draws_of generator place row column = generator.draw place column row.born row.ordinal
 
--- what a row of the table at a place holds in the column at a place, which is of this kind, where that isn't null by its own draw
-abbrev pub value : Generator → ℕ → Row → ℕ → KindLayout → Option (List ℕ)
-value generator place row column key_kind =
+-- what a row of the table at a place holds in the column at a place, which is of this kind and puts no fields together, where that
+-- isn't null by its own draw
+abbrev pub value_alone : Generator → ℕ → Row → ℕ → KindLayout → Option (List ℕ)
+value_alone generator place row column key_kind =
     Some (decimal (key_in_cohort generator place row.born (index_in_cohort (table_at generator.tables place) row)))
-value generator place row column (template_kind parts) = not_served
+value_alone generator place row column kind =
+    own_value (table_at generator.tables place).columns (at_row row) (draws_of generator place row) column kind
+
+-- what it holds in such a column, None where it is null
+abbrev pub field_alone : Generator → ℕ → Row → ℕ → Option (List ℕ)
+field_alone generator place row column =
+    unless_null (column_at (table_at generator.tables place).columns column).null (draws_of generator place row column)
+    (value_alone generator place row column (column_at (table_at generator.tables place).columns column).kind)
+
+-- the text of a part of a template: a literal, or what the row holds in the column that is cited; nothing where that is null
+abbrev pub part_text : Generator → ℕ → Row → PartLayout → List ℕ
+part_text generator place row (literal_part bytes) = bytes
+part_text generator place row (cited_part column) = unwrap_or (field_alone generator place row column) []
+
+-- what a row of the table at a place holds in the column at a place, which is of this kind, where that isn't null by its own draw: in a
+-- template its parts, one after the other
+abbrev pub value : Generator → ℕ → Row → ℕ → KindLayout → Option (List ℕ)
+value generator place row column (template_kind parts) = Some (flat_map (part_text generator place row) parts)
 value generator place row column (reference_kind parent window spread) = not_served
 value generator place row column (lookup_kind via parent name) = not_served
-value generator place row column kind =
-    own_value (table_at generator.tables place).columns (at_row row) (draws_of generator place row) column kind
+value generator place row column kind = value_alone generator place row column kind
 
 -- what a row of the table at a place holds at a unit in the column at a place, None where it is null. Columns that change aren't served
 -- yet, and no value that is speaks of other rows: so the unit isn't asked yet

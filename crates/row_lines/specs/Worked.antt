@@ -1,6 +1,6 @@
 -- Small generators, whose tables can be worked out by hand.
-use Rattle.std.specs.Prelude.{ℕ, ◌-◌, Bool, false, true, List, [], ◌∷◌, None}
-use Rattle.schema_check.specs.Layout.{KindLayout, key_kind, born_kind, ColumnLayout, TableLayout}
+use Rattle.std.specs.Prelude.{ℕ, ◌-◌, Bool, false, true, List, [], ◌∷◌, None, codes}
+use Rattle.schema_check.specs.Layout.{literal_part, cited_part, KindLayout, key_kind, born_kind, template_kind, ColumnLayout, TableLayout}
 use Rattle.life_intervals.specs.Generator.{Order, Draw, in_place, Generator}
 
 -- a column that neither changes nor is null
@@ -42,4 +42,23 @@ pairs = record {
   order = swapped;
   draw = no_draw;
   delimiter = 124;
+}
+
+-- a column that is null by each draw of 0
+abbrev pub nulled : KindLayout → ColumnLayout
+nulled kind = record { kind = kind; changes = false; null = 1 }
+
+-- a table of a row at each unit: its key, counted from 1, its birth unit, which is null, and templates: one of the key, one of what is
+-- null, one of a tab and a backslash, one of two keys, and one that is null itself; tabs between
+abbrev pub labels : Generator
+labels = record {
+  tables = table 1 1 1 false (nulled born_kind
+      ∷ plain (template_kind (literal_part (codes "r") ∷ cited_part 0 ∷ literal_part (codes "!") ∷ []))
+      ∷ plain (template_kind (literal_part (codes "[") ∷ cited_part 1 ∷ literal_part (codes "]") ∷ []))
+      ∷ plain (template_kind (literal_part (codes "a\tb\\") ∷ []))
+      ∷ plain (template_kind (cited_part 0 ∷ cited_part 0 ∷ []))
+      ∷ nulled (template_kind (cited_part 0 ∷ [])) ∷ []) ∷ [];
+  order = in_place;
+  draw = no_draw;
+  delimiter = 9;
 }

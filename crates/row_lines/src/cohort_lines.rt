@@ -1,23 +1,26 @@
 //! The lines of the rows of a cohort, with what doesn't change from row to row taken once.
 
-ghost use Rattle.std.specs.Prelude.{◌≡◌, ◌<◌, ◌≤◌, ℕ, ◌+◌, ◌*◌, ◌==◌, get_or, [], ◌∷◌, ◌++◌, if◌then◌else◌, true, length, min};
+ghost use Rattle.std.specs.Prelude.{◌≡◌, ◌<◌, ◌≤◌, ℕ, ◌+◌, ◌*◌, ◌==◌, get_or, [], ◌∷◌, ◌++◌, if◌then◌else◌, true, All, flat_map, length, min, sum_by};
+ghost use Rattle.schema_check.specs.declared.ready.ReadyKind.TheVariants.{Template};
 ghost use Rattle.schema_check.specs.Cohorts.{cohort_size};
 ghost use Rattle.schema_check.specs.Delimiters.{delimiter_byte as byte_of};
 ghost use Rattle.schema_check.specs.Layout.{column_at, layout_of};
 ghost use Rattle.schema_check.specs.Lineage.{one_if};
+ghost use Rattle.schema_check.specs.Ready.{ready_kind};
 ghost use Rattle.schema_check.specs.TableFacts.{line_cost, max_line};
 ghost use Rattle.draw_values.specs.Values.{is_own};
 ghost use Rattle.life_intervals.specs.Generator.{last_unit};
 ghost use Rattle.life_intervals.specs.Intervals.{is_live};
 ghost use Rattle.life_intervals.specs.KeyOrders.{key_order};
 ghost use Rattle.row_lines.specs.CohortLines.{key_for, layout_for, line_in_cohort, ordinal_of, size_for, text_in_cohort};
+ghost use Rattle.row_lines.specs.Parts.{IsCitable, IsPartOf, cited_size, cited_text, part_size, written_part};
 
 use draw_values::{CohortValues, Put};
 use id_permutation::Order;
 use life_intervals::{CohortKeys, cohort};
 use pd_outside::{PageBuf, Piece};
 use row_text::put_null;
-use schema_check::{Plan, ReadyColumn, ReadyKind};
+use schema_check::{Plan, ReadyColumn, ReadyKind, ReadyPart};
 use schema_model::Delimiter;
 use std::marker::Model;
 use std::sync::ledger::Ledger;
@@ -154,7 +157,83 @@ impl<'a> CohortLines<'a> {
         let columns = self.columns;
         match &columns[column].kind {
             ReadyKind::Key => buf.put_number(key),
+            ReadyKind::Template { parts } => {
+                self.put_template(column, parts.as_slice(), index, key, buf)
+            }
             _ => self.put_own(column, index, buf),
+        }
+    }
+
+    /// Appends the field of a template with these parts.
+    fn put_template(
+        &self,
+        column: usize,
+        parts: &[ReadyPart],
+        index: u64,
+        key: u64,
+        buf: &mut PageBuf,
+    )
+        requires column { column < length (layout_for self.now).columns }
+        requires template { ready_kind (layout_of self.now.plan).delimiter (column_at (layout_for self.now).columns column).kind ≡ Template parts.now }
+        requires row { index < cohort_size (layout_for self.now).births self.now.born }
+        requires key { key ≡ key_for self.now index }
+        requires room { length buf.old.text + size_for self.now column ≤ buf.old.room }
+        ensures text { buf.new ≡ record buf.old { text = buf.old.text ++ text_in_cohort self.now index column } }
+        ensures size { length (text_in_cohort self.now index column) ≤ size_for self.now column }
+    {
+        if self.values.is_null(column, self.first + index) {
+            put_null(buf);
+        } else {
+            self.put_parts(parts, index, key, buf);
+        }
+    }
+
+    /// Appends some parts, one after the other.
+    fn put_parts(&self, parts: &[ReadyPart], index: u64, key: u64, buf: &mut PageBuf)
+        requires parts { All (IsPartOf self.now) parts.now }
+        requires row { index < cohort_size (layout_for self.now).births self.now.born }
+        requires key { key ≡ key_for self.now index }
+        requires room { length buf.old.text + sum_by (part_size self.now) parts.now ≤ buf.old.room }
+        ensures text { buf.new ≡ record buf.old { text = buf.old.text ++ flat_map (written_part self.now index) parts.now } }
+        ensures size { length (flat_map (written_part self.now index) parts.now) ≤ sum_by (part_size self.now) parts.now }
+    {
+        for part in parts {
+            self.put_part(part, index, key, buf);
+        }
+    }
+
+    /// Appends a part.
+    #[inline(always)]
+    fn put_part(&self, part: &ReadyPart, index: u64, key: u64, buf: &mut PageBuf)
+        requires part { IsPartOf self.now part.now }
+        requires row { index < cohort_size (layout_for self.now).births self.now.born }
+        requires key { key ≡ key_for self.now index }
+        requires room { length buf.old.text + part_size self.now part.now ≤ buf.old.room }
+        ensures text { buf.new ≡ record buf.old { text = buf.old.text ++ written_part self.now index part.now } }
+        ensures size { length (written_part self.now index part.now) ≤ part_size self.now part.now }
+    {
+        match part {
+            ReadyPart::Literal(written) => buf.put(written.as_slice()),
+            ReadyPart::Cited(column) => self.put_cited(*column as usize, index, key, buf),
+        }
+    }
+
+    /// Appends the field of the column at a place, which may be cited; nothing where it is null.
+    #[inline(always)]
+    fn put_cited(&self, column: usize, index: u64, key: u64, buf: &mut PageBuf)
+        requires column { IsCitable self.now column }
+        requires row { index < cohort_size (layout_for self.now).births self.now.born }
+        requires key { key ≡ key_for self.now index }
+        requires room { length buf.old.text + cited_size self.now column ≤ buf.old.room }
+        ensures text { buf.new ≡ record buf.old { text = buf.old.text ++ cited_text self.now index column } }
+        ensures size { length (cited_text self.now index column) ≤ cited_size self.now column }
+    {
+        let columns = self.columns;
+        match &columns[column].kind {
+            ReadyKind::Key => buf.put_number(key),
+            _ => {
+                self.values.put(column, self.first + index, buf);
+            }
         }
     }
 

@@ -3,16 +3,18 @@
 //! A table is named by its place in the schema from 0. Units and ordinals count from 0, and so do the indices of a
 //! cohort's rows.
 
-ghost use Rattle.std.specs.Prelude.{◌≡◌, ℕ, ◌+◌, ◌<◌, ◌≤◌, ◌++◌, [], List, Some, codes, decimal, flat_map, if◌then◌else◌};
-ghost use Rattle.row_text.specs.Fields.{field_text};
+ghost use Rattle.std.specs.Prelude.{◌≡◌, ℕ, ◌+◌, ◌<◌, ◌≤◌, ◌++◌, [], List, Some, codes, decimal, flat_map, if◌then◌else◌, true, unwrap_or};
+ghost use Rattle.row_text.specs.Fields.{field_text, piece_text};
 ghost use Rattle.schema_check.specs.Cohorts.{born_count, cohort_size, first_ordinal};
-ghost use Rattle.schema_check.specs.Layout.{LeafLayout, born_kind, column_at, key_kind, leaf_kind, table_at};
+ghost use Rattle.schema_check.specs.Layout.{LeafLayout, PartLayout, born_kind, cited_part, column_at, key_kind, leaf_kind, literal_part, table_at, template_kind};
+ghost use Rattle.schema_check.specs.Limits.{is_cited};
 ghost use Rattle.draw_values.specs.Values.{leaf_value, unless_null};
 ghost use Rattle.life_intervals.specs.Generator.{Generator};
 ghost use Rattle.life_intervals.specs.Intervals.{is_live, living, row_at};
 ghost use Rattle.life_intervals.specs.Keys.{key_of};
-ghost use Rattle.row_lines.specs.Lines.{cohort_text, field, first_lines, key_line_of, line_of, table_text, text_before};
-ghost use Rattle.row_lines.specs.Worked.{one, pairs};
+ghost use Rattle.life_intervals.specs.Rows.{Row};
+ghost use Rattle.row_lines.specs.Lines.{cohort_text, field, first_lines, key_line_of, line_of, part_text, table_text, text_before};
+ghost use Rattle.row_lines.specs.Worked.{labels, one, pairs};
 
 /// The text of a table at a unit is the lines of the ordinals that are born by then and alive.
 pub fn text_is_the_lines_of_the_living()
@@ -54,8 +56,9 @@ pub fn text_so_far_begins_the_text()
         ≡ (text_before generator unit place born ++ first_lines generator unit place born count) ++ rest) }
 {}
 
-/// What a row holds at a unit by which it is born: its key in a key column that is never null; in a column of units of birth or of
-/// drawn values the unit, or what its draws at its birth give, unless draw 0 makes it null.
+/// What a row holds at a unit by which it is born: its key in a key column that is never null; in a column of units of birth, of
+/// drawn values or of templates the unit, what its draws at its birth give, or the template's parts one after the other, unless draw
+/// 0 makes it null. A part is a text, or what the row holds in the column that is cited, and nothing where that is null.
 pub fn fields_of_a_row()
     ensures key { (generator : Generator) (unit place ordinal column : ℕ) →
         (column_at (table_at generator.tables place).columns column).kind ≡ key_kind →
@@ -74,6 +77,24 @@ pub fn fields_of_a_row()
         ≡ unless_null (column_at (table_at generator.tables place).columns column).null
         (generator.draw place column (row_at (table_at generator.tables place) unit ordinal).born ordinal)
         (leaf_value leaf (generator.draw place column (row_at (table_at generator.tables place) unit ordinal).born ordinal)) }
+    ensures template { (generator : Generator) (unit place ordinal column : ℕ) (parts : List PartLayout) →
+        (column_at (table_at generator.tables place).columns column).kind ≡ template_kind parts →
+        field generator unit place (row_at (table_at generator.tables place) unit ordinal) column
+        ≡ unless_null (column_at (table_at generator.tables place).columns column).null
+        (generator.draw place column (row_at (table_at generator.tables place) unit ordinal).born ordinal)
+        (Some (flat_map (part_text generator place (row_at (table_at generator.tables place) unit ordinal)) parts)) }
+    ensures text { (generator : Generator) (place : ℕ) (row : Row) (bytes : List ℕ) →
+        part_text generator place row (literal_part bytes) ≡ bytes }
+    ensures cited { (generator : Generator) (unit place column : ℕ) (row : Row) →
+        is_cited (column_at (table_at generator.tables place).columns column).kind ≡ true →
+        part_text generator place row (cited_part column) ≡ unwrap_or (field generator unit place row column) [] }
+{}
+
+/// A template is escaped once: what is written for it is what is written for its parts, one after the other.
+pub fn templates_are_written_part_by_part()
+    ensures { (generator : Generator) (place : ℕ) (row : Row) (parts : List PartLayout) →
+        piece_text generator.delimiter (flat_map (part_text generator place row) parts)
+        ≡ flat_map (λ part. piece_text generator.delimiter (part_text generator place row part)) parts }
 {}
 
 /// The key line of a row is the key's field, as it is written, and a line feed, at any unit by which the row is born.
@@ -95,4 +116,5 @@ pub fn worked_texts()
     ensures empty { table_text pairs 0 0 ≡ [] }
     ensures at_unit_0_alone { table_text pairs 2 1 ≡ codes "0\n1\n" }
     ensures past_the_tables { table_text pairs 2 2 ≡ [] }
+    ensures templates { table_text labels 1 0 ≡ codes "1\t\\N\tr1!\t[]\ta\\tb\\\\\t11\t\\N\n2\t\\N\tr2!\t[]\ta\\tb\\\\\t22\t\\N\n" }
 {}

@@ -7,8 +7,8 @@ ghost use Rattle.life_intervals.specs.Generator.{last_unit};
 use super::*;
 use life_intervals::{born, cohort, key_order};
 use pd_outside::{Memory, PageBuf};
-use schema_check::{Plan, check, unbuilt};
-use schema_model::{Column, Columns, Delimiter, Kind, Schema, Table, Tables, Text};
+use schema_check::{Dictionaries, Plan, check, unbuilt};
+use schema_model::{Column, Columns, Delimiter, Kind, Part, Parts, Schema, Table, Tables, Text};
 use std::alloc::{AllocError, Global};
 use std::marker::Brand;
 use std::process::Abort;
@@ -21,13 +21,14 @@ fn with_column(
     columns: Columns,
     name: &str,
     kind: Kind,
+    null: i64,
 ) -> Result<Columns, AllocError> {
     let mut columns = columns;
     let column = Column {
         name: Text::of(alloc, name).map_err(|_| AllocError)?,
         kind,
         changes: false,
-        null: 0,
+        null,
     };
     columns.push(column).map_err(|_| AllocError)?;
     Ok(columns)
@@ -42,14 +43,23 @@ struct Births {
     scramble: bool,
 }
 
-/// The plan of one such table, with seed 7.
-fn plan(alloc: Global, births: Births) -> Result<Plan, Fail> {
+/// Its columns, where so many of a thousand birth units are null.
+fn columns(alloc: Global, births: Births, null: i64) -> Result<Columns, AllocError> {
     let key = Kind::Key {
         base: 1,
         scramble: births.scramble,
     };
-    let columns = with_column(alloc, Columns::new(alloc), "id", key)?;
-    let columns = with_column(alloc, columns, "born", Kind::Born)?;
+    let columns = with_column(alloc, Columns::new(alloc), "id", key, 0)?;
+    with_column(alloc, columns, "born", Kind::Born, null)
+}
+
+/// The plan of one such table, with seed 7.
+fn plan(alloc: Global, births: Births) -> Result<Plan, Fail> {
+    plan_with(alloc, births, columns(alloc, births, 0)?)
+}
+
+/// The plan of such a table with these columns, with seed 7.
+fn plan_with(alloc: Global, births: Births, columns: Columns) -> Result<Plan, Fail> {
     let table = Table {
         name: Text::of(alloc, "t").map_err(|_| AllocError)?,
         rows: births.rows,
@@ -69,7 +79,7 @@ fn plan(alloc: Global, births: Births) -> Result<Plan, Fail> {
     if unbuilt(&schema) {
         return Err(Fail::from("not built"));
     }
-    match check(alloc, schema) {
+    match check(alloc, schema, Dictionaries::new(alloc)) {
         Ok(plan) => Ok(plan),
         Err(fault) => Err(Fail::from(fault)),
     }
@@ -164,6 +174,45 @@ fn lines_and_keys(rt: HostRuntime) -> Result<(), Fail> {
     let long = plan(alloc, long())?;
     let lines = [(9_999, "10000\t10000\n", "10000\n")];
     assert_lines::<Brand>(&rt, alloc, &long, &lines, Blank::new(1))
+}
+
+/// A template: an r, the key, a tab, the unit of birth, a mark and the key again.
+fn label(alloc: Global) -> Result<Kind, AllocError> {
+    let mut parts = Parts::new(alloc);
+    for (text, cited) in [("r", "id"), ("\t", "born"), ("!", "id")] {
+        let text = Text::of(alloc, text).map_err(|_| AllocError)?;
+        parts.push(Part::Literal(text)).map_err(|_| AllocError)?;
+        let cited = Text::of(alloc, cited).map_err(|_| AllocError)?;
+        parts.push(Part::Cited(cited)).map_err(|_| AllocError)?;
+    }
+    Ok(Kind::Template { parts })
+}
+
+/// The plan of scrambled keys, units of birth of which half are null, and labels of these of which 300 of a thousand are.
+fn labelled(alloc: Global) -> Result<Plan, Fail> {
+    let births = Births {
+        rows: 4,
+        insert: 2,
+        units: 2,
+        scramble: true,
+    };
+    let columns = columns(alloc, births, 500)?;
+    let columns = with_column(alloc, columns, "label", label(alloc)?, 300)?;
+    plan_with(alloc, births, columns)
+}
+
+// From the Python program: a label, one that cites a null unit, and one that is null itself.
+#[test]
+fn lines_of_templates(rt: HostRuntime) -> Result<(), Fail> {
+    let alloc = rt.alloc();
+    let plan = labelled(alloc)?;
+    let lines = [
+        (0, "3\t\\N\t\\N\n", "3\n"),
+        (3, "1\t0\tr1\\t0!1\n", "1\n"),
+        (4, "6\t1\tr6\\t1!6\n", "6\n"),
+        (5, "5\t\\N\tr5\\t!5\n", "5\n"),
+    ];
+    assert_lines::<Brand>(&rt, alloc, &plan, &lines, Blank::new(1))
 }
 
 /// A checksum of a text, behind one so far.

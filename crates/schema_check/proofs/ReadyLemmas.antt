@@ -81,6 +81,7 @@ served_kind : (dictionaries : List Dictionary) (delimiter : ℕ) (columns : List
 served_kind dictionaries delimiter columns (kind.Key base scramble) h = refl
 served_kind dictionaries delimiter columns kind.Born h = refl
 served_kind dictionaries delimiter columns (kind.Leaf leaf) h = refl
+served_kind dictionaries delimiter columns (kind.Template parts) h = refl
 served_kind dictionaries delimiter columns (kind.Case on branches) h = refl
 served_kind dictionaries delimiter columns _ h = cc
 

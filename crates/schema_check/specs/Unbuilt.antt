@@ -7,13 +7,12 @@ use Rattle.schema_model.specs.declared.column.Column.{Column}
 use Rattle.schema_model.specs.declared.column.Kind.{Kind}
 use Rattle.schema_model.specs.declared.column.Kind.TheVariants as kind
 
--- a template, and what speaks of changes or of other rows
+-- what speaks of changes or of other rows
 abbrev pub is_unbuilt_kind : Kind → Bool
-is_unbuilt_kind (kind.Key base scramble) = false
-is_unbuilt_kind kind.Born = false
-is_unbuilt_kind (kind.Leaf leaf) = false
-is_unbuilt_kind (kind.Case on branches) = false
-is_unbuilt_kind _ = true
+is_unbuilt_kind kind.Changed = true
+is_unbuilt_kind (kind.Ref table window spread) = true
+is_unbuilt_kind (kind.Lookup via column) = true
+is_unbuilt_kind _ = false
 
 -- a column that changes, or has such a kind
 abbrev pub is_unbuilt_column : Column → Bool

@@ -7,7 +7,7 @@ ghost use Rattle.schema_check.specs.Unbuilt.{is_unbuilt, is_unbuilt_table, is_un
 use schema_model::{Column, Kind, Schema, Table};
 
 /// Whether a schema holds something that isn't built: a table with a life or updates, a column that changes, holds the unit of
-/// the last change, is a template or speaks of other rows.
+/// the last change or speaks of other rows.
 pub fn unbuilt(schema: &Schema) -> bool
     ensures { result ≡ is_unbuilt schema.now }
 {
@@ -45,8 +45,7 @@ fn is_unbuilt_kind(kind: &Kind) -> bool
     ensures { result ≡ is_unbuilt_kind kind.now }
 {
     match kind {
-        Kind::Key { .. } | Kind::Born => false,
-        Kind::Leaf(_) | Kind::Case { .. } => false,
-        _ => true,
+        Kind::Changed | Kind::Ref { .. } | Kind::Lookup { .. } => true,
+        _ => false,
     }
 }

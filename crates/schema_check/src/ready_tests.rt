@@ -154,7 +154,7 @@ fn plan_of(alloc: Global, schema: Schema) -> Result<Plan, Fail> {
     if unbuilt(&schema) {
         return Err(Fail::from("not built"));
     }
-    check(alloc, schema).map_err(|_| Fail::from("refused"))
+    check(alloc, schema, Dictionaries::new(alloc)).map_err(|_| Fail::from("refused"))
 }
 
 /// What is drawn for a column.

@@ -579,7 +579,7 @@ fn columns_that_are_not_built(rt: HostRuntime) -> Result<(), Fail> {
         assert!(rt; !is_unbuilt_with(alloc, key, false, 0)?);
     }
     let parts = Parts::new(alloc);
-    assert!(rt; is_unbuilt_with(alloc, Kind::Template { parts }, false, 0)?);
+    assert!(rt; !is_unbuilt_with(alloc, Kind::Template { parts }, false, 0)?);
     Ok(())
 }
 

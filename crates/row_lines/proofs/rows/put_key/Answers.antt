@@ -33,20 +33,20 @@ written-key generator last table j key is small =
 
 pub returns-clause-line : goal.returns-clause-line
 returns-clause-line g c =
-    let schema = c.args.plan.now.schema in
+    let project = c.args.plan.now in
     c.put_piece.ensures
     ∙ ap (λ (page : Page). record { text = page.text ++ piece_text c.of_byte.result; room = page.room }) c.put_number.ensures
     ∙ ap (λ (end : List ℕ). record { text = (c.args.buf.now.text ++ decimal c.key.result) ++ end; room = c.args.buf.now.room }) c.of_byte.ensures
     ∙ ap (λ (text : List ℕ). record { text = text; room = c.args.buf.now.room })
     (append_assoc c.args.buf.now.text (decimal c.key.result) (codes "\n")
-    ∙ ap (λ (key : List ℕ). c.args.buf.now.text ++ (key ++ codes "\n")) (written-key (generator_of schema) (last_unit schema) c.args.table c.args.j c.key.result c.key.ensures.key c.key.type_inv))
+    ∙ ap (λ (key : List ℕ). c.args.buf.now.text ++ (key ++ codes "\n")) (written-key (generator_of project) (last_unit project) c.args.table c.args.j c.key.result c.key.ensures.key c.key.type_inv))
 
 pub returns-clause-size : goal.returns-clause-size
 returns-clause-size g c =
-    let schema = c.args.plan.now.schema in
+    let project = c.args.plan.now in
     omega (
       arith,
       length-decimal-le_20 c.key.result c.key.type_inv,
-      ap (λ (key : List ℕ). length key) (written-key (generator_of schema) (last_unit schema) c.args.table c.args.j c.key.result c.key.ensures.key c.key.type_inv),
-      length-append (written (generator_of schema) (last_unit schema) c.args.table c.args.j) (codes "\n"),
+      ap (λ (key : List ℕ). length key) (written-key (generator_of project) (last_unit project) c.args.table c.args.j c.key.result c.key.ensures.key c.key.type_inv),
+      length-append (written (generator_of project) (last_unit project) c.args.table c.args.j) (codes "\n"),
     )

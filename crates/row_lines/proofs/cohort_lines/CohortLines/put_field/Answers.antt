@@ -31,6 +31,7 @@ put_own-requires-clause-own c =
     let is = ready_at lines _ _ _ _ _ known c.args.column column c.requires.column c.index-columns-column.is in
     let served = served_at c.self.inside.columns.now known.served c.args.column column (omega (arith, c.requires.column, length-columns lines _ _ _ _ _ known)) c.index-columns-column.is in
     own_from_ready (layout_of lines.plan).delimiter _ (ap is_served is ∙ served) (λ key. c.in_default.not-Key (ap (λ (ready : ReadyColumn). ready.kind) (sym (is ∙ c.index-columns-column.is)) ∙ key))
+    (λ parts template. c.in_default.not-Template parts (ap (λ (ready : ReadyColumn). ready.kind) (sym (is ∙ c.index-columns-column.is)) ∙ template))
 
 -- and its text the key as it is written
 text_is_key : (c : goal.After-put_number) → text_in_cohort c.args.self.now c.args.index c.args.column ≡ decimal c.args.key

@@ -5,23 +5,15 @@ use Rattle.row_text.specs.Fields.{field_text}
 use Rattle.schema_check.specs.Layout.{layout_of}
 use Rattle.draw_values.specs.CohortValues.{ValuesOf, size_for, value_for}
 use Rattle.draw_values.specs.Values.{written}
-use Rattle.life_intervals.specs.Generator.{last_unit}
-use Rattle.life_intervals.proofs.CohortLemmas.{cohort-within}
-use Rattle.row_lines.specs.CohortLines.{LinesOf, layout_for, text_in_cohort}
-use Rattle.row_lines.proofs.CohortLineLemmas.{AreLinesOf-view, field_text-null, text-own, written-null, written-text}
+use Rattle.row_lines.specs.CohortLines.{LinesOf, text_in_cohort}
+use Rattle.row_lines.proofs.CohortLineLemmas.{AreLinesOf-view, field_text-null, ordinal-limit, text-own, written-null, written-text}
 use Rattle.row_lines.proofs.cohort_lines.CohortLines.put_own.Goals as goal
 
 pub overflow_add-self-inside : goal.overflow_add-self-inside
 overflow_add-self-inside c =
     let lines : LinesOf = c.args.self.now in
     let known = AreLinesOf-view _ lines c.self.inside.keys c.self.inside.values c.self.inside.columns.now c.self.inside.first c.self.inside.delimiter c.self.view_is c.self.invariant in
-    omega (
-      arith,
-      known.first_is,
-      known.limits.row_limit,
-      cohort-within (layout_for lines).births lines.born (last_unit lines.plan) (omega (arith, known.born, known.unit)),
-      c.requires.row,
-    )
+    omega (arith, ordinal-limit lines _ _ _ _ _ known c.args.index c.requires.row)
 
 -- what is put is the field of the line
 text_is_own : (c : goal.In-Text) →
