@@ -5,13 +5,15 @@
 ghost use Rattle.std.specs.Prelude.{◌≡◌, ℕ, ◌+◌, ◌*◌, ◌^◌, ◌<◌, ◌≤◌, ℤ, pos, neg_ℤ, ◌+ℤ◌, ◌≤ℤ◌, ◌%◌, List, [], ◌∷◌, None, Some, codes, encode_utf8, flat_map, length, slice_index};
 ghost use Rattle.std.specs.Fmt.{signed_decimal};
 ghost use Rattle.std.specs.List.{range_with_len};
+ghost use Rattle.dictionaries.specs.WordList.{WordList};
 ghost use Rattle.jiff_core.specs.Calendar.{IsCivilDate, days_from_civil};
 ghost use Rattle.row_text.specs.Fields.{piece_text};
 ghost use Rattle.schema_check.specs.Choices.{choices};
-ghost use Rattle.schema_check.specs.Layout.{chars_leaf, date_leaf, fixed_leaf, int_leaf, pick_leaf, skew_leaf};
+ghost use Rattle.schema_check.specs.Layout.{chars_leaf, date_leaf, dict_leaf, fixed_leaf, int_leaf, pick_leaf, skew_leaf, words_leaf};
+ghost use Rattle.schema_check.specs.ReadyWords.{written_words};
 ghost use Rattle.draw_values.specs.Dates.{date_digits, date_text};
 ghost use Rattle.draw_values.specs.Digits.{signed_pointed};
-ghost use Rattle.draw_values.specs.Values.{Draws, chosen, drawn_characters, leaf_value, unless_null};
+ghost use Rattle.draw_values.specs.Values.{Draws, chosen, drawn_characters, drawn_words, leaf_value, unless_null};
 
 /// A draw chooses a number of the range, so many steps past its first, and each of them is chosen by as many steps.
 pub fn a_draw_chooses_a_number_of_the_range()
@@ -44,6 +46,12 @@ pub fn characters_are_written_one_by_one()
         ≡ flat_map (λ k. piece_text delimiter (encode_utf8 (slice_index characters (draw (2 + k) % length characters)))) (range_with_len 0 count) }
 {}
 
+/// A text of words is written word by word, with a space between two.
+pub fn words_are_written_one_by_one()
+    ensures { (delimiter : ℕ) (words : WordList) (draw : Draws) (count : ℕ) →
+        piece_text delimiter (drawn_words words draw count) ≡ drawn_words (written_words delimiter words) draw count }
+{}
+
 /// Values worked out by hand, where draw n is 2 * n + 1, so that the one that is taken is 3; for the skew, where it is n * 10^9.
 pub fn worked_values()
     ensures int { leaf_value (int_leaf (neg_ℤ (pos 5)) (pos 9) 4) (λ n. 2 * n + 1) ≡ Some (codes "7") }
@@ -52,6 +60,8 @@ pub fn worked_values()
     ensures date { leaf_value (date_leaf (pos 19779) (pos 20000)) (λ n. 2 * n + 1) ≡ Some (codes "2024-02-29") }
     ensures pick { leaf_value (pick_leaf (codes "a" ∷ codes "b" ∷ codes "c" ∷ []) (1 ∷ 2 ∷ 3 ∷ [])) (λ n. 2 * n + 1) ≡ Some (codes "c") }
     ensures skew { leaf_value (skew_leaf (neg_ℤ (pos 2)) 2 1) (λ n. n * 10 ^ 9) ≡ Some (codes "-1") }
+    ensures dict { leaf_value (dict_leaf (record { entries = codes "a" ∷ codes "b" ∷ []; weights = 1 ∷ 4 ∷ [] })) (λ n. 2 * n + 1) ≡ Some (codes "b") }
+    ensures words { leaf_value (words_leaf (record { entries = codes "a" ∷ codes "b" ∷ []; weights = 1 ∷ 4 ∷ [] }) 2 3) (λ n. 2 * n + 1) ≡ Some (codes "a b b") }
     ensures chars { leaf_value (chars_leaf (codes "ab|") 1 2) (λ n. 2 * n + 1) ≡ Some (codes "|b") }
 {}
 

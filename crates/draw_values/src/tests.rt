@@ -11,6 +11,7 @@ use super::*;
 use crate::dates::put_date;
 use crate::fixed::put_fixed;
 use crate::numbers::{chosen, put_whole};
+use dictionaries::read_dictionary;
 use fixed_divisors::FixedDivisor;
 use pd_outside::PageBuf;
 use schema_check::{Dictionaries, Plan, ReadyKind, check, unbuilt};
@@ -261,15 +262,21 @@ fn columns_of_all_kinds(alloc: Global) -> Result<Columns, Memory> {
     with_nulls(alloc, columns, case(alloc, on)?, 100)
 }
 
-/// A schema with one table of such columns, and the seed 7: how many rows at unit 0 and at each of five more, and the delimiter.
-fn schema(alloc: Global, rows: i64, insert: i64, delimiter: Delimiter) -> Result<Schema, Memory> {
+/// A schema with one table of some columns, and the seed 7: how many rows at unit 0 and at each of five more, and the delimiter.
+fn schema(
+    alloc: Global,
+    rows: i64,
+    insert: i64,
+    delimiter: Delimiter,
+    columns: Columns,
+) -> Result<Schema, Memory> {
     let table = Table {
         name: Text::of(alloc, "t")?,
         rows,
         insert,
         life: None,
         update: None,
-        columns: columns_of_all_kinds(alloc)?,
+        columns,
     };
     let mut tables = Tables::new(alloc);
     tables.push(table)?;
@@ -281,15 +288,27 @@ fn schema(alloc: Global, rows: i64, insert: i64, delimiter: Delimiter) -> Result
     })
 }
 
-/// Its plan.
+/// The plan of such a schema of columns of all kinds.
 fn plan(alloc: Global, rows: i64, insert: i64, delimiter: Delimiter) -> Result<Plan, Fail> {
-    let Ok(schema) = schema(alloc, rows, insert, delimiter) else {
-        return Err(Fail::from("out of memory"));
-    };
+    let columns = columns_of_all_kinds(alloc).map_err(|_| Fail::from("out of memory"))?;
+    plan_of(
+        alloc,
+        schema(alloc, rows, insert, delimiter, columns),
+        Dictionaries::new(alloc),
+    )
+}
+
+/// The plan of a schema with its dictionaries.
+fn plan_of(
+    alloc: Global,
+    schema: Result<Schema, Memory>,
+    dictionaries: Dictionaries,
+) -> Result<Plan, Fail> {
+    let schema = schema.map_err(|_| Fail::from("out of memory"))?;
     if unbuilt(&schema) {
         return Err(Fail::from("not built"));
     }
-    match check(alloc, schema, Dictionaries::new(alloc)) {
+    match check(alloc, schema, dictionaries) {
         Ok(plan) => Ok(plan),
         Err(fault) => Err(Fail::from(fault)),
     }
@@ -314,7 +333,7 @@ fn is_own_column(plan: &Plan, column: usize) -> bool
 /// The place of the case column.
 const CASE: usize = 16;
 
-/// What a row of the first table holds in its 16 columns behind the key, as both calls put it, each with a semicolon behind. Where
+/// What a row of the first table holds in the columns behind its key, as both calls put it, each with a semicolon behind. Where
 /// a field is null, and no case, the draw says so.
 fn row_text(rt: &impl Abort, alloc: Global, plan: &Plan, at: RowAt) -> Result<Vec<u8>, Fail>
     requires table { 0 < length plan.now.schema.tables }
@@ -323,7 +342,7 @@ fn row_text(rt: &impl Abort, alloc: Global, plan: &Plan, at: RowAt) -> Result<Ve
     let mut text = Vec::new(alloc);
     let values = CohortValues::new(plan, 0, at.born);
     let room = plan.max_line(0) as usize;
-    for column in 1..17 {
+    for column in 1..plan.columns(0).len() {
         assert!(rt; is_own_column(plan, column));
         let mut page = page_of(alloc, room)?;
         let put = values.put(column, at.ordinal, &mut page);
@@ -394,6 +413,66 @@ fn values_of_some_rows(rt: HostRuntime) -> Result<(), Fail> {
     let text =
         "2;7;-3485567071594094168;6417096489469501226;-31.13;3;-0.000000186;6229-10-20;2000-03-01;a\\\\b\\|c\\td;1;100;a\\|;3;a\\\\b\\|c\\td;10;";
     assert_eq!(rt; row.as_slice(), text.as_bytes());
+    Ok(())
+}
+
+/// A dictionary of three entries.
+fn three_words(alloc: Global) -> Result<Dictionaries, Fail> {
+    let mut all = Dictionaries::new(alloc);
+    match read_dictionary(alloc, b"Ann\t3\nBo\nA|b\t2\n") {
+        Ok(words) => match all.push("n", words) {
+            Ok(()) => Ok(all),
+            Err(_) => Err(Fail::from("out of memory")),
+        },
+        Err(_) => Err(Fail::from("no dictionary")),
+    }
+}
+
+/// The columns of a table of words: one, up to four, and two or none.
+fn columns_of_words(alloc: Global) -> Result<Columns, Memory> {
+    let file = || Text::of(alloc, "n");
+    let key = Kind::Key {
+        base: 1,
+        scramble: false,
+    };
+    let columns = with_column(alloc, Columns::new(alloc), key)?;
+    let columns = with_column(alloc, columns, Kind::Leaf(Leaf::Dict { file: file()? }))?;
+    let (lo, hi) = (0, 4);
+    let some = Leaf::Words {
+        file: file()?,
+        lo,
+        hi,
+    };
+    let columns = with_column(alloc, columns, Kind::Leaf(some))?;
+    let (lo, hi) = (2, 2);
+    let two = Leaf::Words {
+        file: file()?,
+        lo,
+        hi,
+    };
+    with_nulls(alloc, columns, Kind::Leaf(two), 500)
+}
+
+// The texts are those of the Python program.
+#[test]
+fn words_of_some_rows(rt: HostRuntime) -> Result<(), Fail> {
+    let alloc = rt.alloc();
+    let columns = columns_of_words(alloc).map_err(|_| Fail::from("out of memory"))?;
+    let schema = schema(alloc, 4, 2, Delimiter::Bar, columns);
+    let plan = plan_of(alloc, schema, three_words(alloc)?)?;
+    assert!(rt; plan.tables() == 1);
+    assert!(rt; plan.units() == 5);
+    for (ordinal, born, text) in [
+        (0, 0, "Ann;A\\|b;A\\|b Ann;"),
+        (2, 0, "Bo;;Bo A\\|b;"),
+        (3, 0, "A\\|b;;\\N;"),
+        (4, 1, "Ann;Ann;Ann Bo;"),
+        (7, 2, "Bo;A\\|b;\\N;"),
+    ] {
+        assert!(rt; born <= 5);
+        let row = row_text(&rt, alloc, &plan, row_of(ordinal, born))?;
+        assert_eq!(rt; row.as_slice(), text.as_bytes());
+    }
     Ok(())
 }
 

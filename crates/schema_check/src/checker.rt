@@ -83,7 +83,7 @@ pub fn check(
 }
 
 /// The first rule that a schema breaks with its dictionaries, as it is told.
-fn first_fault(
+pub(crate) fn first_fault(
     schema: &Schema,
     dictionaries: &Dictionaries,
     facts: &[TableFacts],

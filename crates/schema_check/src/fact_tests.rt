@@ -1,8 +1,9 @@
-use crate::checker::{CheckFault, fault_of};
+use crate::checker::{CheckFault, first_fault};
 use crate::facts::{NO_FACTS, TableFacts, fill_facts};
 use crate::layout::{Births, Keys};
 use crate::lineage::Lineage;
-use crate::rules::{MAX_ITEMS, first_broken};
+use crate::rules::MAX_ITEMS;
+use crate::word_lists::Dictionaries;
 use schema_model::{
     Column, Columns, Delimiter, Kind, Leaf, Leaves, Life, Longs, Part, Parts, Schema, Table,
     Tables, Text, Texts, Window,
@@ -63,14 +64,12 @@ fn schema(alloc: Global) -> Schema {
 }
 
 /// The first fault of a schema, whether or not tables can be made of it.
-fn first_fault(schema: &Schema) -> Option<CheckFault> {
+fn fault_in(alloc: Global, schema: &Schema) -> Option<CheckFault> {
+    let dictionaries = Dictionaries::new(alloc);
     let mut facts = [NO_FACTS; MAX_ITEMS];
     let count = schema.tables.len().min(MAX_ITEMS);
-    fill_facts(schema, &mut facts[..count]);
-    match first_broken(schema, &facts[..count]) {
-        Some(broken) => Some(fault_of(schema, broken)),
-        None => None,
-    }
+    fill_facts(schema, &dictionaries, &mut facts[..count]);
+    first_fault(schema, &dictionaries, &facts[..count])
 }
 
 /// The table with this number in a chain, with references to the table before it.
@@ -104,7 +103,7 @@ fn chain(alloc: Global, tables: u8, references: u8) -> Result<Schema, AllocError
 #[test]
 fn dearest_rows(rt: HostRuntime) -> Result<(), Fail> {
     let alloc = rt.alloc();
-    assert_eq!(rt; first_fault(&chain(alloc, 3, 63)?), None);
+    assert_eq!(rt; fault_in(alloc, &chain(alloc, 3, 63)?), None);
     let mut changed = link(alloc, 2, 63)?;
     changed.update = Some(1);
     let mut dear = chain(alloc, 2, 63)?;
@@ -119,7 +118,7 @@ fn dearest_rows(rt: HostRuntime) -> Result<(), Fail> {
             table,
             column: 0,
         };
-        assert_eq!(rt; first_fault(&schema), Some(broken));
+        assert_eq!(rt; fault_in(alloc, &schema), Some(broken));
     }
     Ok(())
 }
@@ -244,7 +243,7 @@ fn facts_of_each_kind(rt: HostRuntime) -> Result<(), Fail> {
         .map_err(|_| AllocError)?;
     let mut facts = [NO_FACTS; MAX_ITEMS];
     let count = schema.tables.len().min(MAX_ITEMS);
-    fill_facts(&schema, &mut facts[..count]);
+    fill_facts(&schema, &Dictionaries::new(alloc), &mut facts[..count]);
     let births = Births { rows: 7, insert: 2 };
     let city = TableFacts {
         births,

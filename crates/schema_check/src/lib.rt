@@ -41,6 +41,8 @@ pub use ready_words::ReadyWords;
 pub use word_lists::Dictionaries;
 
 #[cfg(test)]
+mod dictionary_tests;
+#[cfg(test)]
 mod fact_tests;
 #[cfg(test)]
 mod ready_tests;

@@ -104,16 +104,33 @@ fn told(alloc: Global, schema: Schema) -> Result<Option<(u32, u64, u64)>, Fail> 
     if unbuilt(&schema) {
         return Err(Fail::from("not built"));
     }
-    match check(alloc, schema) {
+    told_with(alloc, schema, Dictionaries::new(alloc))
+}
+
+/// The same of a schema with dictionaries.
+fn told_with(
+    alloc: Global,
+    schema: Schema,
+    dictionaries: Dictionaries,
+) -> Result<Option<(u32, u64, u64)>, Fail> {
+    if unbuilt(&schema) {
+        return Err(Fail::from("not built"));
+    }
+    match check(alloc, schema, dictionaries) {
         Ok(_) => Ok(None),
-        Err(
-            CheckFault::Rule {
-                number,
-                table,
-                column,
-            },
-        ) => Ok(Some((number, table, column))),
-        Err(CheckFault::Memory) => Err(Fail::from("out of memory")),
+        Err(fault) => Ok(Some(told_rule(fault)?)),
+    }
+}
+
+/// The rule, the table and the column of a fault.
+fn told_rule(fault: CheckFault) -> Result<(u32, u64, u64), Fail> {
+    match fault {
+        CheckFault::Rule {
+            number,
+            table,
+            column,
+        } => Ok((number, table, column)),
+        CheckFault::Memory => Err(Fail::from("out of memory")),
     }
 }
 
@@ -580,56 +597,8 @@ fn columns_that_are_not_built(rt: HostRuntime) -> Result<(), Fail> {
     }
     let parts = Parts::new(alloc);
     assert!(rt; !is_unbuilt_with(alloc, Kind::Template { parts }, false, 0)?);
-    Ok(())
-}
-
-#[test]
-fn drawn_values_that_are_not_built(rt: HostRuntime) -> Result<(), Fail> {
-    let alloc = rt.alloc();
-    let (lo, hi) = (1, 2);
-    let days = Leaf::Date { lo: 1, hi: 2 };
-    let skew = Leaf::Skew {
-        lo,
-        size: 2,
-        power: 1,
-    };
-    let name = || text(alloc, "words");
-    for (leaf, is_unbuilt) in [
-        (Leaf::Int { lo, hi, step: 1 }, false),
-        (
-            Leaf::Fixed {
-                lo,
-                hi,
-                decimals: 1,
-            },
-            false,
-        ),
-        (days, false),
-        (pick(alloc, 1, 1, &[(1, 1)])?, false),
-        (skew, false),
-        (Leaf::Dict { file: name()? }, true),
-        (
-            Leaf::Words {
-                file: name()?,
-                lo,
-                hi,
-            },
-            true,
-        ),
-        (
-            Leaf::Chars {
-                alphabet: name()?,
-                lo,
-                hi,
-            },
-            false,
-        ),
-    ] {
-        assert_eq!(rt;
-            is_unbuilt_with(alloc, Kind::Leaf(leaf), false, 0)?,
-            is_unbuilt
-        );
-    }
+    let file = text(alloc, "words")?;
+    assert!(rt; !is_unbuilt_with(alloc, Kind::Leaf(Leaf::Dict { file }), false, 0)?);
     Ok(())
 }
 
@@ -642,7 +611,7 @@ fn plan_of_three(alloc: Global) -> Result<Plan, Fail> {
     if unbuilt(&schema) {
         return Err(Fail::from("not built"));
     }
-    match check(alloc, schema) {
+    match check(alloc, schema, Dictionaries::new(alloc)) {
         Ok(plan) => Ok(plan),
         Err(fault) => Err(Fail::from(fault)),
     }

@@ -35,3 +35,11 @@ returns-clause-skew c = refl
 pub returns-clause-chars : goal.returns-clause-chars
 unfolding chars encode
 returns-clause-chars c = refl
+
+pub returns-clause-dict : goal.returns-clause-dict
+unfolding selected
+returns-clause-dict c = refl
+
+pub returns-clause-words : goal.returns-clause-words
+unfolding selected
+returns-clause-words c = refl
