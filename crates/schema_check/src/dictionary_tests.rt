@@ -138,13 +138,11 @@ fn citing_in_branches(alloc: Global, first: usize, second: usize) -> Result<Sche
         let mut entries = Texts::new(alloc);
         let mut weights = Longs::new(alloc);
         let mut branches = Leaves::new(alloc);
-        for number in from..from + count {
-            let name = format!(in alloc; "n{number}")?;
+        for number in 0..count {
+            let name = format!(in alloc; "n{from}_{number}")?;
             entries.push(text(alloc, &name)?).map_err(|_| AllocError)?;
             weights.push(1).map_err(|_| AllocError)?;
-            branches
-                .push(dict(alloc, &name)?)
-                .map_err(|_| AllocError)?;
+            branches.push(dict(alloc, &name)?).map_err(|_| AllocError)?;
         }
         let on = text(alloc, "c1")?;
         let mut kinds = Vec::new(alloc);
@@ -166,7 +164,7 @@ fn at_most_64_names_are_cited(rt: HostRuntime) -> Result<(), Fail> {
         let told = cited(alloc, &citing_in_branches(alloc, first, second)?)?;
         match expected {
             Some(place) => assert_eq!(rt; told.as_str(), place),
-            None => assert!(rt; told.as_str().ends_with("n62,n63,")),
+            None => assert!(rt; told.as_str().ends_with("n0_62,n63_0,")),
         }
     }
     Ok(())

@@ -33,9 +33,9 @@ mod word_lists;
 
 pub use checker::{CheckFault, check, citations};
 pub use layout::{Births, Keys, Span};
+pub use memory::Memory;
 pub use not_built::unbuilt;
 pub use plan::Plan;
-pub use memory::Memory;
 pub use ready::{ReadyColumn, ReadyKind, ReadyLeaf, ReadyPart};
 pub use ready_words::ReadyWords;
 pub use word_lists::Dictionaries;

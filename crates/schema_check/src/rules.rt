@@ -10,10 +10,10 @@ ghost use Rattle.schema_check.specs.Rules.{break_in_table, first_break, first_br
 ghost use Rattle.schema_check.specs.Sites.{columns_at, IsSiteOf};
 
 use crate::broken::Broken;
-use crate::column_rules::{is_case, is_null_share, is_template};
-use crate::counts::count;
 use crate::candidate::Candidate;
 use crate::cited_names::{are_citable, are_supplied};
+use crate::column_rules::{is_case, is_null_share, is_template};
+use crate::counts::count;
 use crate::facts::TableFacts;
 use crate::leaf_rules::{
     are_date_ranges, are_length_ranges, are_number_ranges, are_skew_ranges, are_weighted, leaves_of,
