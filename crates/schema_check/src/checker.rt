@@ -60,11 +60,7 @@ pub fn citations(alloc: Global, schema: &Schema) -> Result<Texts, CheckFault>
 
 /// The plan of a schema that keeps all rules with its dictionaries, or the first rule that it breaks, at its first place. At a
 /// fault the schema and the dictionaries are given up.
-pub fn check(
-    alloc: Global,
-    schema: Schema,
-    dictionaries: Dictionaries,
-) -> Result<Plan, CheckFault>
+pub fn check(alloc: Global, schema: Schema, dictionaries: Dictionaries) -> Result<Plan, CheckFault>
     requires built { is_unbuilt schema ≡ false }
     ensures plan { IfOk result (λ plan. plan ≡ project_of schema dictionaries) }
     ensures accepted { OnOk result (IsAccepted (project_of schema dictionaries)) }

@@ -65,7 +65,12 @@ fn facts_of(
     let tables = schema.tables.as_slice();
     let table = &tables[place];
     let lineage = lineage_of(tables, earlier, table);
-    let line = line_bounds(delimiter_byte(schema.delimiter), dictionaries, tables, table);
+    let line = line_bounds(
+        delimiter_byte(schema.delimiter),
+        dictionaries,
+        tables,
+        table,
+    );
     let death = lineage.death_cost.saturating_add(1);
     let change = u64::from(table.update.is_some());
     TableFacts {

@@ -97,7 +97,10 @@ fn leaf_size(delimiter: u8, dictionaries: &Dictionaries, leaf: &Leaf) -> u64
         Leaf::Pick { entries, .. } => greatest_entry(delimiter, entries.as_slice()),
         Leaf::Dict { file } => dictionaries.entry_size(delimiter, file.as_str()),
         Leaf::Words { file, hi, .. } => {
-            joined_size(count(*hi), dictionaries.entry_size(delimiter, file.as_str()))
+            joined_size(
+                count(*hi),
+                dictionaries.entry_size(delimiter, file.as_str()),
+            )
         }
         Leaf::Chars { alphabet, hi, .. } => {
             count(*hi).saturating_mul(greatest_character(delimiter, alphabet.as_str()))
@@ -152,7 +155,10 @@ fn bounds_alone(
         }
         Kind::Born | Kind::Changed => bounds(UNIT_SIZE, 0),
         Kind::Leaf(leaf) => bounds(leaf_size(delimiter, dictionaries, leaf), 0),
-        Kind::Case { branches, .. } => bounds(greatest_leaf(delimiter, dictionaries, branches.as_slice()), 0),
+        Kind::Case { branches, .. } => bounds(
+            greatest_leaf(delimiter, dictionaries, branches.as_slice()),
+            0,
+        ),
         Kind::Ref { table, .. } => bounds_of_reference(tables, place_of_table(tables, table)),
         Kind::Template { .. } | Kind::Lookup { .. } => bounds(0, 0),
     }
@@ -171,7 +177,13 @@ fn bounds_alone_at(
 {
     let columns = table.columns.as_slice();
     if column < columns.len() {
-        bounds_alone(delimiter, dictionaries, tables, table, &columns[column].kind)
+        bounds_alone(
+            delimiter,
+            dictionaries,
+            tables,
+            table,
+            &columns[column].kind,
+        )
     } else {
         bounds(0, 0)
     }
@@ -233,7 +245,13 @@ fn bounds_in_table(
         (kind_layout dictionaries.now tables.now table.now.columns kind.now)) }
 {
     match kind {
-        Kind::Template { parts } => bounds_of_parts(delimiter, dictionaries, tables, table, parts.as_slice()),
+        Kind::Template { parts } => bounds_of_parts(
+            delimiter,
+            dictionaries,
+            tables,
+            table,
+            parts.as_slice(),
+        ),
         _ => bounds_alone(delimiter, dictionaries, tables, table, kind),
     }
 }
@@ -256,7 +274,13 @@ fn bounds_of_named(
     let columns = table.columns.as_slice();
     let column = place_of_column(columns, name);
     if column < columns.len() {
-        bounds_in_table(delimiter, dictionaries, tables, table, &columns[column].kind)
+        bounds_in_table(
+            delimiter,
+            dictionaries,
+            tables,
+            table,
+            &columns[column].kind,
+        )
     } else {
         bounds(0, 0)
     }

@@ -96,11 +96,7 @@ impl ReadyWords {
 }
 
 /// The entries of a word list as they are written.
-fn written_entries(
-    alloc: Global,
-    delimiter: u8,
-    words: &Dictionary,
-) -> Result<WrittenTexts, Memory>
+fn written_entries(alloc: Global, delimiter: u8, words: &Dictionary) -> Result<WrittenTexts, Memory>
     ensures { IfOk result (λ written. written ≡ map (piece_text delimiter) words.now.entries) }
 {
     let mut written = WrittenTexts::new(alloc);
