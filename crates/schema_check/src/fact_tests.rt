@@ -1,8 +1,11 @@
+use crate::candidate::Candidate;
 use crate::checker::{CheckFault, fault_of};
+use crate::cited_names::CitedNames;
 use crate::facts::{NO_FACTS, TableFacts, fill_facts};
 use crate::layout::{Births, Keys};
 use crate::lineage::Lineage;
 use crate::rules::{MAX_ITEMS, first_broken};
+use crate::word_lists::Dictionaries;
 use schema_model::{
     Column, Columns, Delimiter, Kind, Leaf, Leaves, Life, Longs, Part, Parts, Schema, Table,
     Tables, Text, Texts, Window,
@@ -63,11 +66,14 @@ fn schema(alloc: Global) -> Schema {
 }
 
 /// The first fault of a schema, whether or not tables can be made of it.
-fn first_fault(schema: &Schema) -> Option<CheckFault> {
+pub(crate) fn first_fault(alloc: Global, schema: &Schema) -> Option<CheckFault> {
+    let dictionaries = Dictionaries::new(alloc);
     let mut facts = [NO_FACTS; MAX_ITEMS];
     let count = schema.tables.len().min(MAX_ITEMS);
-    fill_facts(schema, &mut facts[..count]);
-    match first_broken(schema, &facts[..count]) {
+    fill_facts(schema, &dictionaries, &mut facts[..count]);
+    let names = CitedNames::of(schema);
+    let candidate = Candidate::new(schema, &dictionaries, &names, &facts[..count]);
+    match first_broken(&candidate) {
         Some(broken) => Some(fault_of(schema, broken)),
         None => None,
     }
@@ -104,7 +110,7 @@ fn chain(alloc: Global, tables: u8, references: u8) -> Result<Schema, AllocError
 #[test]
 fn dearest_rows(rt: HostRuntime) -> Result<(), Fail> {
     let alloc = rt.alloc();
-    assert_eq!(rt; first_fault(&chain(alloc, 3, 63)?), None);
+    assert_eq!(rt; first_fault(alloc, &chain(alloc, 3, 63)?), None);
     let mut changed = link(alloc, 2, 63)?;
     changed.update = Some(1);
     let mut dear = chain(alloc, 2, 63)?;
@@ -119,7 +125,7 @@ fn dearest_rows(rt: HostRuntime) -> Result<(), Fail> {
             table,
             column: 0,
         };
-        assert_eq!(rt; first_fault(&schema), Some(broken));
+        assert_eq!(rt; first_fault(alloc, &schema), Some(broken));
     }
     Ok(())
 }
@@ -244,7 +250,7 @@ fn facts_of_each_kind(rt: HostRuntime) -> Result<(), Fail> {
         .map_err(|_| AllocError)?;
     let mut facts = [NO_FACTS; MAX_ITEMS];
     let count = schema.tables.len().min(MAX_ITEMS);
-    fill_facts(&schema, &mut facts[..count]);
+    fill_facts(&schema, &Dictionaries::new(alloc), &mut facts[..count]);
     let births = Births { rows: 7, insert: 2 };
     let city = TableFacts {
         births,
