@@ -834,6 +834,8 @@ fn plan(rt: HostRuntime) -> Result<(), Fail> {
         assert!(rt; table < plan.tables());
         assert_eq!(rt; plan.sure_life(table), None);
         assert_eq!(rt; plan.longest_life(table), None);
+        assert_eq!(rt; plan.life(table), None);
+        assert_eq!(rt; plan.update(table), None);
         assert_eq!(rt; plan.cost(table), cost);
         assert_eq!(rt; plan.max_line(table), max_line);
     }
