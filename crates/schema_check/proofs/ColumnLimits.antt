@@ -1,5 +1,5 @@
 -- Columns that pass the tests of the rules are within their limits.
-use Rattle.std.proofs.Common.{◌≡◌, ◌∙◌, ℕ, ℤ, pos, ◌<◌, ◌≤◌, ◌==◌, ◌&&◌, All, Bool, true, false, List, [], length, map, get_or, nat_le, nat_lt, int_le, refl, sym, ap, subst, arith}
+use Rattle.std.proofs.Common.{◌≡◌, ◌∙◌, ℕ, ℤ, pos, ◌<◌, ◌≤◌, ◌==◌, ◌&&◌, ◌||◌, not, zero, suc, ◌∷◌, All, Bool, true, false, List, [], length, map, get_or, nat_le, nat_lt, int_le, refl, sym, ap, subst, arith}
 use Rattle.std.specs.List.{list_all}
 use Rattle.std.specs.Ordering.{int_eq}
 use Rattle.std.proofs.lemmas.Bool.{and_parts, eqb-true, leb-true, ltb-true}
@@ -17,8 +17,8 @@ use Rattle.schema_check.specs.Citations.{leaves_of}
 use Rattle.schema_check.specs.Counts.{count}
 use Rattle.schema_check.specs.Dictionaries.{AreWordLists, Dictionary, Project}
 use Rattle.schema_check.specs.Layout.{ColumnLayout, LeafLayout, column_at, column_layout, kind_layout, leaf_layout, no_column, part_layout, place_of_column}
-use Rattle.schema_check.specs.Limits.{AreParts, IsCase, IsKindInLimits, IsLeafInLimits, IsPart, IsPickOf, is_cited}
-use Rattle.schema_check.specs.Rules.{are_supplied, is_between, is_case, is_citable, is_date_range, is_key_in_range, is_length_range, is_null_share, is_number_range, is_part, is_pick_of, is_skew_range, is_template, is_weighted, kind_at, null_at}
+use Rattle.schema_check.specs.Limits.{AreParts, CitesStill, IsCase, IsKindInLimits, IsLeafInLimits, IsPart, IsPickOf, IsStillPart, can_change, is_change_unit, is_cited, moves}
+use Rattle.schema_check.specs.Rules.{are_supplied, changes_at, cites_still, is_between, is_case, is_change, is_changed, is_citable, is_date_range, is_key_in_range, is_length_range, is_null_share, is_number_range, is_part, is_pick_of, is_skew_range, is_still_kind, is_still_part, is_template, is_weighted, kind_at, may_change, moves_at, null_at}
 use Rattle.schema_check.proofs.FromTests.{limit_from_test, passes_each}
 use Rattle.schema_check.proofs.LeafLimits.{leaf_in_limits, leaves_in_limits}
 
@@ -107,6 +107,72 @@ kind_in_limits project lists tables columns place within (kind.Template of) supp
 kind_in_limits project lists tables columns place within (kind.Case on branches) supplied numbers dates picks skews lengths parts case =
     case_from_test project.dictionaries tables columns place within on branches case (leaves_in_limits project lists branches supplied numbers dates picks skews lengths)
 kind_in_limits project lists tables columns place within _ supplied numbers dates picks skews lengths parts case = tt
+
+-- ---- columns that change
+
+pub changes_at-layout : (dictionaries : List Dictionary) (tables : List Table) (columns : List Column) (j : ℕ) → j < length columns → (column_at (columns_layout dictionaries tables columns) j).changes ≡ changes_at columns j
+changes_at-layout dictionaries tables columns j h =
+    ap (λ (c : ColumnLayout). c.changes) (get_or-map (column_layout dictionaries tables columns) columns j a_column no_column h)
+    ∙ sym (get_or-map (λ (c : Column). c.changes) columns j a_column false h)
+
+can_change-layout : (dictionaries : List Dictionary) (tables : List Table) (columns : List Column) (kind : Kind) → can_change (kind_layout dictionaries tables columns kind) ≡ may_change kind
+can_change-layout dictionaries tables columns (kind.Leaf leaf) = refl
+can_change-layout dictionaries tables columns (kind.Template parts) = refl
+can_change-layout dictionaries tables columns (kind.Case on branches) = refl
+can_change-layout dictionaries tables columns _ = refl
+
+is_change_unit-layout : (dictionaries : List Dictionary) (tables : List Table) (columns : List Column) (kind : Kind) → is_change_unit (kind_layout dictionaries tables columns kind) ≡ is_changed kind
+is_change_unit-layout dictionaries tables columns kind.Changed = refl
+is_change_unit-layout dictionaries tables columns _ = refl
+
+-- a column that changes is of a kind that may
+unchanged_from_test : (changes may : Bool) → (not changes || may) ≡ true → may ≡ false → changes ≡ false
+unchanged_from_test true may h none = cc
+unchanged_from_test false may h none = refl
+
+pub unchanged : (dictionaries : List Dictionary) (tables : List Table) (columns : List Column) (place : ℕ) → place < length columns → is_change (kind_at columns place) (changes_at columns place) ≡ true →
+    can_change (column_at (columns_layout dictionaries tables columns) place).kind ≡ false → (column_at (columns_layout dictionaries tables columns) place).changes ≡ false
+unchanged dictionaries tables columns place within h none =
+    changes_at-layout dictionaries tables columns place within
+    ∙ unchanged_from_test (changes_at columns place) (may_change (kind_at columns place)) h
+    (sym (ap can_change (kind_at-layout dictionaries tables columns place within) ∙ can_change-layout dictionaries tables columns (kind_at columns place)) ∙ none)
+
+-- past the last column none moves
+moves_in : (dictionaries : List Dictionary) (tables : List Table) (all columns : List Column) (j : ℕ) → moves (column_at (map (column_layout dictionaries tables all) columns) j) ≡ moves_at columns j
+moves_in dictionaries tables all [] j = refl
+moves_in dictionaries tables all (column ∷ columns) zero = ap (λ unit. column.changes || unit) (is_change_unit-layout dictionaries tables all column.kind)
+moves_in dictionaries tables all (column ∷ columns) (suc j) = moves_in dictionaries tables all columns j
+
+still_from_test : (dictionaries : List Dictionary) (tables : List Table) (columns : List Column) (j : ℕ) → not (moves_at columns j) ≡ true → moves (column_at (columns_layout dictionaries tables columns) j) ≡ false
+still_from_test dictionaries tables columns j h = moves_in dictionaries tables columns columns j ∙ of_test (moves_at columns j) h
+  where
+    of_test : (test : Bool) → not test ≡ true → test ≡ false
+    of_test true h = cc
+    of_test false h = refl
+
+still_part : (dictionaries : List Dictionary) (tables : List Table) (columns : List Column) (of : Part) → is_still_part columns of ≡ true → IsStillPart (columns_layout dictionaries tables columns) (part_layout columns of)
+still_part dictionaries tables columns (part.Literal text) h = tt
+still_part dictionaries tables columns (part.Cited name) h = still_from_test dictionaries tables columns (place_of_column columns name) h
+
+still_kind : (dictionaries : List Dictionary) (tables : List Table) (columns : List Column) (kind : Kind) → is_still_kind columns kind ≡ true → CitesStill (columns_layout dictionaries tables columns) (kind_layout dictionaries tables columns kind)
+still_kind dictionaries tables columns (kind.Template parts) h = λ i d lt.
+    let at : i < length parts = omega (arith, lt, length-map parts (part_layout columns)) in
+    subst (IsStillPart (columns_layout dictionaries tables columns)) (sym (get_or-map (part_layout columns) parts i (part.Literal []) d at))
+    (still_part dictionaries tables columns (get_or parts i (part.Literal [])) (passes_each (is_still_part columns) parts i (part.Literal []) at h))
+still_kind dictionaries tables columns (kind.Case on branches) h = still_from_test dictionaries tables columns (place_of_column columns on) h
+still_kind dictionaries tables columns _ h = tt
+
+-- a column that doesn't change cites none that moves
+pub cites_still_columns : (dictionaries : List Dictionary) (tables : List Table) (columns : List Column) (place : ℕ) → place < length columns → cites_still columns place ≡ true →
+    (column_at (columns_layout dictionaries tables columns) place).changes ≡ false → CitesStill (columns_layout dictionaries tables columns) (column_at (columns_layout dictionaries tables columns) place).kind
+cites_still_columns dictionaries tables columns place within h none =
+    subst (CitesStill (columns_layout dictionaries tables columns)) (sym (kind_at-layout dictionaries tables columns place within))
+    (still_kind dictionaries tables columns (kind_at columns place)
+    (of_test (changes_at columns place) (is_still_kind columns (kind_at columns place)) (sym (changes_at-layout dictionaries tables columns place within) ∙ none) h))
+  where
+    of_test : (changes still : Bool) → changes ≡ false → (changes || still) ≡ true → still ≡ true
+    of_test true still none h = cc
+    of_test false still none h = h
 
 -- ---- nulls
 

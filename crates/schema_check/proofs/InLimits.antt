@@ -1,26 +1,28 @@
 -- An accepted schema is within its limits.
-use Rattle.std.proofs.Common.{◌≡◌, ◌≢◌, ℕ, pos, suc, ◌<◌, ◌≤◌, ◌^◌, Bool, true, false, not, ◌&&◌, ◌||◌, List, [], length, map, get_or, slice_get, Some, refl, sym, ap, ◌∙◌, subst, arith, int_le, nat_le, ◌==◌}
+use Rattle.std.proofs.Common.{◌≡◌, ◌≢◌, ℕ, pos, negsuc, suc, ◌<◌, ◌≤◌, ◌^◌, Bool, true, false, not, ◌&&◌, ◌||◌, List, [], length, map, get_or, slice_get, refl, sym, ap, ◌∙◌, subst, arith, int_le, nat_le, ◌==◌, Option, Some, None, IfSome, ℤ}
 use Rattle.std.specs.List.{position_or_len}
+use Rattle.std.specs.Option.{option_map}
 use Rattle.std.proofs.lemmas.Bool.{and_parts, leb-true}
 use Rattle.std.proofs.lemmas.List.{get_or-map, length-map}
 use Rattle.schema_model.specs.declared.table.Table.{Table}
+use Rattle.schema_model.specs.declared.table.Life.{Life}
 use Rattle.schema_model.specs.declared.column.Column.{Column}
 use Rattle.schema_model.specs.declared.column.Kind.{Kind}
 use Rattle.schema_model.specs.declared.column.Kind.TheVariants.{Key}
 use Rattle.schema_check.specs.declared.rules.Rule.{Rule}
-use Rattle.schema_check.specs.declared.rules.Rule.TheVariants.{Dictionaries, SeedAndUnits, TableCount, Columns, KeyColumn, RowCount, NumberRange, DateRange, PickEntries, SkewRange, LengthRange, TemplateParts, CaseBranches, RowCost, LineSize, NullShare}
+use Rattle.schema_check.specs.declared.rules.Rule.TheVariants.{Dictionaries, SeedAndUnits, TableCount, Columns, KeyColumn, RowCount, LifeRange, UpdatePeriod, NumberRange, DateRange, PickEntries, SkewRange, LengthRange, TemplateParts, CaseBranches, StillCitations, RowCost, LineSize, ChangesAndNulls}
 use Rattle.schema_check.specs.declared.site.Site.TheVariants.{Whole, OfTable, OfColumn}
 use Rattle.schema_check.specs.Cohorts.{born_count}
 use Rattle.schema_check.specs.Counts.{count}
 use Rattle.schema_check.specs.Dictionaries.{AreWordLists, Dictionary, Project}
-use Rattle.schema_check.specs.Layout.{births_of, column_at, column_layout, key_kind, keys_of_kind, kind_layout, layout_of, table_layout}
-use Rattle.schema_check.specs.Limits.{IsKindInLimits, IsTableInLimits, IsInLimits}
-use Rattle.schema_check.specs.Rules.{broken_rule, first_broken, number_of, rules, is_between, is_key, is_key_in_range, is_key_first, is_null_share, is_one_to_64, kind_at, null_at, schema_table, IsAccepted, Keeps}
+use Rattle.schema_check.specs.Layout.{births_of, column_at, column_layout, key_kind, keys_of_kind, kind_layout, layout_of, span_of, table_layout}
+use Rattle.schema_check.specs.Limits.{IsKindInLimits, IsLife, IsTableInLimits, IsInLimits, IsUpdatePeriod}
+use Rattle.schema_check.specs.Rules.{broken_rule, first_broken, number_of, rules, changes_at, cites_still, is_between, is_change, is_key, is_key_in_range, is_key_first, is_life, is_null_share, is_one_to_64, is_update_period, kind_at, null_at, schema_table, IsAccepted, Keeps}
 use Rattle.schema_check.specs.Sites.{columns_at}
 use Rattle.schema_check.specs.TableFacts.{cost, max_line}
-use Rattle.schema_check.proofs.ColumnLimits.{columns_layout, key_never_null, kind_at-layout, kind_in_limits, null_at-layout, null_limit}
+use Rattle.schema_check.proofs.ColumnLimits.{cites_still_columns, columns_layout, key_never_null, kind_at-layout, kind_in_limits, null_at-layout, null_limit, unchanged}
 use Rattle.schema_check.proofs.FirstBreak.{none_of_rule}
-use Rattle.schema_check.proofs.FromTests.{count_from_test, limit_from_test}
+use Rattle.schema_check.proofs.FromTests.{count_from_test, least_from_test, limit_from_test}
 use Rattle.schema_check.proofs.Kept.{keeps_from_none, none_at}
 use Rattle.schema_check.proofs.RuleLemmas.{columns_at-is}
 
@@ -65,6 +67,29 @@ column_in_limits project lists accepted i j table column tables =
 
 -- ---- tables
 
+-- counts are in the order of the numbers that they stand for
+count-ordered : (a b : ℤ) → int_le a b ≡ true → count a ≤ count b
+count-ordered (pos a) (pos b) h = leb-true a b h
+count-ordered (pos a) (negsuc b) h = cc
+count-ordered (negsuc a) b h = omega arith
+
+life_in_limits : (life : Option Life) → is_life life ≡ true → IfSome (option_map span_of life) IsLife
+life_in_limits None h = tt
+life_in_limits (Some life) h =
+    let v = and_parts (int_le (pos 1) life.lo && int_le life.lo life.hi) (int_le life.hi (pos 20000)) h in
+    let w = and_parts (int_le (pos 1) life.lo) (int_le life.lo life.hi) v.0 in
+    record {
+      some_unit = least_from_test life.lo 1 w.0;
+      ordered = count-ordered life.lo life.hi w.1;
+      life_limit = limit_from_test life.hi 20000 v.1;
+    }
+
+update_in_limits : (update : Option ℤ) → is_update_period update ≡ true → IfSome (option_map count update) IsUpdatePeriod
+update_in_limits None h = tt
+update_in_limits (Some units) h =
+    let v = and_parts (int_le (pos 1) units) (int_le units (pos 10000)) h in
+    record { some_unit = least_from_test units 1 v.0; unit_limit = limit_from_test units 10000 v.1 }
+
 table_in_limits : (project : Project) → AreWordLists project.dictionaries → IsAccepted project → (i : ℕ) → i < length project.schema.tables → IsTableInLimits (count project.schema.units) (table_layout project.dictionaries project.schema.tables (schema_table project.schema i))
 table_in_limits project lists accepted i h =
     let t = schema_table project.schema i in
@@ -74,10 +99,13 @@ table_in_limits project lists accepted i h =
     let v6 = and_parts (int_le (pos 0) t.rows && int_le (pos 0) t.insert) (nat_le (born_count (births_of t) (count project.schema.units)) (2 ^ 40)) (keeps project accepted RowCount refl (OfTable i) h) in
     let some : 1 ≤ length t.columns = leb-true 1 (length t.columns) counted.0 in
     let v5 = λ (j : ℕ) (lt : j < length t.columns). ap (λ columns. is_key_first j (kind_at columns j)) (sym same) ∙ keeps project accepted KeyColumn refl (OfColumn i j) (h, subst (λ (columns : List Column). j < length columns) (sym same) lt) in
-    let v25 = λ (j : ℕ) (lt : j < length t.columns). ap (λ columns. is_null_share (kind_at columns j) (null_at columns j)) (sym same) ∙ keeps project accepted NullShare refl (OfColumn i j) (h, subst (λ (columns : List Column). j < length columns) (sym same) lt) in
+    let v17 = λ (j : ℕ) (lt : j < length t.columns). ap (λ columns. cites_still columns j) (sym same) ∙ keeps project accepted StillCitations refl (OfColumn i j) (h, subst (λ (columns : List Column). j < length columns) (sym same) lt) in
+    let v25 = λ (j : ℕ) (lt : j < length t.columns). and_parts (is_null_share (kind_at t.columns j) (null_at t.columns j)) (is_change (kind_at t.columns j) (changes_at t.columns j)) (ap (λ columns. is_null_share (kind_at columns j) (null_at columns j) && is_change (kind_at columns j) (changes_at columns j)) (sym same) ∙ keeps project accepted ChangesAndNulls refl (OfColumn i j) (h, subst (λ (columns : List Column). j < length columns) (sym same) lt)) in
     let layouts : length (columns_layout project.dictionaries project.schema.tables t.columns) ≡ length t.columns = length-map t.columns (column_layout project.dictionaries project.schema.tables t.columns) in
     record {
       row_limit = leb-true (born_count (births_of t) (count project.schema.units)) (2 ^ 40) v6.1;
+      life = life_in_limits t.life (keeps project accepted LifeRange refl (OfTable i) h);
+      update = update_in_limits t.update (keeps project accepted UpdatePeriod refl (OfTable i) h);
       base_limit = base_from_range (kind_at t.columns 0) (v5 0 some);
       some_column = omega (arith, layouts, some);
       column_limit = omega (arith, layouts, leb-true (length t.columns) 64 counted.1);
@@ -93,8 +121,14 @@ table_in_limits project lists accepted i h =
           (column_in_limits project lists accepted i place h at project.schema.tables);
       nulls = λ place lt.
           let within : place < length t.columns = omega (arith, layouts, lt) in
-          omega (arith, null_at-layout project.dictionaries project.schema.tables t.columns place within, null_limit (kind_at t.columns place) (null_at t.columns place) (v25 place within));
-      key_never_null = null_at-layout project.dictionaries project.schema.tables t.columns 0 some ∙ key_never_null (kind_at t.columns 0) (null_at t.columns 0) (v5 0 some) (v25 0 some);
+          omega (arith, null_at-layout project.dictionaries project.schema.tables t.columns place within, null_limit (kind_at t.columns place) (null_at t.columns place) (v25 place within).0);
+      changes = λ place lt none.
+          let within : place < length t.columns = omega (arith, layouts, lt) in
+          unchanged project.dictionaries project.schema.tables t.columns place within (v25 place within).1 none;
+      still = λ place lt none.
+          let within : place < length t.columns = omega (arith, layouts, lt) in
+          cites_still_columns project.dictionaries project.schema.tables t.columns place within (v17 place within) none;
+      key_never_null = null_at-layout project.dictionaries project.schema.tables t.columns 0 some ∙ key_never_null (kind_at t.columns 0) (null_at t.columns 0) (v5 0 some) (v25 0 some).0;
     }
 
 -- a number of one of the first 64 tables is at most its limit

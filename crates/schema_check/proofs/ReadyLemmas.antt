@@ -70,7 +70,7 @@ ready_columns-is project place table within is =
     let at : table_at (table_layouts dictionaries tables) place ≡ table_layout dictionaries tables table = table_at-is dictionaries tables place table within ∙ ap (table_layout dictionaries tables) (sym is) in
     let of = ready_column delimiter in
     let alone : (λ (column : Column). of (column_layout dictionaries tables table.columns column)) ≡ kept_column dictionaries delimiter table.columns =
-    fun_ext (λ (column : Column). ap (λ kind. record { kind = kind; null = count column.null }) (ready_kind-alone dictionaries tables table.columns delimiter column.kind)) in
+    fun_ext (λ (column : Column). ap (λ kind. record { kind = kind; changes = column.changes; null = count column.null }) (ready_kind-alone dictionaries tables table.columns delimiter column.kind)) in
     ap (λ (layout : TableLayout). map of layout.columns) at
     ∙ map-map of (column_layout dictionaries tables table.columns) table.columns
     ∙ ap (λ (keep : Column → ReadyColumn). map keep table.columns) alone

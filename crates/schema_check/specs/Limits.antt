@@ -1,11 +1,12 @@
 -- What the rules give for the numbers of an accepted schema.
-use Rattle.std.specs.Prelude.{◌≡◌, ◌≢◌, Bool, true, false, ℕ, ℤ, suc, pos, neg_ℤ, ◌-◌, ◌^◌, ◌<◌, ◌≤◌, ◌+ℤ◌, ◌-ℤ◌, ◌<ℤ◌, ◌≤ℤ◌, List, length, sum, All, ⊤}
+use Rattle.std.specs.Prelude.{◌≡◌, ◌≢◌, Bool, true, false, ◌||◌, ℕ, ℤ, suc, pos, neg_ℤ, ◌-◌, ◌^◌, ◌<◌, ◌≤◌, ◌+ℤ◌, ◌-ℤ◌, ◌<ℤ◌, ◌≤ℤ◌, List, length, sum, All, IfSome, ⊤}
 use Rattle.std.specs.Str.{chars}
 use Rattle.dictionaries.specs.WordList.{IsWordList}
+use Rattle.schema_check.specs.declared.layout.Span.{Span}
 use Rattle.schema_check.specs.Cohorts.{born_count}
 use Rattle.schema_check.specs.Counts.{count}
 use Rattle.schema_check.specs.Dictionaries.{Project}
-use Rattle.schema_check.specs.Layout.{LeafLayout, int_leaf, fixed_leaf, date_leaf, pick_leaf, skew_leaf, dict_leaf, words_leaf, chars_leaf, PartLayout, literal_part, cited_part, KindLayout, key_kind, leaf_kind, template_kind, case_kind, lookup_kind, ColumnLayout, column_at, TableLayout, layout_of}
+use Rattle.schema_check.specs.Layout.{LeafLayout, int_leaf, fixed_leaf, date_leaf, pick_leaf, skew_leaf, dict_leaf, words_leaf, chars_leaf, PartLayout, literal_part, cited_part, KindLayout, key_kind, changed_kind, leaf_kind, template_kind, case_kind, lookup_kind, ColumnLayout, column_at, TableLayout, layout_of}
 use Rattle.schema_check.specs.TableFacts.{cost, max_line}
 
 -- a number that isn't below 0
@@ -96,9 +97,49 @@ IsKindInLimits columns place (template_kind parts) = AreParts columns place part
 IsKindInLimits columns place (case_kind on branches) = IsCase columns place on branches
 IsKindInLimits columns place _ = ⊤
 
+-- a kind whose fields may be drawn anew where a row changes: no key, no unit, and none that other rows tell
+abbrev pub can_change : KindLayout → Bool
+can_change (leaf_kind leaf) = true
+can_change (template_kind parts) = true
+can_change (case_kind on branches) = true
+can_change _ = false
+
+-- the unit of a row's last change
+abbrev pub is_change_unit : KindLayout → Bool
+is_change_unit changed_kind = true
+is_change_unit _ = false
+
+-- whether a column moves: it is drawn anew where a row changes, or holds the unit of that change
+abbrev pub moves : ColumnLayout → Bool
+moves column = column.changes || is_change_unit column.kind
+
+-- a part of a template that cites no column that moves
+abbrev pub IsStillPart : List ColumnLayout → PartLayout → Type 0
+IsStillPart columns (literal_part bytes) = ⊤
+IsStillPart columns (cited_part column) = moves (column_at columns column) ≡ false
+
+-- a kind that cites no column that moves
+abbrev pub CitesStill : List ColumnLayout → KindLayout → Type 0
+CitesStill columns (template_kind parts) = All (IsStillPart columns) parts
+CitesStill columns (case_kind on branches) = moves (column_at columns on) ≡ false
+CitesStill columns _ = ⊤
+
+-- a life, in units
+pub record IsLife (life : Span) : Type 0 where
+  pub some_unit : 1 ≤ life.least
+  pub ordered : life.least ≤ life.most
+  pub life_limit : life.most ≤ 20000
+
+-- the units from one change of a row to its next
+pub record IsUpdatePeriod (units : ℕ) : Type 0 where
+  pub some_unit : 1 ≤ units
+  pub unit_limit : units ≤ 10000
+
 -- a table within its limits, up to a last unit: its first column is its key, and no other is
 pub record IsTableInLimits (units : ℕ) (table : TableLayout) : Type 0 where
   pub row_limit : born_count table.births units ≤ 2 ^ 40
+  pub life : IfSome table.life IsLife
+  pub update : IfSome table.update IsUpdatePeriod
   pub base_limit : table.key.base ≤ 2 ^ 62
   pub some_column : 1 ≤ length table.columns
   pub column_limit : length table.columns ≤ 64
@@ -106,6 +147,8 @@ pub record IsTableInLimits (units : ℕ) (table : TableLayout) : Type 0 where
   pub no_other_key : (place : ℕ) → suc place < length table.columns → (column_at table.columns (suc place)).kind ≢ key_kind
   pub kinds : (place : ℕ) → place < length table.columns → IsKindInLimits table.columns place (column_at table.columns place).kind
   pub nulls : (place : ℕ) → place < length table.columns → (column_at table.columns place).null ≤ 999
+  pub changes : (place : ℕ) → place < length table.columns → can_change (column_at table.columns place).kind ≡ false → (column_at table.columns place).changes ≡ false
+  pub still : (place : ℕ) → place < length table.columns → (column_at table.columns place).changes ≡ false → CitesStill table.columns (column_at table.columns place).kind
   pub key_never_null : (column_at table.columns 0).null ≡ 0
 
 -- an accepted schema within its limits, with its dictionaries

@@ -36,7 +36,7 @@ ready_part delimiter (cited_part column) = part.Cited column
 abbrev pub ready_kind : ℕ → KindLayout → ReadyKind
 ready_kind delimiter key_kind = kind.Key
 ready_kind delimiter born_kind = kind.Born
-ready_kind delimiter changed_kind = kind.Unserved
+ready_kind delimiter changed_kind = kind.Changed
 ready_kind delimiter (leaf_kind drawn) = kind.Drawn (ready_leaf delimiter drawn)
 ready_kind delimiter (template_kind parts) = kind.Template (map (ready_part delimiter) parts)
 ready_kind delimiter (case_kind on branches) = kind.Case on (map (ready_leaf delimiter) branches)
@@ -45,7 +45,7 @@ ready_kind delimiter (lookup_kind via parent name) = kind.Unserved
 
 -- a column
 abbrev pub ready_column : ℕ → ColumnLayout → ReadyColumn
-ready_column delimiter column = record { kind = ready_kind delimiter column.kind; null = column.null }
+ready_column delimiter column = record { kind = ready_kind delimiter column.kind; changes = column.changes; null = column.null }
 
 -- the columns of the table at a place
 abbrev pub ready_columns : Layout → ℕ → List ReadyColumn
@@ -53,6 +53,7 @@ ready_columns layout place = map (ready_column layout.delimiter) (table_at layou
 
 -- whether tables can be made of a column
 abbrev pub is_served_kind : ReadyKind → Bool
+is_served_kind kind.Changed = false
 is_served_kind kind.Unserved = false
 is_served_kind _ = true
 

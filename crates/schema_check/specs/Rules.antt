@@ -6,6 +6,7 @@ use Rattle.std.specs.Ordering.{int_eq}
 use Rattle.std.specs.Str.{chars}
 use Rattle.schema_model.specs.declared.table.Schema.{Schema}
 use Rattle.schema_model.specs.declared.table.Table.{Table}
+use Rattle.schema_model.specs.declared.table.Life.{Life}
 use Rattle.schema_model.specs.declared.column.Column.{Column}
 use Rattle.schema_model.specs.declared.column.Kind.{Kind}
 use Rattle.schema_model.specs.declared.column.Kind.TheVariants as kind
@@ -15,7 +16,7 @@ use Rattle.schema_model.specs.declared.column.Part.{Part}
 use Rattle.schema_model.specs.declared.column.Part.TheVariants as part
 use Rattle.schema_check.specs.declared.broken.Broken.{Broken}
 use Rattle.schema_check.specs.declared.rules.Rule.{Rule}
-use Rattle.schema_check.specs.declared.rules.Rule.TheVariants.{Dictionaries, CitedNames, SeedAndUnits, TableCount, TableNames, Columns, KeyColumn, RowCount, NumberRange, DateRange, PickEntries, SkewRange, LengthRange, TemplateParts, CaseBranches, RowCost, LineSize, NullShare}
+use Rattle.schema_check.specs.declared.rules.Rule.TheVariants.{Dictionaries, CitedNames, SeedAndUnits, TableCount, TableNames, Columns, KeyColumn, RowCount, LifeRange, UpdatePeriod, NumberRange, DateRange, PickEntries, SkewRange, LengthRange, TemplateParts, CaseBranches, StillCitations, RowCost, LineSize, ChangesAndNulls}
 use Rattle.schema_check.specs.declared.site.Site.{Site}
 use Rattle.schema_check.specs.declared.site.Site.TheVariants.{Whole, OfTable, OfColumn}
 use Rattle.schema_check.specs.Citations.{cited_names, leaves_of, may_cite, may_cite_all, names_in_leaf}
@@ -83,6 +84,16 @@ schema_table schema place =
 abbrev pub is_row_count : ℤ → Table → Bool
 is_row_count units table =
     int_le (pos 0) table.rows && int_le (pos 0) table.insert && nat_le (born_count (births_of table) (count units)) (2 ^ 40)
+
+-- a life of at least 1 unit, from lo to hi, which is at most 20,000
+abbrev pub is_life : Option Life → Bool
+is_life None = true
+is_life (Some life) = int_le (pos 1) life.lo && int_le life.lo life.hi && int_le life.hi (pos 20000)
+
+-- from one change of a row to its next 1 to 10,000 units
+abbrev pub is_update_period : Option ℤ → Bool
+is_update_period None = true
+is_update_period (Some units) = is_between 1 10000 units
 
 -- ---- what rules ask of drawn values
 
@@ -177,6 +188,44 @@ is_case columns place (kind.Case on branches) =
     nat_lt (place_of_column columns on) place && is_pick_of (length branches) (kind_at columns (place_of_column columns on))
 is_case columns place _ = true
 
+-- whether the column at a place is drawn anew where a row changes
+abbrev pub changes_at : List Column → ℕ → Bool
+changes_at columns place = slice_index_or (map (λ (column : Column). column.changes) columns) place false
+
+abbrev pub is_changed : Kind → Bool
+is_changed kind.Changed = true
+is_changed _ = false
+
+-- whether the column at a place moves: it is drawn anew where a row changes, or holds the unit of that change
+abbrev pub moves_at : List Column → ℕ → Bool
+moves_at columns place = changes_at columns place || is_changed (kind_at columns place)
+
+-- a part of a template that cites no column that moves
+abbrev pub is_still_part : List Column → Part → Bool
+is_still_part columns (part.Literal text) = true
+is_still_part columns (part.Cited name) = not (moves_at columns (place_of_column columns name))
+
+-- a kind that cites no column that moves
+abbrev pub is_still_kind : List Column → Kind → Bool
+is_still_kind columns (kind.Template parts) = list_all (is_still_part columns) parts
+is_still_kind columns (kind.Case on branches) = not (moves_at columns (place_of_column columns on))
+is_still_kind columns _ = true
+
+-- the column at a place cites no column that moves, or changes itself
+abbrev pub cites_still : List Column → ℕ → Bool
+cites_still columns place = changes_at columns place || is_still_kind columns (kind_at columns place)
+
+-- a kind whose fields may be drawn anew: no key, no unit, and none that other rows tell
+abbrev pub may_change : Kind → Bool
+may_change (kind.Leaf leaf) = true
+may_change (kind.Template parts) = true
+may_change (kind.Case on branches) = true
+may_change _ = false
+
+-- a column that changes is of such a kind
+abbrev pub is_change : Kind → Bool → Bool
+is_change kind changes = not changes || may_change kind
+
 -- how many of a thousand fields of a kind are null: at most 999, and of keys and references none
 abbrev pub is_null_share : Kind → ℤ → Bool
 is_null_share (kind.Key base scramble) null = int_eq null (pos 0)
@@ -205,6 +254,10 @@ holds Columns project (OfColumn table column) = is_new_at (column_names project.
 holds KeyColumn project (OfColumn table column) = is_key_first column (kind_at (columns_at project.schema table) column)
 -- V6: a table gains no negative number of rows, and at most 2^40 by the last unit
 holds RowCount project (OfTable table) = is_row_count project.schema.units (schema_table project.schema table)
+-- V7: a life is from 1 unit on, from lo to hi, which is at most 20,000
+holds LifeRange project (OfTable table) = is_life (schema_table project.schema table).life
+-- V8: from one change of a row to its next there are 1 to 10,000 units
+holds UpdatePeriod project (OfTable table) = is_update_period (schema_table project.schema table).update
 -- V9: a number is from lo to hi, which is at most 2^63 - 1 past lo; its step is at least 1, its decimals are 0 to 9. This rule and
 -- the next three are tried on the branches of a case too
 holds NumberRange project (OfColumn table column) = is_each_leaf is_number_range project.schema table column
@@ -222,13 +275,16 @@ holds TemplateParts project (OfColumn table column) =
 -- V16: a case names an earlier pick column of its table, with as many entries as the case has branches
 holds CaseBranches project (OfColumn table column) =
     is_case (columns_at project.schema table) column (kind_at (columns_at project.schema table) column)
+-- V17: a template or a case cites no column that moves, unless it changes itself
+holds StillCitations project (OfColumn table column) = cites_still (columns_at project.schema table) column
 -- V23: the cost of a row is at most 4,096. Past 64 tables, where an earlier rule is broken, nothing is asked
 holds RowCost project (OfTable table) = nat_le 64 table || nat_le (cost (layout_of project) table) 4096
 -- V24: a line has at most 65,536 bytes. The same
 holds LineSize project (OfTable table) = nat_le 64 table || nat_le (max_line (layout_of project) table) 65536
--- V25: at most 999 of a thousand fields are null, and none of a key or a reference
-holds NullShare project (OfColumn table column) =
+-- V25: at most 999 of a thousand fields are null, and none of a key or a reference; keys, units, references and lookups don't change
+holds ChangesAndNulls project (OfColumn table column) =
     is_null_share (kind_at (columns_at project.schema table) column) (null_at (columns_at project.schema table) column)
+    && is_change (kind_at (columns_at project.schema table) column) (changes_at (columns_at project.schema table) column)
 holds _ project site = true
 
 -- the number of a rule in messages, as 1 for V1
@@ -241,6 +297,8 @@ number_of TableNames = 3
 number_of Columns = 4
 number_of KeyColumn = 5
 number_of RowCount = 6
+number_of LifeRange = 7
+number_of UpdatePeriod = 8
 number_of NumberRange = 9
 number_of DateRange = 10
 number_of PickEntries = 11
@@ -248,16 +306,17 @@ number_of SkewRange = 12
 number_of LengthRange = 14
 number_of TemplateParts = 15
 number_of CaseBranches = 16
+number_of StillCitations = 17
 number_of RowCost = 23
 number_of LineSize = 24
-number_of NullShare = 25
+number_of ChangesAndNulls = 25
 
 -- the rules in the order in which they are tried, which for all of V1 to V25 is V13, V1 to V12, V14 to V25. Of V13 the part that a
 -- schema alone tells is no rule beside the whole
 abbrev pub rules : List Rule
 rules = Dictionaries ∷ SeedAndUnits ∷ TableCount ∷ TableNames ∷ Columns ∷ KeyColumn ∷ RowCount
-    ∷ NumberRange ∷ DateRange ∷ PickEntries ∷ SkewRange ∷ LengthRange ∷ TemplateParts ∷ CaseBranches
-    ∷ RowCost ∷ LineSize ∷ NullShare ∷ []
+    ∷ LifeRange ∷ UpdatePeriod ∷ NumberRange ∷ DateRange ∷ PickEntries ∷ SkewRange ∷ LengthRange ∷ TemplateParts ∷ CaseBranches
+    ∷ StillCitations ∷ RowCost ∷ LineSize ∷ ChangesAndNulls ∷ []
 
 -- ---- the first broken rule
 

@@ -1,8 +1,9 @@
-//! What the rules ask of columns that speak of others, and of nulls.
+//! What the rules ask of columns that speak of others, of changes and of nulls.
 
-ghost use Rattle.std.specs.Prelude.{◌≡◌, ◌<◌, ◌≤◌, length};
+ghost use Rattle.std.specs.Prelude.{◌≡◌, ◌<◌, ◌≤◌, ◌||◌, length};
 ghost use Rattle.std.specs.List.{list_all};
-ghost use Rattle.schema_check.specs.Rules.{is_case, is_citable, is_null_share, is_part, is_pick_of, is_template, kind_at};
+ghost use Rattle.schema_check.specs.Layout.{place_of_column};
+ghost use Rattle.schema_check.specs.Rules.{cites_still, is_case, is_change, is_changed, is_citable, is_null_share, is_part, is_pick_of, is_still_kind, is_still_part, is_template, kind_at, may_change, moves_at};
 
 use crate::places::place_of_column;
 use schema_model::{Column, Kind, Leaf, Part, Text};
@@ -81,6 +82,73 @@ fn is_pick_of(count: usize, kind: &Kind) -> bool
         Kind::Leaf(Leaf::Pick { entries, .. }) => entries.len() == count,
         _ => false,
     }
+}
+
+/// Whether the column at a place cites no column that moves, or changes itself. Templates and cases cite columns.
+pub(crate) fn cites_still(columns: &[Column], place: usize) -> bool
+    requires { place < length columns.now }
+    ensures { result ≡ cites_still columns.now place }
+{
+    let column = &columns[place];
+    column.changes || is_still_kind(columns, &column.kind)
+}
+
+/// Whether a kind cites no column that moves.
+fn is_still_kind(columns: &[Column], kind: &Kind) -> bool
+    ensures { result ≡ is_still_kind columns.now kind.now }
+{
+    match kind {
+        Kind::Template { parts } => are_still(columns, parts.as_slice()),
+        Kind::Case { on, .. } => !is_moving(columns, on),
+        _ => true,
+    }
+}
+
+/// Whether none of some parts cites a column that moves.
+fn are_still(columns: &[Column], parts: &[Part]) -> bool
+    ensures { result ≡ list_all (is_still_part columns.now) parts.now }
+{
+    parts.iter().all(|part| is_still_part(columns, part))
+}
+
+fn is_still_part(columns: &[Column], part: &Part) -> bool
+    ensures { result ≡ is_still_part columns.now part.now }
+{
+    match part {
+        Part::Literal(_) => true,
+        Part::Cited(name) => !is_moving(columns, name),
+    }
+}
+
+/// Whether the column with a name moves: it is drawn anew where a row changes, or holds the unit of that change.
+fn is_moving(columns: &[Column], name: &Text) -> bool
+    ensures { result ≡ moves_at columns.now (place_of_column columns.now name.now) }
+{
+    let place = place_of_column(columns, name);
+    place < columns.len() && moves(&columns[place])
+}
+
+fn moves(column: &Column) -> bool
+    ensures { result ≡ (column.now.changes || is_changed column.now.kind) }
+{
+    column.changes || matches!(column.kind, Kind::Changed)
+}
+
+/// Whether a column that changes is of a kind that may.
+pub(crate) fn is_change(column: &Column) -> bool
+    ensures { result ≡ is_change column.now.kind column.now.changes }
+{
+    !column.changes || may_change(&column.kind)
+}
+
+/// Whether the fields of a kind may be drawn anew where a row changes: no key, no unit, and none that other rows tell.
+fn may_change(kind: &Kind) -> bool
+    ensures { result ≡ may_change kind.now }
+{
+    matches!(
+        kind,
+        Kind::Leaf(_) | Kind::Template { .. } | Kind::Case { .. }
+    )
 }
 
 /// Whether at most 999 of a thousand fields of a column are null, and none of a key or a reference.

@@ -64,7 +64,7 @@ fn schema(alloc: Global) -> Schema {
 }
 
 /// The first fault of a schema, whether or not tables can be made of it.
-fn fault_in(alloc: Global, schema: &Schema) -> Option<CheckFault> {
+pub(crate) fn fault_in(alloc: Global, schema: &Schema) -> Option<CheckFault> {
     let dictionaries = Dictionaries::new(alloc);
     let mut facts = [NO_FACTS; MAX_ITEMS];
     let count = schema.tables.len().min(MAX_ITEMS);

@@ -2,7 +2,7 @@
 //!
 //! A schema may be read whole and still make no sense. `check` tries its rules in their order and gives either the first
 //! one that is broken, at its first site, or a plan: the schema, with what doesn't change from row to row. `unbuilt` says of
-//! which schemas no table can be made yet; the rules that speak of what isn't built aren't tried yet.
+//! which schemas no table can be made yet; not all rules that speak of what isn't built are tried yet.
 #![tactic(auto)]
 
 mod broken;

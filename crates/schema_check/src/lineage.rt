@@ -11,6 +11,7 @@ ghost use Rattle.schema_check.specs.declared.lineage.Lineage.{Lineage};
 
 use crate::counts::count;
 use crate::facts::TableFacts;
+use crate::layout::Span;
 use crate::places::place_of_table;
 use schema_model::{Kind, Life, Table, Window};
 
@@ -55,6 +56,16 @@ fn own_lineage(life: Option<Life>) -> Lineage
             longest_life: Some(count(life.hi)),
             death_cost: 1,
         },
+    }
+}
+
+/// For how many units a row lives.
+pub(crate) fn span_of(life: Life) -> Span
+    ensures { result ≡ span_of life }
+{
+    Span {
+        least: count(life.lo),
+        most: count(life.hi),
     }
 }
 

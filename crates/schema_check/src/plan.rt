@@ -1,12 +1,12 @@
 //! The plan of an accepted schema.
 
-ghost use Rattle.std.specs.Prelude.{◌≡◌, ◌<◌, ◌≤◌, false, true, All, Some, length, slice_get, IfOk};
+ghost use Rattle.std.specs.Prelude.{◌≡◌, ◌<◌, ◌≤◌, false, true, All, Some, length, slice_get, IfOk, IfSome};
 ghost use Rattle.std.specs.List.{position};
 ghost use Rattle.std.specs.Option.{option_copied};
 ghost use Rattle.schema_check.specs.Capped.{first_facts};
 ghost use Rattle.schema_check.specs.Dictionaries.{dictionary_named, project_of};
 ghost use Rattle.schema_check.specs.Layout.{layout_of, table_at, table_layout};
-ghost use Rattle.schema_check.specs.Limits.{IsInLimits, IsTableInLimits};
+ghost use Rattle.schema_check.specs.Limits.{IsInLimits, IsLife, IsTableInLimits, IsUpdatePeriod};
 ghost use Rattle.schema_check.specs.Lineage.{longest_life, sure_life};
 ghost use Rattle.schema_check.specs.Names.{same_text};
 ghost use Rattle.schema_check.specs.Planned.{table_named};
@@ -15,8 +15,10 @@ ghost use Rattle.schema_check.specs.Rules.{IsAccepted};
 ghost use Rattle.schema_check.specs.TableFacts.{cost, facts_at, max_line, reach};
 ghost use Rattle.schema_check.specs.Unbuilt.{is_unbuilt, is_unbuilt_table};
 
+use crate::counts::count;
 use crate::facts::{TableFacts, greatest_line};
-use crate::layout::{Births, Keys};
+use crate::layout::{Births, Keys, Span};
+use crate::lineage::span_of;
 use crate::memory::Memory;
 use crate::ready::ReadyColumn;
 use crate::ready_columns::ready_tables;
@@ -160,6 +162,30 @@ impl Plan {
         ensures { result ≡ (table_at (layout_of self.now).tables table).key }
     {
         self.facts_of(table).keys
+    }
+
+    /// For how many units a row of a table lives, by a life of the table's own; None exactly where it has none.
+    pub fn life(&self, table: u32) -> Option<Span>
+        requires { table < length self.now.schema.tables }
+        ensures life { result ≡ (table_at (layout_of self.now).tables table).life }
+        ensures limits { IfSome result IsLife }
+    {
+        match self.table(table).life {
+            Some(life) => Some(span_of(life)),
+            None => None,
+        }
+    }
+
+    /// The number of units from one change of a row of a table to its next; None exactly where its rows never change.
+    pub fn update(&self, table: u32) -> Option<u64>
+        requires { table < length self.now.schema.tables }
+        ensures update { result ≡ (table_at (layout_of self.now).tables table).update }
+        ensures limits { IfSome result IsUpdatePeriod }
+    {
+        match self.table(table).update {
+            Some(units) => Some(count(units)),
+            None => None,
+        }
     }
 
     /// For how many units the rows of a table live at least; None exactly where that is unbounded.

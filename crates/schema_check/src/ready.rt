@@ -11,6 +11,8 @@ use weight_tables::Weights;
 pub struct ReadyColumn {
     /// What its fields hold.
     pub kind: ReadyKind,
+    /// Whether they are drawn anew where a row changes.
+    pub changes: bool,
     /// How many of a thousand fields are null.
     pub null: u64,
 }
@@ -22,6 +24,8 @@ pub enum ReadyKind {
     Key,
     /// The row's unit of birth.
     Born,
+    /// The unit in which the row last changed. No table can be made of it yet.
+    Changed,
     /// A value that is drawn for the field alone.
     Drawn(ReadyLeaf),
     /// The parts, one after the other.

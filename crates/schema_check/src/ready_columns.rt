@@ -69,6 +69,7 @@ fn ready_column(
     let kind = ready_kind(alloc, lexicon, columns, &column.kind)?;
     Ok(ReadyColumn {
         kind,
+        changes: column.changes,
         null: count(column.null),
     })
 }
@@ -86,6 +87,7 @@ fn ready_kind(
     match kind {
         Kind::Key { .. } => Ok(ReadyKind::Key),
         Kind::Born => Ok(ReadyKind::Born),
+        Kind::Changed => Ok(ReadyKind::Changed),
         Kind::Leaf(leaf) => Ok(ReadyKind::Drawn(ready_leaf(alloc, lexicon, leaf)?)),
         Kind::Template { parts } => {
             let parts = ready_parts(alloc, lexicon.delimiter(), columns, parts.as_slice())?;
@@ -96,7 +98,7 @@ fn ready_kind(
             let branches = ready_branches(alloc, lexicon, branches.as_slice())?;
             Ok(ReadyKind::Case { on, branches })
         }
-        Kind::Changed | Kind::Ref { .. } | Kind::Lookup { .. } => Ok(ReadyKind::Unserved),
+        Kind::Ref { .. } | Kind::Lookup { .. } => Ok(ReadyKind::Unserved),
     }
 }
 

@@ -6,13 +6,13 @@ ghost use Rattle.schema_check.specs.Capped.{capped, is_known_at_most};
 ghost use Rattle.schema_check.specs.Counts.{count};
 ghost use Rattle.schema_check.specs.Names.{same_text};
 ghost use Rattle.schema_check.specs.Citations.{leaves_of};
-ghost use Rattle.schema_check.specs.Rules.{break_in_table, first_break, first_broken, holds, is_between, is_key_first, is_new_at, is_one_to_64, is_row_count, kind_at, number_of};
+ghost use Rattle.schema_check.specs.Rules.{break_in_table, first_break, first_broken, holds, is_between, is_key_first, is_life, is_new_at, is_one_to_64, is_row_count, is_update_period, kind_at, number_of};
 ghost use Rattle.schema_check.specs.Sites.{columns_at, IsSiteOf};
 
 use crate::broken::Broken;
 use crate::candidate::Candidate;
 use crate::cited_names::{are_citable, are_supplied};
-use crate::column_rules::{is_case, is_null_share, is_template};
+use crate::column_rules::{cites_still, is_case, is_change, is_null_share, is_template};
 use crate::counts::count;
 use crate::facts::TableFacts;
 use crate::leaf_rules::{
@@ -20,7 +20,7 @@ use crate::leaf_rules::{
 };
 use crate::names::is_name;
 use crate::site::Site;
-use schema_model::{Column, Kind, Leaf, Schema, Table, Text};
+use schema_model::{Column, Kind, Leaf, Life, Schema, Table, Text};
 
 /// The greatest last unit.
 const MAX_UNITS: i64 = 10_000;
@@ -33,6 +33,12 @@ const MAX_BASE: i64 = 1 << 62;
 
 /// The most rows that a table may gain up to the last unit.
 const MAX_ROWS: u64 = 1 << 40;
+
+/// The longest life, in units.
+const MAX_LIFE: i64 = 20_000;
+
+/// The most units from one change of a row to its next.
+const MAX_UPDATE: i64 = 10_000;
 
 /// The greatest cost of a row.
 const MAX_COST: u64 = 4_096;
@@ -59,6 +65,10 @@ pub(crate) enum Rule {
     KeyColumn,
     /// V6
     RowCount,
+    /// V7
+    LifeRange,
+    /// V8
+    UpdatePeriod,
     /// V9
     NumberRange,
     /// V10
@@ -73,16 +83,18 @@ pub(crate) enum Rule {
     TemplateParts,
     /// V16
     CaseBranches,
+    /// V17
+    StillCitations,
     /// V23
     RowCost,
     /// V24
     LineSize,
     /// V25
-    NullShare,
+    ChangesAndNulls,
 }
 
 /// The rules in the order in which they are tried.
-const ORDER: [Rule; 17] = [
+const ORDER: [Rule; 20] = [
     Rule::Dictionaries,
     Rule::SeedAndUnits,
     Rule::TableCount,
@@ -90,6 +102,8 @@ const ORDER: [Rule; 17] = [
     Rule::Columns,
     Rule::KeyColumn,
     Rule::RowCount,
+    Rule::LifeRange,
+    Rule::UpdatePeriod,
     Rule::NumberRange,
     Rule::DateRange,
     Rule::PickEntries,
@@ -97,9 +111,10 @@ const ORDER: [Rule; 17] = [
     Rule::LengthRange,
     Rule::TemplateParts,
     Rule::CaseBranches,
+    Rule::StillCitations,
     Rule::RowCost,
     Rule::LineSize,
-    Rule::NullShare,
+    Rule::ChangesAndNulls,
 ];
 
 /// The first rule that a schema breaks with its dictionaries, at its first site: the whole before the tables, in their order, and
@@ -164,6 +179,8 @@ impl Rule {
             Rule::Columns => 4,
             Rule::KeyColumn => 5,
             Rule::RowCount => 6,
+            Rule::LifeRange => 7,
+            Rule::UpdatePeriod => 8,
             Rule::NumberRange => 9,
             Rule::DateRange => 10,
             Rule::PickEntries => 11,
@@ -171,9 +188,10 @@ impl Rule {
             Rule::LengthRange => 14,
             Rule::TemplateParts => 15,
             Rule::CaseBranches => 16,
+            Rule::StillCitations => 17,
             Rule::RowCost => 23,
             Rule::LineSize => 24,
-            Rule::NullShare => 25,
+            Rule::ChangesAndNulls => 25,
         }
     }
 
@@ -202,6 +220,8 @@ impl Rule {
                 is_key_first(column, &columns_at(schema, table)[column].kind)
             }
             (Rule::RowCount, Site::OfTable(table)) => is_row_count(schema.units, &tables[table]),
+            (Rule::LifeRange, Site::OfTable(table)) => is_life(tables[table].life),
+            (Rule::UpdatePeriod, Site::OfTable(table)) => is_update_period(tables[table].update),
             (Rule::NumberRange, Site::OfColumn(table, column)) => {
                 are_number_ranges(leaves_at(schema, table, column))
             }
@@ -223,10 +243,14 @@ impl Rule {
             (Rule::CaseBranches, Site::OfColumn(table, column)) => {
                 is_case(columns_at(schema, table), column)
             }
+            (Rule::StillCitations, Site::OfColumn(table, column)) => {
+                cites_still(columns_at(schema, table), column)
+            }
             (Rule::RowCost, Site::OfTable(table)) => is_row_cost(candidate.facts(), table),
             (Rule::LineSize, Site::OfTable(table)) => is_line_size(candidate.facts(), table),
-            (Rule::NullShare, Site::OfColumn(table, column)) => {
-                is_null_share(&columns_at(schema, table)[column])
+            (Rule::ChangesAndNulls, Site::OfColumn(table, column)) => {
+                let column = &columns_at(schema, table)[column];
+                is_null_share(column) && is_change(column)
             }
             _ => true,
         }
@@ -323,6 +347,24 @@ fn rows_by(unit: i64, table: &Table) -> u64
     count(unit)
         .saturating_mul(count(table.insert))
         .saturating_add(count(table.rows))
+}
+
+fn is_life(life: Option<Life>) -> bool
+    ensures { result ≡ is_life life }
+{
+    match life {
+        Some(life) => 1 <= life.lo && life.lo <= life.hi && life.hi <= MAX_LIFE,
+        None => true,
+    }
+}
+
+fn is_update_period(update: Option<i64>) -> bool
+    ensures { result ≡ is_update_period update }
+{
+    match update {
+        Some(units) => 1 <= units && units <= MAX_UPDATE,
+        None => true,
+    }
 }
 
 fn is_row_cost(facts: &[TableFacts], table: usize) -> bool

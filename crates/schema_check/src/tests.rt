@@ -1,6 +1,8 @@
 use super::*;
+use crate::fact_tests::fault_in;
 use schema_model::{
-    Column, Columns, Delimiter, Kind, Leaf, Life, Longs, Parts, Schema, Table, Tables, Text, Texts,
+    Column, Columns, Delimiter, Kind, Leaf, Leaves, Life, Longs, Part, Parts, Schema, Table,
+    Tables, Text, Texts, Window,
 };
 use std::alloc::{AllocError, Global};
 use std::test::Fail;
@@ -320,16 +322,184 @@ fn pick(alloc: Global, entries: u64, size: u64, runs: &[(u64, i64)]) -> Result<L
 
 /// The table with one more column, which holds a drawn value.
 fn with_leaf(alloc: Global, table: Table, name: &str, leaf: Leaf) -> Result<Table, AllocError> {
+    with_column(alloc, table, name, Kind::Leaf(leaf), false)
+}
+
+/// The table with one more column, which changes or not.
+fn with_column(
+    alloc: Global,
+    table: Table,
+    name: &str,
+    kind: Kind,
+    changes: bool,
+) -> Result<Table, AllocError> {
     let mut table = table;
     let name = text(alloc, name)?;
     let column = Column {
         name,
-        kind: Kind::Leaf(leaf),
-        changes: false,
+        kind,
+        changes,
         null: 0,
     };
     table.columns.push(column).map_err(|_| AllocError)?;
     Ok(table)
+}
+
+/// The first fault of a schema of one table, whether or not tables can be made of it.
+fn fault_of_table(alloc: Global, table: Table) -> Result<Option<CheckFault>, AllocError> {
+    let mut schema = schema(alloc, 1, 2);
+    schema.tables.push(table).map_err(|_| AllocError)?;
+    Ok(fault_in(alloc, &schema))
+}
+
+/// A rule of that table where it is broken.
+fn fault_unless(is_kept: bool, number: u32, column: u64) -> Option<CheckFault> {
+    if is_kept {
+        None
+    } else {
+        Some(CheckFault::Rule {
+            number,
+            table: 1,
+            column,
+        })
+    }
+}
+
+#[test]
+fn lives_and_updates(rt: HostRuntime) -> Result<(), Fail> {
+    let alloc = rt.alloc();
+    for (lo, hi, is_kept) in [
+        (1, 1, true),
+        (0, 1, false),
+        (-1, 1, false),
+        (2, 1, false),
+        (1, 20_000, true),
+        (20_000, 20_000, true),
+        (1, 20_001, false),
+        (i64::MIN, i64::MAX, false),
+    ] {
+        let mut table = table(alloc, "t", (1, 1), &ONE)?;
+        table.life = Some(Life { lo, hi });
+        let told = fault_of_table(alloc, table)?;
+        assert_eq!(rt;
+            told,
+            fault_unless(is_kept, 7, 0),
+            "a life from {lo} to {hi}"
+        );
+    }
+    for (update, is_kept) in [
+        (1, true),
+        (0, false),
+        (-1, false),
+        (10_000, true),
+        (10_001, false),
+        (i64::MAX, false),
+    ] {
+        let mut table = table(alloc, "t", (1, 1), &ONE)?;
+        table.update = Some(update);
+        let told = fault_of_table(alloc, table)?;
+        assert_eq!(rt;
+            told,
+            fault_unless(is_kept, 8, 0),
+            "changes every {update} units"
+        );
+    }
+    Ok(())
+}
+
+/// A template that cites the column with a name.
+fn citing(alloc: Global, name: &str) -> Result<Kind, AllocError> {
+    let mut parts = Parts::new(alloc);
+    let cited = Part::Cited(text(alloc, name)?);
+    parts.push(cited).map_err(|_| AllocError)?;
+    Ok(Kind::Template { parts })
+}
+
+/// A case of the column `word`, of one branch.
+fn case(alloc: Global) -> Result<Kind, AllocError> {
+    let mut branches = Leaves::new(alloc);
+    let day = Leaf::Date { lo: 1, hi: 2 };
+    branches.push(day).map_err(|_| AllocError)?;
+    Ok(Kind::Case {
+        on: text(alloc, "word")?,
+        branches,
+    })
+}
+
+/// A table of a key, a pick that changes or not, and the unit of the last change.
+fn moving(alloc: Global, changes: bool) -> Result<Table, AllocError> {
+    let table = table(alloc, "t", (1, 1), &[("id", Key(1))])?;
+    let word = Kind::Leaf(pick(alloc, 1, 1, &[(1, 1)])?);
+    let table = with_column(alloc, table, "word", word, changes)?;
+    with_column(alloc, table, "unit", Kind::Changed, false)
+}
+
+// A column of a kind that may not change is told where it does.
+#[test]
+fn kinds_that_change(rt: HostRuntime) -> Result<(), Fail> {
+    let alloc = rt.alloc();
+    let reference = Kind::Ref {
+        table: text(alloc, "t")?,
+        window: Window::All,
+        spread: Longs::new(alloc),
+    };
+    let lookup = Kind::Lookup {
+        via: text(alloc, "c")?,
+        column: text(alloc, "id")?,
+    };
+    for (kind, may_change) in [
+        (Kind::Born, false),
+        (Kind::Changed, false),
+        (Kind::Leaf(pick(alloc, 1, 1, &[(1, 1)])?), true),
+        (citing(alloc, "unit")?, true),
+        (case(alloc)?, true),
+        (reference, false),
+        (lookup, false),
+    ] {
+        let table = with_column(alloc, moving(alloc, true)?, "c", kind, true)?;
+        let told = fault_of_table(alloc, table)?;
+        assert_eq!(rt; told, fault_unless(may_change, 25, 4));
+    }
+    let empty = table(alloc, "t", (1, 1), &[])?;
+    let key = Kind::Key {
+        base: 1,
+        scramble: false,
+    };
+    let told = fault_of_table(alloc, with_column(alloc, empty, "id", key, true)?)?;
+    assert_eq!(rt; told, fault_unless(false, 25, 1));
+    Ok(())
+}
+
+// A citation of a column that moves is told where the citing column doesn't change.
+#[test]
+fn citations_of_columns_that_move(rt: HostRuntime) -> Result<(), Fail> {
+    let alloc = rt.alloc();
+    for (name, word_changes, changes, is_kept) in [
+        ("word", false, false, true),
+        ("word", true, false, false),
+        ("word", true, true, true),
+        ("word", false, true, true),
+        ("unit", false, false, false),
+        ("unit", false, true, true),
+        ("id", true, false, true),
+    ] {
+        let table = moving(alloc, word_changes)?;
+        let table = with_column(alloc, table, "c", citing(alloc, name)?, changes)?;
+        let told = fault_of_table(alloc, table)?;
+        assert_eq!(rt; told, fault_unless(is_kept, 17, 4), "a template of {name}");
+    }
+    for (word_changes, changes, is_kept) in [
+        (false, false, true),
+        (true, false, false),
+        (true, true, true),
+        (false, true, true),
+    ] {
+        let table = moving(alloc, word_changes)?;
+        let table = with_column(alloc, table, "c", case(alloc)?, changes)?;
+        let told = fault_of_table(alloc, table)?;
+        assert_eq!(rt; told, fault_unless(is_kept, 17, 4), "a case");
+    }
+    Ok(())
 }
 
 /// What is told of a schema whose second table holds a drawn value in its third column.
@@ -633,6 +803,8 @@ fn plan(rt: HostRuntime) -> Result<(), Fail> {
         assert!(rt; table < plan.tables());
         assert_eq!(rt; plan.sure_life(table), None);
         assert_eq!(rt; plan.longest_life(table), None);
+        assert_eq!(rt; plan.life(table), None);
+        assert_eq!(rt; plan.update(table), None);
         assert_eq!(rt; plan.cost(table), cost);
         assert_eq!(rt; plan.max_line(table), max_line);
     }
