@@ -3,17 +3,17 @@
 //! A table is named by its place in the schema from 0. Units and ordinals count from 0, and so do the indices of a
 //! cohort's rows.
 
-ghost use Rattle.std.specs.Prelude.{◌≡◌, ℕ, ◌+◌, ◌*◌, ◌/◌, ◌-◌, ◌<◌, ◌≤◌, flat_map, if◌then◌else◌, length, nat_lt};
-ghost use Rattle.std.specs.List.{range_with_len};
+ghost use Rattle.std.specs.Prelude.{◌≡◌, ℕ, ◌+◌, ◌*◌, ◌/◌, ◌-◌, ◌<◌, ◌≤◌, if◌then◌else◌, nat_lt, [], ◌∷◌};
 ghost use Rattle.schema_model.specs.declared.table.Schema.{Schema};
 ghost use Rattle.schema_check.specs.declared.layout.Births.{Births};
 ghost use Rattle.schema_check.specs.Cohorts.{born_count, cohort_size, first_ordinal};
 ghost use Rattle.schema_check.specs.Layout.{TableLayout, table_at};
 ghost use Rattle.life_intervals.specs.Generator.{Generator, generator_of};
-ghost use Rattle.life_intervals.specs.Intervals.{LiesIn, birth, interval_state, living, rows_of};
+ghost use Rattle.life_intervals.specs.Intervals.{LiesIn, birth, interval_state};
 ghost use Rattle.life_intervals.specs.Keys.{OrdersCohorts, key_in_cohort, key_of};
-ghost use Rattle.life_intervals.specs.Rows.{cohort};
-ghost use Rattle.life_intervals.specs.Simulation.{rows_at, simulation};
+ghost use Rattle.life_intervals.specs.Simulation.{simulation};
+ghost use Rattle.life_intervals.specs.Streams.{deleted, inserted, updated};
+ghost use Rattle.life_intervals.specs.Worked.{customer_row, line_row, order_row, sales_in_place};
 
 /// The birth of an ordinal is the one unit whose cohort has it, whatever the last unit.
 pub fn birth_is_the_unit_of_the_cohort()
@@ -59,13 +59,22 @@ pub fn keys_are_distinct()
         < (table_at generator.tables place).key.base + born_count (table_at generator.tables place).births last }
 {}
 
-/// The state that the simulation steps to is the closed form's, at each unit and for any tables.
-pub fn simulation_is_the_closed_form()
-    ensures { (generator : Generator) (unit : ℕ) → simulation generator unit ≡ interval_state generator unit }
+/// Customers, orders and lines at unit 3, by the steps of the simulation and by the closed form.
+pub fn worked_state()
+    ensures simulated { simulation sales_in_place 3
+        ≡ (customer_row 1 2 1 1 ∷ customer_row 2 3 2 2 ∷ customer_row 3 3 3 1 ∷ []) ∷ (order_row 3 9 1 ∷ []) ∷ (line_row 3 ∷ []) ∷ [] }
+    ensures closed { interval_state sales_in_place 3
+        ≡ (customer_row 1 2 1 1 ∷ customer_row 2 3 2 2 ∷ customer_row 3 3 3 1 ∷ []) ∷ (order_row 3 9 1 ∷ []) ∷ (line_row 3 ∷ []) ∷ [] }
 {}
 
-/// The rows that a table holds are those of the ordinals that are born by the unit and alive.
-pub fn rows_are_those_of_the_living()
-    ensures { (generator : Generator) (place unit : ℕ) →
-        rows_at generator place unit ≡ rows_of (table_at generator.tables place) unit }
+/// What unit 3 does to them: with the first customer die its three orders, and their lines with these.
+pub fn worked_streams()
+    ensures customers_deleted { deleted sales_in_place 0 3 ≡ customer_row 0 1 1 1 ∷ [] }
+    ensures orders_deleted { deleted sales_in_place 1 3 ≡ order_row 0 7 0 ∷ order_row 1 8 0 ∷ order_row 2 9 0 ∷ [] }
+    ensures lines_deleted { deleted sales_in_place 2 3 ≡ line_row 0 ∷ line_row 1 ∷ line_row 2 ∷ [] }
+    ensures customers_updated { updated sales_in_place 0 3 ≡ customer_row 2 3 2 2 ∷ [] }
+    ensures orders_updated { updated sales_in_place 1 3 ≡ [] }
+    ensures customers_inserted { inserted sales_in_place 0 3 ≡ customer_row 3 3 3 1 ∷ [] }
+    ensures orders_inserted { inserted sales_in_place 1 3 ≡ order_row 3 9 1 ∷ [] }
+    ensures lines_inserted { inserted sales_in_place 2 3 ≡ line_row 3 ∷ [] }
 {}
