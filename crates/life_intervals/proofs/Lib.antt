@@ -1,5 +1,9 @@
 pub mod Ranges
+pub mod FilterMaps
+pub mod InTurnLemmas
 pub mod CohortLemmas
+pub mod DeathLemmas
+pub mod ChangeLemmas
 pub mod SimulationLemmas
 pub mod KeyLemmas
 pub mod KeyOrderLemmas
