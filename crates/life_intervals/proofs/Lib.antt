@@ -4,6 +4,7 @@ pub mod InTurnLemmas
 pub mod CohortLemmas
 pub mod DeathLemmas
 pub mod ChangeLemmas
+pub mod RowLemmas
 pub mod SimulationLemmas
 pub mod KeyLemmas
 pub mod KeyOrderLemmas
