@@ -5,6 +5,7 @@ pub mod CohortLemmas
 pub mod DeathLemmas
 pub mod ChangeLemmas
 pub mod RowLemmas
+pub mod ParentLemmas
 pub mod SimulationLemmas
 pub mod KeyLemmas
 pub mod KeyOrderLemmas

@@ -1,6 +1,7 @@
 -- A row through the deletions, the updates and the insertions of a unit.
-use Rattle.std.proofs.Common.{◌≡◌, ℕ, suc, ◌+◌, ◌-◌, ◌<◌, ◌≤◌, not, Bool, true, false, ◌&&◌, Option, Some, None, option_map, option_and_then, List, [], map, length, get_or, inl, inr, arith, refl, sym, ◌∙◌, ap, ap₂, lt-ltb}
+use Rattle.std.proofs.Common.{◌≡◌, ℕ, suc, ◌+◌, ◌-◌, ◌<◌, ◌≤◌, not, Bool, true, false, ◌&&◌, Option, Some, None, option_map, option_and_then, List, [], filter_map, map, length, get_or, inl, inr, arith, refl, sym, ◌∙◌, ap, ap₂, lt-ltb}
 use Rattle.std.specs.Prelude.{IfSome, if◌then◌else◌}
+use Rattle.std.specs.List.{range_with_len}
 use Rattle.std.proofs.lemmas.Bool.{cases_Bool}
 use Rattle.philox_seeds.specs.SeedTree.{life_column, update_column}
 use Rattle.schema_check.specs.declared.layout.Span.{Span}
@@ -176,3 +177,17 @@ new_row-live_row order earlier table unit index state places below life chosen a
     ap₂ (λ (alive : Bool) (row : Row). if alive then Some row else None) (sym lives_on) row
     ∙ sym (ap₂ (λ (death : Option ℕ) (row : Row). if is_after death unit then Some row else None)
     (death_by-first_ordinal known unit unit index here below) (row_by-first_ordinal order known unit unit index here below))
+
+-- ---- all rows of a known table
+
+-- those that are born by a unit and alive then
+abbrev pub live_rows : Order → Known → ℕ → List Row
+live_rows order known unit = filter_map (live_row order known unit) (range_with_len 0 (born_count known.table.births unit))
+
+-- the same after the deletions of the next unit
+abbrev pub aged_rows : Order → Known → ℕ → List Row
+aged_rows order known unit = filter_map (aged_row order known unit) (range_with_len 0 (born_count known.table.births unit))
+
+-- those that are born before a unit, at the unit
+abbrev pub older_rows : Order → Known → ℕ → List Row
+older_rows order known unit = filter_map (live_row order known unit) (range_with_len 0 (first_ordinal known.table.births unit))
