@@ -1,5 +1,5 @@
 -- Cohorts: the first ordinal by multiplication, and the one unit whose cohort has an ordinal.
-use Rattle.std.proofs.Common.{◌≡◌, ℕ, zero, suc, ◌+◌, ◌-◌, ◌*◌, ◌/◌, ◌%◌, ◌<◌, ◌≤◌, Bool, inl, inr, ap, arith, add-one, refl, subst, sym, ◌∙◌}
+use Rattle.std.proofs.Common.{◌≡◌, ℕ, zero, suc, ◌+◌, ◌-◌, ◌*◌, ◌/◌, ◌%◌, ◌<◌, ◌≤◌, Bool, inl, inr, ap, arith, add-one, subst, sym, ◌∙◌}
 use Rattle.std.specs.Prelude.{if◌then◌else◌, nat_lt}
 use Rattle.std.proofs.lemmas.Bool.{cases_lt, lt-ltb, le-ltb}
 use Rattle.std.proofs.lemmas.Nat.{div-add-mod', div_below, mod_below, mul-le}
@@ -170,25 +170,11 @@ birth-before births unit last ordinal born before =
       ]
     ]
 
--- the unit and the index of an ordinal that is born by a last unit
-pub record IsBorn (births : Births) (last ordinal : ℕ) : Type 0 where
-  pub unit : ℕ
-  pub index : ℕ
-  pub in_units : unit ≤ last
-  pub in_cohort : index < cohort_size births unit
-  pub is : ordinal ≡ first_ordinal births unit + index
-  pub birth_is : birth births last ordinal ≡ unit
-  pub index_is : index_at births last ordinal ≡ index
+-- an ordinal has an index in the cohort of its birth
+pub birth-le : (births : Births) (last ordinal : ℕ) → ordinal < born_count births last → birth births last ordinal ≤ last
+birth-le births last ordinal born = (LiesIn-birth births last ordinal born).0
 
-pub IsBorn-birth : (births : Births) (last ordinal : ℕ) → ordinal < born_count births last → IsBorn births last ordinal
-IsBorn-birth births last ordinal born =
-    let found = LiesIn-birth births last ordinal born in
-    record {
-      unit = birth births last ordinal;
-      index = index_at births last ordinal;
-      in_units = found.0;
-      in_cohort = omega (arith, found.1.begun, found.1.not_ended);
-      is = omega (arith, found.1.begun);
-      birth_is = refl;
-      index_is = refl;
-    }
+pub index_at-below : (births : Births) (last ordinal : ℕ) → ordinal < born_count births last → index_at births last ordinal < cohort_size births (birth births last ordinal)
+index_at-below births last ordinal born =
+    let lies = (LiesIn-birth births last ordinal born).1 in
+    omega (arith, lies.begun, lies.not_ended)

@@ -6,6 +6,8 @@ pub mod DeathLemmas
 pub mod ChangeLemmas
 pub mod RowLemmas
 pub mod ParentLemmas
+pub mod SureLifeLemmas
+pub mod KnownLemmas
 pub mod SimulationLemmas
 pub mod KeyLemmas
 pub mod KeyOrderLemmas
