@@ -2,7 +2,7 @@
 use Rattle.std.proofs.Common.{◌≡◌, ℕ, suc, ◌-◌, ◌≤◌, min, ltb, not, true, false, ◌&&◌, Option, Some, None, option_map, inl, inr, arith, refl, sym, ◌∙◌, ap, le-ltb, lt-ltb, ltb-true, ltb-false, eq-eqb, ne_eqb}
 use Rattle.std.proofs.lemmas.Bool.{cases_lt, cases_Bool, and_parts, and_from, false≢true}
 use Rattle.schema_check.specs.Lineage.{lesser_life}
-use Rattle.life_intervals.specs.Intervals.{is_after}
+use Rattle.life_intervals.specs.Intervals.{is_after, is_at}
 use Rattle.life_intervals.specs.Simulation.{is_over, one_less}
 
 -- the lesser of two deaths is past a unit where both are
@@ -45,3 +45,16 @@ is_over-left (Some death) unit past = elim (cases_lt (suc unit) death) [
   | inl before ↦ rw (lt-ltb (suc unit) death before) (ap not (ne_eqb (death - suc unit) 0 (λ e. omega arith)))
   | inr after ↦ rw (le-ltb (suc unit) death after) (ap not (eq-eqb (death - suc unit) 0 (omega arith)))
 ]
+
+-- a death comes at a unit where it was past the one before and isn't past this one, and nowhere else
+pub is_at-passed : (death : Option ℕ) (unit : ℕ) → is_after death unit ≡ false → is_at death (suc unit) ≡ false
+is_at-passed None unit passed = refl
+is_at-passed (Some death) unit passed = ne_eqb death (suc unit) (λ same. omega (arith, ltb-false unit death passed))
+
+pub is_at-later : (death : Option ℕ) (unit : ℕ) → is_after death unit ≡ true → is_at death unit ≡ false
+is_at-later None unit past = refl
+is_at-later (Some death) unit past = ne_eqb death unit (λ same. omega (arith, ltb-true unit death past))
+
+pub is_at-now : (death : Option ℕ) (unit : ℕ) → is_after death unit ≡ true → is_after death (suc unit) ≡ false → is_at death (suc unit) ≡ true
+is_at-now None unit past passed = absurd (false≢true (sym passed))
+is_at-now (Some death) unit past passed = eq-eqb death (suc unit) (omega (arith, ltb-true unit death past, ltb-false (suc unit) death passed))

@@ -1,5 +1,5 @@
 -- Passes over lists that leave some items out.
-use Rattle.std.proofs.Common.{◌≡◌, ℕ, zero, suc, ◌+◌, ◌<◌, ◌≤◌, Bool, List, [], ◌∷◌, map, filter, filter_map, Option, Some, None, option_map, option_and_then, inl, inr, arith, refl, sym, ap, ap₂}
+use Rattle.std.proofs.Common.{◌≡◌, ℕ, zero, suc, ◌+◌, ◌<◌, ◌≤◌, Bool, true, List, [], ◌∷◌, map, filter, filter_map, Option, Some, None, option_map, option_and_then, inl, inr, arith, refl, sym, ap, ap₂}
 use Rattle.std.specs.Prelude.{if◌then◌else◌}
 use Rattle.std.specs.List.{range_with_len, cons_option}
 use Rattle.std.proofs.lemmas.Bool.{cases_Bool}
@@ -50,3 +50,14 @@ map-filter p f (x ∷ xs) = elim (cases_Bool (p x)) [
   | inl passes ↦ rw passes (ap (λ ys. f x ∷ ys) (map-filter p f xs))
   | inr fails ↦ rw fails (map-filter p f xs)
 ]
+
+-- a pass over a range that leaves out each number, and one that leaves out none
+pub filter_map-range_none : {X : Type 0} (f : ℕ → Option X) (a n : ℕ) → ((j : ℕ) → a ≤ j → j < a + n → f j ≡ None) → filter_map f (range_with_len a n) ≡ []
+filter_map-range_none f a zero none = refl
+filter_map-range_none f a (suc n) none =
+    rw (none a (omega arith) (omega arith)) (filter_map-range_none f (a + 1) n (λ j low high. none j (omega arith) (omega arith)))
+
+-- a filter of a list that a map makes keeps all of it where each item passes
+pub filter-map_all : {X Y : Type 0} (p : Y → Bool) (f : X → Y) (xs : List X) → ((x : X) → p (f x) ≡ true) → filter p (map f xs) ≡ map f xs
+filter-map_all p f [] passes = refl
+filter-map_all p f (x ∷ xs) passes = rw (passes x) (ap (λ ys. f x ∷ ys) (filter-map_all p f xs passes))

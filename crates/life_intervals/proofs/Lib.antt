@@ -9,5 +9,6 @@ pub mod ParentLemmas
 pub mod SureLifeLemmas
 pub mod KnownLemmas
 pub mod SimulationLemmas
+pub mod StreamLemmas
 pub mod KeyLemmas
 pub mod KeyOrderLemmas

@@ -150,7 +150,7 @@ module _ (units : ℕ) (generator : Generator) (sound : AreSound units generator
 
 -- ---- the closed form
 
-rows_of-live : (generator : Generator) (place unit : ℕ) → rows_of generator place unit ≡ live_rows generator.order (known_of generator place) unit
+pub rows_of-live : (generator : Generator) (place unit : ℕ) → rows_of generator place unit ≡ live_rows generator.order (known_of generator place) unit
 rows_of-live generator place unit =
     map-filter (is_live generator place unit) (row_at generator place unit) (range_with_len 0 (born_count (table_at generator.tables place).births unit))
 

@@ -1,5 +1,5 @@
 -- The closed form of the simulation: what an ordinal alone tells of its row.
-use Rattle.std.specs.Prelude.{ℕ, zero, suc, ◌+◌, ◌-◌, ◌<◌, ◌≤◌, Bool, true, if◌then◌else◌, nat_lt, List, [], ◌∷◌, filter, length, map, slice_index_or, take, Option, Some, None}
+use Rattle.std.specs.Prelude.{ℕ, zero, suc, ◌+◌, ◌-◌, ◌<◌, ◌≤◌, ◌==◌, Bool, true, false, ◌&&◌, if◌then◌else◌, nat_lt, List, [], ◌∷◌, filter, length, map, slice_index_or, take, Option, Some, None}
 use Rattle.std.specs.List.{range_with_len}
 use Rattle.std.specs.Option.{option_map}
 use Rattle.philox_seeds.specs.SeedTree.{life_column}
@@ -100,6 +100,11 @@ abbrev pub is_after : Option ℕ → ℕ → Bool
 is_after None unit = true
 is_after (Some death) unit = nat_lt unit death
 
+-- whether a death comes at a unit
+abbrev pub is_at : Option ℕ → ℕ → Bool
+is_at None unit = false
+is_at (Some death) unit = death == unit
+
 -- the row of an ordinal of a known table, at a unit by which it is born
 abbrev pub row_by : Order → Known → ℕ → ℕ → Row
 row_by order known unit ordinal =
@@ -153,3 +158,23 @@ rows_of generator place unit = map (row_at generator place unit) (living generat
 -- the rows of each table at a unit
 abbrev pub interval_state : Generator → ℕ → State
 interval_state generator unit = map (λ place. rows_of generator place unit) (range_with_len 0 (length generator.tables))
+
+-- ---- what a unit does to the rows of the table at a place
+
+-- the ordinals of the rows that it deletes: those that are born before it and die at it
+abbrev pub dying : Generator → ℕ → ℕ → List ℕ
+dying generator place unit =
+    filter (λ ordinal. is_at (death generator place unit ordinal) unit)
+    (range_with_len 0 (first_ordinal (table_at generator.tables place).births unit))
+
+-- of the rows that it updates: those that are born before it, are alive at it and have it as their change unit
+abbrev pub changing : Generator → ℕ → ℕ → List ℕ
+changing generator place unit =
+    filter (λ ordinal. is_live generator place unit ordinal && change_unit generator place unit ordinal == unit)
+    (range_with_len 0 (first_ordinal (table_at generator.tables place).births unit))
+
+-- of the rows that it inserts
+abbrev pub newborn : Generator → ℕ → ℕ → List ℕ
+newborn generator place unit =
+    range_with_len (first_ordinal (table_at generator.tables place).births unit)
+    (cohort_size (table_at generator.tables place).births unit)
