@@ -10,5 +10,6 @@ pub mod SureLifeLemmas
 pub mod KnownLemmas
 pub mod SimulationLemmas
 pub mod StreamLemmas
+pub mod SoundLemmas
 pub mod KeyLemmas
 pub mod KeyOrderLemmas
