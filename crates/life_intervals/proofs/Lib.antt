@@ -11,5 +11,6 @@ pub mod KnownLemmas
 pub mod SimulationLemmas
 pub mod StreamLemmas
 pub mod SoundLemmas
+pub mod StillLemmas
 pub mod KeyLemmas
 pub mod KeyOrderLemmas

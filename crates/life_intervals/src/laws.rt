@@ -3,15 +3,21 @@
 //! A table is named by its place in the schema from 0. Units and ordinals count from 0, and so do the indices of a
 //! cohort's rows.
 
-ghost use Rattle.std.specs.Prelude.{◌≡◌, ℕ, ◌+◌, ◌*◌, ◌/◌, ◌-◌, ◌<◌, ◌≤◌, if◌then◌else◌, nat_lt, [], ◌∷◌};
+ghost use Rattle.std.specs.Prelude.{◌≡◌, ℕ, ◌+◌, ◌*◌, ◌/◌, ◌-◌, ◌<◌, ◌≤◌, All, if◌then◌else◌, length, map, nat_lt, take, false, true, List, [], ◌∷◌, Some};
+ghost use Rattle.std.specs.List.{range_with_len};
 ghost use Rattle.schema_model.specs.declared.table.Schema.{Schema};
 ghost use Rattle.schema_check.specs.declared.layout.Births.{Births};
 ghost use Rattle.schema_check.specs.Cohorts.{born_count, cohort_size, first_ordinal};
 ghost use Rattle.schema_check.specs.Layout.{TableLayout, table_at};
+ghost use Rattle.schema_check.specs.Unbuilt.{is_unbuilt};
+ghost use Rattle.life_intervals.specs.Changes.{IsLastDue, first_due};
 ghost use Rattle.life_intervals.specs.Generator.{Generator, generator_of};
-ghost use Rattle.life_intervals.specs.Intervals.{LiesIn, birth, interval_state};
+ghost use Rattle.life_intervals.specs.Intervals.{LiesIn, birth, change_unit, changing, dying, index_at, interval_state, is_live, newborn, row_at, rows_of};
 ghost use Rattle.life_intervals.specs.Keys.{OrdersCohorts, key_in_cohort, key_of};
-ghost use Rattle.life_intervals.specs.Simulation.{simulation};
+ghost use Rattle.life_intervals.specs.References.{count_in_window, first_in_window, references_of};
+ghost use Rattle.life_intervals.specs.Rows.{candidates, cohort};
+ghost use Rattle.life_intervals.specs.Simulation.{rows_at, simulation};
+ghost use Rattle.life_intervals.specs.Sound.{AreSound, IsStill};
 ghost use Rattle.life_intervals.specs.Streams.{deleted, inserted, updated};
 ghost use Rattle.life_intervals.specs.Worked.{customer_row, line_row, order_row, sales_in_place};
 
@@ -57,6 +63,81 @@ pub fn keys_are_distinct()
         i < born_count (table_at generator.tables place).births last →
         key_of generator place last i
         < (table_at generator.tables place).key.base + born_count (table_at generator.tables place).births last }
+{}
+
+/// The state that the simulation steps to is the closed form's, at each unit up to which tables are sound.
+pub fn simulation_is_the_closed_form()
+    ensures { (units : ℕ) (generator : Generator) (unit : ℕ) → AreSound units generator.tables → unit ≤ units →
+        simulation generator unit ≡ interval_state generator unit }
+{}
+
+/// The rows that a table holds are those of the ordinals that are born by the unit and alive.
+pub fn rows_are_those_of_the_living()
+    ensures { (units : ℕ) (generator : Generator) (place unit : ℕ) → AreSound units generator.tables → unit ≤ units →
+        rows_at generator place unit ≡ rows_of generator place unit }
+{}
+
+/// A unit deletes the rows that are born before it and die at it, which it finds as they were; it updates those that are
+/// alive and whose change unit it is; and it inserts its cohort.
+pub fn units_change_rows()
+    ensures deletes { (units : ℕ) (generator : Generator) → AreSound units generator.tables →
+        (place : ℕ) → place < length generator.tables → (unit : ℕ) → unit ≤ units →
+        deleted generator place unit ≡ map (row_at generator place (unit - 1)) (dying generator place unit) }
+    ensures updates { (units : ℕ) (generator : Generator) → AreSound units generator.tables →
+        (place : ℕ) → place < length generator.tables → (unit : ℕ) → unit ≤ units →
+        updated generator place unit ≡ map (row_at generator place unit) (changing generator place unit) }
+    ensures inserts { (units : ℕ) (generator : Generator) → AreSound units generator.tables →
+        (place : ℕ) → place < length generator.tables → (unit : ℕ) → unit ≤ units →
+        inserted generator place unit ≡ map (row_at generator place unit) (newborn generator place unit) }
+    ensures cohort { (units : ℕ) (generator : Generator) → AreSound units generator.tables →
+        (place : ℕ) → place < length generator.tables → (unit : ℕ) → unit ≤ units →
+        inserted generator place unit
+        ≡ cohort generator.order unit (take place (simulation generator unit)) (table_at generator.tables place) }
+{}
+
+/// The candidates of each reference of a cohort are the rows of all ordinals that are born in its window, and there are some.
+pub fn candidates_are_those_of_the_window()
+    ensures whole { (units : ℕ) (generator : Generator) → AreSound units generator.tables →
+        (place : ℕ) → place < length generator.tables → (unit : ℕ) → unit ≤ units →
+        0 < cohort_size (table_at generator.tables place).births unit →
+        All (λ reference. candidates reference unit (rows_at generator reference.parent unit)
+        ≡ range_with_len (first_in_window (table_at generator.tables reference.parent).births reference.window unit)
+        (count_in_window (table_at generator.tables reference.parent).births reference.window unit))
+        (references_of (table_at generator.tables place)) }
+    ensures some { (units : ℕ) (tables : List TableLayout) → AreSound units tables →
+        (place : ℕ) → place < length tables → (unit : ℕ) → unit ≤ units →
+        0 < cohort_size (table_at tables place).births unit →
+        All (λ reference. 0 < count_in_window (table_at tables reference.parent).births reference.window unit)
+        (references_of (table_at tables place)) }
+{}
+
+/// The change unit of a row is the last of its due units.
+pub fn change_unit_is_the_last_due()
+    ensures { (generator : Generator) (place unit ordinal period : ℕ) →
+        (table_at generator.tables place).update ≡ Some period → 1 ≤ period →
+        let births = (table_at generator.tables place).births in
+        let born = birth births unit ordinal in
+        IsLastDue born (first_due generator.order place born (index_at births unit ordinal) period) period unit
+        (change_unit generator place unit ordinal) }
+{}
+
+/// Tables whose rows neither die nor change, and have no parents, are sound for any number of units.
+pub fn still_tables_are_sound()
+    ensures sound { (tables : List TableLayout) → All IsStill tables → (units : ℕ) → AreSound units tables }
+    ensures alive { (generator : Generator) → All IsStill generator.tables → (place unit ordinal : ℕ) →
+        is_live generator place unit ordinal ≡ true }
+    ensures unchanged { (generator : Generator) → All IsStill generator.tables → (place unit ordinal : ℕ) →
+        change_unit generator place unit ordinal ≡ birth (table_at generator.tables place).births unit ordinal }
+{}
+
+/// So are the tables that can be made yet.
+pub fn built_tables_are_still()
+    ensures { (schema : Schema) → is_unbuilt schema ≡ false → All IsStill (generator_of schema).tables }
+{}
+
+/// The tables of customers, orders and lines are sound up to the last unit of their schema.
+pub fn worked_soundness()
+    ensures { AreSound 5 sales_in_place.tables }
 {}
 
 /// Customers, orders and lines at unit 3, by the steps of the simulation and by the closed form.

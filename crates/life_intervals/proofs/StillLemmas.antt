@@ -1,0 +1,51 @@
+-- The tables that can be made yet are still: their rows neither die nor change, and have no parents.
+use Rattle.std.proofs.Common.{◌≡◌, ℕ, ◌+◌, false, ◌||◌, Option, Some, None, is_some, List, [], ◌∷◌, map, get_or, ap, refl, sym, ◌∙◌}
+use Rattle.std.specs.Prelude.{All}
+use Rattle.std.specs.List.{cons_option, enumerate_from, filter_map, list_any}
+use Rattle.std.specs.Option.{option_map}
+use Rattle.std.proofs.lemmas.Bool.{false≢true, or_parts}
+use Rattle.std.proofs.lemmas.List.Elements.{All-map}
+use Rattle.schema_model.specs.declared.table.Schema.{Schema}
+use Rattle.schema_model.specs.declared.table.Table.{Table}
+use Rattle.schema_model.specs.declared.column.Column.{Column}
+use Rattle.schema_model.specs.declared.column.Kind.{Kind}
+use Rattle.schema_model.specs.declared.column.Kind.TheVariants as kind
+use Rattle.schema_check.specs.Layout.{ColumnLayout, column_layout, kind_layout, table_layout}
+use Rattle.schema_check.specs.Unbuilt.{is_unbuilt, is_unbuilt_column, is_unbuilt_kind, is_unbuilt_table}
+use Rattle.schema_check.proofs.FromTests.{fails_each}
+use Rattle.life_intervals.specs.Generator.{generator_of}
+use Rattle.life_intervals.specs.References.{Reference, reference_of}
+use Rattle.life_intervals.specs.Sound.{IsStill}
+
+-- no kind that can be made is a reference
+reference_of-built : (tables : List Table) (columns : List Column) (kind : Kind) (place : ℕ) → is_unbuilt_kind kind ≡ false → reference_of place (kind_layout tables columns kind) ≡ None
+reference_of-built tables columns (kind.Ref table window spread) place built = absurd (false≢true (sym built))
+reference_of-built tables columns _ place built = refl
+
+references-built : (tables : List Table) (columns some : List Column) (place : ℕ) → list_any is_unbuilt_column some ≡ false →
+    filter_map (λ (at : ℕ × ColumnLayout). reference_of at.0 at.1.kind) (enumerate_from place (map (column_layout tables columns) some)) ≡ []
+references-built tables columns [] place built = refl
+references-built tables columns (column ∷ others) place built =
+    let parts = or_parts (is_unbuilt_column column) (list_any is_unbuilt_column others) built in
+    ap (λ (o : Option Reference). cons_option o (filter_map (λ (at : ℕ × ColumnLayout). reference_of at.0 at.1.kind) (enumerate_from (place + 1) (map (column_layout tables columns) others))))
+    (reference_of-built tables columns column.kind place (or_parts column.changes (is_unbuilt_kind column.kind) parts.0).1)
+    ∙ references-built tables columns others (place + 1) parts.1
+
+none-is_some : {A B : Type 0} (f : A → B) (o : Option A) → is_some o ≡ false → option_map f o ≡ None
+none-is_some f None none = refl
+none-is_some f (Some x) none = absurd (false≢true (sym none))
+
+IsStill-built : (tables : List Table) (table : Table) → is_unbuilt_table table ≡ false → IsStill (table_layout tables table)
+IsStill-built tables table built =
+    let parts = or_parts (is_some table.life || is_some table.update) (list_any is_unbuilt_column table.columns) built in
+    let ends = or_parts (is_some table.life) (is_some table.update) parts.0 in
+    record {
+      no_life = none-is_some _ table.life ends.0;
+      no_update = none-is_some _ table.update ends.1;
+      no_references = references-built tables table.columns table.columns 0 parts.1;
+    }
+
+pub All-IsStill-built : (schema : Schema) → is_unbuilt schema ≡ false → All IsStill (generator_of schema).tables
+All-IsStill-built schema built =
+    All-map IsStill (table_layout schema.tables) schema.tables
+    (λ place d below. IsStill-built schema.tables (get_or schema.tables place d) (fails_each is_unbuilt_table schema.tables place d below built))
