@@ -7,7 +7,7 @@ use Rattle.schema_check.specs.Layout.{TableLayout, no_table, table_at}
 use Rattle.schema_check.specs.Lineage.{sure_life}
 use Rattle.life_intervals.specs.Changes.{IsLastDue, first_due}
 use Rattle.life_intervals.specs.Generator.{Generator}
-use Rattle.life_intervals.specs.Intervals.{Known, birth, change_unit, death, index_at, is_after, is_live, known_of}
+use Rattle.life_intervals.specs.Intervals.{Known, birth, change_unit, death, index_at, is_after, is_live, known_of, row_at}
 use Rattle.life_intervals.specs.References.{Reference, count_in_window, first_in_window, references_of}
 use Rattle.life_intervals.specs.Rows.{candidates}
 use Rattle.life_intervals.specs.Simulation.{rows_at}
@@ -80,5 +80,11 @@ is_live-still generator still place unit ordinal = ap (λ (death : Option ℕ). 
 pub change_unit-still : (generator : Generator) → All IsStill generator.tables → (place unit ordinal : ℕ) →
     change_unit generator place unit ordinal ≡ birth (table_at generator.tables place).births unit ordinal
 change_unit-still generator still place unit ordinal =
+    let is : IsStill (table_at generator.tables place) = IsStill-table_at generator.tables still place in
+    rw is.no_update refl
+
+pub row_at-still : (generator : Generator) → All IsStill generator.tables → (place unit ordinal : ℕ) →
+    (row_at generator place unit ordinal).changed ≡ birth (table_at generator.tables place).births unit ordinal
+row_at-still generator still place unit ordinal =
     let is : IsStill (table_at generator.tables place) = IsStill-table_at generator.tables still place in
     rw is.no_update refl

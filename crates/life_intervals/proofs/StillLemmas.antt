@@ -1,5 +1,5 @@
 -- The tables that can be made yet are still: their rows neither die nor change, and have no parents.
-use Rattle.std.proofs.Common.{◌≡◌, ℕ, ◌+◌, false, ◌||◌, Option, Some, None, is_some, List, [], ◌∷◌, map, get_or, ap, refl, sym, ◌∙◌}
+use Rattle.std.proofs.Common.{◌≡◌, ℕ, ◌+◌, true, false, ◌||◌, Option, Some, None, is_some, List, [], ◌∷◌, map, get_or, ap, refl, sym, ◌∙◌}
 use Rattle.std.specs.Prelude.{All}
 use Rattle.std.specs.List.{cons_option, enumerate_from, filter_map, list_any}
 use Rattle.std.specs.Option.{option_map}
@@ -14,8 +14,10 @@ use Rattle.schema_check.specs.Layout.{ColumnLayout, column_layout, kind_layout, 
 use Rattle.schema_check.specs.Unbuilt.{is_unbuilt, is_unbuilt_column, is_unbuilt_kind, is_unbuilt_table}
 use Rattle.schema_check.proofs.FromTests.{fails_each}
 use Rattle.life_intervals.specs.Generator.{generator_of}
+use Rattle.life_intervals.specs.Intervals.{is_live}
 use Rattle.life_intervals.specs.References.{Reference, reference_of}
-use Rattle.life_intervals.specs.Sound.{IsStill}
+use Rattle.life_intervals.specs.Sound.{AreSound, IsStill}
+use Rattle.life_intervals.proofs.SoundLemmas.{AreSound-still, is_live-still}
 
 -- no kind that can be made is a reference
 reference_of-built : (tables : List Table) (columns : List Column) (kind : Kind) (place : ℕ) → is_unbuilt_kind kind ≡ false → reference_of place (kind_layout tables columns kind) ≡ None
@@ -49,3 +51,10 @@ pub All-IsStill-built : (schema : Schema) → is_unbuilt schema ≡ false → Al
 All-IsStill-built schema built =
     All-map IsStill (table_layout schema.tables) schema.tables
     (λ place d below. IsStill-built schema.tables (get_or schema.tables place d) (fails_each is_unbuilt_table schema.tables place d below built))
+
+-- so they are sound, and no row of them dies
+pub AreSound-built : (schema : Schema) → is_unbuilt schema ≡ false → (units : ℕ) → AreSound units (generator_of schema).tables
+AreSound-built schema built = AreSound-still (generator_of schema).tables (All-IsStill-built schema built)
+
+pub is_live-built : (schema : Schema) → is_unbuilt schema ≡ false → (place unit ordinal : ℕ) → is_live (generator_of schema) place unit ordinal ≡ true
+is_live-built schema built = is_live-still (generator_of schema) (All-IsStill-built schema built)
