@@ -13,8 +13,9 @@ ghost use Rattle.schema_check.specs.Rules.{IsAccepted};
 ghost use Rattle.schema_check.specs.TableFacts.{cost, facts_at, max_line, reach};
 ghost use Rattle.schema_check.specs.Unbuilt.{is_unbuilt, is_unbuilt_table};
 
+use crate::counts::count;
 use crate::facts::{TableFacts, greatest_line};
-use crate::layout::{Births, Keys};
+use crate::layout::{Births, Keys, Span};
 use crate::memory::Memory;
 use crate::ready::ReadyColumn;
 use crate::ready_columns::ready_tables;
@@ -144,6 +145,31 @@ impl Plan {
         ensures { result ≡ (table_at (layout_of self.now.schema).tables table).key }
     {
         self.facts_of(table).keys
+    }
+
+    /// For how many units a row of a table lives by itself; None where it has no end of its own.
+    pub fn life(&self, table: u32) -> Option<Span>
+        requires { table < length self.now.schema.tables }
+        ensures { result ≡ (table_at (layout_of self.now.schema).tables table).life }
+    {
+        match self.table(table).life {
+            Some(life) => Some(Span {
+                least: count(life.lo),
+                most: count(life.hi),
+            }),
+            None => None,
+        }
+    }
+
+    /// Every how many units the rows of a table change; None where they never do.
+    pub fn update(&self, table: u32) -> Option<u64>
+        requires { table < length self.now.schema.tables }
+        ensures { result ≡ (table_at (layout_of self.now.schema).tables table).update }
+    {
+        match self.table(table).update {
+            Some(period) => Some(count(period)),
+            None => None,
+        }
     }
 
     /// For how many units the rows of a table live at least; None exactly where that is unbounded.
