@@ -12,5 +12,6 @@ pub mod SimulationLemmas
 pub mod StreamLemmas
 pub mod SoundLemmas
 pub mod StillLemmas
+pub mod LifeLemmas
 pub mod KeyLemmas
 pub mod KeyOrderLemmas

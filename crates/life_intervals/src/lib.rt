@@ -12,12 +12,14 @@ mod births;
 mod cohorts;
 mod keys;
 pub mod laws;
+mod lives;
 mod memory;
 mod orders;
 
 pub use births::{birth, born, cohort};
 pub use cohorts::Cohort;
 pub use keys::{CohortKeys, key, row_of_key};
+pub use lives::{last_change, last_due, lifetime, own_death};
 pub use memory::Memory;
 pub use orders::{key_order, key_orders};
 
