@@ -160,7 +160,7 @@ holds_row-aged order known unit ordinal a (suc n) from born =
     ]
 
 -- the death of an ordinal is the same, whatever the unit by which it is born
-death_by-later : (known : Known) (unit last ordinal : ℕ) → ordinal < born_count known.table.births unit → unit ≤ last → death_by known last ordinal ≡ death_by known unit ordinal
+pub death_by-later : (known : Known) (unit last ordinal : ℕ) → ordinal < born_count known.table.births unit → unit ≤ last → death_by known last ordinal ≡ death_by known unit ordinal
 death_by-later known unit last ordinal born within =
     ap (λ (b : ℕ). known.death b (ordinal - first_ordinal known.table.births b)) (birth-later known.table.births unit last ordinal born within)
 
@@ -168,7 +168,7 @@ death_by-later known unit last ordinal born within =
 
 module _ (units : ℕ) (order : Order) (earlier : List Known) (sure : ℕ → Option ℕ) (births : Births) (unit index : ℕ) (in_units : unit ≤ units) (below : index < cohort_size births unit) where
   -- they are born in the window
-  parent_by-lies : (reference : Reference) → Refers units earlier sure births reference →
+  pub parent_by-lies : (reference : Reference) → Refers units earlier sure births reference →
       (first_in_window (known_at earlier reference.parent).table.births reference.window unit ≤ parent_by order earlier unit index reference)
       × (parent_by order earlier unit index reference < born_count (known_at earlier reference.parent).table.births unit)
   parent_by-lies reference refers =

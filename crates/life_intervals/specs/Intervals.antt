@@ -132,6 +132,13 @@ own_death generator place unit ordinal =
 abbrev pub death : Generator → ℕ → ℕ → ℕ → Option ℕ
 death generator place unit ordinal = death_by (known_of generator place) unit ordinal
 
+-- the ordinal of the parent that a row has by a reference of its table
+abbrev pub parent_of : Generator → ℕ → ℕ → ℕ → Reference → ℕ
+parent_of generator place unit ordinal reference =
+    let births = (table_at generator.tables place).births in
+    parent_by generator.order (take place (known_tables generator))
+    (birth births unit ordinal) (index_at births unit ordinal) reference
+
 -- the unit of a row's last change by the unit
 abbrev pub change_unit : Generator → ℕ → ℕ → ℕ → ℕ
 change_unit generator place unit ordinal =

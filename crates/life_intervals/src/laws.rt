@@ -12,7 +12,7 @@ ghost use Rattle.schema_check.specs.Layout.{TableLayout, table_at};
 ghost use Rattle.schema_check.specs.Unbuilt.{is_unbuilt};
 ghost use Rattle.life_intervals.specs.Changes.{IsLastDue, first_due};
 ghost use Rattle.life_intervals.specs.Generator.{Generator, generator_of};
-ghost use Rattle.life_intervals.specs.Intervals.{LiesIn, birth, change_unit, changing, dying, index_at, interval_state, is_live, newborn, row_at, rows_of};
+ghost use Rattle.life_intervals.specs.Intervals.{LiesIn, birth, change_unit, changing, death, dying, first_death, index_at, interval_state, is_live, newborn, own_death, parent_of, row_at, rows_of};
 ghost use Rattle.life_intervals.specs.Keys.{OrdersCohorts, key_in_cohort, key_of};
 ghost use Rattle.life_intervals.specs.References.{count_in_window, first_in_window, references_of};
 ghost use Rattle.life_intervals.specs.Rows.{candidates, cohort};
@@ -109,6 +109,27 @@ pub fn candidates_are_those_of_the_window()
         0 < cohort_size (table_at tables place).births unit →
         All (λ reference. 0 < count_in_window (table_at tables reference.parent).births reference.window unit)
         (references_of (table_at tables place)) }
+{}
+
+/// A row dies when its own life ends or a parent dies.
+pub fn death_is_the_first_of_its_own_and_the_parents()
+    ensures { (units : ℕ) (generator : Generator) → AreSound units generator.tables →
+        (place : ℕ) → place < length generator.tables → (unit ordinal : ℕ) → unit ≤ units →
+        ordinal < born_count (table_at generator.tables place).births unit →
+        death generator place unit ordinal
+        ≡ first_death (own_death generator place unit ordinal
+        ∷ map (λ reference. death generator reference.parent unit (parent_of generator place unit ordinal reference))
+        (references_of (table_at generator.tables place))) }
+{}
+
+/// A row's death is the same, whatever the unit by which it is born, and so is the end of its own life.
+pub fn death_is_for_good()
+    ensures death { (generator : Generator) (place unit last ordinal : ℕ) →
+        ordinal < born_count (table_at generator.tables place).births unit → unit ≤ last →
+        death generator place last ordinal ≡ death generator place unit ordinal }
+    ensures own { (generator : Generator) (place unit last ordinal : ℕ) →
+        ordinal < born_count (table_at generator.tables place).births unit → unit ≤ last →
+        own_death generator place last ordinal ≡ own_death generator place unit ordinal }
 {}
 
 /// The change unit of a row is the last of its due units.
