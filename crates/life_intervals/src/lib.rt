@@ -21,7 +21,7 @@ mod orders;
 pub use births::{birth, born, cohort};
 pub use cohorts::Cohort;
 pub use keys::{CohortKeys, key, row_of_key};
-pub use lives::{last_change, last_due, lifetime, own_death};
+pub use lives::{last_change, own_death};
 pub use memory::Memory;
 pub use orders::{key_order, key_orders};
 

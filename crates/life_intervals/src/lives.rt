@@ -19,7 +19,7 @@ use std::sync::ledger::Ledger;
 use step_count::Steps;
 
 /// How long a row lives by itself, by its place among the lives of its cohort.
-pub fn lifetime(life: Span, place: u64) -> u64
+pub(crate) fn lifetime(life: Span, place: u64) -> u64
     requires ordered { life.least ≤ life.most }
     requires limit { life.most ≤ 20000 }
     ensures exact { Some result ≡ life_by (Some life) place }
@@ -30,7 +30,7 @@ pub fn lifetime(life: Span, place: u64) -> u64
 }
 
 /// The last up to a unit of the units `first`, `first` + `period`, and so on; `born` where the first of them is past it.
-pub fn last_due(born: u64, first: u64, period: u64, unit: u64) -> u64
+pub(crate) fn last_due(born: u64, first: u64, period: u64, unit: u64) -> u64
     requires { 1 ≤ period }
     ensures { result ≡ last_due born first period unit }
 {

@@ -6,6 +6,7 @@ ghost use Rattle.life_intervals.specs.Generator.{last_unit};
 ghost use Rattle.life_intervals.specs.KeyOrders.{key_orders};
 
 use super::*;
+use crate::lives::{last_due, lifetime};
 use id_permutation::Order;
 use schema_check::{Plan, Span, check, unbuilt};
 use schema_model::{Column, Columns, Delimiter, Kind, Schema, Table, Tables, Text};
