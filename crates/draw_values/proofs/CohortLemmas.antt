@@ -14,7 +14,7 @@ AreValuesOf-view kept values ready seeds birth same known = subst (λ (of : Valu
 
 -- what the seed of a column draws for a row
 pub row_draws-kept : (values : ValuesOf) (ready : List ReadyColumn) (seeds : List ℕ) (birth : Piece) → AreValuesOf values ready seeds birth → (place ordinal : ℕ) →
-    place < length (layout_for values).columns → row_draws (get_or seeds place 0) ordinal ≡ draws_at (layout_of values.plan.schema) values.table (row_for values ordinal) place
+    place < length (layout_for values).columns → row_draws (get_or seeds place 0) ordinal ≡ draws_at (layout_of values.plan) values.table (row_for values ordinal) place
 row_draws-kept values ready seeds birth known place ordinal within =
-    let kept : place < length ready = omega (arith, ap length known.columns, length-ready_columns (layout_of values.plan.schema) values.table) in
+    let kept : place < length ready = omega (arith, ap length known.columns, length-ready_columns (layout_of values.plan) values.table) in
     ap (λ (seed : ℕ). row_draws seed ordinal) (known.seeds_are place kept)

@@ -6,20 +6,20 @@ use Rattle.pd_outside.specs.Pieces.{piece_text}
 use Rattle.schema_check.specs.declared.ready.ReadyColumn.{ReadyColumn}
 use Rattle.schema_check.specs.Layout.{column_at, layout_of, table_at, TableLayout}
 use Rattle.schema_check.specs.Limits.{IsTableInLimits}
-use Rattle.schema_check.specs.Planned.{Planned}
+use Rattle.schema_check.specs.Dictionaries.{Project}
 use Rattle.schema_check.specs.Ready.{ready_columns, is_served}
 use Rattle.draw_values.specs.declared.values.RowAt.{RowAt}
 use Rattle.draw_values.specs.Values.{draws_at, is_null, size_at, value_at}
 
 -- the values of the rows that are born at a unit, in the table at a place
 pub record ValuesOf : Type 0 where
-  pub plan : Planned
+  pub plan : Project
   pub table : ℕ
   pub unit : ℕ
 
 -- the layout of the table
 abbrev pub layout_for : ValuesOf → TableLayout
-layout_for values = table_at (layout_of values.plan.schema).tables values.table
+layout_for values = table_at (layout_of values.plan).tables values.table
 
 -- the row with an ordinal
 abbrev pub row_for : ValuesOf → ℕ → RowAt
@@ -27,24 +27,24 @@ row_for values ordinal = record { ordinal = ordinal; born = values.unit; changed
 
 -- what it holds in the column at a place
 abbrev pub value_for : ValuesOf → ℕ → ℕ → Option (List ℕ)
-value_for values column ordinal = value_at (layout_of values.plan.schema) values.table column (row_for values ordinal)
+value_for values column ordinal = value_at (layout_of values.plan) values.table column (row_for values ordinal)
 
 -- whether its field in the column at a place is drawn to be null
 abbrev pub is_null_for : ValuesOf → ℕ → ℕ → Bool
 is_null_for values column ordinal =
     is_null (column_at (layout_for values).columns column).null
-    (draws_at (layout_of values.plan.schema) values.table (row_for values ordinal) column)
+    (draws_at (layout_of values.plan) values.table (row_for values ordinal) column)
 
 -- what a field of the column at a place takes at most, in bytes
 abbrev pub size_for : ValuesOf → ℕ → ℕ
-size_for values column = size_at (layout_of values.plan.schema) values.table column
+size_for values column = size_at (layout_of values.plan) values.table column
 
 -- what is kept is of the table's columns, with the seed of the unit for each
 pub record AreValuesOf (values : ValuesOf) (ready : List ReadyColumn) (seeds : List ℕ) (birth : Piece) : Type 0 where
-  pub columns : ready ≡ ready_columns (layout_of values.plan.schema) values.table
+  pub columns : ready ≡ ready_columns (layout_of values.plan) values.table
   pub served : All (λ column. is_served column ≡ true) ready
-  pub limits : IsTableInLimits (layout_of values.plan.schema).units (layout_for values)
+  pub limits : IsTableInLimits (layout_of values.plan).units (layout_for values)
   pub seeds_are : (column : ℕ) → column < length ready →
-      get_or seeds column 0 ≡ unit_seed (column_seed (table_seed (layout_of values.plan.schema).seed values.table) column) values.unit
+      get_or seeds column 0 ≡ unit_seed (column_seed (table_seed (layout_of values.plan).seed values.table) column) values.unit
   pub birth_text : piece_text birth ≡ decimal values.unit
   pub unit_limit : values.unit ≤ 10000

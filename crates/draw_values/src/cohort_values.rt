@@ -44,7 +44,7 @@ impl<'a> CohortValues<'a> {
     /// The values of the rows of a table that are born at `unit`.
     pub fn new(plan: &'a Plan, table: u32, unit: u64) -> CohortValues<'a>
         requires table { table < length plan.now.schema.tables }
-        requires unit { unit ≤ (layout_of plan.now.schema).units }
+        requires unit { unit ≤ (layout_of plan.now).units }
         ensures { result ≡ record { plan = plan.now; table = table; unit = unit } }
     {
         let columns = plan.columns(table);
@@ -82,8 +82,8 @@ impl<'a> CohortValues<'a> {
         requires own { is_own (column_at (layout_for self.now).columns column).kind ≡ true }
         requires room { length buf.old.text + size_for self.now column ≤ buf.old.room }
         ensures put { result ≡ put_of (value_for self.now column ordinal) }
-        ensures text { buf.new ≡ record buf.old { text = buf.old.text ++ written (layout_of self.now.plan.schema).delimiter (value_for self.now column ordinal) } }
-        ensures size { length (field_text (layout_of self.now.plan.schema).delimiter (value_for self.now column ordinal)) ≤ size_for self.now column }
+        ensures text { buf.new ≡ record buf.old { text = buf.old.text ++ written (layout_of self.now.plan).delimiter (value_for self.now column ordinal) } }
+        ensures size { length (field_text (layout_of self.now.plan).delimiter (value_for self.now column ordinal)) ≤ size_for self.now column }
     {
         let columns = self.columns;
         let own = &columns[column];

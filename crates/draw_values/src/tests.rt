@@ -298,9 +298,9 @@ fn plan(alloc: Global, rows: i64, insert: i64, delimiter: Delimiter) -> Result<P
 /// Whether the first table has a column of this place, of units or of drawn values.
 fn is_own_column(plan: &Plan, column: usize) -> bool
     requires { 0 < length plan.now.schema.tables }
-    ensures within { OnTrue result (column < length (table_at (layout_of plan.now.schema).tables 0).columns) }
-    ensures own { OnTrue result (is_own (column_at (table_at (layout_of plan.now.schema).tables 0).columns column).kind ≡ true) }
-    ensures size { OnTrue result (size_at (layout_of plan.now.schema) 0 column ≤ max_line (layout_of plan.now.schema) 0) }
+    ensures within { OnTrue result (column < length (table_at (layout_of plan.now).tables 0).columns) }
+    ensures own { OnTrue result (is_own (column_at (table_at (layout_of plan.now).tables 0).columns column).kind ≡ true) }
+    ensures size { OnTrue result (size_at (layout_of plan.now) 0 column ≤ max_line (layout_of plan.now) 0) }
 {
     match plan.columns(0).get(column) {
         Some(ready) => match &ready.kind {
@@ -318,7 +318,7 @@ const CASE: usize = 16;
 /// a field is null, and no case, the draw says so.
 fn row_text(rt: &impl Abort, alloc: Global, plan: &Plan, at: RowAt) -> Result<Vec<u8>, Fail>
     requires table { 0 < length plan.now.schema.tables }
-    requires born { at.born ≤ (layout_of plan.now.schema).units }
+    requires born { at.born ≤ (layout_of plan.now).units }
 {
     let mut text = Vec::new(alloc);
     let values = CohortValues::new(plan, 0, at.born);
@@ -417,7 +417,7 @@ fn cohort_checksum(
     so_far: u64,
 ) -> Result<u64, Fail>
     requires table { 0 < length plan.now.schema.tables }
-    requires born { born ≤ (layout_of plan.now.schema).units }
+    requires born { born ≤ (layout_of plan.now).units }
     requires rows { first + size ≤ 2 ^ 40 }
 {
     let mut sum = so_far;

@@ -34,13 +34,13 @@ pub enum Put {
 /// null. The greatest size of the column's fields has to be free.
 pub fn put_value(plan: &Plan, table: u32, column: u32, at: RowAt, buf: &mut PageBuf) -> Put
     requires table { table < length plan.now.schema.tables }
-    requires column { column < length (table_at (layout_of plan.now.schema).tables table).columns }
-    requires own { is_own (column_at (table_at (layout_of plan.now.schema).tables table).columns column).kind ≡ true }
-    requires born { at.born ≤ (layout_of plan.now.schema).units }
-    requires room { length buf.old.text + size_at (layout_of plan.now.schema) table column ≤ buf.old.room }
-    ensures put { result ≡ put_of (value_at (layout_of plan.now.schema) table column at) }
-    ensures text { buf.new ≡ record buf.old { text = buf.old.text ++ written (layout_of plan.now.schema).delimiter (value_at (layout_of plan.now.schema) table column at) } }
-    ensures size { length (field_text (layout_of plan.now.schema).delimiter (value_at (layout_of plan.now.schema) table column at)) ≤ size_at (layout_of plan.now.schema) table column }
+    requires column { column < length (table_at (layout_of plan.now).tables table).columns }
+    requires own { is_own (column_at (table_at (layout_of plan.now).tables table).columns column).kind ≡ true }
+    requires born { at.born ≤ (layout_of plan.now).units }
+    requires room { length buf.old.text + size_at (layout_of plan.now) table column ≤ buf.old.room }
+    ensures put { result ≡ put_of (value_at (layout_of plan.now) table column at) }
+    ensures text { buf.new ≡ record buf.old { text = buf.old.text ++ written (layout_of plan.now).delimiter (value_at (layout_of plan.now) table column at) } }
+    ensures size { length (field_text (layout_of plan.now).delimiter (value_at (layout_of plan.now) table column at)) ≤ size_at (layout_of plan.now) table column }
 {
     let columns = plan.columns(table);
     let own = &columns[column as usize];

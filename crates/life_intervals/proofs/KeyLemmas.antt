@@ -4,9 +4,9 @@ use Rattle.std.specs.Prelude.{if◌then◌else◌}
 use Rattle.philox_seeds.specs.SeedTree as seeds
 use Rattle.id_permutation.specs.Walk.{IsBijectionBelow}
 use Rattle.id_permutation.proofs.PlacementLaws.{IsBijectionBelow-place}
-use Rattle.schema_model.specs.declared.table.Schema.{Schema}
 use Rattle.schema_check.specs.declared.layout.Births.{Births}
 use Rattle.schema_check.specs.Cohorts.{born_count, cohort_size, first_ordinal}
+use Rattle.schema_check.specs.Dictionaries.{Project}
 use Rattle.schema_check.specs.Layout.{TableLayout, layout_of, table_at}
 use Rattle.life_intervals.specs.Generator.{Generator, generator_of, table_of}
 use Rattle.life_intervals.specs.Intervals.{LiesIn, birth}
@@ -14,9 +14,9 @@ use Rattle.life_intervals.specs.Keys.{place_in_cohort, key_in_cohort, key_of, Or
 use Rattle.life_intervals.proofs.CohortLemmas.{LiesIn-birth, birth-first_ordinal, cohort-within}
 
 -- the seeds of a schema order its cohorts
-pub OrdersCohorts-generator_of : (schema : Schema) (place : ℕ) → OrdersCohorts (generator_of schema) place
-OrdersCohorts-generator_of schema place purpose unit some =
-    IsBijectionBelow-place (cohort_size (table_of schema place).births unit) (seeds.permutation_seed (layout_of schema).seed place purpose unit) some
+pub OrdersCohorts-generator_of : (project : Project) (place : ℕ) → OrdersCohorts (generator_of project) place
+OrdersCohorts-generator_of project place purpose unit some =
+    IsBijectionBelow-place (cohort_size (table_of project place).births unit) (seeds.permutation_seed (layout_of project).seed place purpose unit) some
 
 IsBijectionBelow-if : (n : ℕ) (scrambled : Bool) (f : ℕ → ℕ) → IsBijectionBelow n f → IsBijectionBelow n (λ index. if scrambled then f index else index)
 IsBijectionBelow-if n false f is = record { within = λ x below. below; one_to_one = λ x y bx by same. same; onto = λ y below. (y, below, refl) }

@@ -6,8 +6,8 @@ use Rattle.std.proofs.lemmas.List.FromFn.{get_or-map-range_with_len, length-map-
 use Rattle.philox_seeds.specs.SeedTree.{key_order_seed}
 use Rattle.id_permutation.specs.Order.{Arrangement, order_steps, place_by, place_in, steps_by}
 use Rattle.id_permutation.specs.Placement as placement
-use Rattle.schema_model.specs.declared.table.Schema.{Schema}
 use Rattle.schema_check.specs.Cohorts.{cohort_size}
+use Rattle.schema_check.specs.Dictionaries.{Project}
 use Rattle.schema_check.specs.Layout.{layout_of}
 use Rattle.schema_check.specs.Lineage.{one_if}
 use Rattle.life_intervals.specs.Generator.{generator_of, table_of}
@@ -25,21 +25,21 @@ steps_by-if false size seed some = refl
 steps_by-if true size seed some = ap (λ (test : Bool). steps_by (if test then Some seed else None)) (lt-ltb 0 size some)
 
 -- a place by a cohort's order is that of the row's key
-pub place_in-key_order : (schema : Schema) (table unit index : ℕ) → index < cohort_size (table_of schema table).births unit →
-    place_in (key_order schema table unit) index ≡ place_in_cohort (generator_of schema) table unit index
-place_in-key_order schema table unit index below =
-    place_by-if (table_of schema table).key.scramble (cohort_size (table_of schema table).births unit) (key_order_seed (layout_of schema).seed table unit) index below
+pub place_in-key_order : (project : Project) (table unit index : ℕ) → index < cohort_size (table_of project table).births unit →
+    place_in (key_order project table unit) index ≡ place_in_cohort (generator_of project) table unit index
+place_in-key_order project table unit index below =
+    place_by-if (table_of project table).key.scramble (cohort_size (table_of project table).births unit) (key_order_seed (layout_of project).seed table unit) index below
 
 -- it costs a step where the keys are scrambled
-pub order_steps-key_order : (schema : Schema) (table unit : ℕ) → 0 < cohort_size (table_of schema table).births unit →
-    order_steps (key_order schema table unit) ≡ one_if (table_of schema table).key.scramble
-order_steps-key_order schema table unit some =
-    steps_by-if (table_of schema table).key.scramble (cohort_size (table_of schema table).births unit) (key_order_seed (layout_of schema).seed table unit) some
+pub order_steps-key_order : (project : Project) (table unit : ℕ) → 0 < cohort_size (table_of project table).births unit →
+    order_steps (key_order project table unit) ≡ one_if (table_of project table).key.scramble
+order_steps-key_order project table unit some =
+    steps_by-if (table_of project table).key.scramble (cohort_size (table_of project table).births unit) (key_order_seed (layout_of project).seed table unit) some
 
 -- the orders of all cohorts have each of them
-pub key_orders-at : (schema : Schema) (table last unit : ℕ) (default : Arrangement) → unit ≤ last → get_or (key_orders schema table last) unit default ≡ key_order schema table unit
-key_orders-at schema table last unit default within =
-    get_or-map-range_with_len (key_order schema table) 0 (last + 1) unit unit default (omega (arith, within)) (omega arith)
+pub key_orders-at : (project : Project) (table last unit : ℕ) (default : Arrangement) → unit ≤ last → get_or (key_orders project table last) unit default ≡ key_order project table unit
+key_orders-at project table last unit default within =
+    get_or-map-range_with_len (key_order project table) 0 (last + 1) unit unit default (omega (arith, within)) (omega arith)
 
-pub length-key_orders : (schema : Schema) (table last : ℕ) → length (key_orders schema table last) ≡ last + 1
-length-key_orders schema table last = length-map-range_with_len (key_order schema table) 0 (last + 1)
+pub length-key_orders : (project : Project) (table last : ℕ) → length (key_orders project table last) ≡ last + 1
+length-key_orders project table last = length-map-range_with_len (key_order project table) 0 (last + 1)

@@ -5,11 +5,11 @@ use Rattle.std.specs.List.{cons_option, enumerate_from, filter_map, list_any}
 use Rattle.std.specs.Option.{option_map}
 use Rattle.std.proofs.lemmas.Bool.{false≢true, or_parts}
 use Rattle.std.proofs.lemmas.List.Elements.{All-map}
-use Rattle.schema_model.specs.declared.table.Schema.{Schema}
 use Rattle.schema_model.specs.declared.table.Table.{Table}
 use Rattle.schema_model.specs.declared.column.Column.{Column}
 use Rattle.schema_model.specs.declared.column.Kind.{Kind}
 use Rattle.schema_model.specs.declared.column.Kind.TheVariants as kind
+use Rattle.schema_check.specs.Dictionaries.{Project}
 use Rattle.schema_check.specs.Layout.{ColumnLayout, column_layout, kind_layout, table_layout}
 use Rattle.schema_check.specs.Unbuilt.{is_unbuilt, is_unbuilt_column, is_unbuilt_kind, is_unbuilt_table}
 use Rattle.schema_check.proofs.FromTests.{fails_each}
@@ -47,14 +47,14 @@ IsStill-built tables table built =
       no_references = references-built tables table.columns table.columns 0 parts.1;
     }
 
-pub All-IsStill-built : (schema : Schema) → is_unbuilt schema ≡ false → All IsStill (generator_of schema).tables
-All-IsStill-built schema built =
-    All-map IsStill (table_layout schema.tables) schema.tables
-    (λ place d below. IsStill-built schema.tables (get_or schema.tables place d) (fails_each is_unbuilt_table schema.tables place d below built))
+pub All-IsStill-built : (project : Project) → is_unbuilt project ≡ false → All IsStill (generator_of project).tables
+All-IsStill-built project built =
+    All-map IsStill (table_layout project.schema.tables) project.schema.tables
+    (λ place d below. IsStill-built project.schema.tables (get_or project.schema.tables place d) (fails_each is_unbuilt_table project.schema.tables place d below built))
 
 -- so they are sound, and no row of them dies
-pub AreSound-built : (schema : Schema) → is_unbuilt schema ≡ false → (units : ℕ) → AreSound units (generator_of schema).tables
-AreSound-built schema built = AreSound-still (generator_of schema).tables (All-IsStill-built schema built)
+pub AreSound-built : (project : Project) → is_unbuilt project ≡ false → (units : ℕ) → AreSound units (generator_of project).tables
+AreSound-built project built = AreSound-still (generator_of project).tables (All-IsStill-built project built)
 
-pub is_live-built : (schema : Schema) → is_unbuilt schema ≡ false → (place unit ordinal : ℕ) → is_live (generator_of schema) place unit ordinal ≡ true
-is_live-built schema built = is_live-still (generator_of schema) (All-IsStill-built schema built)
+pub is_live-built : (project : Project) → is_unbuilt project ≡ false → (place unit ordinal : ℕ) → is_live (generator_of project) place unit ordinal ≡ true
+is_live-built project built = is_live-still (generator_of project) (All-IsStill-built project built)

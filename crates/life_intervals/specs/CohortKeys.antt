@@ -2,26 +2,26 @@
 use Rattle.std.specs.Prelude.{◌≡◌, ◌≤◌, ℕ, ◌+◌, ◌^◌}
 use Rattle.id_permutation.specs.Order.{Arrangement}
 use Rattle.schema_check.specs.Cohorts.{cohort_size, first_ordinal}
-use Rattle.schema_check.specs.Planned.{Planned}
+use Rattle.schema_check.specs.Dictionaries.{Project}
 use Rattle.life_intervals.specs.declared.cohorts.Cohort.{Cohort}
 use Rattle.life_intervals.specs.Generator.{table_of}
 use Rattle.life_intervals.specs.KeyOrders.{key_order}
 
 -- the cohort that is born at a unit in the table at a place
 pub record CohortOf : Type 0 where
-  pub plan : Planned
+  pub plan : Project
   pub table : ℕ
   pub unit : ℕ
 
 -- the first ordinal and the size are those of the cohort, within what a schema allows
-pub record IsCohort (plan : Planned) (table unit : ℕ) (cohort : Cohort) : Type 0 where
-  pub first : cohort.first ≡ first_ordinal (table_of plan.schema table).births unit
-  pub size : cohort.size ≡ cohort_size (table_of plan.schema table).births unit
+pub record IsCohort (plan : Project) (table unit : ℕ) (cohort : Cohort) : Type 0 where
+  pub first : cohort.first ≡ first_ordinal (table_of plan table).births unit
+  pub size : cohort.size ≡ cohort_size (table_of plan table).births unit
   pub limit : cohort.first + cohort.size ≤ 2 ^ 40
 
 -- what is kept is of the cohort's keys
-pub record AreKeysOf (plan : Planned) (table unit start : ℕ) (rows : Cohort) (placed : Arrangement) : Type 0 where
-  pub base : start ≡ (table_of plan.schema table).key.base
+pub record AreKeysOf (plan : Project) (table unit start : ℕ) (rows : Cohort) (placed : Arrangement) : Type 0 where
+  pub base : start ≡ (table_of plan table).key.base
   pub base_limit : start ≤ 2 ^ 62
   pub cohort : IsCohort plan table unit rows
-  pub order : placed ≡ key_order plan.schema table unit
+  pub order : placed ≡ key_order plan table unit

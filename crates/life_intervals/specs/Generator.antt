@@ -2,8 +2,8 @@
 use Rattle.std.specs.Prelude.{ℕ, List}
 use Rattle.philox_seeds.specs.SeedTree.{field_draw, permutation_seed}
 use Rattle.id_permutation.specs.Placement as placement
-use Rattle.schema_model.specs.declared.table.Schema.{Schema}
 use Rattle.schema_check.specs.Cohorts.{born_count, cohort_size}
+use Rattle.schema_check.specs.Dictionaries.{Project}
 use Rattle.schema_check.specs.Layout.{Layout, layout_of, TableLayout, table_at}
 
 -- the place of an index, for a table, a purpose, a unit and an index in the unit's cohort
@@ -40,17 +40,17 @@ generator_by layout = record {
 }
 
 -- the generator of a schema
-abbrev pub generator_of : Schema → Generator
-generator_of schema = generator_by (layout_of schema)
+abbrev pub generator_of : Project → Generator
+generator_of project = generator_by (layout_of project)
 
 -- the layout of the table at a place of a schema, counted from 0
-abbrev pub table_of : Schema → ℕ → TableLayout
-table_of schema place = table_at (layout_of schema).tables place
+abbrev pub table_of : Project → ℕ → TableLayout
+table_of project place = table_at (layout_of project).tables place
 
 -- the last unit of a schema
-abbrev pub last_unit : Schema → ℕ
-last_unit schema = (layout_of schema).units
+abbrev pub last_unit : Project → ℕ
+last_unit project = (layout_of project).units
 
 -- how many rows of the table at a place are born in all units of a schema
-abbrev pub rows_in_all : Schema → ℕ → ℕ
-rows_in_all schema place = born_count (table_of schema place).births (last_unit schema)
+abbrev pub rows_in_all : Project → ℕ → ℕ
+rows_in_all project place = born_count (table_of project place).births (last_unit project)

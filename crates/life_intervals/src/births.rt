@@ -12,8 +12,8 @@ use schema_check::Plan;
 /// How many rows of a table are born in the units 0 to `t`.
 pub fn born(plan: &Plan, table: u32, t: u64) -> u64
     requires table { table < length plan.now.schema.tables }
-    requires unit { t ≤ last_unit plan.now.schema }
-    ensures count { result ≡ born_count (table_of plan.now.schema table).births t }
+    requires unit { t ≤ last_unit plan.now }
+    ensures count { result ≡ born_count (table_of plan.now table).births t }
     ensures limit { result ≤ 2 ^ 40 }
 {
     let _limits = plan.table(table); // the rows of all units are at most 2^40
@@ -24,7 +24,7 @@ pub fn born(plan: &Plan, table: u32, t: u64) -> u64
 /// The rows of a table that are born at unit `b`.
 pub fn cohort(plan: &Plan, table: u32, b: u64) -> Cohort
     requires table { table < length plan.now.schema.tables }
-    requires unit { b ≤ last_unit plan.now.schema }
+    requires unit { b ≤ last_unit plan.now }
     ensures { IsCohort plan.now table b result }
 {
     let _limits = plan.table(table);
@@ -45,10 +45,10 @@ pub fn cohort(plan: &Plan, table: u32, b: u64) -> Cohort
 /// The unit at which the row of ordinal `j` is born: the one whose cohort has it.
 pub fn birth(plan: &Plan, table: u32, j: u64) -> u64
     requires table { table < length plan.now.schema.tables }
-    requires row { j < rows_in_all plan.now.schema table }
-    ensures unit { result ≡ birth (table_of plan.now.schema table).births (last_unit plan.now.schema) j }
-    ensures within { result ≤ last_unit plan.now.schema }
-    ensures lies { LiesIn (table_of plan.now.schema table).births result j }
+    requires row { j < rows_in_all plan.now table }
+    ensures unit { result ≡ birth (table_of plan.now table).births (last_unit plan.now) j }
+    ensures within { result ≤ last_unit plan.now }
+    ensures lies { LiesIn (table_of plan.now table).births result j }
 {
     let _limits = plan.table(table);
     let births = plan.births(table);

@@ -42,8 +42,8 @@ impl<'a> CohortKeys<'a> {
     /// The keys of the rows of a table that are born at a unit, by their order.
     pub fn new(plan: &'a Plan, table: u32, unit: u64, order: &'a Order) -> CohortKeys<'a>
         requires table { table < length plan.now.schema.tables }
-        requires unit { unit ≤ last_unit plan.now.schema }
-        requires order { order.now ≡ key_order plan.now.schema table unit }
+        requires unit { unit ≤ last_unit plan.now }
+        requires order { order.now ≡ key_order plan.now table unit }
         ensures { result ≡ record { plan = plan.now; table = table; unit = unit } }
     {
         let _limits = plan.table(table);
@@ -60,9 +60,9 @@ impl<'a> CohortKeys<'a> {
     /// The key of the row with this index in the cohort. It takes one step where the keys are scrambled, else none.
     #[inline]
     pub fn key<L: Ledger>(&self, index: u64, steps: &mut Steps<L>) -> u64
-        requires { index < cohort_size (table_of self.now.plan.schema self.now.table).births self.now.unit }
-        ensures key { result ≡ key_in_cohort (generator_of self.now.plan.schema) self.now.table self.now.unit index }
-        ensures steps { steps.new ≡ steps.old + one_if (table_of self.now.plan.schema self.now.table).key.scramble }
+        requires { index < cohort_size (table_of self.now.plan self.now.table).births self.now.unit }
+        ensures key { result ≡ key_in_cohort (generator_of self.now.plan) self.now.table self.now.unit index }
+        ensures steps { steps.new ≡ steps.old + one_if (table_of self.now.plan self.now.table).key.scramble }
     {
         self.base + self.cohort.first + self.order.place(index, steps)
     }
@@ -70,10 +70,10 @@ impl<'a> CohortKeys<'a> {
     /// The index of the row whose key has this place among the cohort's. It takes one step where the keys are scrambled, else
     /// none.
     fn index_of<L: Ledger>(&self, place: u64, steps: &mut Steps<L>) -> u64
-        requires { place < cohort_size (table_of self.now.plan.schema self.now.table).births self.now.unit }
-        ensures below { result < cohort_size (table_of self.now.plan.schema self.now.table).births self.now.unit }
-        ensures has_it { place_in_cohort (generator_of self.now.plan.schema) self.now.table self.now.unit result ≡ place }
-        ensures steps { steps.new ≡ steps.old + one_if (table_of self.now.plan.schema self.now.table).key.scramble }
+        requires { place < cohort_size (table_of self.now.plan self.now.table).births self.now.unit }
+        ensures below { result < cohort_size (table_of self.now.plan self.now.table).births self.now.unit }
+        ensures has_it { place_in_cohort (generator_of self.now.plan) self.now.table self.now.unit result ≡ place }
+        ensures steps { steps.new ≡ steps.old + one_if (table_of self.now.plan self.now.table).key.scramble }
     {
         self.order.unplace(place, steps)
     }
@@ -83,9 +83,9 @@ impl<'a> CohortKeys<'a> {
 /// scrambled, else none.
 pub fn key<L: Ledger>(plan: &Plan, table: u32, j: u64, steps: &mut Steps<L>) -> u64
     requires table { table < length plan.now.schema.tables }
-    requires row { j < rows_in_all plan.now.schema table }
-    ensures key { result ≡ key_of (generator_of plan.now.schema) table (last_unit plan.now.schema) j }
-    ensures steps { steps.new ≡ steps.old + one_if (table_of plan.now.schema table).key.scramble }
+    requires row { j < rows_in_all plan.now table }
+    ensures key { result ≡ key_of (generator_of plan.now) table (last_unit plan.now) j }
+    ensures steps { steps.new ≡ steps.old + one_if (table_of plan.now table).key.scramble }
 {
     let unit = birth(plan, table, j);
     let index = j - cohort(plan, table, unit).first;
@@ -97,13 +97,13 @@ pub fn key<L: Ledger>(plan: &Plan, table: u32, j: u64, steps: &mut Steps<L>) -> 
 /// one step, and none where the keys aren't scrambled.
 pub fn row_of_key<L: Ledger>(plan: &Plan, table: u32, key: u64, steps: &mut Steps<L>) -> Option<u64>
     requires { table < length plan.now.schema.tables }
-    ensures within { IfSome result (λ j. j < rows_in_all plan.now.schema table) }
-    ensures has_it { IfSome result (λ j. key_of (generator_of plan.now.schema) table (last_unit plan.now.schema) j ≡ key) }
-    ensures found { (j : ℕ) → j < rows_in_all plan.now.schema table →
-        key_of (generator_of plan.now.schema) table (last_unit plan.now.schema) j ≡ key → result ≡ Some j }
-    ensures none { IsNone result ↔ ((j : ℕ) → j < rows_in_all plan.now.schema table →
-        key_of (generator_of plan.now.schema) table (last_unit plan.now.schema) j ≢ key) }
-    ensures steps { steps.new ≤ steps.old + one_if (table_of plan.now.schema table).key.scramble }
+    ensures within { IfSome result (λ j. j < rows_in_all plan.now table) }
+    ensures has_it { IfSome result (λ j. key_of (generator_of plan.now) table (last_unit plan.now) j ≡ key) }
+    ensures found { (j : ℕ) → j < rows_in_all plan.now table →
+        key_of (generator_of plan.now) table (last_unit plan.now) j ≡ key → result ≡ Some j }
+    ensures none { IsNone result ↔ ((j : ℕ) → j < rows_in_all plan.now table →
+        key_of (generator_of plan.now) table (last_unit plan.now) j ≢ key) }
+    ensures steps { steps.new ≤ steps.old + one_if (table_of plan.now table).key.scramble }
 {
     let base = plan.keys(table).base;
     if key < base || key - base >= born(plan, table, plan.units()) {

@@ -5,9 +5,9 @@
 
 ghost use Rattle.std.specs.Prelude.{◌≡◌, ℕ, ◌+◌, ◌*◌, ◌/◌, ◌-◌, ◌<◌, ◌≤◌, All, if◌then◌else◌, length, map, nat_lt, take, false, true, List, [], ◌∷◌, Some};
 ghost use Rattle.std.specs.List.{range_with_len};
-ghost use Rattle.schema_model.specs.declared.table.Schema.{Schema};
 ghost use Rattle.schema_check.specs.declared.layout.Births.{Births};
 ghost use Rattle.schema_check.specs.Cohorts.{born_count, cohort_size, first_ordinal};
+ghost use Rattle.schema_check.specs.Dictionaries.{Project};
 ghost use Rattle.schema_check.specs.Layout.{TableLayout, table_at};
 ghost use Rattle.schema_check.specs.Unbuilt.{is_unbuilt};
 ghost use Rattle.life_intervals.specs.Changes.{IsLastDue, first_due};
@@ -38,7 +38,7 @@ pub fn birth_by_division()
 
 /// The permutations that the seed of a schema gives its cohorts are bijections, for each purpose.
 pub fn seeds_order_each_cohort()
-    ensures { (schema : Schema) (place : ℕ) → OrdersCohorts (generator_of schema) place }
+    ensures { (project : Project) (place : ℕ) → OrdersCohorts (generator_of project) place }
 {}
 
 /// The key of a row is that of its index in its cohort.
@@ -153,7 +153,7 @@ pub fn still_tables_are_sound()
 
 /// So are the tables that can be made yet.
 pub fn built_tables_are_still()
-    ensures { (schema : Schema) → is_unbuilt schema ≡ false → All IsStill (generator_of schema).tables }
+    ensures { (project : Project) → is_unbuilt project ≡ false → All IsStill (generator_of project).tables }
 {}
 
 /// The tables of customers, orders and lines are sound up to the last unit of their schema.

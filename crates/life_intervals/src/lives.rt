@@ -44,9 +44,9 @@ pub(crate) fn last_due(born: u64, first: u64, period: u64, unit: u64) -> u64
 /// The order of the lives of the rows of a table that are born at a unit.
 fn life_order(plan: &Plan, table: u32, unit: u64) -> Order
     requires table { table < length plan.now.schema.tables }
-    requires unit { unit ≤ last_unit plan.now.schema }
-    requires some { 0 < cohort_size (table_of plan.now.schema table).births unit }
-    ensures { result ≡ record { size = cohort_size (table_of plan.now.schema table).births unit; seed = Some (life_order_seed (layout_of plan.now.schema).seed table unit) } }
+    requires unit { unit ≤ last_unit plan.now }
+    requires some { 0 < cohort_size (table_of plan.now table).births unit }
+    ensures { result ≡ record { size = cohort_size (table_of plan.now table).births unit; seed = Some (life_order_seed (layout_of plan.now).seed table unit) } }
 {
     let size = cohort(plan, table, unit).size;
     Order::by_rounds(size, life_order_seed(plan.seed(), table, unit))
@@ -55,9 +55,9 @@ fn life_order(plan: &Plan, table: u32, unit: u64) -> Order
 /// The order of the updates of the rows of a table that are born at a unit.
 fn update_order(plan: &Plan, table: u32, unit: u64) -> Order
     requires table { table < length plan.now.schema.tables }
-    requires unit { unit ≤ last_unit plan.now.schema }
-    requires some { 0 < cohort_size (table_of plan.now.schema table).births unit }
-    ensures { result ≡ record { size = cohort_size (table_of plan.now.schema table).births unit; seed = Some (update_order_seed (layout_of plan.now.schema).seed table unit) } }
+    requires unit { unit ≤ last_unit plan.now }
+    requires some { 0 < cohort_size (table_of plan.now table).births unit }
+    ensures { result ≡ record { size = cohort_size (table_of plan.now table).births unit; seed = Some (update_order_seed (layout_of plan.now).seed table unit) } }
 {
     let size = cohort(plan, table, unit).size;
     Order::by_rounds(size, update_order_seed(plan.seed(), table, unit))
@@ -67,11 +67,11 @@ fn update_order(plan: &Plan, table: u32, unit: u64) -> Order
 /// where the rows of the table have a life, else none.
 pub fn own_death<L: Ledger>(plan: &Plan, table: u32, j: u64, steps: &mut Steps<L>) -> Option<u64>
     requires table { table < length plan.now.schema.tables }
-    requires row { j < rows_in_all plan.now.schema table }
-    requires ordered { IfSome (table_of plan.now.schema table).life (λ life. life.least ≤ life.most) }
-    requires limit { IfSome (table_of plan.now.schema table).life (λ life. life.most ≤ 20000) }
-    ensures death { result ≡ own_death (generator_of plan.now.schema) table (last_unit plan.now.schema) j }
-    ensures steps { steps.new ≡ steps.old + one_if (is_some (table_of plan.now.schema table).life) }
+    requires row { j < rows_in_all plan.now table }
+    requires ordered { IfSome (table_of plan.now table).life (λ life. life.least ≤ life.most) }
+    requires limit { IfSome (table_of plan.now table).life (λ life. life.most ≤ 20000) }
+    ensures death { result ≡ own_death (generator_of plan.now) table (last_unit plan.now) j }
+    ensures steps { steps.new ≡ steps.old + one_if (is_some (table_of plan.now table).life) }
 {
     let Some(life) = plan.life(table) else {
         return None;
@@ -87,12 +87,12 @@ pub fn own_death<L: Ledger>(plan: &Plan, table: u32, j: u64, steps: &mut Steps<L
 /// It takes no notice of the row's death, and takes one step where the rows of the table change, else none.
 pub fn last_change<L: Ledger>(plan: &Plan, table: u32, j: u64, t: u64, steps: &mut Steps<L>) -> u64
     requires table { table < length plan.now.schema.tables }
-    requires unit { t ≤ last_unit plan.now.schema }
-    requires born { j < born_count (table_of plan.now.schema table).births t }
-    requires period { IfSome (table_of plan.now.schema table).update (λ period. 1 ≤ period) }
-    ensures unit { result ≡ change_unit (generator_of plan.now.schema) table t j }
+    requires unit { t ≤ last_unit plan.now }
+    requires born { j < born_count (table_of plan.now table).births t }
+    requires period { IfSome (table_of plan.now table).update (λ period. 1 ≤ period) }
+    ensures unit { result ≡ change_unit (generator_of plan.now) table t j }
     ensures within { result ≤ t }
-    ensures steps { steps.new ≡ steps.old + one_if (is_some (table_of plan.now.schema table).update) }
+    ensures steps { steps.new ≡ steps.old + one_if (is_some (table_of plan.now table).update) }
 {
     let born = birth(plan, table, j);
     let Some(period) = plan.update(table) else {

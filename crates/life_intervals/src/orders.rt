@@ -18,9 +18,9 @@ const MOST_ENTRIES: u64 = 1 << 20;
 /// Whether the keys of the rows of a table that are born at a unit are permuted: they are scrambled, and there are some.
 fn is_permuted(plan: &Plan, table: u32, unit: u64) -> bool
     requires table { table < length plan.now.schema.tables }
-    requires unit { unit ≤ last_unit plan.now.schema }
-    ensures exact { result ≡ is_permuted plan.now.schema table unit }
-    ensures some { result ≡ true → 0 < cohort_size (table_of plan.now.schema table).births unit }
+    requires unit { unit ≤ last_unit plan.now }
+    ensures exact { result ≡ is_permuted plan.now table unit }
+    ensures some { result ≡ true → 0 < cohort_size (table_of plan.now table).births unit }
 {
     plan.keys(table).scramble && cohort(plan, table, unit).size > 0
 }
@@ -28,8 +28,8 @@ fn is_permuted(plan: &Plan, table: u32, unit: u64) -> bool
 /// The order of the keys of the rows of a table that are born at a unit, in no memory.
 pub fn key_order(plan: &Plan, table: u32, unit: u64) -> Order
     requires table { table < length plan.now.schema.tables }
-    requires unit { unit ≤ last_unit plan.now.schema }
-    ensures { result ≡ key_order plan.now.schema table unit }
+    requires unit { unit ≤ last_unit plan.now }
+    ensures { result ≡ key_order plan.now table unit }
 {
     let size = cohort(plan, table, unit).size;
     if is_permuted(plan, table, unit) {
@@ -42,8 +42,8 @@ pub fn key_order(plan: &Plan, table: u32, unit: u64) -> Order
 /// The same, by tables where they pay for all rows of the cohort.
 fn key_order_by_tables(alloc: Global, plan: &Plan, table: u32, unit: u64) -> Result<Order, Memory>
     requires table { table < length plan.now.schema.tables }
-    requires unit { unit ≤ last_unit plan.now.schema }
-    ensures { IfOk result (λ order. order ≡ key_order plan.now.schema table unit) }
+    requires unit { unit ≤ last_unit plan.now }
+    ensures { IfOk result (λ order. order ≡ key_order plan.now table unit) }
 {
     let size = cohort(plan, table, unit).size;
     if is_permuted(plan, table, unit) {
@@ -63,8 +63,8 @@ fn table_entries(size: u64) -> u64 {
 /// tables by which places are found in a tenth of the time. At `Memory` none are made.
 pub fn key_orders(alloc: Global, plan: &Plan, table: u32, last: u64) -> Result<Vec<Order>, Memory>
     requires table { table < length plan.now.schema.tables }
-    requires unit { last ≤ last_unit plan.now.schema }
-    ensures { IfOk result (λ orders. orders.items ≡ key_orders plan.now.schema table last) }
+    requires unit { last ≤ last_unit plan.now }
+    ensures { IfOk result (λ orders. orders.items ≡ key_orders plan.now table last) }
 {
     let _limits = plan.schema(); // there are at most 10,000 units
     let mut orders = Vec::new(alloc);

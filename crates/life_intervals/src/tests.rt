@@ -162,7 +162,7 @@ fn keys_go_there_and_back(rt: HostRuntime) -> Result<(), Fail> {
 /// The keys of a table, one after the other, as one number. The order of its cohort gives each key as well.
 fn key_checksum<L: Ledger>(rt: &impl Abort, plan: &Plan, orders: &Vec<Order>, blank: Blank) -> u64
     requires table { 0 < length plan.now.schema.tables }
-    requires orders { orders.now.items ≡ key_orders plan.now.schema 0 (last_unit plan.now.schema) }
+    requires orders { orders.now.items ≡ key_orders plan.now 0 (last_unit plan.now) }
     requires name { blank.name ≡ L.name }
     requires parts { blank.parts ≡ L.parts }
     requires some { 0 < blank.parts }

@@ -35,11 +35,11 @@ use Rattle.row_lines.proofs.FieldLemmas.{field-key, field-own}
 -- what the field of a column takes at most: bytes, with the one behind, and permutations
 abbrev pub room_in : LinesOf → ColumnLayout → ℕ
 room_in lines column =
-    (bounds_of (layout_of lines.plan.schema).delimiter (layout_of lines.plan.schema).tables (layout_for lines) column.kind).size + 1
+    (bounds_of (layout_of lines.plan).delimiter (layout_of lines.plan).tables (layout_for lines) column.kind).size + 1
 
 abbrev permutations_in : LinesOf → ColumnLayout → ℕ
 permutations_in lines column =
-    (bounds_of (layout_of lines.plan.schema).delimiter (layout_of lines.plan.schema).tables (layout_for lines) column.kind).permutations
+    (bounds_of (layout_of lines.plan).delimiter (layout_of lines.plan).tables (layout_for lines) column.kind).permutations
 
 -- what the fields before a place take at most
 abbrev pub bytes_before : LinesOf → ℕ → ℕ
@@ -49,18 +49,18 @@ sum_by-map : {A B : Type 0} (h : A → B) (xs : List A) (g : B → ℕ) → sum_
 sum_by-map h xs g = fold-map (λ all y. all + g y) h 0 xs
 
 -- what all take: the bytes of the greatest line, and no more permutations than a line may
-pub max_line-columns : (lines : LinesOf) → max_line (layout_of lines.plan.schema) lines.table ≡ sum_by (room_in lines) (layout_for lines).columns
+pub max_line-columns : (lines : LinesOf) → max_line (layout_of lines.plan) lines.table ≡ sum_by (room_in lines) (layout_for lines).columns
 unfolding max_line
 max_line-columns lines =
-    sum_by-map (λ (column : ColumnLayout). bounds_of (layout_of lines.plan.schema).delimiter (layout_of lines.plan.schema).tables (layout_for lines) column.kind)
+    sum_by-map (λ (column : ColumnLayout). bounds_of (layout_of lines.plan).delimiter (layout_of lines.plan).tables (layout_for lines) column.kind)
     (layout_for lines).columns (λ bounds. bounds.size + 1)
 
-line_cost-columns : (lines : LinesOf) → sum_by (permutations_in lines) (layout_for lines).columns ≤ line_cost (layout_of lines.plan.schema) lines.table
+line_cost-columns : (lines : LinesOf) → sum_by (permutations_in lines) (layout_for lines).columns ≤ line_cost (layout_of lines.plan) lines.table
 unfolding line_cost
 line_cost-columns lines =
     omega (
       arith,
-      sum_by-map (λ (column : ColumnLayout). bounds_of (layout_of lines.plan.schema).delimiter (layout_of lines.plan.schema).tables (layout_for lines) column.kind)
+      sum_by-map (λ (column : ColumnLayout). bounds_of (layout_of lines.plan).delimiter (layout_of lines.plan).tables (layout_for lines) column.kind)
           (layout_for lines).columns (λ bounds. bounds.permutations),
     )
 
@@ -74,16 +74,16 @@ pub length-columns : (lines : LinesOf) (keys : CohortOf) (values : ValuesOf) (co
     length (layout_for lines).columns ≡ length columns
 length-columns lines keys values columns first byte known =
     sym (ap (λ (ready : List ReadyColumn). length ready) known.columns_are
-    ∙ length-map (layout_for lines).columns (ready_column (layout_of lines.plan.schema).delimiter))
+    ∙ length-map (layout_for lines).columns (ready_column (layout_of lines.plan).delimiter))
 
 -- the column at a place is ready for what the layout has there
 pub ready_at : (lines : LinesOf) (keys : CohortOf) (values : ValuesOf) (columns : List ReadyColumn) (first byte : ℕ) → AreLinesOf lines keys values columns first byte →
     (place : ℕ) (column : ReadyColumn) → place < length (layout_for lines).columns → column ≡ get_or columns place column →
-    ready_column (layout_of lines.plan.schema).delimiter (column_at (layout_for lines).columns place) ≡ column
+    ready_column (layout_of lines.plan).delimiter (column_at (layout_for lines).columns place) ≡ column
 ready_at lines keys values columns first byte known place column within is =
     sym (is
     ∙ ap (λ (ready : List ReadyColumn). get_or ready place column) known.columns_are
-    ∙ get_or-map (ready_column (layout_of lines.plan.schema).delimiter) (layout_for lines).columns place no_column column within)
+    ∙ get_or-map (ready_column (layout_of lines.plan).delimiter) (layout_for lines).columns place no_column column within)
 
 -- and it is served
 pub served_at : (columns : List ReadyColumn) → All (λ column. is_served column ≡ true) columns → (place : ℕ) (column : ReadyColumn) →
@@ -104,12 +104,12 @@ own_from_ready delimiter _ served no_key = cc
 
 -- a line may ask the permutation of its key, which is its first field
 pub scramble-line_cost : (lines : LinesOf) (keys : CohortOf) (values : ValuesOf) (columns : List ReadyColumn) (first byte : ℕ) → AreLinesOf lines keys values columns first byte →
-    one_if (layout_for lines).key.scramble ≤ line_cost (layout_of lines.plan.schema) lines.table
+    one_if (layout_for lines).key.scramble ≤ line_cost (layout_of lines.plan) lines.table
 scramble-line_cost lines keys values ready first byte known =
     let columns : List ColumnLayout = (layout_for lines).columns in
     omega (
       arith,
-      ap (λ (kind : KindLayout). (bounds_of (layout_of lines.plan.schema).delimiter (layout_of lines.plan.schema).tables (layout_for lines) kind).permutations)
+      ap (λ (kind : KindLayout). (bounds_of (layout_of lines.plan).delimiter (layout_of lines.plan).tables (layout_for lines) kind).permutations)
           known.limits.key_first,
       sum_by_more_le (permutations_in lines) columns 0 no_column known.limits.some_column,
       line_cost-columns lines,
@@ -125,14 +125,14 @@ key_never_null columns (suc other) never no_other within is = absurd (no_other o
 -- what a key takes, and how it is written
 pub size-key : (lines : LinesOf) (place : ℕ) → (column_at (layout_for lines).columns place).kind ≡ key_kind → size_for lines place ≡ 20
 size-key lines place is =
-    ap (λ (kind : KindLayout). (bounds_of (layout_of lines.plan.schema).delimiter (layout_of lines.plan.schema).tables (layout_for lines) kind).size) is
+    ap (λ (kind : KindLayout). (bounds_of (layout_of lines.plan).delimiter (layout_of lines.plan).tables (layout_for lines) kind).size) is
 
 pub text-key : (lines : LinesOf) (place index key : ℕ) → (column_at (layout_for lines).columns place).kind ≡ key_kind →
     (column_at (layout_for lines).columns place).null ≡ 0 → lines.born ≤ lines.unit →
     index < cohort_size (layout_for lines).births lines.born → key ≡ key_for lines index → key < 2 ^ 64 →
     text_in_cohort lines index place ≡ decimal key
 text-key lines place index key is never within below key_is small =
-    let generator : Generator = generator_of lines.plan.schema in
+    let generator : Generator = generator_of lines.plan in
     ap (field_text generator.delimiter) (field-key generator lines.unit lines.table (ordinal_of lines index) place is never)
     ∙ ap (λ (k : ℕ). field_text generator.delimiter (Some (decimal k))) (key_of-first_ordinal generator lines.table lines.unit lines.born index within below ∙ sym key_is)
     ∙ piece_text-decimal generator.delimiter key small
@@ -141,9 +141,9 @@ text-key lines place index key is never within below key_is small =
 pub text-own : (lines : LinesOf) (values : ValuesOf) (place index ordinal : ℕ) → values ≡ record { plan = lines.plan; table = lines.table; unit = lines.born } →
     ordinal ≡ ordinal_of lines index → is_own (column_at (layout_for lines).columns place).kind ≡ true → lines.born ≤ lines.unit →
     index < cohort_size (layout_for lines).births lines.born → is_unbuilt lines.plan.schema ≡ false →
-    text_in_cohort lines index place ≡ field_text (layout_of lines.plan.schema).delimiter (value_for values place ordinal)
+    text_in_cohort lines index place ≡ field_text (layout_of lines.plan).delimiter (value_for values place ordinal)
 text-own lines values place index ordinal values_are ordinal_is own within below built =
-    let generator : Generator = generator_of lines.plan.schema in
+    let generator : Generator = generator_of lines.plan in
     let row : Row = row_at generator lines.table lines.unit (ordinal_of lines index) in
     let at : ℕ → RowAt = λ born. record { ordinal = ordinal_of lines index; born = born; changed = born } in
     let held : ℕ → Option (List ℕ) = λ born. own_field (layout_for lines).columns (at born) (λ column. generator.draw lines.table column born (ordinal_of lines index)) place in
@@ -176,10 +176,10 @@ length-delimiter (suc column) delimiter =
 
 -- the fields are those of the line
 pub line_in_cohort-fields : (lines : LinesOf) (index count : ℕ) → count ≡ length (layout_for lines).columns →
-    join_with_byte (layout_of lines.plan.schema).delimiter (map (text_in_cohort lines index) (range_with_len 0 count)) ++ codes "\n" ≡ line_in_cohort lines index
+    join_with_byte (layout_of lines.plan).delimiter (map (text_in_cohort lines index) (range_with_len 0 count)) ++ codes "\n" ≡ line_in_cohort lines index
 unfolding line
 line_in_cohort-fields lines index count all =
-    ap (λ (n : ℕ). join_with_byte (layout_of lines.plan.schema).delimiter (map (text_in_cohort lines index) (range_with_len 0 n)) ++ codes "\n") all
+    ap (λ (n : ℕ). join_with_byte (layout_of lines.plan).delimiter (map (text_in_cohort lines index) (range_with_len 0 n)) ++ codes "\n") all
 
 -- a cohort has no more rows than a table
 pub cohort_size-limit : (lines : LinesOf) (keys : CohortOf) (values : ValuesOf) (columns : List ReadyColumn) (first byte : ℕ) → AreLinesOf lines keys values columns first byte →
@@ -188,5 +188,5 @@ cohort_size-limit lines keys values columns first byte known =
     omega (
       arith,
       known.limits.row_limit,
-      cohort-within (layout_for lines).births lines.born (last_unit lines.plan.schema) (omega (arith, known.born, known.unit)),
+      cohort-within (layout_for lines).births lines.born (last_unit lines.plan) (omega (arith, known.born, known.unit)),
     )

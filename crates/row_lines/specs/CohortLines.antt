@@ -5,7 +5,7 @@ use Rattle.schema_check.specs.Cohorts.{first_ordinal}
 use Rattle.schema_check.specs.FieldBounds.{bounds_of}
 use Rattle.schema_check.specs.Layout.{layout_of, TableLayout, column_at}
 use Rattle.schema_check.specs.Limits.{IsTableInLimits}
-use Rattle.schema_check.specs.Planned.{Planned}
+use Rattle.schema_check.specs.Dictionaries.{Project}
 use Rattle.schema_check.specs.declared.ready.ReadyColumn.{ReadyColumn}
 use Rattle.schema_check.specs.Ready.{ready_columns, is_served}
 use Rattle.schema_check.specs.Unbuilt.{is_unbuilt}
@@ -18,14 +18,14 @@ use Rattle.row_lines.specs.Lines.{field, line_of}
 
 -- the lines at a unit of the rows that are born at one, in the table at a place
 pub record LinesOf : Type 0 where
-  pub plan : Planned
+  pub plan : Project
   pub table : ℕ
   pub born : ℕ
   pub unit : ℕ
 
 -- the layout of the table
 abbrev pub layout_for : LinesOf → TableLayout
-layout_for lines = table_of lines.plan.schema lines.table
+layout_for lines = table_of lines.plan lines.table
 
 -- the ordinal of the row with an index in the cohort
 abbrev pub ordinal_of : LinesOf → ℕ → ℕ
@@ -33,34 +33,34 @@ ordinal_of lines index = first_ordinal (layout_for lines).births lines.born + in
 
 -- the key of the row with an index in the cohort
 abbrev pub key_for : LinesOf → ℕ → ℕ
-key_for lines index = key_in_cohort (generator_of lines.plan.schema) lines.table lines.born index
+key_for lines index = key_in_cohort (generator_of lines.plan) lines.table lines.born index
 
 -- the line of the row with an index in the cohort
 abbrev pub line_in_cohort : LinesOf → ℕ → List ℕ
 line_in_cohort lines index =
-    line_of (generator_of lines.plan.schema) lines.unit lines.table (ordinal_of lines index)
+    line_of (generator_of lines.plan) lines.unit lines.table (ordinal_of lines index)
 
 -- what the row with an index in the cohort holds in the column at a place, as it is written
 abbrev pub text_in_cohort : LinesOf → ℕ → ℕ → List ℕ
 text_in_cohort lines index column =
-    field_text (layout_of lines.plan.schema).delimiter
-    (field (generator_of lines.plan.schema) lines.unit lines.table (row_at (generator_of lines.plan.schema) lines.table lines.unit (ordinal_of lines index)) column)
+    field_text (layout_of lines.plan).delimiter
+    (field (generator_of lines.plan) lines.unit lines.table (row_at (generator_of lines.plan) lines.table lines.unit (ordinal_of lines index)) column)
 
 -- the keys and the values are the cohort's, and what is kept beside is what the schema says
 pub record AreLinesOf (lines : LinesOf) (keys : CohortOf) (values : ValuesOf) (columns : List ReadyColumn) (first byte : ℕ) : Type 0 where
   pub keys_are : keys ≡ record { plan = lines.plan; table = lines.table; unit = lines.born }
   pub values_are : values ≡ record { plan = lines.plan; table = lines.table; unit = lines.born }
-  pub columns_are : columns ≡ ready_columns (layout_of lines.plan.schema) lines.table
+  pub columns_are : columns ≡ ready_columns (layout_of lines.plan) lines.table
   pub served : All (λ column. is_served column ≡ true) columns
-  pub limits : IsTableInLimits (last_unit lines.plan.schema) (layout_for lines)
+  pub limits : IsTableInLimits (last_unit lines.plan) (layout_for lines)
   pub first_is : first ≡ first_ordinal (layout_for lines).births lines.born
-  pub delimiter : byte ≡ (layout_of lines.plan.schema).delimiter
+  pub delimiter : byte ≡ (layout_of lines.plan).delimiter
   pub born : lines.born ≤ lines.unit
-  pub unit : lines.unit ≤ last_unit lines.plan.schema
+  pub unit : lines.unit ≤ last_unit lines.plan
   pub built : is_unbuilt lines.plan.schema ≡ false
 
 -- what the field of the column at a place takes at most, in bytes
 abbrev pub size_for : LinesOf → ℕ → ℕ
 size_for lines column =
-    (bounds_of (layout_of lines.plan.schema).delimiter (layout_of lines.plan.schema).tables (layout_for lines)
+    (bounds_of (layout_of lines.plan).delimiter (layout_of lines.plan).tables (layout_for lines)
     (column_at (layout_for lines).columns column).kind).size

@@ -58,8 +58,8 @@ impl<'a> CohortLines<'a> {
     ) -> CohortLines<'a>
         requires table { table < length plan.now.schema.tables }
         requires born { born ≤ unit }
-        requires unit { unit ≤ last_unit plan.now.schema }
-        requires order { order.now ≡ key_order plan.now.schema table born }
+        requires unit { unit ≤ last_unit plan.now }
+        requires order { order.now ≡ key_order plan.now table born }
         ensures { result ≡ record { plan = plan.now; table = table; born = born; unit = unit } }
     {
         CohortLines {
@@ -82,7 +82,7 @@ impl<'a> CohortLines<'a> {
         requires { index < cohort_size (layout_for self.now).births self.now.born }
         ensures key { result ≡ key_for self.now index }
         ensures steps { steps.new ≡ steps.old + one_if (layout_for self.now).key.scramble }
-        ensures in_cost { steps.new ≤ steps.old + line_cost (layout_of self.now.plan.schema) self.now.table }
+        ensures in_cost { steps.new ≤ steps.old + line_cost (layout_of self.now.plan) self.now.table }
     {
         self.keys.key(index, steps)
     }
@@ -114,11 +114,11 @@ impl<'a> CohortLines<'a> {
     #[inline]
     pub fn put_line<L: Ledger>(&self, index: u64, buf: &mut PageBuf, steps: &mut Steps<L>)
         requires row { index < cohort_size (layout_for self.now).births self.now.born }
-        requires alive { is_live (generator_of self.now.plan.schema) self.now.table self.now.unit (ordinal_of self.now index) ≡ true }
-        requires room { length buf.old.text + max_line (layout_of self.now.plan.schema) self.now.table ≤ buf.old.room }
+        requires alive { is_live (generator_of self.now.plan) self.now.table self.now.unit (ordinal_of self.now index) ≡ true }
+        requires room { length buf.old.text + max_line (layout_of self.now.plan) self.now.table ≤ buf.old.room }
         ensures line { buf.new ≡ record buf.old { text = buf.old.text ++ line_in_cohort self.now index } }
-        ensures size { length (line_in_cohort self.now index) ≤ max_line (layout_of self.now.plan.schema) self.now.table }
-        ensures steps { steps.new ≤ steps.old + line_cost (layout_of self.now.plan.schema) self.now.table }
+        ensures size { length (line_in_cohort self.now index) ≤ max_line (layout_of self.now.plan) self.now.table }
+        ensures steps { steps.new ≤ steps.old + line_cost (layout_of self.now.plan) self.now.table }
     {
         let key = self.key(index, steps);
         self.put_keyed_line(index, key, buf);
@@ -128,11 +128,11 @@ impl<'a> CohortLines<'a> {
     #[inline]
     pub fn put_keyed_line(&self, index: u64, key: u64, buf: &mut PageBuf)
         requires row { index < cohort_size (layout_for self.now).births self.now.born }
-        requires alive { is_live (generator_of self.now.plan.schema) self.now.table self.now.unit (ordinal_of self.now index) ≡ true }
+        requires alive { is_live (generator_of self.now.plan) self.now.table self.now.unit (ordinal_of self.now index) ≡ true }
         requires key { key ≡ key_for self.now index }
-        requires room { length buf.old.text + max_line (layout_of self.now.plan.schema) self.now.table ≤ buf.old.room }
+        requires room { length buf.old.text + max_line (layout_of self.now.plan) self.now.table ≤ buf.old.room }
         ensures line { buf.new ≡ record buf.old { text = buf.old.text ++ line_in_cohort self.now index } }
-        ensures size { length (line_in_cohort self.now index) ≤ max_line (layout_of self.now.plan.schema) self.now.table }
+        ensures size { length (line_in_cohort self.now index) ≤ max_line (layout_of self.now.plan) self.now.table }
     {
         for column in 0..self.columns.len() {
             put_delimiter(buf, self.delimiter, column);

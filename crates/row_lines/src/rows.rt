@@ -27,13 +27,13 @@ pub fn put_line<L: Ledger>(
     steps: &mut Steps<L>,
 )
     requires table { table < length plan.now.schema.tables }
-    requires unit { t ≤ last_unit plan.now.schema }
-    requires born { j < born_count (table_of plan.now.schema table).births t }
-    requires alive { is_live (generator_of plan.now.schema) table t j ≡ true }
-    requires room { length buf.old.text + max_line (layout_of plan.now.schema) table ≤ buf.old.room }
-    ensures line { buf.new ≡ record buf.old { text = buf.old.text ++ line_of (generator_of plan.now.schema) t table j } }
-    ensures size { length (line_of (generator_of plan.now.schema) t table j) ≤ max_line (layout_of plan.now.schema) table }
-    ensures steps { steps.new ≤ steps.old + line_cost (layout_of plan.now.schema) table }
+    requires unit { t ≤ last_unit plan.now }
+    requires born { j < born_count (table_of plan.now table).births t }
+    requires alive { is_live (generator_of plan.now) table t j ≡ true }
+    requires room { length buf.old.text + max_line (layout_of plan.now) table ≤ buf.old.room }
+    ensures line { buf.new ≡ record buf.old { text = buf.old.text ++ line_of (generator_of plan.now) t table j } }
+    ensures size { length (line_of (generator_of plan.now) t table j) ≤ max_line (layout_of plan.now) table }
+    ensures steps { steps.new ≤ steps.old + line_cost (layout_of plan.now) table }
 {
     let born = birth(plan, table, j);
     let index = j - cohort(plan, table, born).first;
@@ -45,11 +45,11 @@ pub fn put_line<L: Ledger>(
 /// one step where the keys are scrambled, else none.
 pub fn put_key<L: Ledger>(plan: &Plan, table: u32, j: u64, buf: &mut PageBuf, steps: &mut Steps<L>)
     requires table { table < length plan.now.schema.tables }
-    requires row { j < rows_in_all plan.now.schema table }
+    requires row { j < rows_in_all plan.now table }
     requires room { length buf.old.text + 21 ≤ buf.old.room }
-    ensures line { buf.new ≡ record buf.old { text = buf.old.text ++ key_line_of (generator_of plan.now.schema) (last_unit plan.now.schema) table j } }
-    ensures size { length (key_line_of (generator_of plan.now.schema) (last_unit plan.now.schema) table j) ≤ 21 }
-    ensures steps { steps.new ≡ steps.old + one_if (table_of plan.now.schema table).key.scramble }
+    ensures line { buf.new ≡ record buf.old { text = buf.old.text ++ key_line_of (generator_of plan.now) (last_unit plan.now) table j } }
+    ensures size { length (key_line_of (generator_of plan.now) (last_unit plan.now) table j) ≤ 21 }
+    ensures steps { steps.new ≡ steps.old + one_if (table_of plan.now table).key.scramble }
 {
     buf.put_number(key(plan, table, j, steps));
     buf.put_piece(&Piece::of_byte(b'\n'));

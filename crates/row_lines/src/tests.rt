@@ -185,7 +185,7 @@ fn cohort_checksum<L: Ledger>(
     steps: &mut Steps<L>,
 ) -> Result<u64, Fail>
     requires table { 0 < length plan.now.schema.tables }
-    requires born { born ≤ last_unit plan.now.schema }
+    requires born { born ≤ last_unit plan.now }
 {
     let mut sum = so_far;
     let _built = plan.schema(); // no row of it dies yet
@@ -202,7 +202,7 @@ fn cohort_checksum<L: Ledger>(
 
 fn text_checksum<L: Ledger>(alloc: Global, plan: &Plan, blank: Blank) -> Result<u64, Fail>
     requires table { 0 < length plan.now.schema.tables }
-    requires units { 5 ≤ last_unit plan.now.schema }
+    requires units { 5 ≤ last_unit plan.now }
     requires name { blank.name ≡ L.name }
     requires parts { blank.parts ≡ L.parts }
     requires some { 0 < blank.parts }

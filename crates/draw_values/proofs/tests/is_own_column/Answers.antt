@@ -10,9 +10,9 @@ use Rattle.draw_values.proofs.LineLemmas.{size_at-within}
 use Rattle.draw_values.proofs.tests.is_own_column.Goals as goal
 use Rattle.draw_values.proofs.tests.is_own_column.Goals.{In-Some}
 
-size_fits : (c : In-Some) → size_at (layout_of c.args.plan.now.schema) 0 c.args.column ≤ max_line (layout_of c.args.plan.now.schema) 0
+size_fits : (c : In-Some) → size_at (layout_of c.args.plan.now) 0 c.args.column ≤ max_line (layout_of c.args.plan.now) 0
 size_fits c =
-    let layout : Layout = layout_of c.args.plan.now.schema in
+    let layout : Layout = layout_of c.args.plan.now in
     let within : c.args.column < length c.columns.result.now = ltb-true c.args.column (length c.columns.result.now) (sym c.in-Some.ensures.lookup.0) in
     size_at-within layout 0 c.args.column (omega (arith, ap length c.columns.ensures.columns, length-ready_columns layout 0))
 

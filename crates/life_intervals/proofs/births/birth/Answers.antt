@@ -12,24 +12,24 @@ born_by births known last ordinal is born = subst (λ (b : Births). ordinal < bo
 
 pub nonzero_div-result : goal.nonzero_div-result
 nonzero_div-result c =
-    some_insert c.births-births.result (last_unit c.args.plan.now.schema) c.args.j (born_by _ _ _ _ c.births-births.ensures c.requires.row) c.if-j-births.false
+    some_insert c.births-births.result (last_unit c.args.plan.now) c.args.j (born_by _ _ _ _ c.births-births.ensures c.requires.row) c.if-j-births.false
 
 pub returns-then-j-births-clause-unit : goal.returns-then-j-births-clause-unit
 returns-then-j-births-clause-unit c =
-    sym (birth-only c.births-births.result (last_unit c.args.plan.now.schema) 0 c.args.j (omega arith) (LiesIn-early c.births-births.result c.args.j c.if-j-births.true))
-    ∙ ap (λ (births : Births). birth births (last_unit c.args.plan.now.schema) c.args.j) c.births-births.ensures
+    sym (birth-only c.births-births.result (last_unit c.args.plan.now) 0 c.args.j (omega arith) (LiesIn-early c.births-births.result c.args.j c.if-j-births.true))
+    ∙ ap (λ (births : Births). birth births (last_unit c.args.plan.now) c.args.j) c.births-births.ensures
 
 pub returns-else-j-births-clause-unit : goal.returns-else-j-births-clause-unit
 returns-else-j-births-clause-unit c =
-    let lies = LiesIn-late c.births-births.result (last_unit c.args.plan.now.schema) c.args.j (born_by _ _ _ _ c.births-births.ensures c.requires.row) c.if-j-births.false in
-    sym (birth-only c.births-births.result (last_unit c.args.plan.now.schema) _ c.args.j lies.0 lies.1)
-    ∙ ap (λ (births : Births). birth births (last_unit c.args.plan.now.schema) c.args.j) c.births-births.ensures
+    let lies = LiesIn-late c.births-births.result (last_unit c.args.plan.now) c.args.j (born_by _ _ _ _ c.births-births.ensures c.requires.row) c.if-j-births.false in
+    sym (birth-only c.births-births.result (last_unit c.args.plan.now) _ c.args.j lies.0 lies.1)
+    ∙ ap (λ (births : Births). birth births (last_unit c.args.plan.now) c.args.j) c.births-births.ensures
 
 pub returns-else-j-births-clause-within : goal.returns-else-j-births-clause-within
 returns-else-j-births-clause-within c =
-    (LiesIn-late c.births-births.result (last_unit c.args.plan.now.schema) c.args.j (born_by _ _ _ _ c.births-births.ensures c.requires.row) c.if-j-births.false).0
+    (LiesIn-late c.births-births.result (last_unit c.args.plan.now) c.args.j (born_by _ _ _ _ c.births-births.ensures c.requires.row) c.if-j-births.false).0
 
 pub returns-else-j-births-clause-lies : goal.returns-else-j-births-clause-lies
 returns-else-j-births-clause-lies c =
     subst (λ (births : Births). LiesIn births ((c.args.j - c.births-births.result.rows) / c.births-births.result.insert + 1) c.args.j) c.births-births.ensures
-    (LiesIn-late c.births-births.result (last_unit c.args.plan.now.schema) c.args.j (born_by _ _ _ _ c.births-births.ensures c.requires.row) c.if-j-births.false).1
+    (LiesIn-late c.births-births.result (last_unit c.args.plan.now) c.args.j (born_by _ _ _ _ c.births-births.ensures c.requires.row) c.if-j-births.false).1

@@ -7,18 +7,18 @@ use Rattle.life_intervals.proofs.births.born.Goals as goal
 
 pub returns-clause-limit : goal.returns-clause-limit
 returns-clause-limit c =
-    born_count-limit (table_of c.args.plan.now.schema c.args.table).births c.births-births.result c.args.t (last_unit c.args.plan.now.schema) (2 ^ 40)
+    born_count-limit (table_of c.args.plan.now c.args.table).births c.births-births.result c.args.t (last_unit c.args.plan.now) (2 ^ 40)
     c.births-births.ensures c.requires.unit c.table-limits.ensures.limits.row_limit
 
 pub overflow_mul-result : goal.overflow_mul-result
 overflow_mul-result c =
-    let all = born_count-limit (table_of c.args.plan.now.schema c.args.table).births c.births-births.result c.args.t (last_unit c.args.plan.now.schema) (2 ^ 40)
+    let all = born_count-limit (table_of c.args.plan.now c.args.table).births c.births-births.result c.args.t (last_unit c.args.plan.now) (2 ^ 40)
     c.births-births.ensures c.requires.unit c.table-limits.ensures.limits.row_limit in
     omega (arith, all)
 
 pub overflow_add-result : goal.overflow_add-result
 overflow_add-result c =
-    let all = born_count-limit (table_of c.args.plan.now.schema c.args.table).births c.births-births.result c.args.t (last_unit c.args.plan.now.schema) (2 ^ 40)
+    let all = born_count-limit (table_of c.args.plan.now c.args.table).births c.births-births.result c.args.t (last_unit c.args.plan.now) (2 ^ 40)
     c.births-births.ensures c.requires.unit c.table-limits.ensures.limits.row_limit in
     omega (arith, all)
 

@@ -7,20 +7,20 @@ use Rattle.life_intervals.proofs.births.cohort.Goals as goal
 
 pub overflow_mul-result : goal.overflow_mul-result
 overflow_mul-result c =
-    let before = born_count-limit (table_of c.args.plan.now.schema c.args.table).births c.births-births.result (c.args.b - 1) (last_unit c.args.plan.now.schema) (2 ^ 40)
+    let before = born_count-limit (table_of c.args.plan.now c.args.table).births c.births-births.result (c.args.b - 1) (last_unit c.args.plan.now) (2 ^ 40)
     c.births-births.ensures (omega (arith, c.requires.unit)) c.table-limits.ensures.limits.row_limit in
     omega (arith, before)
 
 pub overflow_add-result : goal.overflow_add-result
 overflow_add-result c =
-    let before = born_count-limit (table_of c.args.plan.now.schema c.args.table).births c.births-births.result (c.args.b - 1) (last_unit c.args.plan.now.schema) (2 ^ 40)
+    let before = born_count-limit (table_of c.args.plan.now c.args.table).births c.births-births.result (c.args.b - 1) (last_unit c.args.plan.now) (2 ^ 40)
     c.births-births.ensures (omega (arith, c.requires.unit)) c.table-limits.ensures.limits.row_limit in
     omega (arith, before)
 
 pub returns-then-b-eq0 : goal.returns-then-b-eq0
 returns-then-b-eq0 c =
-    let births : Births = (table_of c.args.plan.now.schema c.args.table).births in
-    let all = born_count-limit births c.births-births.result 0 (last_unit c.args.plan.now.schema) (2 ^ 40)
+    let births : Births = (table_of c.args.plan.now c.args.table).births in
+    let all = born_count-limit births c.births-births.result 0 (last_unit c.args.plan.now) (2 ^ 40)
     c.births-births.ensures (omega arith) c.table-limits.ensures.limits.row_limit in
     record {
       first = sym (ap (first_ordinal births) c.if-b-eq0.true);
@@ -30,12 +30,12 @@ returns-then-b-eq0 c =
 
 pub returns-else-b-eq0 : goal.returns-else-b-eq0
 returns-else-b-eq0 c =
-    let births : Births = (table_of c.args.plan.now.schema c.args.table).births in
+    let births : Births = (table_of c.args.plan.now c.args.table).births in
     let known : Births = c.births-births.result in
     let before : c.args.b ≡ (c.args.b - 1) + 1 = omega (arith, c.if-b-eq0.false) in
     let first : known.rows + known.insert * (c.args.b - 1) ≡ first_ordinal births c.args.b =
     born_count-sum known (c.args.b - 1) ∙ ap (λ (b : Births). born_count b (c.args.b - 1)) c.births-births.ensures ∙ ap (first_ordinal births) (sym before) in
     let size : known.insert ≡ cohort_size births c.args.b =
     ap (λ (b : Births). b.insert) c.births-births.ensures ∙ sym (ap (cohort_size births) before ∙ cohort_size-add_one births (c.args.b - 1)) in
-    let within = cohort-within births c.args.b (last_unit c.args.plan.now.schema) c.requires.unit in
+    let within = cohort-within births c.args.b (last_unit c.args.plan.now) c.requires.unit in
     record { first = first; size = size; limit = omega (arith, first, size, within, c.table-limits.ensures.limits.row_limit) }

@@ -8,6 +8,6 @@ use Rattle.life_intervals.proofs.keys.key.Goals as goal
 pub returns-clause-key : goal.returns-clause-key
 returns-clause-key g c =
     c.key.ensures.key
-    ∙ ap (λ (cohort : CohortOf). key_in_cohort (generator_of cohort.plan.schema) cohort.table cohort.unit (c.args.j - c.cohort.result.first)) c.new.ensures
-    ∙ key_of-found (generator_of c.args.plan.now.schema) c.args.table (last_unit c.args.plan.now.schema) c.args.j c.birth-unit.result c.cohort.result.first
+    ∙ ap (λ (cohort : CohortOf). key_in_cohort (generator_of cohort.plan) cohort.table cohort.unit (c.args.j - c.cohort.result.first)) c.new.ensures
+    ∙ key_of-found (generator_of c.args.plan.now) c.args.table (last_unit c.args.plan.now) c.args.j c.birth-unit.result c.cohort.result.first
     c.birth-unit.ensures.unit c.cohort.ensures.first

@@ -11,14 +11,14 @@ use Rattle.row_lines.proofs.rows.put_line.Goals as goal
 
 pub birth-born-requires-clause-row : goal.birth-born-requires-clause-row
 birth-born-requires-clause-row g c =
-    omega (arith, c.requires.born, born_count-le (table_of c.args.plan.now.schema c.args.table).births c.args.t (last_unit c.args.plan.now.schema) c.requires.unit)
+    omega (arith, c.requires.born, born_count-le (table_of c.args.plan.now c.args.table).births c.args.t (last_unit c.args.plan.now) c.requires.unit)
 
 pub new-requires-clause-born : goal.new-requires-clause-born
 new-requires-clause-born g c =
     omega (
       arith,
       c.birth-born.ensures.unit,
-      birth-within (table_of c.args.plan.now.schema c.args.table).births (last_unit c.args.plan.now.schema) c.args.t c.args.j c.requires.unit c.requires.born,
+      birth-within (table_of c.args.plan.now c.args.table).births (last_unit c.args.plan.now) c.args.t c.args.j c.requires.unit c.requires.born,
     )
 
 -- an ordinal lies behind the first of its cohort by its index
@@ -27,16 +27,16 @@ ordinal_is start first ordinal same begun = omega (arith, same, begun)
 
 pub put_line-requires-clause-alive : goal.put_line-requires-clause-alive
 put_line-requires-clause-alive g c =
-    ap (λ (lines : LinesOf). is_live (generator_of lines.plan.schema) lines.table lines.unit (ordinal_of lines (c.args.j - c.cohort.result.first))) c.new.ensures
-    ∙ ap (is_live (generator_of c.args.plan.now.schema) c.args.table c.args.t) (ordinal_is _ _ _ c.cohort.ensures.first c.birth-born.ensures.lies.begun)
+    ap (λ (lines : LinesOf). is_live (generator_of lines.plan) lines.table lines.unit (ordinal_of lines (c.args.j - c.cohort.result.first))) c.new.ensures
+    ∙ ap (is_live (generator_of c.args.plan.now) c.args.table c.args.t) (ordinal_is _ _ _ c.cohort.ensures.first c.birth-born.ensures.lies.begun)
     ∙ c.requires.alive
 
 -- the line of its index in its cohort is that of the ordinal
 line_is : (lines : LinesOf) (schema_lines : LinesOf) (index ordinal : ℕ) → lines ≡ schema_lines → ordinal_of schema_lines index ≡ ordinal →
-    line_in_cohort lines index ≡ line_of (generator_of schema_lines.plan.schema) schema_lines.unit schema_lines.table ordinal
+    line_in_cohort lines index ≡ line_of (generator_of schema_lines.plan) schema_lines.unit schema_lines.table ordinal
 line_is lines schema_lines index ordinal same at =
     ap (λ (of : LinesOf). line_in_cohort of index) same
-    ∙ ap (line_of (generator_of schema_lines.plan.schema) schema_lines.unit schema_lines.table) at
+    ∙ ap (line_of (generator_of schema_lines.plan) schema_lines.unit schema_lines.table) at
 
 pub returns-clause-line : goal.returns-clause-line
 returns-clause-line g c =
@@ -45,6 +45,6 @@ returns-clause-line g c =
 
 pub returns-clause-size : goal.returns-clause-size
 returns-clause-size g c =
-    subst (λ (line : List ℕ). length line ≤ max_line (layout_of c.args.plan.now.schema) c.args.table)
+    subst (λ (line : List ℕ). length line ≤ max_line (layout_of c.args.plan.now) c.args.table)
     (line_is c.new.result _ (c.args.j - c.cohort.result.first) c.args.j c.new.ensures (ordinal_is _ _ _ c.cohort.ensures.first c.birth-born.ensures.lies.begun))
-    (subst (λ (lines : LinesOf). length (line_in_cohort c.new.result (c.args.j - c.cohort.result.first)) ≤ max_line (layout_of lines.plan.schema) lines.table) c.new.ensures c.put_line.ensures.size)
+    (subst (λ (lines : LinesOf). length (line_in_cohort c.new.result (c.args.j - c.cohort.result.first)) ≤ max_line (layout_of lines.plan) lines.table) c.new.ensures c.put_line.ensures.size)

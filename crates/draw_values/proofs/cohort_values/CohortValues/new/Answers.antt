@@ -8,7 +8,7 @@ overflow_cast-column c =
     omega (
       arith,
       ap length c.columns-columns.ensures.columns,
-      length-ready_columns (layout_of c.args.plan.now.schema) c.args.table,
+      length-ready_columns (layout_of c.args.plan.now) c.args.table,
       c.columns-columns.ensures.limits.column_limit,
       c.loop-column-test.true,
     )

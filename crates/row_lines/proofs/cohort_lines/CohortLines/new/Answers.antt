@@ -1,7 +1,7 @@
 use Rattle.std.proofs.Common.{ap, ◌∙◌}
-use Rattle.schema_model.specs.declared.table.Schema.{Schema}
 use Rattle.schema_check.specs.Delimiters.{delimiter_byte}
 use Rattle.row_lines.proofs.cohort_lines.CohortLines.new.Goals as goal
+use Rattle.schema_check.specs.Dictionaries.{Project}
 
 pub invariant_of-result : goal.invariant_of-result
 invariant_of-result c = record {
@@ -11,7 +11,7 @@ invariant_of-result c = record {
   served = c.columns.ensures.served;
   limits = c.columns.ensures.limits;
   first_is = c.cohort.ensures.first;
-  delimiter = c.delimiter_byte.ensures ∙ ap (λ (schema : Schema). delimiter_byte schema.delimiter) c.schema.ensures.value;
+  delimiter = c.delimiter_byte.ensures ∙ ap (λ (project : Project). delimiter_byte schema.delimiter) c.schema.ensures.value;
   born = c.requires.born;
   unit = c.requires.unit;
   built = c.schema.ensures.built;

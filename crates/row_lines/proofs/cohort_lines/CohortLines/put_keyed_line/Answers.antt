@@ -51,7 +51,7 @@ loop-column-preserved c =
     let n : ℕ = c.loop-column.column in
     let below : n < length columns = omega (arith, c.loop-column-test.true, length-columns lines _ _ _ _ _ known) in
     let own : List ℕ = text_in_cohort lines c.args.index n in
-    let delimiter : ℕ = (layout_of lines.plan.schema).delimiter in
+    let delimiter : ℕ = (layout_of lines.plan).delimiter in
     record {
       text = ap (λ (page : Page). page.text) c.put_field.ensures.text
           ∙ ap (λ (page : Page). page.text ++ own) c.put_delimiter.ensures
@@ -96,7 +96,7 @@ returns-clause-line c =
     let n : ℕ = c.loop-column.column in
     let all : n ≡ length (layout_for lines).columns =
     omega (arith, length-columns lines _ _ _ _ _ known, c.loop-column-test.false, c.loop-column.auto.column-end) in
-    let joined : List ℕ = join_with_byte (layout_of lines.plan.schema).delimiter (map (text_in_cohort lines c.args.index) (range_with_len 0 n)) in
+    let joined : List ℕ = join_with_byte (layout_of lines.plan).delimiter (map (text_in_cohort lines c.args.index) (range_with_len 0 n)) in
     c.put_piece.ensures
     ∙ ap (λ (end : List ℕ). record { text = c.loop-column.buf.text ++ end; room = c.loop-column.buf.room }) c.of_byte.ensures
     ∙ ap (λ (room : ℕ). record { text = c.loop-column.buf.text ++ codes "\n"; room = room }) c.loop-column.invariant.room
@@ -112,7 +112,7 @@ returns-clause-size c =
     let n : ℕ = c.loop-column.column in
     let all : n ≡ length (layout_for lines).columns =
     omega (arith, length-columns lines _ _ _ _ _ known, c.loop-column-test.false, c.loop-column.auto.column-end) in
-    let joined : List ℕ = join_with_byte (layout_of lines.plan.schema).delimiter (map (text_in_cohort lines c.args.index) (range_with_len 0 n)) in
+    let joined : List ℕ = join_with_byte (layout_of lines.plan).delimiter (map (text_in_cohort lines c.args.index) (range_with_len 0 n)) in
     omega (
       arith,
       all,

@@ -7,7 +7,7 @@ use Rattle.row_lines.proofs.cohort_lines.CohortLines.put_keyed_line.Given as goa
 
 abbrev pub invariant-loop-column : goal.invariant-loop-column
 invariant-loop-column l = record {
-  text : l.buf.text ≡ l.fn.buf.text ++ join_with_byte (layout_of l.self.plan.schema).delimiter (map (text_in_cohort l.self l.index) (range_with_len 0 l.column));
+  text : l.buf.text ≡ l.fn.buf.text ++ join_with_byte (layout_of l.self.plan).delimiter (map (text_in_cohort l.self l.index) (range_with_len 0 l.column));
   room : l.buf.room ≡ l.fn.buf.room;
   short : length l.buf.text + min l.column 1 ≤ length l.fn.buf.text + bytes_before l.self l.column;
 }

@@ -19,22 +19,22 @@ overflow_add-self-inside c =
       arith,
       known.first_is,
       known.limits.row_limit,
-      cohort-within (layout_for lines).births lines.born (last_unit lines.plan.schema) (omega (arith, known.born, known.unit)),
+      cohort-within (layout_for lines).births lines.born (last_unit lines.plan) (omega (arith, known.born, known.unit)),
       c.requires.row,
     )
 
 -- what is put is the field of the line
 text_is_own : (c : goal.In-Text) →
     text_in_cohort c.args.self.now c.args.index c.args.column
-    ≡ written (layout_of c.self.inside.values.plan.schema).delimiter (value_for c.self.inside.values c.args.column (c.self.inside.first + c.args.index))
+    ≡ written (layout_of c.self.inside.values.plan).delimiter (value_for c.self.inside.values c.args.column (c.self.inside.first + c.args.index))
 text_is_own c =
     let lines : LinesOf = c.args.self.now in
     let known = AreLinesOf-view _ lines c.self.inside.keys c.self.inside.values c.self.inside.columns.now c.self.inside.first c.self.inside.delimiter c.self.view_is c.self.invariant in
     let value = value_for c.self.inside.values c.args.column (c.self.inside.first + c.args.index) in
     text-own lines c.self.inside.values c.args.column c.args.index (c.self.inside.first + c.args.index) known.values_are
     (ap (λ (first : ℕ). first + c.args.index) known.first_is) c.requires.own known.born c.requires.row known.built
-    ∙ sym (ap (λ (of : ValuesOf). written (layout_of of.plan.schema).delimiter value) known.values_are
-    ∙ written-text (layout_of lines.plan.schema).delimiter value (sym c.in-Text.is ∙ c.put.ensures.put))
+    ∙ sym (ap (λ (of : ValuesOf). written (layout_of of.plan).delimiter value) known.values_are
+    ∙ written-text (layout_of lines.plan).delimiter value (sym c.in-Text.is ∙ c.put.ensures.put))
 
 pub returns-in-Text-clause-text : goal.returns-in-Text-clause-text
 returns-in-Text-clause-text c =
@@ -48,8 +48,8 @@ returns-in-Text-clause-size c =
     let ordinal : ℕ = c.self.inside.first + c.args.index in
     let value = value_for c.self.inside.values c.args.column ordinal in
     let is = text-own lines c.self.inside.values c.args.column c.args.index ordinal known.values_are (ap (λ (first : ℕ). first + c.args.index) known.first_is) c.requires.own known.born c.requires.row known.built in
-    let size : length (field_text (layout_of lines.plan.schema).delimiter value) ≤ size_for (record { plan = lines.plan; table = lines.table; unit = lines.born }) c.args.column =
-    subst (λ (of : ValuesOf). length (field_text (layout_of of.plan.schema).delimiter value) ≤ size_for of c.args.column) known.values_are c.put.ensures.size in
+    let size : length (field_text (layout_of lines.plan).delimiter value) ≤ size_for (record { plan = lines.plan; table = lines.table; unit = lines.born }) c.args.column =
+    subst (λ (of : ValuesOf). length (field_text (layout_of of.plan).delimiter value) ≤ size_for of c.args.column) known.values_are c.put.ensures.size in
     subst (λ (text : List ℕ). length text ≤ size_for (record { plan = lines.plan; table = lines.table; unit = lines.born }) c.args.column) (sym is) size
 
 -- a null field is written as such
@@ -59,7 +59,7 @@ text_is_null c =
     let known = AreLinesOf-view _ lines c.self.inside.keys c.self.inside.values c.self.inside.columns.now c.self.inside.first c.self.inside.delimiter c.self.view_is c.self.invariant in
     let ordinal : ℕ = c.self.inside.first + c.args.index in
     text-own lines c.self.inside.values c.args.column c.args.index ordinal known.values_are (ap (λ (first : ℕ). first + c.args.index) known.first_is) c.requires.own known.born c.requires.row known.built
-    ∙ field_text-null (layout_of lines.plan.schema).delimiter (value_for c.self.inside.values c.args.column ordinal) (sym c.in-Null.is ∙ c.put.ensures.put)
+    ∙ field_text-null (layout_of lines.plan).delimiter (value_for c.self.inside.values c.args.column ordinal) (sym c.in-Null.is ∙ c.put.ensures.put)
 
 pub returns-in-Null-clause-text : goal.returns-in-Null-clause-text
 returns-in-Null-clause-text c =
@@ -69,7 +69,7 @@ returns-in-Null-clause-text c =
     c.put_null.ensures
     ∙ ap (λ (page : Page). record { text = page.text ++ codes "\\N"; room = page.room }) c.put.ensures.text
     ∙ ap (λ (text : List ℕ). record { text = (before ++ text) ++ codes "\\N"; room = room })
-    (written-null (layout_of c.self.inside.values.plan.schema).delimiter value (sym c.in-Null.is ∙ c.put.ensures.put))
+    (written-null (layout_of c.self.inside.values.plan).delimiter value (sym c.in-Null.is ∙ c.put.ensures.put))
     ∙ ap (λ (text : List ℕ). record { text = text ++ codes "\\N"; room = room }) (append-nil before)
     ∙ ap (λ (text : List ℕ). record { text = before ++ text; room = room }) (sym (text_is_null c))
 
@@ -80,6 +80,6 @@ returns-in-Null-clause-size c =
     let ordinal : ℕ = c.self.inside.first + c.args.index in
     let value = value_for c.self.inside.values c.args.column ordinal in
     let is = text-own lines c.self.inside.values c.args.column c.args.index ordinal known.values_are (ap (λ (first : ℕ). first + c.args.index) known.first_is) c.requires.own known.born c.requires.row known.built in
-    let size : length (field_text (layout_of lines.plan.schema).delimiter value) ≤ size_for (record { plan = lines.plan; table = lines.table; unit = lines.born }) c.args.column =
-    subst (λ (of : ValuesOf). length (field_text (layout_of of.plan.schema).delimiter value) ≤ size_for of c.args.column) known.values_are c.put.ensures.size in
+    let size : length (field_text (layout_of lines.plan).delimiter value) ≤ size_for (record { plan = lines.plan; table = lines.table; unit = lines.born }) c.args.column =
+    subst (λ (of : ValuesOf). length (field_text (layout_of of.plan).delimiter value) ≤ size_for of c.args.column) known.values_are c.put.ensures.size in
     subst (λ (text : List ℕ). length text ≤ size_for (record { plan = lines.plan; table = lines.table; unit = lines.born }) c.args.column) (sym is) size
