@@ -5,7 +5,7 @@ use Rattle.std.proofs.lemmas.Bool.{cases_lt, lt-ltb, le-ltb}
 use Rattle.std.proofs.lemmas.Nat.{div-add-mod', div_below, mod_below, mul-le}
 use Rattle.schema_check.specs.declared.layout.Births.{Births}
 use Rattle.schema_check.specs.Cohorts.{born_count, cohort_size, first_ordinal}
-use Rattle.life_intervals.specs.Intervals.{LiesIn, birth}
+use Rattle.life_intervals.specs.Intervals.{LiesIn, birth, index_at}
 
 pub first_ordinal-suc : (births : Births) (unit : ℕ) → first_ordinal births (suc unit) ≡ births.rows + unit * births.insert
 first_ordinal-suc births zero = omega arith
@@ -133,3 +133,48 @@ birth-by_division births last ordinal born =
           birth-only births last _ ordinal lies.0 lies.1
           ∙ sym (ap (λ (test : Bool). if test then 0 else (ordinal - births.rows) / births.insert + 1) (le-ltb ordinal births.rows late))
     ]
+
+-- the cohort of a unit ends where that of a later one begins, or before
+pub cohort-before : (births : Births) (unit later : ℕ) → unit < later → first_ordinal births unit + cohort_size births unit ≤ first_ordinal births later
+cohort-before births unit later before =
+    let next : (later - 1) + 1 ≡ later = omega arith in
+    subst (λ (u : ℕ). first_ordinal births unit + cohort_size births unit ≤ first_ordinal births u) next (cohort-within births unit (later - 1) (omega arith))
+
+-- the birth of an ordinal is the same, whatever the unit by which it is born
+pub birth-later : (births : Births) (unit last ordinal : ℕ) → ordinal < born_count births unit → unit ≤ last → birth births last ordinal ≡ birth births unit ordinal
+birth-later births unit last ordinal born within =
+    let found = LiesIn-birth births unit ordinal born in
+    birth-only births last (birth births unit ordinal) ordinal (omega (arith, found.0)) found.1
+
+-- an ordinal that isn't born before a unit has its birth from it on
+pub birth-from : (births : Births) (start last ordinal : ℕ) → ordinal < born_count births last → first_ordinal births start ≤ ordinal → start ≤ birth births last ordinal
+birth-from births start last ordinal born from =
+    let found = LiesIn-birth births last ordinal born in
+    elim (cases_lt (birth births last ordinal) start) [
+      | inl before ↦ absurd (omega (arith, found.1.not_ended, cohort-before births (birth births last ordinal) start before, from))
+      | inr after ↦ after
+    ]
+
+-- one that is born before a unit has its birth before it
+pub birth-before : (births : Births) (unit last ordinal : ℕ) → ordinal < born_count births last → ordinal < first_ordinal births unit → birth births last ordinal < unit
+birth-before births unit last ordinal born before =
+    let found = LiesIn-birth births last ordinal born in
+    elim (cases_lt (birth births last ordinal) unit) [
+      | inl is ↦ is
+      | inr after ↦ elim (cases_lt unit (birth births last ordinal)) [
+        | inl late ↦ absurd (omega (arith, found.1.begun, cohort-before births unit (birth births last ordinal) late, before))
+        | inr at ↦
+            let same : birth births last ordinal ≡ unit = omega (arith, after, at) in
+            let begun : first_ordinal births unit ≤ ordinal = subst (λ (u : ℕ). first_ordinal births u ≤ ordinal) same found.1.begun in
+            absurd (omega (arith, begun, before))
+      ]
+    ]
+
+-- an ordinal has an index in the cohort of its birth
+pub birth-le : (births : Births) (last ordinal : ℕ) → ordinal < born_count births last → birth births last ordinal ≤ last
+birth-le births last ordinal born = (LiesIn-birth births last ordinal born).0
+
+pub index_at-below : (births : Births) (last ordinal : ℕ) → ordinal < born_count births last → index_at births last ordinal < cohort_size births (birth births last ordinal)
+index_at-below births last ordinal born =
+    let lies = (LiesIn-birth births last ordinal born).1 in
+    omega (arith, lies.begun, lies.not_ended)

@@ -1,5 +1,17 @@
 pub mod Ranges
+pub mod FilterMaps
+pub mod InTurnLemmas
 pub mod CohortLemmas
+pub mod DeathLemmas
+pub mod ChangeLemmas
+pub mod RowLemmas
+pub mod ParentLemmas
+pub mod SureLifeLemmas
+pub mod KnownLemmas
 pub mod SimulationLemmas
+pub mod StreamLemmas
+pub mod SoundLemmas
+pub mod StillLemmas
+pub mod LifeLemmas
 pub mod KeyLemmas
 pub mod KeyOrderLemmas

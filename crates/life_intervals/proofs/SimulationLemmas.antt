@@ -1,114 +1,36 @@
--- The simulation, by induction on units.
-use Rattle.std.proofs.Common.{◌≡◌, ℕ, zero, suc, ◌+◌, ◌<◌, ◌≤◌, List, [], ◌∷◌, ◌++◌, map, flat_map, zip, get_or, refl, ap, arith, add-one, sym, ◌∙◌}
-use Rattle.std.proofs.Math.ListN.{get_or-map}
-use Rattle.std.proofs.lemmas.List.{append-nil, map-append}
-use Rattle.std.specs.List.{range_with_len}
+-- The simulation is its closed form, by induction on units.
+use Rattle.std.proofs.Common.{◌≡◌, ℕ, zero, suc, ◌+◌, ◌<◌, ◌≤◌, List, [], ◌∷◌, ◌++◌, filter_map, flat_map, length, map, option_and_then, option_map, take, zip, get_or, Option, inl, inr, add-one, ap, arith, refl, sym, subst, ◌∙◌}
+use Rattle.std.specs.Prelude.{IfSome}
+use Rattle.std.specs.List.{AllByRecursion, range_with_len}
+use Rattle.std.proofs.lemmas.Bool.{cases_lt}
+use Rattle.std.proofs.lemmas.List.{append-nil, get_or-map, get_or_past, length-map}
+use Rattle.std.proofs.lemmas.List.Elements.{filter_map-append}
+use Rattle.std.proofs.lemmas.List.FromFn.{fill_by_all}
 use Rattle.schema_check.specs.Cohorts.{born_count, cohort_size, first_ordinal}
 use Rattle.schema_check.specs.InTurn.{in_turn}
 use Rattle.schema_check.specs.Layout.{TableLayout, no_table, table_at}
-use Rattle.life_intervals.specs.Generator.{Generator}
-use Rattle.life_intervals.specs.Intervals.{birth, is_live, living, row_at, rows_of, interval_state}
-use Rattle.life_intervals.specs.Rows.{Row, new_row, cohort}
-use Rattle.life_intervals.specs.Simulation.{State, with_cohort, with_insertions, step, simulation, rows_at}
-use Rattle.life_intervals.proofs.CohortLemmas.{birth-first_ordinal, birth-early, born_count-by_units, born_count-next}
-use Rattle.life_intervals.proofs.Ranges.{filter-range_with_len_all, flat_map-range_with_len_more, map-range_with_len_same, map-same, range_with_len-add}
+use Rattle.schema_check.specs.Lineage.{sure_life}
+use Rattle.life_intervals.specs.Generator.{Generator, Order}
+use Rattle.life_intervals.specs.Intervals.{Known, birth, index_at, interval_state, is_live, known_by, known_of, known_tables, nothing_known, row_at, rows_of}
+use Rattle.life_intervals.specs.References.{references_of}
+use Rattle.life_intervals.specs.Rows.{Row, State, cohort, new_row}
+use Rattle.life_intervals.specs.Simulation.{kept, rows_at, simulation, step, waited, with_changes, with_cohort, with_deletions, with_insertions, with_updates, without_dead}
+use Rattle.life_intervals.specs.Sound.{AreSound, IsLife}
+use Rattle.life_intervals.proofs.CohortLemmas.{birth-le, born_count-by_units, born_count-next, index_at-below}
+use Rattle.life_intervals.proofs.FilterMaps.{filter_map-filter_map, filter_map-range_same, map-filter, map-filter_map, map-filter_map_range}
+use Rattle.life_intervals.proofs.InTurnLemmas.{in_turn-zip_known}
+use Rattle.life_intervals.proofs.KnownLemmas.{known_at-known_of, length-known_tables, refers-of}
+use Rattle.life_intervals.proofs.ParentLemmas.{Refers, hold_parents-aged, parent_choice-all, parents-alive_now}
+use Rattle.life_intervals.proofs.Ranges.{flat_map-range_with_len_more, range_with_len-add}
+use Rattle.life_intervals.proofs.RowLemmas.{aged_row, aged_rows, kept-live_row, live_row, live_rows, new_row-live_row, older_rows, waited-aged_row}
 
--- what comes of items that are paired with what a map makes of them, where it doesn't depend on what came before
-pub in_turn-zip : {K X Y : Type 0} (f : List Y → K × X → Y) (g : K → X) (h : K → Y) → ((given : List Y) (k : K) → f given (k, g k) ≡ h k) → (given : List Y) (ks : List K) → in_turn f given (zip ks (map g ks)) ≡ map h ks
-in_turn-zip f g h same given [] = refl
-in_turn-zip f g h same given (k ∷ ks) =
-    let here : f given (k, g k) ≡ h k = same given k in
-    let rest : in_turn f (given ++ f given (k, g k) ∷ []) (zip ks (map g ks)) ≡ map h ks =
-    in_turn-zip f g h same (given ++ f given (k, g k) ∷ []) ks in
-    cc
-
--- the insertions of a unit put its cohorts behind the rows of each table
-pub with_insertions-map : (generator : Generator) (unit : ℕ) (rows : TableLayout → List Row) → with_insertions generator unit (map rows generator.tables) ≡ map (λ table. rows table ++ cohort table unit) generator.tables
-with_insertions-map generator unit rows =
-    in_turn-zip (with_cohort unit) rows (λ table. rows table ++ cohort table unit) (λ given table. refl) [] generator.tables
-
--- no row dies
-pub living-all : (table : TableLayout) (unit : ℕ) → living table unit ≡ range_with_len 0 (born_count table.births unit)
-living-all table unit = filter-range_with_len_all (is_live table unit) 0 (born_count table.births unit) (λ k below. refl)
-
-pub rows_of-all : (table : TableLayout) (unit : ℕ) → rows_of table unit ≡ map (row_at table unit) (range_with_len 0 (born_count table.births unit))
-rows_of-all table unit = ap (map (row_at table unit)) (living-all table unit)
-
--- the row of an index in a cohort
-pub row_at-first_ordinal : (table : TableLayout) (last unit index : ℕ) → unit ≤ last → index < cohort_size table.births unit →
-    row_at table last (first_ordinal table.births unit + index) ≡ new_row table unit index
-row_at-first_ordinal table last unit index within below =
-    let born : birth table.births last (first_ordinal table.births unit + index) ≡ unit = birth-first_ordinal table.births last unit index within below in
-    rw born refl
-
--- the rows of a cohort's ordinals are its rows as they are born
-pub row_at-cohort : (table : TableLayout) (last unit : ℕ) → unit ≤ last → map (row_at table last) (range_with_len (first_ordinal table.births unit) (cohort_size table.births unit)) ≡ cohort table unit
-row_at-cohort table last unit within =
-    map-range_with_len_same (row_at table last) (new_row table unit) (first_ordinal table.births unit) 0 (cohort_size table.births unit)
-    (λ index below. row_at-first_ordinal table last unit index within below ∙ ap (new_row table unit) (omega arith))
+-- ---- the ordinals of cohorts
 
 -- the ordinals that are born by a unit are those of its cohort, behind those born before it
 pub range-cohort : (table : TableLayout) (unit : ℕ) → range_with_len 0 (born_count table.births unit) ≡ range_with_len 0 (first_ordinal table.births unit) ++ range_with_len (first_ordinal table.births unit) (cohort_size table.births unit)
 range-cohort table unit =
     ap (range_with_len 0) (born_count-next table.births unit) ∙ range_with_len-add 0 (first_ordinal table.births unit) (cohort_size table.births unit)
     ∙ ap (λ (a : ℕ). range_with_len 0 (first_ordinal table.births unit) ++ range_with_len a (cohort_size table.births unit)) (omega arith)
-
-pub rows_of-zero : (table : TableLayout) → rows_of table 0 ≡ cohort table 0
-rows_of-zero table =
-    let count : born_count table.births 0 ≡ cohort_size table.births 0 = omega (arith, born_count-next table.births 0) in
-    rows_of-all table 0 ∙ ap (λ (n : ℕ). map (row_at table 0) (range_with_len 0 n)) count ∙ row_at-cohort table 0 0 (omega arith)
-
-pub row_at-earlier : (table : TableLayout) (unit k : ℕ) → k < born_count table.births unit → row_at table (suc unit) k ≡ row_at table unit k
-row_at-earlier table unit k below =
-    let born : birth table.births (suc unit) k ≡ birth table.births unit k = birth-early table.births unit k below in
-    rw born refl
-
-pub rows_of-suc : (table : TableLayout) (unit : ℕ) → rows_of table (suc unit) ≡ rows_of table unit ++ cohort table (suc unit)
-rows_of-suc table unit =
-    let before : first_ordinal table.births (suc unit) ≡ born_count table.births unit = sym (ap (first_ordinal table.births) (add-one unit)) in
-    rows_of-all table (suc unit)
-    ∙ ap (map (row_at table (suc unit))) (range-cohort table (suc unit))
-    ∙ map-append (row_at table (suc unit)) (range_with_len 0 (first_ordinal table.births (suc unit))) (range_with_len (first_ordinal table.births (suc unit)) (cohort_size table.births (suc unit)))
-    ∙ ap (λ (rows : List Row). map (row_at table (suc unit)) (range_with_len 0 (first_ordinal table.births (suc unit))) ++ rows) (row_at-cohort table (suc unit) (suc unit) (omega arith))
-    ∙ ap (λ (n : ℕ). map (row_at table (suc unit)) (range_with_len 0 n) ++ cohort table (suc unit)) before
-    ∙ ap (λ (rows : List Row). rows ++ cohort table (suc unit))
-    (map-range_with_len_same (row_at table (suc unit)) (row_at table unit) 0 0 (born_count table.births unit) (λ k below. row_at-earlier table unit (0 + k) (omega (arith, below))) ∙ sym (rows_of-all table unit))
-
-pub simulation-interval_state : (generator : Generator) (unit : ℕ) → simulation generator unit ≡ interval_state generator unit
-unfolding simulation
-simulation-interval_state generator zero =
-    with_insertions-map generator 0 (λ table. [])
-    ∙ map-same (λ table. cohort table 0) (λ table. rows_of table 0) (λ table. sym (rows_of-zero table)) generator.tables
-simulation-interval_state generator (suc unit) =
-    ap (step generator (suc unit)) (simulation-interval_state generator unit)
-    ∙ with_insertions-map generator (suc unit) (λ table. rows_of table unit)
-    ∙ map-same (λ table. rows_of table unit ++ cohort table (suc unit)) (λ table. rows_of table (suc unit))
-    (λ table. sym (rows_of-suc table unit)) generator.tables
-
-pub rows_of-no_table : (unit : ℕ) → rows_of no_table unit ≡ []
-rows_of-no_table unit =
-    let none : born_count no_table.births unit ≡ 0 = omega (arith, born_count-by_units no_table.births unit) in
-    rows_of-all no_table unit ∙ ap (λ (n : ℕ). map (row_at no_table unit) (range_with_len 0 n)) none
-
--- the rows of the table at a place are those of the living
-pub rows_at-rows_of : (generator : Generator) (place unit : ℕ) → rows_at generator place unit ≡ rows_of (table_at generator.tables place) unit
-unfolding rows_at
-rows_at-rows_of generator place unit =
-    ap (λ (state : State). get_or state place []) (simulation-interval_state generator unit)
-    ∙ ap (get_or (interval_state generator unit) place) (sym (rows_of-no_table unit))
-    ∙ get_or-map (λ (table : TableLayout). rows_of table unit) generator.tables place no_table
-
--- the rows of a table are its cohorts, one after the other
-pub rows_of-cohorts : (table : TableLayout) (unit : ℕ) → rows_of table unit ≡ flat_map (cohort table) (range_with_len 0 (unit + 1))
-rows_of-cohorts table zero = rows_of-zero table ∙ sym (append-nil (cohort table 0))
-rows_of-cohorts table (suc unit) =
-    rows_of-suc table unit
-    ∙ ap (λ (rows : List Row). rows ++ cohort table (suc unit)) (rows_of-cohorts table unit)
-    ∙ ap (λ (u : ℕ). flat_map (cohort table) (range_with_len 0 u) ++ cohort table (suc unit)) (add-one unit)
-    ∙ sym (flat_map-range_with_len_more (cohort table) (suc unit))
-
-pub rows_at-cohorts : (generator : Generator) (place unit : ℕ) → rows_at generator place unit ≡ flat_map (cohort (table_at generator.tables place)) (range_with_len 0 (unit + 1))
-rows_at-cohorts generator place unit = rows_at-rows_of generator place unit ∙ rows_of-cohorts (table_at generator.tables place) unit
 
 -- the ordinals of a unit's cohort
 abbrev pub ordinals_of : TableLayout → ℕ → List ℕ
@@ -126,5 +48,143 @@ range-cohorts table (suc unit) =
     ∙ ap (λ (u : ℕ). flat_map (ordinals_of table) (range_with_len 0 u) ++ ordinals_of table (suc unit)) (add-one unit)
     ∙ sym (flat_map-range_with_len_more (ordinals_of table) (suc unit))
 
-pub living-cohorts : (table : TableLayout) (unit : ℕ) → living table unit ≡ flat_map (ordinals_of table) (range_with_len 0 (unit + 1))
-living-cohorts table unit = living-all table unit ∙ range-cohorts table unit
+-- ---- the rows of one table through a unit
+
+-- the deletions of the unit after one
+pub without_dead-live : (units : ℕ) (order : Order) (earlier : List Known) (sure : ℕ → Option ℕ) (table : TableLayout) (unit : ℕ) → unit ≤ units →
+    AllByRecursion (Refers units earlier sure table.births) (references_of table) →
+    without_dead (map (λ known. aged_rows order known unit) earlier) (table, live_rows order (known_by order earlier table) unit) ≡ aged_rows order (known_by order earlier table) unit
+without_dead-live units order earlier sure table unit within refers =
+    let known : Known = known_by order earlier table in
+    let stepped : State = map (λ known. aged_rows order known unit) earlier in
+    filter_map-filter_map (kept stepped table) (live_row order known unit) (range_with_len 0 (born_count table.births unit))
+    ∙ filter_map-range_same (λ ordinal. option_and_then (kept stepped table) (live_row order known unit ordinal)) (aged_row order known unit) 0 (born_count table.births unit)
+    (λ ordinal low high.
+    let born : ordinal < born_count table.births unit = omega (arith, high) in
+    let early : birth table.births unit ordinal ≤ unit = birth-le table.births unit ordinal born in
+    kept-live_row order earlier table unit ordinal stepped
+    (hold_parents-aged units order earlier sure table.births (birth table.births unit ordinal) (index_at table.births unit ordinal) (omega (arith, early, within))
+    (index_at-below table.births unit ordinal born) unit early (references_of table) refers))
+
+-- its updates
+pub with_changes-aged : (order : Order) (known : Known) (unit : ℕ) (earlier : State) → IfSome known.table.update (λ period. 1 ≤ period) →
+    with_changes (suc unit) earlier (known.table, aged_rows order known unit) ≡ older_rows order known (suc unit)
+with_changes-aged order known unit earlier some =
+    map-filter_map (waited (suc unit) known.table) (aged_row order known unit) (range_with_len 0 (born_count known.table.births unit))
+    ∙ filter_map-range_same (λ ordinal. option_map (waited (suc unit) known.table) (aged_row order known unit ordinal)) (live_row order known (suc unit)) 0 (born_count known.table.births unit)
+    (λ ordinal low high. waited-aged_row order known unit ordinal some (omega (arith, high)))
+    ∙ ap (λ (u : ℕ). filter_map (live_row order known (suc unit)) (range_with_len 0 (first_ordinal known.table.births u))) (add-one unit)
+
+-- the rows that a unit inserts are those of their ordinals
+pub cohort-live : (units : ℕ) (order : Order) (earlier : List Known) (sure : ℕ → Option ℕ) (table : TableLayout) (unit : ℕ) → unit ≤ units → IfSome table.life IsLife →
+    AllByRecursion (Refers units earlier sure table.births) (references_of table) →
+    cohort order unit (map (λ known. live_rows order known unit) earlier) table ≡ filter_map (live_row order (known_by order earlier table) unit) (ordinals_of table unit)
+cohort-live units order earlier sure table unit within life refers =
+    let state : State = map (λ known. live_rows order known unit) earlier in
+    let known : Known = known_by order earlier table in
+    let first : ℕ = first_ordinal table.births unit in
+    let places : length state ≡ length earlier = length-map earlier (λ known. live_rows order known unit) in
+    map-filter_map_range (new_row order unit state table) (live_row order known unit) first 0 (cohort_size table.births unit)
+    (λ index low high.
+    let below : index < cohort_size table.births unit = omega (arith, high) in
+    new_row-live_row order earlier table unit index state places below life
+    (parent_choice-all units order earlier sure table.births unit index within below (length state) places (references_of table) refers)
+    (parents-alive_now units order earlier sure table.births unit index within below (references_of table) refers))
+    ∙ ap (λ (a : ℕ). filter_map (live_row order known unit) (range_with_len a (cohort_size table.births unit))) (omega arith)
+
+-- the insertions of a unit
+pub with_cohort-older : (units : ℕ) (order : Order) (earlier : List Known) (sure : ℕ → Option ℕ) (table : TableLayout) (unit : ℕ) → unit ≤ units → IfSome table.life IsLife →
+    AllByRecursion (Refers units earlier sure table.births) (references_of table) →
+    with_cohort order unit (map (λ known. live_rows order known unit) earlier) (table, older_rows order (known_by order earlier table) unit) ≡ live_rows order (known_by order earlier table) unit
+with_cohort-older units order earlier sure table unit within life refers =
+    let known : Known = known_by order earlier table in
+    ap (λ rows. older_rows order known unit ++ rows) (cohort-live units order earlier sure table unit within life refers)
+    ∙ sym (ap (filter_map (live_row order known unit)) (range-cohort table unit) ∙ filter_map-append (live_row order known unit) (range_with_len 0 (first_ordinal table.births unit)) (ordinals_of table unit))
+
+-- ---- all tables through a unit
+
+-- what tables become in turn, place by place
+in_turn-tables : (generator : Generator) (give : State → TableLayout × List Row → List Row) (before after : Known → List Row) →
+    ((place : ℕ) → place < length generator.tables →
+    give (map after (take place (known_tables generator))) (table_at generator.tables place, before (known_of generator place)) ≡ after (known_of generator place)) →
+    in_turn give [] (zip generator.tables (map before (known_tables generator))) ≡ map after (known_tables generator)
+in_turn-tables generator give before after each =
+    in_turn-zip_known give before after nothing_known no_table generator.tables (known_tables generator) (sym (length-known_tables generator))
+    (λ place below.
+    let same : known_of generator place ≡ get_or (known_tables generator) place nothing_known = sym (known_at-known_of generator place below) in
+    subst (λ (known : Known). give (map after (take place (known_tables generator))) (table_at generator.tables place, before known) ≡ after known) same (each place below))
+
+empty_tables-older : (order : Order) (tables : List TableLayout) (given : List Known) → map (λ (table : TableLayout). let none : List Row = [] in none) tables ≡ map (λ known. older_rows order known 0) (in_turn (known_by order) given tables)
+empty_tables-older order [] given = refl
+empty_tables-older order (table ∷ tables) given = ap (λ state. [] ∷ state) (empty_tables-older order tables (given ++ known_by order given table ∷ []))
+
+module _ (units : ℕ) (generator : Generator) (sound : AreSound units generator.tables) where
+  pub with_deletions-live : (unit : ℕ) → unit ≤ units →
+      with_deletions generator (map (λ known. live_rows generator.order known unit) (known_tables generator)) ≡ map (λ known. aged_rows generator.order known unit) (known_tables generator)
+  with_deletions-live unit within =
+      in_turn-tables generator without_dead (λ known. live_rows generator.order known unit) (λ known. aged_rows generator.order known unit)
+      (λ place below. without_dead-live units generator.order (take place (known_tables generator)) (sure_life generator.tables) (table_at generator.tables place) unit within (refers-of units generator sound place below))
+
+  with_updates-aged : (unit : ℕ) →
+      with_updates generator (suc unit) (map (λ known. aged_rows generator.order known unit) (known_tables generator)) ≡ map (λ known. older_rows generator.order known (suc unit)) (known_tables generator)
+  with_updates-aged unit =
+      in_turn-tables generator (with_changes (suc unit)) (λ known. aged_rows generator.order known unit) (λ known. older_rows generator.order known (suc unit))
+      (λ place below.
+      with_changes-aged generator.order (known_of generator place) unit (map (λ known. older_rows generator.order known (suc unit)) (take place (known_tables generator))) (sound place below).period)
+
+  with_insertions-older : (unit : ℕ) → unit ≤ units →
+      with_insertions generator unit (map (λ known. older_rows generator.order known unit) (known_tables generator)) ≡ map (λ known. live_rows generator.order known unit) (known_tables generator)
+  with_insertions-older unit within =
+      in_turn-tables generator (with_cohort generator.order unit) (λ known. older_rows generator.order known unit) (λ known. live_rows generator.order known unit)
+      (λ place below.
+      with_cohort-older units generator.order (take place (known_tables generator)) (sure_life generator.tables) (table_at generator.tables place) unit within (sound place below).life (refers-of units generator sound place below))
+
+  pub simulation-live : (unit : ℕ) → unit ≤ units → simulation generator unit ≡ map (λ known. live_rows generator.order known unit) (known_tables generator)
+  unfolding simulation
+  simulation-live zero within = ap (with_insertions generator 0) (empty_tables-older generator.order generator.tables []) ∙ with_insertions-older 0 within
+  simulation-live (suc unit) within =
+      ap (step generator (suc unit)) (simulation-live unit (omega (arith, within)))
+      ∙ ap (λ state. with_insertions generator (suc unit) (with_updates generator (suc unit) state)) (with_deletions-live unit (omega (arith, within)))
+      ∙ ap (with_insertions generator (suc unit)) (with_updates-aged unit)
+      ∙ with_insertions-older (suc unit) within
+
+-- ---- the closed form
+
+pub rows_of-live : (generator : Generator) (place unit : ℕ) → rows_of generator place unit ≡ live_rows generator.order (known_of generator place) unit
+rows_of-live generator place unit =
+    map-filter (is_live generator place unit) (row_at generator place unit) (range_with_len 0 (born_count (table_at generator.tables place).births unit))
+
+pub interval_state-live : (generator : Generator) (unit : ℕ) → map (λ known. live_rows generator.order known unit) (known_tables generator) ≡ interval_state generator unit
+interval_state-live generator unit =
+    let known : List Known = known_tables generator in
+    let rows : Known → List Row = λ known. live_rows generator.order known unit in
+    fill_by_all (λ place. rows_of generator place unit) (map rows known) (length generator.tables) [] (length-map known rows ∙ length-known_tables generator)
+    (λ place below.
+    get_or-map rows known place nothing_known [] (omega (arith, length-known_tables generator, below))
+    ∙ ap rows (known_at-known_of generator place below) ∙ sym (rows_of-live generator place unit))
+
+pub simulation-interval_state : (units : ℕ) (generator : Generator) (unit : ℕ) → AreSound units generator.tables → unit ≤ units → simulation generator unit ≡ interval_state generator unit
+simulation-interval_state units generator unit sound within = simulation-live units generator sound unit within ∙ interval_state-live generator unit
+
+-- no table stands past the last one, and none has rows there
+rows_of-past : (generator : Generator) (place unit : ℕ) → length generator.tables ≤ place → rows_of generator place unit ≡ []
+rows_of-past generator place unit past =
+    let none : born_count (table_at generator.tables place).births unit ≡ 0 =
+    ap (λ (table : TableLayout). born_count table.births unit) (get_or_past generator.tables place no_table past) ∙ omega (arith, born_count-by_units no_table.births unit) in
+    rows_of-live generator place unit ∙ ap (λ (n : ℕ). filter_map (live_row generator.order (known_of generator place) unit) (range_with_len 0 n)) none
+
+-- the rows of the table at a place are those of the living
+pub rows_at-rows_of : (units : ℕ) (generator : Generator) (place unit : ℕ) → AreSound units generator.tables → unit ≤ units → rows_at generator place unit ≡ rows_of generator place unit
+unfolding rows_at
+rows_at-rows_of units generator place unit sound within =
+    let known : List Known = known_tables generator in
+    let rows : Known → List Row = λ known. live_rows generator.order known unit in
+    ap (λ (state : State). get_or state place []) (simulation-live units generator sound unit within)
+    ∙ elim (cases_lt place (length generator.tables)) [
+      | inl below ↦
+          get_or-map rows known place nothing_known [] (omega (arith, length-known_tables generator, below))
+          ∙ ap rows (known_at-known_of generator place below) ∙ sym (rows_of-live generator place unit)
+      | inr past ↦
+          get_or_past (map rows known) place [] (omega (arith, length-map known rows, length-known_tables generator, past))
+          ∙ sym (rows_of-past generator place unit past)
+    ]

@@ -1,13 +1,19 @@
 -- The closed form of the simulation: what an ordinal alone tells of its row.
-use Rattle.std.specs.Prelude.{ℕ, zero, suc, ◌+◌, ◌<◌, ◌≤◌, Bool, true, if◌then◌else◌, nat_lt, List, filter, map, Option, None}
+use Rattle.std.specs.Prelude.{ℕ, zero, suc, ◌+◌, ◌-◌, ◌<◌, ◌≤◌, ◌==◌, Bool, true, false, ◌&&◌, if◌then◌else◌, nat_lt, List, [], ◌∷◌, filter, length, map, slice_index_or, take, Option, Some, None}
 use Rattle.std.specs.List.{range_with_len}
-use Rattle.std.specs.Option.{option_map_or}
+use Rattle.std.specs.Option.{option_map}
+use Rattle.philox_seeds.specs.SeedTree.{life_column}
 use Rattle.schema_check.specs.declared.layout.Births.{Births}
 use Rattle.schema_check.specs.Cohorts.{born_count, cohort_size, first_ordinal}
-use Rattle.schema_check.specs.Layout.{TableLayout}
-use Rattle.life_intervals.specs.Generator.{Generator}
-use Rattle.life_intervals.specs.Rows.{Row}
-use Rattle.life_intervals.specs.Simulation.{State}
+use Rattle.schema_check.specs.InTurn.{in_turn}
+use Rattle.schema_check.specs.Layout.{TableLayout, no_table, table_at}
+use Rattle.schema_check.specs.Lineage.{lesser_life}
+use Rattle.life_intervals.specs.Changes.{change_by, wait_by}
+use Rattle.life_intervals.specs.Generator.{Generator, Order}
+use Rattle.life_intervals.specs.References.{Reference, choice, count_in_window, first_in_window, references_of}
+use Rattle.life_intervals.specs.Rows.{Row, State, life_by}
+
+-- ---- births
 
 -- an ordinal lies in the cohort of a unit
 pub record LiesIn (births : Births) (unit ordinal : ℕ) : Type 0 where
@@ -19,27 +25,163 @@ unfoldable pub birth : Births → ℕ → ℕ → ℕ
 birth births zero ordinal = 0
 birth births (suc unit) ordinal = if nat_lt ordinal (born_count births unit) then birth births unit ordinal else suc unit
 
--- the unit at which the row of an ordinal dies; None where it never does. No table whose rows die can be made yet
-abbrev pub death : TableLayout → ℕ → Option ℕ
-death table ordinal = None
+-- the index of such an ordinal in its cohort
+abbrev pub index_at : Births → ℕ → ℕ → ℕ
+index_at births last ordinal = ordinal - first_ordinal births (birth births last ordinal)
 
--- whether the row of an ordinal that is born by a unit is alive at it
-abbrev pub is_live : TableLayout → ℕ → ℕ → Bool
-is_live table unit ordinal = option_map_or (nat_lt unit) (death table ordinal) true
+-- ---- parents and deaths, by birth unit and index
 
--- the row of an ordinal at a unit by which it is born
-abbrev pub row_at : TableLayout → ℕ → ℕ → Row
-row_at table unit ordinal =
-    record { ordinal = ordinal; born = birth table.births unit ordinal; changed = birth table.births unit ordinal }
+-- the table at a place, with the parents of the row that has an index in a unit's cohort, and with its death
+pub record Known : Type 0 where
+  pub table : TableLayout
+  pub place : ℕ
+  pub parents : ℕ → ℕ → List ℕ
+  pub death : ℕ → ℕ → Option ℕ
 
--- the ordinals of a table's rows at a unit: those that are born by it and alive
-abbrev pub living : TableLayout → ℕ → List ℕ
-living table unit = filter (is_live table unit) (range_with_len 0 (born_count table.births unit))
+-- what stands past the last table
+abbrev pub nothing_known : Known
+nothing_known = record { table = no_table; place = 0; parents = λ unit index. []; death = λ unit index. None }
 
--- the rows of a table at a unit
-abbrev pub rows_of : TableLayout → ℕ → List Row
-rows_of table unit = map (row_at table unit) (living table unit)
+-- the table at a place among those that are known
+abbrev pub known_at : List Known → ℕ → Known
+known_at known place = slice_index_or known place nothing_known
+
+-- the unit at which the row of an ordinal that is born by a last unit dies; None where it never does
+abbrev pub death_by : Known → ℕ → ℕ → Option ℕ
+death_by known last ordinal = known.death (birth known.table.births last ordinal) (index_at known.table.births last ordinal)
+
+-- the unit at which a row's own life ends, in the table at a place
+abbrev pub own_death_by : Order → ℕ → TableLayout → ℕ → ℕ → Option ℕ
+own_death_by order place table unit index =
+    option_map (λ life. unit + life) (life_by table.life (order place life_column unit index))
+
+-- the ordinal of the parent that a row has by a reference: of the rows born in the window, the one that is chosen
+abbrev pub parent_by : Order → List Known → ℕ → ℕ → Reference → ℕ
+parent_by order earlier unit index reference =
+    let births = (known_at earlier reference.parent).table.births in
+    first_in_window births reference.window unit
+    + choice reference.spread (count_in_window births reference.window unit)
+    (order (length earlier) reference.column unit index)
+
+-- the death of that parent
+abbrev pub parent_death_by : Order → List Known → ℕ → ℕ → Reference → Option ℕ
+parent_death_by order earlier unit index reference =
+    death_by (known_at earlier reference.parent) unit (parent_by order earlier unit index reference)
+
+-- the first of some deaths; None never comes
+abbrev pub first_death : List (Option ℕ) → Option ℕ
+first_death [] = None
+first_death (death ∷ others) = lesser_life death (first_death others)
+
+-- what is known of a table, by what is known of those before it: a row dies when its own life ends or a parent dies
+abbrev pub known_by : Order → List Known → TableLayout → Known
+known_by order earlier table = record {
+  table = table;
+  place = length earlier;
+  parents = λ unit index. map (parent_by order earlier unit index) (references_of table);
+  death =
+      λ unit index. first_death (own_death_by order (length earlier) table unit index
+      ∷ map (parent_death_by order earlier unit index) (references_of table));
+}
+
+-- what is known of each table, in order
+abbrev pub known_tables : Generator → List Known
+known_tables generator = in_turn (known_by generator.order) [] generator.tables
+
+-- what is known of the table at a place
+abbrev pub known_of : Generator → ℕ → Known
+known_of generator place =
+    known_by generator.order (take place (known_tables generator)) (table_at generator.tables place)
+
+-- ---- rows
+
+-- whether a death lies past a unit; one that never comes does
+abbrev pub is_after : Option ℕ → ℕ → Bool
+is_after None unit = true
+is_after (Some death) unit = nat_lt unit death
+
+-- whether a death comes at a unit
+abbrev pub is_at : Option ℕ → ℕ → Bool
+is_at None unit = false
+is_at (Some death) unit = death == unit
+
+-- the row of an ordinal of a known table, at a unit by which it is born
+abbrev pub row_by : Order → Known → ℕ → ℕ → Row
+row_by order known unit ordinal =
+    let births = known.table.births in
+    let born = birth births unit ordinal in
+    let index = index_at births unit ordinal in
+    record {
+      ordinal = ordinal;
+      born = born;
+      changed = change_by order known.place known.table born index unit;
+      left = option_map (λ death. death - unit) (own_death_by order known.place known.table born index);
+      wait = wait_by order known.place known.table born index unit;
+      parents = known.parents born index;
+    }
+
+-- ---- the table at a place of a generator, by ordinals that are born by a unit
+
+-- the unit at which the own life of a row ends; None where it has no end of its own
+abbrev pub own_death : Generator → ℕ → ℕ → ℕ → Option ℕ
+own_death generator place unit ordinal =
+    let table = table_at generator.tables place in
+    own_death_by generator.order place table (birth table.births unit ordinal) (index_at table.births unit ordinal)
+
+-- the unit at which a row dies; None where it never does
+abbrev pub death : Generator → ℕ → ℕ → ℕ → Option ℕ
+death generator place unit ordinal = death_by (known_of generator place) unit ordinal
+
+-- the ordinal of the parent that a row has by a reference of its table
+abbrev pub parent_of : Generator → ℕ → ℕ → ℕ → Reference → ℕ
+parent_of generator place unit ordinal reference =
+    let births = (table_at generator.tables place).births in
+    parent_by generator.order (take place (known_tables generator))
+    (birth births unit ordinal) (index_at births unit ordinal) reference
+
+-- the unit of a row's last change by the unit
+abbrev pub change_unit : Generator → ℕ → ℕ → ℕ → ℕ
+change_unit generator place unit ordinal =
+    let table = table_at generator.tables place in
+    change_by generator.order place table (birth table.births unit ordinal) (index_at table.births unit ordinal) unit
+
+-- whether a row is alive at the unit
+abbrev pub is_live : Generator → ℕ → ℕ → ℕ → Bool
+is_live generator place unit ordinal = is_after (death generator place unit ordinal) unit
+
+-- a row, as it is at the unit
+abbrev pub row_at : Generator → ℕ → ℕ → ℕ → Row
+row_at generator place unit ordinal = row_by generator.order (known_of generator place) unit ordinal
+
+-- the ordinals of the rows of the table at a place at a unit: those that are born by it and alive
+abbrev pub living : Generator → ℕ → ℕ → List ℕ
+living generator place unit =
+    filter (is_live generator place unit) (range_with_len 0 (born_count (table_at generator.tables place).births unit))
+
+-- the rows of the table at a place at a unit
+abbrev pub rows_of : Generator → ℕ → ℕ → List Row
+rows_of generator place unit = map (row_at generator place unit) (living generator place unit)
 
 -- the rows of each table at a unit
 abbrev pub interval_state : Generator → ℕ → State
-interval_state generator unit = map (λ table. rows_of table unit) generator.tables
+interval_state generator unit = map (λ place. rows_of generator place unit) (range_with_len 0 (length generator.tables))
+
+-- ---- what a unit does to the rows of the table at a place
+
+-- the ordinals of the rows that it deletes: those that are born before it and die at it
+abbrev pub dying : Generator → ℕ → ℕ → List ℕ
+dying generator place unit =
+    filter (λ ordinal. is_at (death generator place unit ordinal) unit)
+    (range_with_len 0 (first_ordinal (table_at generator.tables place).births unit))
+
+-- of the rows that it updates: those that are born before it, are alive at it and have it as their change unit
+abbrev pub changing : Generator → ℕ → ℕ → List ℕ
+changing generator place unit =
+    filter (λ ordinal. is_live generator place unit ordinal && change_unit generator place unit ordinal == unit)
+    (range_with_len 0 (first_ordinal (table_at generator.tables place).births unit))
+
+-- of the rows that it inserts
+abbrev pub newborn : Generator → ℕ → ℕ → List ℕ
+newborn generator place unit =
+    range_with_len (first_ordinal (table_at generator.tables place).births unit)
+    (cohort_size (table_at generator.tables place).births unit)

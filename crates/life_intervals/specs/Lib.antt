@@ -1,7 +1,12 @@
 pub mod Generator
+pub mod References
 pub mod Rows
 pub mod Simulation
+pub mod Changes
 pub mod Intervals
+pub mod Streams
+pub mod Sound
 pub mod Keys
 pub mod KeyOrders
 pub mod CohortKeys
+pub mod Worked

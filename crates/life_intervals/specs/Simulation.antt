@@ -1,25 +1,80 @@
 -- The simulation: lists of rows, one for each table, stepped unit by unit.
-use Rattle.std.specs.Prelude.{ℕ, zero, suc, List, [], ◌++◌, map, zip, slice_index_or}
+use Rattle.std.specs.Prelude.{ℕ, zero, suc, ◌-◌, ◌==◌, Bool, false, not, ◌&&◌, if◌then◌else◌, List, [], ◌++◌, filter_map, map, zip, slice_index_or, Option, Some, None}
+use Rattle.std.specs.List.{list_all, list_any}
+use Rattle.std.specs.Option.{option_map}
 use Rattle.schema_check.specs.InTurn.{in_turn}
 use Rattle.schema_check.specs.Layout.{TableLayout}
-use Rattle.life_intervals.specs.Generator.{Generator}
-use Rattle.life_intervals.specs.Rows.{Row, cohort}
+use Rattle.life_intervals.specs.Generator.{Generator, Order}
+use Rattle.life_intervals.specs.References.{Reference, references_of}
+use Rattle.life_intervals.specs.Rows.{Row, State, cohort}
 
--- the rows that each table holds: tables in schema order, rows in order of birth
-abbrev pub State : Type 0
-State = List (List Row)
+-- ---- a row in a step
 
--- a table's rows, and behind them those born at a unit; `earlier` are the tables before it
-abbrev pub with_cohort : ℕ → State → TableLayout × List Row → List Row
-with_cohort unit earlier (table, rows) = rows ++ cohort table unit
+-- a count of units, one unit on
+abbrev pub one_less : Option ℕ → Option ℕ
+one_less units = option_map (λ n. n - 1) units
+
+-- whether a count of units has come to its end
+abbrev pub is_over : Option ℕ → Bool
+is_over None = false
+is_over (Some n) = n == 0
+
+-- whether the row of an ordinal is among some rows
+abbrev pub holds_row : List Row → ℕ → Bool
+holds_row rows ordinal = list_any (λ (row : Row). row.ordinal == ordinal) rows
+
+-- whether each parent is in its table
+abbrev pub hold_parents : State → List Reference → List ℕ → Bool
+hold_parents state references parents =
+    list_all (λ (at : Reference × ℕ). holds_row (slice_index_or state at.0.parent []) at.1) (zip references parents)
+
+-- a row after the deletions of a unit, which `earlier`, the tables before its own, have behind them; None where its own life ends
+-- or a parent is gone
+abbrev pub kept : State → TableLayout → Row → Option Row
+kept earlier table row =
+    let left = one_less row.left in
+    if not (is_over left) && hold_parents earlier (references_of table) row.parents then Some (record row { left = left }) else None
+
+-- whether a row is updated at the next unit, where it is kept
+abbrev pub is_due : Row → Bool
+is_due row = is_over (one_less row.wait)
+
+-- a row after the updates of a unit: where it is due it changes, and waits anew
+abbrev pub waited : ℕ → TableLayout → Row → Row
+waited unit table row =
+    if is_due row then record row { changed = unit; wait = table.update } else record row { wait = one_less row.wait }
+
+-- ---- a step
+
+-- a table's rows after the deletions of a unit
+abbrev pub without_dead : State → TableLayout × List Row → List Row
+without_dead earlier (table, rows) = filter_map (kept earlier table) rows
+
+-- a table's rows after the updates of a unit
+abbrev pub with_changes : ℕ → State → TableLayout × List Row → List Row
+with_changes unit earlier (table, rows) = map (waited unit table) rows
+
+-- a table's rows, and behind them those born at a unit
+abbrev pub with_cohort : Order → ℕ → State → TableLayout × List Row → List Row
+with_cohort order unit earlier (table, rows) = rows ++ cohort order unit earlier table
+
+-- the deletions of a unit, table by table
+abbrev pub with_deletions : Generator → State → State
+with_deletions generator state = in_turn without_dead [] (zip generator.tables state)
+
+-- the updates of a unit
+abbrev pub with_updates : Generator → ℕ → State → State
+with_updates generator unit state = in_turn (with_changes unit) [] (zip generator.tables state)
 
 -- the insertions of a unit, table by table
 abbrev pub with_insertions : Generator → ℕ → State → State
-with_insertions generator unit state = in_turn (with_cohort unit) [] (zip generator.tables state)
+with_insertions generator unit state = in_turn (with_cohort generator.order unit) [] (zip generator.tables state)
 
 -- a step to a unit from the unit before it
 abbrev pub step : Generator → ℕ → State → State
-step generator unit state = with_insertions generator unit state
+step generator unit state = with_insertions generator unit (with_updates generator unit (with_deletions generator state))
+
+-- ---- the units
 
 -- each table with no row
 abbrev pub empty_tables : Generator → State

@@ -3,17 +3,23 @@
 //! A table is named by its place in the schema from 0. Units and ordinals count from 0, and so do the indices of a
 //! cohort's rows.
 
-ghost use Rattle.std.specs.Prelude.{◌≡◌, ℕ, ◌+◌, ◌*◌, ◌/◌, ◌-◌, ◌<◌, ◌≤◌, flat_map, if◌then◌else◌, length, nat_lt};
+ghost use Rattle.std.specs.Prelude.{◌≡◌, ℕ, ◌+◌, ◌*◌, ◌/◌, ◌-◌, ◌<◌, ◌≤◌, All, if◌then◌else◌, length, map, nat_lt, take, false, true, List, [], ◌∷◌, Some};
 ghost use Rattle.std.specs.List.{range_with_len};
 ghost use Rattle.schema_check.specs.declared.layout.Births.{Births};
 ghost use Rattle.schema_check.specs.Cohorts.{born_count, cohort_size, first_ordinal};
 ghost use Rattle.schema_check.specs.Dictionaries.{Project};
 ghost use Rattle.schema_check.specs.Layout.{TableLayout, table_at};
+ghost use Rattle.schema_check.specs.Unbuilt.{is_unbuilt};
+ghost use Rattle.life_intervals.specs.Changes.{IsLastDue, first_due};
 ghost use Rattle.life_intervals.specs.Generator.{Generator, generator_of};
-ghost use Rattle.life_intervals.specs.Intervals.{LiesIn, birth, interval_state, living, rows_of};
+ghost use Rattle.life_intervals.specs.Intervals.{LiesIn, birth, change_unit, changing, death, dying, first_death, index_at, interval_state, is_live, newborn, own_death, parent_of, row_at, rows_of};
 ghost use Rattle.life_intervals.specs.Keys.{OrdersCohorts, key_in_cohort, key_of};
-ghost use Rattle.life_intervals.specs.Rows.{cohort};
+ghost use Rattle.life_intervals.specs.References.{count_in_window, first_in_window, references_of};
+ghost use Rattle.life_intervals.specs.Rows.{candidates, cohort};
 ghost use Rattle.life_intervals.specs.Simulation.{rows_at, simulation};
+ghost use Rattle.life_intervals.specs.Sound.{AreSound, IsStill};
+ghost use Rattle.life_intervals.specs.Streams.{deleted, inserted, updated};
+ghost use Rattle.life_intervals.specs.Worked.{customer_row, line_row, order_row, sales_in_place};
 
 /// The birth of an ordinal is the one unit whose cohort has it, whatever the last unit.
 pub fn birth_is_the_unit_of_the_cohort()
@@ -59,13 +65,118 @@ pub fn keys_are_distinct()
         < (table_at generator.tables place).key.base + born_count (table_at generator.tables place).births last }
 {}
 
-/// The state that the simulation steps to is the closed form's, at each unit and for any tables.
+/// The state that the simulation steps to is the closed form's, at each unit up to which tables are sound.
 pub fn simulation_is_the_closed_form()
-    ensures { (generator : Generator) (unit : ℕ) → simulation generator unit ≡ interval_state generator unit }
+    ensures { (units : ℕ) (generator : Generator) (unit : ℕ) → AreSound units generator.tables → unit ≤ units →
+        simulation generator unit ≡ interval_state generator unit }
 {}
 
 /// The rows that a table holds are those of the ordinals that are born by the unit and alive.
 pub fn rows_are_those_of_the_living()
-    ensures { (generator : Generator) (place unit : ℕ) →
-        rows_at generator place unit ≡ rows_of (table_at generator.tables place) unit }
+    ensures { (units : ℕ) (generator : Generator) (place unit : ℕ) → AreSound units generator.tables → unit ≤ units →
+        rows_at generator place unit ≡ rows_of generator place unit }
+{}
+
+/// A unit deletes the rows that are born before it and die at it, which it finds as they were; it updates those that are
+/// alive and whose change unit it is; and it inserts its cohort.
+pub fn units_change_rows()
+    ensures deletes { (units : ℕ) (generator : Generator) → AreSound units generator.tables →
+        (place : ℕ) → place < length generator.tables → (unit : ℕ) → unit ≤ units →
+        deleted generator place unit ≡ map (row_at generator place (unit - 1)) (dying generator place unit) }
+    ensures updates { (units : ℕ) (generator : Generator) → AreSound units generator.tables →
+        (place : ℕ) → place < length generator.tables → (unit : ℕ) → unit ≤ units →
+        updated generator place unit ≡ map (row_at generator place unit) (changing generator place unit) }
+    ensures inserts { (units : ℕ) (generator : Generator) → AreSound units generator.tables →
+        (place : ℕ) → place < length generator.tables → (unit : ℕ) → unit ≤ units →
+        inserted generator place unit ≡ map (row_at generator place unit) (newborn generator place unit) }
+    ensures cohort { (units : ℕ) (generator : Generator) → AreSound units generator.tables →
+        (place : ℕ) → place < length generator.tables → (unit : ℕ) → unit ≤ units →
+        inserted generator place unit
+        ≡ cohort generator.order unit (take place (simulation generator unit)) (table_at generator.tables place) }
+{}
+
+/// The candidates of each reference of a cohort are the rows of all ordinals that are born in its window, and there are some.
+pub fn candidates_are_those_of_the_window()
+    ensures whole { (units : ℕ) (generator : Generator) → AreSound units generator.tables →
+        (place : ℕ) → place < length generator.tables → (unit : ℕ) → unit ≤ units →
+        0 < cohort_size (table_at generator.tables place).births unit →
+        All (λ reference. candidates reference unit (rows_at generator reference.parent unit)
+        ≡ range_with_len (first_in_window (table_at generator.tables reference.parent).births reference.window unit)
+        (count_in_window (table_at generator.tables reference.parent).births reference.window unit))
+        (references_of (table_at generator.tables place)) }
+    ensures some { (units : ℕ) (tables : List TableLayout) → AreSound units tables →
+        (place : ℕ) → place < length tables → (unit : ℕ) → unit ≤ units →
+        0 < cohort_size (table_at tables place).births unit →
+        All (λ reference. 0 < count_in_window (table_at tables reference.parent).births reference.window unit)
+        (references_of (table_at tables place)) }
+{}
+
+/// A row dies when its own life ends or a parent dies.
+pub fn death_is_the_first_of_its_own_and_the_parents()
+    ensures { (units : ℕ) (generator : Generator) → AreSound units generator.tables →
+        (place : ℕ) → place < length generator.tables → (unit ordinal : ℕ) → unit ≤ units →
+        ordinal < born_count (table_at generator.tables place).births unit →
+        death generator place unit ordinal
+        ≡ first_death (own_death generator place unit ordinal
+        ∷ map (λ reference. death generator reference.parent unit (parent_of generator place unit ordinal reference))
+        (references_of (table_at generator.tables place))) }
+{}
+
+/// A row's death is the same, whatever the unit by which it is born, and so is the end of its own life.
+pub fn death_is_for_good()
+    ensures death { (generator : Generator) (place unit last ordinal : ℕ) →
+        ordinal < born_count (table_at generator.tables place).births unit → unit ≤ last →
+        death generator place last ordinal ≡ death generator place unit ordinal }
+    ensures own { (generator : Generator) (place unit last ordinal : ℕ) →
+        ordinal < born_count (table_at generator.tables place).births unit → unit ≤ last →
+        own_death generator place last ordinal ≡ own_death generator place unit ordinal }
+{}
+
+/// The change unit of a row is the last of its due units.
+pub fn change_unit_is_the_last_due()
+    ensures { (generator : Generator) (place unit ordinal period : ℕ) →
+        (table_at generator.tables place).update ≡ Some period → 1 ≤ period →
+        let births = (table_at generator.tables place).births in
+        let born = birth births unit ordinal in
+        IsLastDue born (first_due generator.order place born (index_at births unit ordinal) period) period unit
+        (change_unit generator place unit ordinal) }
+{}
+
+/// Tables whose rows neither die nor change, and have no parents, are sound for any number of units.
+pub fn still_tables_are_sound()
+    ensures sound { (tables : List TableLayout) → All IsStill tables → (units : ℕ) → AreSound units tables }
+    ensures alive { (generator : Generator) → All IsStill generator.tables → (place unit ordinal : ℕ) →
+        is_live generator place unit ordinal ≡ true }
+    ensures unchanged { (generator : Generator) → All IsStill generator.tables → (place unit ordinal : ℕ) →
+        change_unit generator place unit ordinal ≡ birth (table_at generator.tables place).births unit ordinal }
+{}
+
+/// So are the tables that can be made yet.
+pub fn built_tables_are_still()
+    ensures { (project : Project) → is_unbuilt project.schema ≡ false → All IsStill (generator_of project).tables }
+{}
+
+/// The tables of customers, orders and lines are sound up to the last unit of their schema.
+pub fn worked_soundness()
+    ensures { AreSound 5 sales_in_place.tables }
+{}
+
+/// Customers, orders and lines at unit 3, by the steps of the simulation and by the closed form.
+pub fn worked_state()
+    ensures simulated { simulation sales_in_place 3
+        ≡ (customer_row 1 2 1 1 ∷ customer_row 2 3 2 2 ∷ customer_row 3 3 3 1 ∷ []) ∷ (order_row 3 9 1 ∷ []) ∷ (line_row 3 ∷ []) ∷ [] }
+    ensures closed { interval_state sales_in_place 3
+        ≡ (customer_row 1 2 1 1 ∷ customer_row 2 3 2 2 ∷ customer_row 3 3 3 1 ∷ []) ∷ (order_row 3 9 1 ∷ []) ∷ (line_row 3 ∷ []) ∷ [] }
+{}
+
+/// What unit 3 does to them: with the first customer die its three orders, and their lines with these.
+pub fn worked_streams()
+    ensures customers_deleted { deleted sales_in_place 0 3 ≡ customer_row 0 1 1 1 ∷ [] }
+    ensures orders_deleted { deleted sales_in_place 1 3 ≡ order_row 0 7 0 ∷ order_row 1 8 0 ∷ order_row 2 9 0 ∷ [] }
+    ensures lines_deleted { deleted sales_in_place 2 3 ≡ line_row 0 ∷ line_row 1 ∷ line_row 2 ∷ [] }
+    ensures customers_updated { updated sales_in_place 0 3 ≡ customer_row 2 3 2 2 ∷ [] }
+    ensures orders_updated { updated sales_in_place 1 3 ≡ [] }
+    ensures customers_inserted { inserted sales_in_place 0 3 ≡ customer_row 3 3 3 1 ∷ [] }
+    ensures orders_inserted { inserted sales_in_place 1 3 ≡ order_row 3 9 1 ∷ [] }
+    ensures lines_inserted { inserted sales_in_place 2 3 ≡ line_row 3 ∷ [] }
 {}

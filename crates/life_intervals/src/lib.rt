@@ -1,9 +1,11 @@
-//! When the rows of a table are born, and their keys, of one ordinal at a time and in constant time.
+//! When the rows of a table are born, when their own lives end and when they changed last, and their keys, of one ordinal at a
+//! time and in constant time.
 //!
 //! The rows that are born at one unit are a cohort. A row is named by its ordinal, its place in the order of birth in
 //! its table, or by its index, its place in its cohort; both count from 0. The rules of these numbers stand in
 //! `specs/`, beside the simulation that defines the generated data, lists of rows stepped unit by unit; `laws` has its
-//! laws.
+//! laws, among them that the simulation of sound tables is its closed form, with lives, updates, references and what dies
+//! with their parents.
 //!
 //! A table is named by its place in the schema, counted from 0. Only `key_orders` takes memory.
 #![tactic(auto)]
@@ -12,12 +14,14 @@ mod births;
 mod cohorts;
 mod keys;
 pub mod laws;
+mod lives;
 mod memory;
 mod orders;
 
 pub use births::{birth, born, cohort};
 pub use cohorts::Cohort;
 pub use keys::{CohortKeys, key, row_of_key};
+pub use lives::{last_change, own_death};
 pub use memory::Memory;
 pub use orders::{key_order, key_orders};
 

@@ -6,8 +6,9 @@ ghost use Rattle.life_intervals.specs.Generator.{last_unit};
 ghost use Rattle.life_intervals.specs.KeyOrders.{key_orders};
 
 use super::*;
+use crate::lives::{last_due, lifetime};
 use id_permutation::Order;
-use schema_check::{Dictionaries, Plan, check, unbuilt};
+use schema_check::{Dictionaries, Plan, Span, check, unbuilt};
 use schema_model::{Column, Columns, Delimiter, Kind, Schema, Table, Tables, Text};
 use std::alloc::{AllocError, Global};
 use std::marker::Brand;
@@ -196,5 +197,51 @@ fn keys_of_a_table(rt: HostRuntime) -> Result<(), Fail> {
             sum
         );
     }
+    Ok(())
+}
+
+// By hand: lives of three to five units, one after the other by place.
+#[test]
+fn lives_by_place(rt: HostRuntime) {
+    let life = Span { least: 3, most: 5 };
+    for (place, units) in [(0, 3), (1, 4), (2, 5), (3, 3), (1 << 40, 4)] {
+        assert_eq!(rt; lifetime(life, place), units);
+    }
+    assert_eq!(rt; lifetime(Span { least: 7, most: 7 }, 9), 7);
+}
+
+// By hand: a row that is born at unit 2 and due at 4, 7, 10 and so on; and one that is due at each unit.
+#[test]
+fn last_due_units(rt: HostRuntime) {
+    for (unit, last) in [(2, 2), (3, 2), (4, 4), (6, 4), (7, 7), (9, 7), (10, 10)] {
+        assert_eq!(rt; last_due(2, 4, 3, unit), last);
+    }
+    for (unit, last) in [(5, 5), (6, 6), (9, 9)] {
+        assert_eq!(rt; last_due(5, 6, 1, unit), last);
+    }
+}
+
+fn assert_still<L: Ledger>(rt: &impl Abort, plan: &Plan, blank: Blank)
+    requires name { blank.name ≡ L.name }
+    requires parts { blank.parts ≡ L.parts }
+    requires some { 0 < blank.parts }
+{
+    let mut steps = Steps::<L>::new(blank);
+    assert!(rt; plan.tables() == 1);
+    assert_eq!(rt; plan.life(0), None);
+    assert_eq!(rt; plan.update(0), None);
+    assert!(rt; plan.units() == 5);
+    for (row, unit) in [(0, 0), (999, 0), (1000, 1), (1049, 5)] {
+        assert!(rt; row < born(plan, 0, 5));
+        assert_eq!(rt; own_death(plan, 0, row, &mut steps), None);
+        assert_eq!(rt; last_change(plan, 0, row, 5, &mut steps), unit);
+    }
+}
+
+// Rows of a table that neither die nor change.
+#[test]
+fn rows_that_are_still(rt: HostRuntime) -> Result<(), Fail> {
+    let plan = plan(rt.alloc(), thousand(false))?;
+    assert_still::<Brand>(&rt, &plan, Blank::new(1));
     Ok(())
 }

@@ -36,7 +36,7 @@ fn write_line<S: Shelf>(
 ) -> Result<(), WriteFailed>
     requires begun { IsTrue (S.is_begun shelf.old) }
     requires row { index < cohort_size (layout_for lines.now).births lines.now.born }
-    requires alive { is_live (layout_for lines.now) lines.now.unit (ordinal_of lines.now index) ≡ true }
+    requires alive { is_live (generator_of lines.now.plan.schema) lines.now.table lines.now.unit (ordinal_of lines.now index) ≡ true }
     requires key { key ≡ key_for lines.now index }
     requires room { max_line (layout_of lines.now.plan.schema) lines.now.table ≤ page.old.room }
     ensures line { Appends result (line_in_cohort lines.now index) (S.held shelf.old) (S.held shelf.new) }
@@ -73,6 +73,7 @@ fn write_cohort<S: Shelf, B: Ledger>(
     ensures begun { IsTrue (S.is_begun shelf.new) }
     ensures room { page.new.room ≡ page.old.room }
 {
+    let _built = plan.schema(); // no row of it dies yet
     let order = &table.orders[born as usize];
     let lines = CohortLines::new(plan, table.place, born, unit, order);
     let size = cohort(plan, table.place, born).size;
@@ -113,6 +114,7 @@ fn write_table<S: Shelf, B: Ledger>(
     ensures begun { IsTrue (S.is_begun shelf.new) }
     ensures room { page.new.room ≡ page.old.room }
 {
+    let _built = plan.schema(); // its tables are sound
     for born in 0..unit + 1 {
         match write_cohort(shelf, page, plan, table, born, unit, steps) {
             Ok(()) => {}

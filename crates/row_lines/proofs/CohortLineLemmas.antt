@@ -1,5 +1,5 @@
 -- The line of a row of a cohort, field by field.
-use Rattle.std.proofs.Common.{◌≡◌, ◌<◌, ◌≤◌, ◌^◌, ℕ, zero, suc, ◌+◌, ◌==◌, if◌then◌else◌, true, List, [], ◌∷◌, ◌++◌, map, length, min, sum_by, take, codes, decimal, All, Option, Some, None, get_or, refl, ap, sym, subst, ◌∙◌, arith}
+use Rattle.std.proofs.Common.{◌≡◌, ◌<◌, ◌≤◌, ◌^◌, ℕ, zero, suc, ◌+◌, ◌==◌, if◌then◌else◌, false, true, List, [], ◌∷◌, ◌++◌, map, length, min, sum_by, take, codes, decimal, All, Option, Some, None, get_or, refl, ap, sym, subst, ◌∙◌, arith}
 use Rattle.std.specs.List.{join_with_byte, range_with_len}
 use Rattle.std.proofs.lemmas.Bool.Decides.{nat_tests}
 use Rattle.std.proofs.lemmas.List.{get_or-map, length-map}
@@ -16,6 +16,7 @@ use Rattle.schema_check.specs.Layout.{ColumnLayout, KindLayout, born_kind, case_
 use Rattle.schema_check.specs.Lineage.{one_if}
 use Rattle.schema_check.specs.Ready.{is_served, is_served_kind, ready_column, ready_kind}
 use Rattle.schema_check.specs.TableFacts.{line_cost, max_line}
+use Rattle.schema_check.specs.Unbuilt.{is_unbuilt}
 use Rattle.draw_values.specs.declared.values.RowAt.{RowAt}
 use Rattle.draw_values.specs.CohortValues.{ValuesOf, value_for}
 use Rattle.draw_values.specs.declared.values.Put.TheVariants.{Text, Null}
@@ -23,10 +24,13 @@ use Rattle.draw_values.specs.Values.{is_own, own_field, put_of, written}
 use Rattle.life_intervals.specs.CohortKeys.{CohortOf}
 use Rattle.life_intervals.specs.Generator.{Generator, generator_of, last_unit}
 use Rattle.life_intervals.specs.Intervals.{row_at}
+use Rattle.life_intervals.specs.Rows.{Row}
 use Rattle.life_intervals.proofs.CohortLemmas.{birth-first_ordinal, cohort-within}
 use Rattle.life_intervals.proofs.KeyLemmas.{key_of-first_ordinal}
+use Rattle.life_intervals.proofs.SoundLemmas.{row_at-still}
+use Rattle.life_intervals.proofs.StillLemmas.{All-IsStill-built}
 use Rattle.row_lines.specs.CohortLines.{AreLinesOf, LinesOf, key_for, layout_for, line_in_cohort, ordinal_of, size_for, text_in_cohort}
-use Rattle.row_lines.specs.Lines.{field, line}
+use Rattle.row_lines.specs.Lines.{draws_of, field, line}
 use Rattle.row_lines.proofs.FieldLemmas.{field-key, field-own}
 
 -- what the field of a column takes at most: bytes, with the one behind, and permutations
@@ -124,7 +128,7 @@ key_never_null columns (suc other) never no_other within is = absurd (no_other o
 -- what the row with an index in the cohort holds in the column at a place
 abbrev pub held_in_cohort : LinesOf → ℕ → ℕ → Option (List ℕ)
 held_in_cohort lines index place =
-    field (generator_of lines.plan) lines.unit lines.table (row_at (layout_for lines) lines.unit (ordinal_of lines index)) place
+    field (generator_of lines.plan) lines.unit lines.table (row_at (generator_of lines.plan) lines.table lines.unit (ordinal_of lines index)) place
 
 -- what a key takes, and how it is written
 pub size-key : (lines : LinesOf) (place : ℕ) → (column_at (layout_for lines).columns place).kind ≡ key_kind → size_for lines place ≡ 20
@@ -151,23 +155,26 @@ text-key lines place index key is never within below key_is small =
 -- what a column holds that needs no other row, as the values of the cohort have it
 pub held-own : (lines : LinesOf) (values : ValuesOf) (place index ordinal : ℕ) → values ≡ record { plan = lines.plan; table = lines.table; unit = lines.born } →
     ordinal ≡ ordinal_of lines index → is_own (column_at (layout_for lines).columns place).kind ≡ true → lines.born ≤ lines.unit →
-    index < cohort_size (layout_for lines).births lines.born →
+    index < cohort_size (layout_for lines).births lines.born → is_unbuilt lines.plan.schema ≡ false →
     held_in_cohort lines index place ≡ value_for values place ordinal
-held-own lines values place index ordinal values_are ordinal_is own within below =
+held-own lines values place index ordinal values_are ordinal_is own within below built =
     let generator : Generator = generator_of lines.plan in
+    let row : Row = row_at generator lines.table lines.unit (ordinal_of lines index) in
     let at : ℕ → RowAt = λ born. record { ordinal = ordinal_of lines index; born = born; changed = born } in
     let held : ℕ → Option (List ℕ) = λ born. own_field (layout_for lines).columns (at born) (λ column. generator.draw lines.table column born (ordinal_of lines index)) place in
     field-own generator lines.unit lines.table (ordinal_of lines index) place own
+    ∙ ap (λ (changed : ℕ). own_field (layout_for lines).columns (record { ordinal = ordinal_of lines index; born = row.born; changed = changed }) (draws_of generator lines.table row) place)
+    (row_at-still generator (All-IsStill-built lines.plan built) lines.table lines.unit (ordinal_of lines index))
     ∙ ap held (birth-first_ordinal (layout_for lines).births lines.unit lines.born index within below)
     ∙ ap (value_for (record { plan = lines.plan; table = lines.table; unit = lines.born }) place) (sym ordinal_is)
     ∙ ap (λ (of : ValuesOf). value_for of place ordinal) (sym values_are)
 
 pub text-own : (lines : LinesOf) (values : ValuesOf) (place index ordinal : ℕ) → values ≡ record { plan = lines.plan; table = lines.table; unit = lines.born } →
     ordinal ≡ ordinal_of lines index → is_own (column_at (layout_for lines).columns place).kind ≡ true → lines.born ≤ lines.unit →
-    index < cohort_size (layout_for lines).births lines.born →
+    index < cohort_size (layout_for lines).births lines.born → is_unbuilt lines.plan.schema ≡ false →
     text_in_cohort lines index place ≡ field_text (layout_of lines.plan).delimiter (value_for values place ordinal)
-text-own lines values place index ordinal values_are ordinal_is own within below =
-    ap (field_text (layout_of lines.plan).delimiter) (held-own lines values place index ordinal values_are ordinal_is own within below)
+text-own lines values place index ordinal values_are ordinal_is own within below built =
+    ap (field_text (layout_of lines.plan).delimiter) (held-own lines values place index ordinal values_are ordinal_is own within below built)
 
 -- a value that isn't null is written as its field, and a null one leaves nothing before it
 pub written-text : (delimiter : ℕ) (value : Option (List ℕ)) → Text ≡ put_of value → written delimiter value ≡ field_text delimiter value

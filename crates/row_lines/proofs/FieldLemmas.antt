@@ -23,10 +23,10 @@ unless_null-never null draw held never =
 -- its key
 pub field-key : (generator : Generator) (unit place ordinal column : ℕ) → (column_at (table_at generator.tables place).columns column).kind ≡ key_kind →
     (column_at (table_at generator.tables place).columns column).null ≡ 0 →
-    field generator unit place (row_at (table_at generator.tables place) unit ordinal) column ≡ Some (decimal (key_of generator place unit ordinal))
+    field generator unit place (row_at generator place unit ordinal) column ≡ Some (decimal (key_of generator place unit ordinal))
 unfolding key_of
 field-key generator unit place ordinal column is never =
-    let row : Row = row_at (table_at generator.tables place) unit ordinal in
+    let row : Row = row_at generator place unit ordinal in
     let of : ColumnLayout = column_at (table_at generator.tables place).columns column in
     unless_null-never of.null (draws_of generator place row column) (value generator place row column of.kind) never
     ∙ ap (value generator place row column) is
@@ -40,11 +40,11 @@ value-own generator place column row (case_kind on branches) own = refl
 value-own generator place column row _ own = cc
 
 pub field-own : (generator : Generator) (unit place ordinal column : ℕ) → is_own (column_at (table_at generator.tables place).columns column).kind ≡ true →
-    field generator unit place (row_at (table_at generator.tables place) unit ordinal) column
-    ≡ own_field (table_at generator.tables place).columns (at_row (row_at (table_at generator.tables place) unit ordinal))
-    (draws_of generator place (row_at (table_at generator.tables place) unit ordinal)) column
+    field generator unit place (row_at generator place unit ordinal) column
+    ≡ own_field (table_at generator.tables place).columns (at_row (row_at generator place unit ordinal))
+    (draws_of generator place (row_at generator place unit ordinal)) column
 field-own generator unit place ordinal column own =
-    let row : Row = row_at (table_at generator.tables place) unit ordinal in
+    let row : Row = row_at generator place unit ordinal in
     let of : ColumnLayout = column_at (table_at generator.tables place).columns column in
     ap (unless_null of.null (draws_of generator place row column)) (value-own generator place column row of.kind own)
 
@@ -71,36 +71,36 @@ part_text-cited generator unit place column row cited =
 
 -- the parts of a template
 pub field-template : (generator : Generator) (unit place ordinal column : ℕ) (parts : List PartLayout) → (column_at (table_at generator.tables place).columns column).kind ≡ template_kind parts →
-    field generator unit place (row_at (table_at generator.tables place) unit ordinal) column
-    ≡ unless_null (column_at (table_at generator.tables place).columns column).null (draws_of generator place (row_at (table_at generator.tables place) unit ordinal) column)
-    (Some (flat_map (part_text generator place (row_at (table_at generator.tables place) unit ordinal)) parts))
+    field generator unit place (row_at generator place unit ordinal) column
+    ≡ unless_null (column_at (table_at generator.tables place).columns column).null (draws_of generator place (row_at generator place unit ordinal) column)
+    (Some (flat_map (part_text generator place (row_at generator place unit ordinal)) parts))
 field-template generator unit place ordinal column parts is =
-    let row : Row = row_at (table_at generator.tables place) unit ordinal in
+    let row : Row = row_at generator place unit ordinal in
     ap (λ (kind : KindLayout). unless_null (column_at (table_at generator.tables place).columns column).null (draws_of generator place row column) (value generator place row column kind)) is
 
 -- its unit of birth
 pub field-born : (generator : Generator) (unit place ordinal column : ℕ) → (column_at (table_at generator.tables place).columns column).kind ≡ born_kind →
-    field generator unit place (row_at (table_at generator.tables place) unit ordinal) column
-    ≡ unless_null (column_at (table_at generator.tables place).columns column).null (draws_of generator place (row_at (table_at generator.tables place) unit ordinal) column)
-    (Some (decimal (row_at (table_at generator.tables place) unit ordinal).born))
+    field generator unit place (row_at generator place unit ordinal) column
+    ≡ unless_null (column_at (table_at generator.tables place).columns column).null (draws_of generator place (row_at generator place unit ordinal) column)
+    (Some (decimal (row_at generator place unit ordinal).born))
 field-born generator unit place ordinal column is =
-    let row : Row = row_at (table_at generator.tables place) unit ordinal in
+    let row : Row = row_at generator place unit ordinal in
     ap (λ (kind : KindLayout). unless_null (column_at (table_at generator.tables place).columns column).null (draws_of generator place row column) (value generator place row column kind)) is
 
 -- what is drawn for it
 pub field-drawn : (generator : Generator) (unit place ordinal column : ℕ) (leaf : LeafLayout) → (column_at (table_at generator.tables place).columns column).kind ≡ leaf_kind leaf →
-    field generator unit place (row_at (table_at generator.tables place) unit ordinal) column
-    ≡ unless_null (column_at (table_at generator.tables place).columns column).null (draws_of generator place (row_at (table_at generator.tables place) unit ordinal) column)
-    (leaf_value leaf (draws_of generator place (row_at (table_at generator.tables place) unit ordinal) column))
+    field generator unit place (row_at generator place unit ordinal) column
+    ≡ unless_null (column_at (table_at generator.tables place).columns column).null (draws_of generator place (row_at generator place unit ordinal) column)
+    (leaf_value leaf (draws_of generator place (row_at generator place unit ordinal) column))
 field-drawn generator unit place ordinal column leaf is =
-    let row : Row = row_at (table_at generator.tables place) unit ordinal in
+    let row : Row = row_at generator place unit ordinal in
     ap (λ (kind : KindLayout). unless_null (column_at (table_at generator.tables place).columns column).null (draws_of generator place row column) (value generator place row column kind)) is
 
 -- the key line is the key's field
 pub key_line-field : (generator : Generator) (last unit place ordinal : ℕ) → unit ≤ last → ordinal < born_count (table_at generator.tables place).births unit →
     (column_at (table_at generator.tables place).columns 0).kind ≡ key_kind → (column_at (table_at generator.tables place).columns 0).null ≡ 0 →
     key_line_of generator last place ordinal
-    ≡ field_text generator.delimiter (field generator unit place (row_at (table_at generator.tables place) unit ordinal) 0) ++ codes "\n"
+    ≡ field_text generator.delimiter (field generator unit place (row_at generator place unit ordinal) 0) ++ codes "\n"
 key_line-field generator last unit place ordinal within born is never =
     ap (λ (key : ℕ). field_text generator.delimiter (Some (decimal key)) ++ codes "\n") (key_of-by generator last unit place ordinal within born)
     ∙ ap (λ (held : _). field_text generator.delimiter held ++ codes "\n") (sym (field-key generator unit place ordinal 0 is never))

@@ -9,6 +9,7 @@ use Rattle.schema_check.specs.Layout.{TableLayout, table_at}
 use Rattle.life_intervals.specs.Generator.{Generator}
 use Rattle.life_intervals.specs.Intervals.{birth, is_live, living, row_at}
 use Rattle.life_intervals.specs.Keys.{key_in_cohort, key_of}
+use Rattle.life_intervals.specs.Sound.{AreSound}
 use Rattle.life_intervals.proofs.CohortLemmas.{LiesIn-birth, birth-only}
 use Rattle.life_intervals.proofs.Ranges.{flat_map-range_with_len_more, flat_map-range_with_len_front}
 use Rattle.life_intervals.proofs.SimulationLemmas.{ordinals_of, range-cohorts, rows_at-rows_of}
@@ -16,21 +17,22 @@ use Rattle.row_lines.specs.Lines.{cohort_text, first_lines, line, line_of, table
 use Rattle.row_lines.proofs.ListLemmas.{flat_map-filter_flat_map, flat_map-filter_range_front, flat_map-filter_range_more}
 
 -- the text of a table is the lines of the living
-pub table_text-living : (generator : Generator) (unit place : ℕ) →
-    table_text generator unit place ≡ flat_map (line_of generator unit place) (living (table_at generator.tables place) unit)
+pub table_text-living : (units : ℕ) (generator : Generator) (unit place : ℕ) → AreSound units generator.tables → unit ≤ units →
+    table_text generator unit place ≡ flat_map (line_of generator unit place) (living generator place unit)
 unfolding table_text
-table_text-living generator unit place =
-    ap (flat_map (line generator unit place)) (rows_at-rows_of generator place unit)
-    ∙ flat_map-map (line generator unit place) (row_at (table_at generator.tables place) unit) (living (table_at generator.tables place) unit)
+table_text-living units generator unit place sound within =
+    ap (flat_map (line generator unit place)) (rows_at-rows_of units generator place unit sound within)
+    ∙ flat_map-map (line generator unit place) (row_at generator place unit) (living generator place unit)
 
 -- the text of a table is that of its cohorts, one after the other
-pub table_text-text_before : (generator : Generator) (unit place : ℕ) → table_text generator unit place ≡ text_before generator unit place (unit + 1)
+pub table_text-text_before : (units : ℕ) (generator : Generator) (unit place : ℕ) → AreSound units generator.tables → unit ≤ units →
+    table_text generator unit place ≡ text_before generator unit place (unit + 1)
 unfolding text_before cohort_text first_lines
-table_text-text_before generator unit place =
+table_text-text_before units generator unit place sound within =
     let table : TableLayout = table_at generator.tables place in
-    table_text-living generator unit place
-    ∙ ap (λ (ordinals : List ℕ). flat_map (line_of generator unit place) (filter (is_live table unit) ordinals)) (range-cohorts table unit)
-    ∙ flat_map-filter_flat_map (line_of generator unit place) (is_live table unit) (ordinals_of table) (range_with_len 0 (unit + 1))
+    table_text-living units generator unit place sound within
+    ∙ ap (λ (ordinals : List ℕ). flat_map (line_of generator unit place) (filter (is_live generator place unit) ordinals)) (range-cohorts table unit)
+    ∙ flat_map-filter_flat_map (line_of generator unit place) (is_live generator place unit) (ordinals_of table) (range_with_len 0 (unit + 1))
 
 -- no cohort, and one more
 pub text_before-zero : (generator : Generator) (unit place : ℕ) → text_before generator unit place 0 ≡ []
@@ -45,7 +47,7 @@ text_before-add_one generator unit place born = flat_map-range_with_len_more (co
 -- the line of an ordinal where it is alive, and nothing where it isn't
 abbrev pub line_if_live : Generator → ℕ → ℕ → ℕ → List ℕ
 line_if_live generator unit place ordinal =
-    if is_live (table_at generator.tables place) unit ordinal then line_of generator unit place ordinal else []
+    if is_live generator place unit ordinal then line_of generator unit place ordinal else []
 
 -- no line of a cohort, one more, and all
 pub first_lines-zero : (generator : Generator) (unit place born : ℕ) → first_lines generator unit place born 0 ≡ []
@@ -58,11 +60,11 @@ pub first_lines-add_one : (generator : Generator) (unit place born count : ℕ) 
     ++ line_if_live generator unit place (first_ordinal (table_at generator.tables place).births born + count)
 unfolding first_lines
 first_lines-add_one generator unit place born count =
-    flat_map-filter_range_more (line_of generator unit place) (is_live (table_at generator.tables place) unit)
+    flat_map-filter_range_more (line_of generator unit place) (is_live generator place unit)
     (first_ordinal (table_at generator.tables place).births born) count
 
 pub first_lines-add_live : (generator : Generator) (unit place born count : ℕ) →
-    is_live (table_at generator.tables place) unit (first_ordinal (table_at generator.tables place).births born + count) ≡ true →
+    is_live generator place unit (first_ordinal (table_at generator.tables place).births born + count) ≡ true →
     first_lines generator unit place born (count + 1)
     ≡ first_lines generator unit place born count
     ++ line_of generator unit place (first_ordinal (table_at generator.tables place).births born + count)
@@ -80,19 +82,19 @@ first_lines-all generator unit place born count all = ap (first_lines generator 
 abbrev pub lines_after : Generator → ℕ → ℕ → ℕ → ℕ → List ℕ
 lines_after generator unit place born count =
     flat_map (line_of generator unit place)
-    (filter (is_live (table_at generator.tables place) unit)
+    (filter (is_live generator place unit)
     (range_with_len (first_ordinal (table_at generator.tables place).births born + count) (cohort_size (table_at generator.tables place).births born - count)))
 
 pub cohort_text-split : (generator : Generator) (unit place born count : ℕ) → count ≤ cohort_size (table_at generator.tables place).births born →
     cohort_text generator unit place born ≡ first_lines generator unit place born count ++ lines_after generator unit place born count
 unfolding cohort_text first_lines
 cohort_text-split generator unit place born count within =
-    flat_map-filter_range_front (line_of generator unit place) (is_live (table_at generator.tables place) unit)
+    flat_map-filter_range_front (line_of generator unit place) (is_live generator place unit)
     (first_ordinal (table_at generator.tables place).births born) count (cohort_size (table_at generator.tables place).births born) within
 
 -- the lines before an index, the index's own, and the rest
 pub cohort_text-at : (generator : Generator) (unit place born index : ℕ) → index < cohort_size (table_at generator.tables place).births born →
-    is_live (table_at generator.tables place) unit (first_ordinal (table_at generator.tables place).births born + index) ≡ true →
+    is_live generator place unit (first_ordinal (table_at generator.tables place).births born + index) ≡ true →
     cohort_text generator unit place born
     ≡ first_lines generator unit place born index
     ++ (line_of generator unit place (first_ordinal (table_at generator.tables place).births born + index) ++ lines_after generator unit place born (index + 1))
@@ -114,25 +116,25 @@ text_before-prefix generator unit place born within =
     flat_map-range_with_len_front (cohort_text generator unit place) (born + 1) (unit + 1) (omega arith)
 
 -- a table's text: the cohorts before one, its own text, and the rest
-pub table_text-at : (generator : Generator) (unit place born : ℕ) → born ≤ unit →
+pub table_text-at : (units : ℕ) (generator : Generator) (unit place born : ℕ) → AreSound units generator.tables → unit ≤ units → born ≤ unit →
     table_text generator unit place
     ≡ text_before generator unit place born ++ (cohort_text generator unit place born ++ cohorts_after generator unit place born)
-table_text-at generator unit place born within =
-    table_text-text_before generator unit place
+table_text-at units generator unit place born sound in_units within =
+    table_text-text_before units generator unit place sound in_units
     ∙ text_before-prefix generator unit place born within
     ∙ ap (λ (text : List ℕ). text ++ cohorts_after generator unit place born) (text_before-add_one generator unit place born)
     ∙ append_assoc (text_before generator unit place born) (cohort_text generator unit place born) (cohorts_after generator unit place born)
 
 -- the text of the cohorts before one, and of its first lines, begins the table's text
-pub table_text-front : (generator : Generator) (unit place born count : ℕ) → born ≤ unit → count ≤ cohort_size (table_at generator.tables place).births born →
+pub table_text-front : (units : ℕ) (generator : Generator) (unit place born count : ℕ) → AreSound units generator.tables → unit ≤ units → born ≤ unit → count ≤ cohort_size (table_at generator.tables place).births born →
     (rest : List ℕ) × (table_text generator unit place ≡ (text_before generator unit place born ++ first_lines generator unit place born count) ++ rest)
-table_text-front generator unit place born count in_units in_cohort =
+table_text-front units generator unit place born count sound within in_units in_cohort =
     let before : List ℕ = text_before generator unit place born in
     let first : List ℕ = first_lines generator unit place born count in
     let after : List ℕ = lines_after generator unit place born count in
     let later : List ℕ = cohorts_after generator unit place born in (
       after ++ later,
-      table_text-at generator unit place born in_units
+      table_text-at units generator unit place born sound within in_units
           ∙ ap (λ (text : List ℕ). before ++ (text ++ later)) (cohort_text-split generator unit place born count in_cohort)
           ∙ ap (λ (text : List ℕ). before ++ text) (append_assoc first after later)
           ∙ sym (append_assoc before first (after ++ later)),

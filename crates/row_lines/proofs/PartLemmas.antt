@@ -14,6 +14,7 @@ use Rattle.schema_check.specs.FieldBounds.{bounds_alone, bounds_of, bounds_of_pa
 use Rattle.schema_check.specs.Layout.{KindLayout, PartLayout, TableLayout, born_kind, changed_kind, cited_part, column_at, key_kind, layout_of, leaf_kind, literal_part, reference_kind, template_kind}
 use Rattle.schema_check.specs.Limits.{AreParts, IsKindInLimits, IsPart, is_cited}
 use Rattle.schema_check.specs.Ready.{is_served_kind, ready_kind, ready_part}
+use Rattle.schema_check.specs.Unbuilt.{is_unbuilt}
 use Rattle.draw_values.specs.CohortValues.{ValuesOf, is_null_for, value_for}
 use Rattle.draw_values.specs.Values.{is_null, is_own, written}
 use Rattle.life_intervals.specs.Generator.{Generator, generator_of}
@@ -60,7 +61,7 @@ size_for-cited lines column citable =
 -- and it holds what its own field holds
 cited_for-held : (lines : LinesOf) (index column : ℕ) → IsCitable lines column → cited_for lines index column ≡ held_in_cohort lines index column
 cited_for-held lines index column citable =
-    sym (field-cited (generator_of lines.plan) lines.unit lines.table column (row_at (layout_for lines) lines.unit (ordinal_of lines index)) citable.cited)
+    sym (field-cited (generator_of lines.plan) lines.unit lines.table column (row_at (generator_of lines.plan) lines.table lines.unit (ordinal_of lines index)) citable.cited)
 
 pub cited_text-key : (lines : LinesOf) (place index key : ℕ) → IsCitable lines place → (column_at (layout_for lines).columns place).kind ≡ key_kind →
     (column_at (layout_for lines).columns place).null ≡ 0 → lines.born ≤ lines.unit →
@@ -72,10 +73,10 @@ cited_text-key lines place index key citable is never within below key_is small 
 
 pub cited_for-own : (lines : LinesOf) (values : ValuesOf) (place index ordinal : ℕ) → IsCitable lines place → values ≡ record { plan = lines.plan; table = lines.table; unit = lines.born } →
     ordinal ≡ ordinal_of lines index → is_own (column_at (layout_for lines).columns place).kind ≡ true → lines.born ≤ lines.unit →
-    index < cohort_size (layout_for lines).births lines.born →
+    index < cohort_size (layout_for lines).births lines.born → is_unbuilt lines.plan.schema ≡ false →
     cited_for lines index place ≡ value_for values place ordinal
-cited_for-own lines values place index ordinal citable values_are ordinal_is own within below =
-    cited_for-held lines index place citable ∙ held-own lines values place index ordinal values_are ordinal_is own within below
+cited_for-own lines values place index ordinal citable values_are ordinal_is own within below built =
+    cited_for-held lines index place citable ∙ held-own lines values place index ordinal values_are ordinal_is own within below built
 
 -- what is written for it is no longer than its field
 pub length-written : (delimiter : ℕ) (value : Option (List ℕ)) → length (written delimiter value) ≤ length (field_text delimiter value)
@@ -100,15 +101,15 @@ written-unwrap_or delimiter (Some text) = refl
 -- a part is written as it is kept
 part-written : (lines : LinesOf) (index : ℕ) (part : PartLayout) →
     written_part lines index (ready_part (layout_of lines.plan).delimiter part)
-    ≡ piece_text (layout_of lines.plan).delimiter (part_text (generator_of lines.plan) lines.table (row_at (layout_for lines) lines.unit (ordinal_of lines index)) part)
+    ≡ piece_text (layout_of lines.plan).delimiter (part_text (generator_of lines.plan) lines.table (row_at (generator_of lines.plan) lines.table lines.unit (ordinal_of lines index)) part)
 part-written lines index (literal_part bytes) = refl
 part-written lines index (cited_part column) = written-unwrap_or (layout_of lines.plan).delimiter (cited_for lines index column)
 
 parts-written : (lines : LinesOf) (index : ℕ) (parts : List PartLayout) →
-    piece_text (layout_of lines.plan).delimiter (flat_map (part_text (generator_of lines.plan) lines.table (row_at (layout_for lines) lines.unit (ordinal_of lines index))) parts)
+    piece_text (layout_of lines.plan).delimiter (flat_map (part_text (generator_of lines.plan) lines.table (row_at (generator_of lines.plan) lines.table lines.unit (ordinal_of lines index))) parts)
     ≡ flat_map (written_part lines index) (map (ready_part (layout_of lines.plan).delimiter) parts)
 parts-written lines index parts =
-    piece_text-parts (generator_of lines.plan) lines.table (row_at (layout_for lines) lines.unit (ordinal_of lines index)) parts
+    piece_text-parts (generator_of lines.plan) lines.table (row_at (generator_of lines.plan) lines.table lines.unit (ordinal_of lines index)) parts
     ∙ ap (λ (write : PartLayout → List ℕ). flat_map write parts) (sym (fun_ext (part-written lines index)))
     ∙ sym (flat_map-map (written_part lines index) (ready_part (layout_of lines.plan).delimiter) parts)
 
@@ -178,7 +179,7 @@ size-template lines column ready template =
 null-template : (lines : LinesOf) (values : ValuesOf) (column index ordinal : ℕ) → values ≡ record { plan = lines.plan; table = lines.table; unit = lines.born } →
     ordinal ≡ ordinal_of lines index → lines.born ≤ lines.unit → index < cohort_size (layout_for lines).births lines.born →
     is_null (column_at (layout_for lines).columns column).null
-    (draws_of (generator_of lines.plan) lines.table (row_at (layout_for lines) lines.unit (ordinal_of lines index)) column)
+    (draws_of (generator_of lines.plan) lines.table (row_at (generator_of lines.plan) lines.table lines.unit (ordinal_of lines index)) column)
     ≡ is_null_for values column ordinal
 null-template lines values column index ordinal values_are ordinal_is within below =
     ap (λ (born : ℕ). is_null (column_at (layout_for lines).columns column).null ((generator_of lines.plan).draw lines.table column born (ordinal_of lines index)))
@@ -194,7 +195,7 @@ pub text-template : (lines : LinesOf) (values : ValuesOf) (column index ordinal 
 text-template lines values column index ordinal ready null template values_are ordinal_is within below null_is =
     let generator : Generator = generator_of lines.plan in
     let d : ℕ = (layout_of lines.plan).delimiter in
-    let row : Row = row_at (layout_for lines) lines.unit (ordinal_of lines index) in
+    let row : Row = row_at (generator_of lines.plan) lines.table lines.unit (ordinal_of lines index) in
     let text : List ℕ = flat_map (part_text generator lines.table row) template.parts in
     ap (field_text d) (field-template generator lines.unit lines.table (ordinal_of lines index) column template.parts template.is)
     ∙ ap (λ (null : Bool). field_text d (if null then None else Some text)) (null-template lines values column index ordinal values_are ordinal_is within below ∙ null_is)

@@ -1,5 +1,5 @@
 -- The lines of one cohort, and what the code keeps of them.
-use Rattle.std.specs.Prelude.{◌≡◌, ◌≤◌, ℕ, ◌+◌, List, All, true}
+use Rattle.std.specs.Prelude.{◌≡◌, ◌≤◌, ℕ, ◌+◌, List, All, false, true}
 use Rattle.row_text.specs.Fields.{field_text}
 use Rattle.schema_check.specs.Cohorts.{first_ordinal}
 use Rattle.schema_check.specs.FieldBounds.{bounds_of}
@@ -8,6 +8,7 @@ use Rattle.schema_check.specs.Limits.{IsTableInLimits}
 use Rattle.schema_check.specs.Dictionaries.{Project}
 use Rattle.schema_check.specs.declared.ready.ReadyColumn.{ReadyColumn}
 use Rattle.schema_check.specs.Ready.{ready_columns, is_served}
+use Rattle.schema_check.specs.Unbuilt.{is_unbuilt}
 use Rattle.draw_values.specs.CohortValues.{ValuesOf}
 use Rattle.life_intervals.specs.CohortKeys.{CohortOf}
 use Rattle.life_intervals.specs.Generator.{generator_of, last_unit, table_of}
@@ -43,7 +44,7 @@ line_in_cohort lines index =
 abbrev pub text_in_cohort : LinesOf → ℕ → ℕ → List ℕ
 text_in_cohort lines index column =
     field_text (layout_of lines.plan).delimiter
-    (field (generator_of lines.plan) lines.unit lines.table (row_at (layout_for lines) lines.unit (ordinal_of lines index)) column)
+    (field (generator_of lines.plan) lines.unit lines.table (row_at (generator_of lines.plan) lines.table lines.unit (ordinal_of lines index)) column)
 
 -- the keys and the values are the cohort's, and what is kept beside is what the schema says
 pub record AreLinesOf (lines : LinesOf) (keys : CohortOf) (values : ValuesOf) (columns : List ReadyColumn) (first byte : ℕ) : Type 0 where
@@ -56,6 +57,7 @@ pub record AreLinesOf (lines : LinesOf) (keys : CohortOf) (values : ValuesOf) (c
   pub delimiter : byte ≡ (layout_of lines.plan).delimiter
   pub born : lines.born ≤ lines.unit
   pub unit : lines.unit ≤ last_unit lines.plan
+  pub built : is_unbuilt lines.plan.schema ≡ false
 
 -- what the field of the column at a place takes at most, in bytes
 abbrev pub size_for : LinesOf → ℕ → ℕ

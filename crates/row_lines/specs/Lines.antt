@@ -67,7 +67,7 @@ line generator unit place row = join_with_byte generator.delimiter (field_texts 
 -- the line at a unit of the row with an ordinal in the table at a place of the schema
 abbrev pub line_of : Generator → ℕ → ℕ → ℕ → List ℕ
 line_of generator unit place ordinal =
-    line generator unit place (row_at (table_at generator.tables place) unit ordinal)
+    line generator unit place (row_at generator place unit ordinal)
 
 -- the key line of the row with an ordinal that is born by a last unit: its key as it is written, then a line feed
 abbrev pub key_line_of : Generator → ℕ → ℕ → ℕ → List ℕ
@@ -82,7 +82,7 @@ table_text generator unit place = flat_map (line generator unit place) (rows_at 
 unfoldable pub first_lines : Generator → ℕ → ℕ → ℕ → ℕ → List ℕ
 first_lines generator unit place born count =
     flat_map (line_of generator unit place)
-    (filter (is_live (table_at generator.tables place) unit)
+    (filter (is_live generator place unit)
     (range_with_len (first_ordinal (table_at generator.tables place).births born) count))
 
 -- the lines at a unit of the living of a cohort

@@ -14,7 +14,7 @@ use Rattle.row_lines.specs.Lines.{field_alone}
 -- what the row with an index in the cohort holds in the column at a place, which may be cited
 abbrev pub cited_for : LinesOf → ℕ → ℕ → Option (List ℕ)
 cited_for lines index column =
-    field_alone (generator_of lines.plan) lines.table (row_at (layout_for lines) lines.unit (ordinal_of lines index)) column
+    field_alone (generator_of lines.plan) lines.table (row_at (generator_of lines.plan) lines.table lines.unit (ordinal_of lines index)) column
 
 -- what is written for it: nothing where it is null
 abbrev pub cited_text : LinesOf → ℕ → ℕ → List ℕ

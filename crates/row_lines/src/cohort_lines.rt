@@ -9,7 +9,7 @@ ghost use Rattle.schema_check.specs.Lineage.{one_if};
 ghost use Rattle.schema_check.specs.Ready.{ready_kind};
 ghost use Rattle.schema_check.specs.TableFacts.{line_cost, max_line};
 ghost use Rattle.draw_values.specs.Values.{is_own};
-ghost use Rattle.life_intervals.specs.Generator.{last_unit};
+ghost use Rattle.life_intervals.specs.Generator.{generator_of, last_unit};
 ghost use Rattle.life_intervals.specs.Intervals.{is_live};
 ghost use Rattle.life_intervals.specs.KeyOrders.{key_order};
 ghost use Rattle.row_lines.specs.CohortLines.{key_for, layout_for, line_in_cohort, ordinal_of, size_for, text_in_cohort};
@@ -117,7 +117,7 @@ impl<'a> CohortLines<'a> {
     #[inline]
     pub fn put_line<L: Ledger>(&self, index: u64, buf: &mut PageBuf, steps: &mut Steps<L>)
         requires row { index < cohort_size (layout_for self.now).births self.now.born }
-        requires alive { is_live (layout_for self.now) self.now.unit (ordinal_of self.now index) ≡ true }
+        requires alive { is_live (generator_of self.now.plan) self.now.table self.now.unit (ordinal_of self.now index) ≡ true }
         requires room { length buf.old.text + max_line (layout_of self.now.plan) self.now.table ≤ buf.old.room }
         ensures line { buf.new ≡ record buf.old { text = buf.old.text ++ line_in_cohort self.now index } }
         ensures size { length (line_in_cohort self.now index) ≤ max_line (layout_of self.now.plan) self.now.table }
@@ -131,7 +131,7 @@ impl<'a> CohortLines<'a> {
     #[inline]
     pub fn put_keyed_line(&self, index: u64, key: u64, buf: &mut PageBuf)
         requires row { index < cohort_size (layout_for self.now).births self.now.born }
-        requires alive { is_live (layout_for self.now) self.now.unit (ordinal_of self.now index) ≡ true }
+        requires alive { is_live (generator_of self.now.plan) self.now.table self.now.unit (ordinal_of self.now index) ≡ true }
         requires key { key ≡ key_for self.now index }
         requires room { length buf.old.text + max_line (layout_of self.now.plan) self.now.table ≤ buf.old.room }
         ensures line { buf.new ≡ record buf.old { text = buf.old.text ++ line_in_cohort self.now index } }

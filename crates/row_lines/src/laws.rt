@@ -1,5 +1,7 @@
 //! The laws of lines and texts, each the contract of a function that does nothing.
 //!
+//! Texts are those of tables that are sound up to the unit (`life_intervals::laws`).
+//!
 //! A table is named by its place in the schema from 0. Units and ordinals count from 0, and so do the indices of a
 //! cohort's rows.
 
@@ -13,14 +15,15 @@ ghost use Rattle.life_intervals.specs.Generator.{Generator};
 ghost use Rattle.life_intervals.specs.Intervals.{is_live, living, row_at};
 ghost use Rattle.life_intervals.specs.Keys.{key_of};
 ghost use Rattle.life_intervals.specs.Rows.{Row};
+ghost use Rattle.life_intervals.specs.Sound.{AreSound};
 ghost use Rattle.row_lines.specs.Lines.{cohort_text, field, first_lines, key_line_of, line_of, part_text, table_text, text_before};
 ghost use Rattle.row_lines.specs.Worked.{labels, one, pairs};
 
 /// The text of a table at a unit is the lines of the ordinals that are born by then and alive.
 pub fn text_is_the_lines_of_the_living()
-    ensures { (generator : Generator) (unit place : ℕ) →
+    ensures { (units : ℕ) (generator : Generator) (unit place : ℕ) → AreSound units generator.tables → unit ≤ units →
         table_text generator unit place
-        ≡ flat_map (line_of generator unit place) (living (table_at generator.tables place) unit) }
+        ≡ flat_map (line_of generator unit place) (living generator place unit) }
 {}
 
 /// The text of a table at a unit is that of its cohorts up to the unit's own, one after the other, as a loop over the units
@@ -30,7 +33,7 @@ pub fn text_is_the_cohorts_texts()
     ensures next { (generator : Generator) (unit place born : ℕ) →
         text_before generator unit place (born + 1)
         ≡ text_before generator unit place born ++ cohort_text generator unit place born }
-    ensures all { (generator : Generator) (unit place : ℕ) →
+    ensures all { (units : ℕ) (generator : Generator) (unit place : ℕ) → AreSound units generator.tables → unit ≤ units →
         table_text generator unit place ≡ text_before generator unit place (unit + 1) }
 {}
 
@@ -40,7 +43,7 @@ pub fn cohort_text_grows_by_the_living()
     ensures next { (generator : Generator) (unit place born count : ℕ) →
         first_lines generator unit place born (count + 1)
         ≡ first_lines generator unit place born count
-        ++ (if is_live (table_at generator.tables place) unit (first_ordinal (table_at generator.tables place).births born + count)
+        ++ (if is_live generator place unit (first_ordinal (table_at generator.tables place).births born + count)
         then line_of generator unit place (first_ordinal (table_at generator.tables place).births born + count) else []) }
     ensures all { (generator : Generator) (unit place born : ℕ) →
         first_lines generator unit place born (cohort_size (table_at generator.tables place).births born)
@@ -50,8 +53,8 @@ pub fn cohort_text_grows_by_the_living()
 /// What a loop over units of birth and rows has made so far begins the text of the table: the text of the cohorts before
 /// one, and the lines of its first rows.
 pub fn text_so_far_begins_the_text()
-    ensures { (generator : Generator) (unit place born count : ℕ) →
-        born ≤ unit → count ≤ cohort_size (table_at generator.tables place).births born →
+    ensures { (units : ℕ) (generator : Generator) (unit place born count : ℕ) → AreSound units generator.tables →
+        unit ≤ units → born ≤ unit → count ≤ cohort_size (table_at generator.tables place).births born →
         (rest : List ℕ) × (table_text generator unit place
         ≡ (text_before generator unit place born ++ first_lines generator unit place born count) ++ rest) }
 {}
@@ -63,26 +66,26 @@ pub fn fields_of_a_row()
     ensures key { (generator : Generator) (unit place ordinal column : ℕ) →
         (column_at (table_at generator.tables place).columns column).kind ≡ key_kind →
         (column_at (table_at generator.tables place).columns column).null ≡ 0 →
-        field generator unit place (row_at (table_at generator.tables place) unit ordinal) column
+        field generator unit place (row_at generator place unit ordinal) column
         ≡ Some (decimal (key_of generator place unit ordinal)) }
     ensures born { (generator : Generator) (unit place ordinal column : ℕ) →
         (column_at (table_at generator.tables place).columns column).kind ≡ born_kind →
-        field generator unit place (row_at (table_at generator.tables place) unit ordinal) column
+        field generator unit place (row_at generator place unit ordinal) column
         ≡ unless_null (column_at (table_at generator.tables place).columns column).null
-        (generator.draw place column (row_at (table_at generator.tables place) unit ordinal).born ordinal)
-        (Some (decimal (row_at (table_at generator.tables place) unit ordinal).born)) }
+        (generator.draw place column (row_at generator place unit ordinal).born ordinal)
+        (Some (decimal (row_at generator place unit ordinal).born)) }
     ensures drawn { (generator : Generator) (unit place ordinal column : ℕ) (leaf : LeafLayout) →
         (column_at (table_at generator.tables place).columns column).kind ≡ leaf_kind leaf →
-        field generator unit place (row_at (table_at generator.tables place) unit ordinal) column
+        field generator unit place (row_at generator place unit ordinal) column
         ≡ unless_null (column_at (table_at generator.tables place).columns column).null
-        (generator.draw place column (row_at (table_at generator.tables place) unit ordinal).born ordinal)
-        (leaf_value leaf (generator.draw place column (row_at (table_at generator.tables place) unit ordinal).born ordinal)) }
+        (generator.draw place column (row_at generator place unit ordinal).born ordinal)
+        (leaf_value leaf (generator.draw place column (row_at generator place unit ordinal).born ordinal)) }
     ensures template { (generator : Generator) (unit place ordinal column : ℕ) (parts : List PartLayout) →
         (column_at (table_at generator.tables place).columns column).kind ≡ template_kind parts →
-        field generator unit place (row_at (table_at generator.tables place) unit ordinal) column
+        field generator unit place (row_at generator place unit ordinal) column
         ≡ unless_null (column_at (table_at generator.tables place).columns column).null
-        (generator.draw place column (row_at (table_at generator.tables place) unit ordinal).born ordinal)
-        (Some (flat_map (part_text generator place (row_at (table_at generator.tables place) unit ordinal)) parts)) }
+        (generator.draw place column (row_at generator place unit ordinal).born ordinal)
+        (Some (flat_map (part_text generator place (row_at generator place unit ordinal)) parts)) }
     ensures text { (generator : Generator) (place : ℕ) (row : Row) (bytes : List ℕ) →
         part_text generator place row (literal_part bytes) ≡ bytes }
     ensures cited { (generator : Generator) (unit place column : ℕ) (row : Row) →
@@ -105,7 +108,7 @@ pub fn key_line_is_the_key_field()
         (column_at (table_at generator.tables place).columns 0).null ≡ 0 →
         key_line_of generator last place ordinal
         ≡ field_text generator.delimiter
-        (field generator unit place (row_at (table_at generator.tables place) unit ordinal) 0) ++ codes "\n" }
+        (field generator unit place (row_at generator place unit ordinal) 0) ++ codes "\n" }
 {}
 
 /// Texts worked out by hand: a row at each unit; scrambled keys in cohorts of two, none at unit 0;

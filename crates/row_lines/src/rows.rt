@@ -29,7 +29,7 @@ pub fn put_line<L: Ledger>(
     requires table { table < length plan.now.schema.tables }
     requires unit { t ≤ last_unit plan.now }
     requires born { j < born_count (table_of plan.now table).births t }
-    requires alive { is_live (table_of plan.now table) t j ≡ true }
+    requires alive { is_live (generator_of plan.now) table t j ≡ true }
     requires room { length buf.old.text + max_line (layout_of plan.now) table ≤ buf.old.room }
     ensures line { buf.new ≡ record buf.old { text = buf.old.text ++ line_of (generator_of plan.now) t table j } }
     ensures size { length (line_of (generator_of plan.now) t table j) ≤ max_line (layout_of plan.now) table }

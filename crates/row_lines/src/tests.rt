@@ -97,6 +97,7 @@ fn assert_lines<L: Ledger>(
     requires some { 0 < blank.parts }
 {
     let mut steps = Steps::<L>::new(blank);
+    let _built = plan.schema(); // no row of it dies yet
     assert!(rt; plan.tables() == 1);
     for (row, line, key_line) in lines {
         assert!(rt; *row < born(plan, 0, plan.units()));
@@ -236,6 +237,7 @@ fn cohort_checksum<L: Ledger>(
     requires born { born ≤ last_unit plan.now }
 {
     let mut sum = so_far;
+    let _built = plan.schema(); // no row of it dies yet
     let order = key_order(plan, 0, born);
     let lines = CohortLines::new(plan, 0, born, plan.units(), &order);
     let room = plan.max_line(0) as usize;

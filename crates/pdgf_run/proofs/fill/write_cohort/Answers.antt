@@ -7,8 +7,10 @@ use Rattle.id_permutation.specs.Order.{Arrangement}
 use Rattle.schema_check.specs.Cohorts.{cohort_size}
 use Rattle.life_intervals.specs.Generator.{generator_of, table_of, Generator}
 use Rattle.life_intervals.specs.KeyOrders.{key_order}
+use Rattle.life_intervals.proofs.StillLemmas.{is_live-built}
 use Rattle.row_lines.proofs.LineLemmas.{cohort_text-at, first_lines-add_live, first_lines-all, first_lines-zero}
-use Rattle.row_lines.specs.CohortLines.{LinesOf, line_in_cohort}
+use Rattle.life_intervals.specs.Intervals.{is_live}
+use Rattle.row_lines.specs.CohortLines.{LinesOf, line_in_cohort, ordinal_of}
 use Rattle.row_lines.specs.Lines.{first_lines}
 use Rattle.pdgf_run.proofs.FillLemmas.{appended_then}
 use Rattle.pdgf_run.proofs.fill.write_cohort.Goals as goal
@@ -47,7 +49,7 @@ loop-index-preserved g c =
       lines =
           appended_then (first_lines generator c.args.unit c.args.table.now.place c.args.born index)
           (line_in_cohort (record { plan = c.args.plan.now; table = c.args.table.now.place; born = c.args.born; unit = c.args.unit }) index) _ _ _ _
-          (first_lines-add_live generator c.args.unit c.args.table.now.place c.args.born index refl) c.loop-index.invariant.lines
+          (first_lines-add_live generator c.args.unit c.args.table.now.place c.args.born index (is_live-built c.args.plan.now.schema c.schema-built.ensures.built c.args.table.now.place c.args.unit _)) c.loop-index.invariant.lines
           (c.in-Ok.ensures.line ∙ ap (λ (lines : LinesOf). option_map (append_bytes (line_in_cohort lines index)) (g.S.Shelf.held c.loop-index.shelf)) c.new-lines.ensures)
           ∙ ap (λ (count : ℕ). option_map (append_bytes (first_lines generator c.args.unit c.args.table.now.place c.args.born count)) (g.S.Shelf.held c.args.shelf.now)) next;
       begun = c.in-Ok.ensures.begun;
@@ -60,7 +62,7 @@ returns-in-Err-clause-lines g c =
     let index : ℕ = c.loop-first.first + c.loop-index.index in
     let below : index < cohort_size (table_of c.args.plan.now.schema c.args.table.now.place).births c.args.born =
     omega (arith, c.cohort-size.ensures.size, c.min-count.ensures, c.loop-first-test.true, c.loop-index.auto.index-end, c.loop-index-test.true) in
-    prefix_after _ _ _ _ _ _ _ (cohort_text-at (generator_of c.args.plan.now.schema) c.args.unit c.args.table.now.place c.args.born index below refl)
+    prefix_after _ _ _ _ _ _ _ (cohort_text-at (generator_of c.args.plan.now.schema) c.args.unit c.args.table.now.place c.args.born index below (is_live-built c.args.plan.now.schema c.schema-built.ensures.built c.args.table.now.place c.args.unit _))
     c.loop-index.invariant.lines
     (subst (λ (lines : LinesOf). AppendedPrefixOf (line_in_cohort lines index) (g.S.Shelf.held c.loop-index.shelf) (g.S.Shelf.held c.write_line.new.shelf)) c.new-lines.ensures c.in-Err.ensures.line)
 
@@ -71,3 +73,9 @@ returns-clause-lines g c =
     c.loop-first.invariant.lines
     ∙ ap (λ (text : List ℕ). option_map (append_bytes text) (g.S.Shelf.held c.args.shelf.now))
     (first_lines-all (generator_of c.args.plan.now.schema) c.args.unit c.args.table.now.place c.args.born c.loop-first.first all)
+
+pub write_line-requires-clause-alive : goal.write_line-requires-clause-alive
+write_line-requires-clause-alive g c =
+    let index : ℕ = c.loop-first.first + c.loop-index.index in
+    ap (λ (lines : LinesOf). is_live (generator_of lines.plan.schema) lines.table lines.unit (ordinal_of lines index)) c.new-lines.ensures
+    ∙ is_live-built c.args.plan.now.schema c.schema-built.ensures.built c.args.table.now.place c.args.unit _

@@ -14,4 +14,5 @@ invariant_of-result c = record {
   delimiter = c.delimiter_byte.ensures ∙ ap (λ (schema : Schema). delimiter_byte schema.delimiter) c.schema.ensures.value;
   born = c.requires.born;
   unit = c.requires.unit;
+  built = c.schema.ensures.built;
 }

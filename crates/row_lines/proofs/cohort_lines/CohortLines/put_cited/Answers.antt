@@ -91,7 +91,7 @@ held_is : (c : After-index-columns-column) → (c.index-columns-column.result.ki
     cited_for c.args.self.now c.args.index c.args.column ≡ value_for c.self.inside.values c.args.column (c.self.inside.first + c.args.index)
 held_is c no_key =
     cited_for-own c.args.self.now c.self.inside.values c.args.column c.args.index (c.self.inside.first + c.args.index) c.requires.column (known c).values_are
-    (ap (λ (first : ℕ). first + c.args.index) (known c).first_is) (is_own_column c no_key) (known c).born c.requires.row
+    (ap (λ (first : ℕ). first + c.args.index) (known c).first_is) (is_own_column c no_key) (known c).born c.requires.row (known c).built
 
 text_is_own : (c : After-index-columns-column) → (c.index-columns-column.result.kind ≡ Key → ⊥) →
     cited_text c.args.self.now c.args.index c.args.column

@@ -24,7 +24,7 @@ text_is_own c =
     let known = AreLinesOf-view _ lines c.self.inside.keys c.self.inside.values c.self.inside.columns.now c.self.inside.first c.self.inside.delimiter c.self.view_is c.self.invariant in
     let value = value_for c.self.inside.values c.args.column (c.self.inside.first + c.args.index) in
     text-own lines c.self.inside.values c.args.column c.args.index (c.self.inside.first + c.args.index) known.values_are
-    (ap (λ (first : ℕ). first + c.args.index) known.first_is) c.requires.own known.born c.requires.row
+    (ap (λ (first : ℕ). first + c.args.index) known.first_is) c.requires.own known.born c.requires.row known.built
     ∙ sym (ap (λ (of : ValuesOf). written (layout_of of.plan).delimiter value) known.values_are
     ∙ written-text (layout_of lines.plan).delimiter value (sym c.in-Text.is ∙ c.put.ensures.put))
 
@@ -39,7 +39,7 @@ returns-in-Text-clause-size c =
     let known = AreLinesOf-view _ lines c.self.inside.keys c.self.inside.values c.self.inside.columns.now c.self.inside.first c.self.inside.delimiter c.self.view_is c.self.invariant in
     let ordinal : ℕ = c.self.inside.first + c.args.index in
     let value = value_for c.self.inside.values c.args.column ordinal in
-    let is = text-own lines c.self.inside.values c.args.column c.args.index ordinal known.values_are (ap (λ (first : ℕ). first + c.args.index) known.first_is) c.requires.own known.born c.requires.row in
+    let is = text-own lines c.self.inside.values c.args.column c.args.index ordinal known.values_are (ap (λ (first : ℕ). first + c.args.index) known.first_is) c.requires.own known.born c.requires.row known.built in
     let size : length (field_text (layout_of lines.plan).delimiter value) ≤ size_for (record { plan = lines.plan; table = lines.table; unit = lines.born }) c.args.column =
     subst (λ (of : ValuesOf). length (field_text (layout_of of.plan).delimiter value) ≤ size_for of c.args.column) known.values_are c.put.ensures.size in
     subst (λ (text : List ℕ). length text ≤ size_for (record { plan = lines.plan; table = lines.table; unit = lines.born }) c.args.column) (sym is) size
@@ -50,7 +50,7 @@ text_is_null c =
     let lines : LinesOf = c.args.self.now in
     let known = AreLinesOf-view _ lines c.self.inside.keys c.self.inside.values c.self.inside.columns.now c.self.inside.first c.self.inside.delimiter c.self.view_is c.self.invariant in
     let ordinal : ℕ = c.self.inside.first + c.args.index in
-    text-own lines c.self.inside.values c.args.column c.args.index ordinal known.values_are (ap (λ (first : ℕ). first + c.args.index) known.first_is) c.requires.own known.born c.requires.row
+    text-own lines c.self.inside.values c.args.column c.args.index ordinal known.values_are (ap (λ (first : ℕ). first + c.args.index) known.first_is) c.requires.own known.born c.requires.row known.built
     ∙ field_text-null (layout_of lines.plan).delimiter (value_for c.self.inside.values c.args.column ordinal) (sym c.in-Null.is ∙ c.put.ensures.put)
 
 pub returns-in-Null-clause-text : goal.returns-in-Null-clause-text
@@ -71,7 +71,7 @@ returns-in-Null-clause-size c =
     let known = AreLinesOf-view _ lines c.self.inside.keys c.self.inside.values c.self.inside.columns.now c.self.inside.first c.self.inside.delimiter c.self.view_is c.self.invariant in
     let ordinal : ℕ = c.self.inside.first + c.args.index in
     let value = value_for c.self.inside.values c.args.column ordinal in
-    let is = text-own lines c.self.inside.values c.args.column c.args.index ordinal known.values_are (ap (λ (first : ℕ). first + c.args.index) known.first_is) c.requires.own known.born c.requires.row in
+    let is = text-own lines c.self.inside.values c.args.column c.args.index ordinal known.values_are (ap (λ (first : ℕ). first + c.args.index) known.first_is) c.requires.own known.born c.requires.row known.built in
     let size : length (field_text (layout_of lines.plan).delimiter value) ≤ size_for (record { plan = lines.plan; table = lines.table; unit = lines.born }) c.args.column =
     subst (λ (of : ValuesOf). length (field_text (layout_of of.plan).delimiter value) ≤ size_for of c.args.column) known.values_are c.put.ensures.size in
     subst (λ (text : List ℕ). length text ≤ size_for (record { plan = lines.plan; table = lines.table; unit = lines.born }) c.args.column) (sym is) size

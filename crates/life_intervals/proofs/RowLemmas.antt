@@ -1,0 +1,193 @@
+-- A row through the deletions, the updates and the insertions of a unit.
+use Rattle.std.proofs.Common.{◌≡◌, ℕ, suc, ◌+◌, ◌-◌, ◌<◌, ◌≤◌, not, Bool, true, false, ◌&&◌, Option, Some, None, option_map, option_and_then, List, [], filter_map, map, length, get_or, inl, inr, arith, refl, sym, ◌∙◌, ap, ap₂, lt-ltb}
+use Rattle.std.specs.Prelude.{IfSome, if◌then◌else◌}
+use Rattle.std.specs.List.{range_with_len}
+use Rattle.std.proofs.lemmas.Bool.{cases_Bool}
+use Rattle.philox_seeds.specs.SeedTree.{life_column, update_column}
+use Rattle.schema_check.specs.declared.layout.Span.{Span}
+use Rattle.schema_check.specs.Cohorts.{born_count, cohort_size, first_ordinal}
+use Rattle.schema_check.specs.Layout.{TableLayout}
+use Rattle.life_intervals.specs.Changes.{change_by, first_due, wait_by}
+use Rattle.life_intervals.specs.Generator.{Order}
+use Rattle.life_intervals.specs.Intervals.{Known, birth, death_by, first_death, index_at, is_after, known_by, own_death_by, parent_by, parent_death_by, row_by}
+use Rattle.life_intervals.specs.References.{Reference, references_of}
+use Rattle.life_intervals.specs.Rows.{Row, State, first_age_by, life_by, new_row, parent_choice}
+use Rattle.life_intervals.specs.Simulation.{hold_parents, is_due, is_over, kept, one_less, waited}
+use Rattle.life_intervals.specs.Sound.{IsLife}
+use Rattle.life_intervals.proofs.ChangeLemmas.{NextChange, NextChange-update, change-born, wait-born}
+use Rattle.life_intervals.proofs.CohortLemmas.{birth-early, birth-first_ordinal}
+use Rattle.life_intervals.proofs.DeathLemmas.{is_after-lesser_from, is_after-lesser_life, is_after-lesser_parts, is_after-suc, is_over-left, one_less-left}
+
+-- the row of an ordinal that is born by a unit, where it is alive then
+abbrev pub live_row : Order → Known → ℕ → ℕ → Option Row
+live_row order known unit ordinal = if is_after (death_by known unit ordinal) unit then Some (row_by order known unit ordinal) else None
+
+-- the end of its own life
+abbrev pub own_end : Order → Known → ℕ → ℕ → Option ℕ
+own_end order known unit ordinal =
+    own_death_by order known.place known.table (birth known.table.births unit ordinal) (index_at known.table.births unit ordinal)
+
+-- the row after the deletions of the next unit, but for what it is kept by
+abbrev pub aged : Order → Known → ℕ → ℕ → Row
+aged order known unit ordinal =
+    let row = row_by order known unit ordinal in
+    record row { left = option_map (λ death. death - suc unit) (own_end order known unit ordinal) }
+
+-- the same, where it is alive then
+abbrev pub aged_row : Order → Known → ℕ → ℕ → Option Row
+aged_row order known unit ordinal = if is_after (death_by known unit ordinal) (suc unit) then Some (aged order known unit ordinal) else None
+
+-- the first death of the parents of the row with an index in a unit's cohort
+abbrev pub parents_death : Order → List Known → TableLayout → ℕ → ℕ → Option ℕ
+parents_death order earlier table unit index = first_death (map (parent_death_by order earlier unit index) (references_of table))
+
+-- its parents
+abbrev pub parents_by : Order → List Known → TableLayout → ℕ → ℕ → List ℕ
+parents_by order earlier table unit index = map (parent_by order earlier unit index) (references_of table)
+
+-- where its parents stand in their tables exactly while they are alive, the deletions of the next unit keep a row while it is alive
+pub kept-live_row : (order : Order) (earlier : List Known) (table : TableLayout) (unit ordinal : ℕ) (state : State) →
+    (let births = table.births in
+    hold_parents state (references_of table) (parents_by order earlier table (birth births unit ordinal) (index_at births unit ordinal))
+    ≡ is_after (parents_death order earlier table (birth births unit ordinal) (index_at births unit ordinal)) (suc unit)) →
+    option_and_then (kept state table) (live_row order (known_by order earlier table) unit ordinal) ≡ aged_row order (known_by order earlier table) unit ordinal
+kept-live_row order earlier table unit ordinal state held =
+    let known : Known = known_by order earlier table in
+    let born : ℕ = birth table.births unit ordinal in
+    let index : ℕ = index_at table.births unit ordinal in
+    let own : Option ℕ = own_death_by order (length earlier) table born index in
+    let others : Option ℕ = parents_death order earlier table born index in
+    elim (cases_Bool (is_after (death_by known unit ordinal) unit)) [
+      | inr dead ↦ rw (dead, is_after-suc (death_by known unit ordinal) unit dead) refl
+      | inl alive ↦
+          let both = is_after-lesser_parts own others unit alive in
+          let test : (not (is_over (option_map (λ d. d - suc unit) own)) && hold_parents state (references_of table) (known.parents born index)) ≡ is_after (death_by known unit ordinal) (suc unit) =
+          ap₂ (λ x y. x && y) (is_over-left own unit both.0) held ∙ sym (is_after-lesser_life own others (suc unit)) in
+          rw (alive, one_less-left own unit, test) refl
+    ]
+
+-- the updates make of a row what it is where it is due, and where it isn't
+waited-cases : (unit : ℕ) (table : TableLayout) (row to : Row) →
+    (is_due row ≡ true → record row { changed = unit; wait = table.update } ≡ to) →
+    (is_due row ≡ false → record row { wait = one_less row.wait } ≡ to) → waited unit table row ≡ to
+waited-cases unit table row to due not_due = elim (cases_Bool (is_due row)) [
+  | inl y ↦ rw y (due y)
+  | inr n ↦ rw n (not_due n)
+]
+
+-- what a row's wait and last change are at the next unit
+pub NextChange-row : (order : Order) (known : Known) (unit ordinal : ℕ) → IfSome known.table.update (λ period. 1 ≤ period) →
+    (let births = known.table.births in
+    NextChange known.table.update unit (change_by order known.place known.table (birth births unit ordinal) (index_at births unit ordinal))
+    (wait_by order known.place known.table (birth births unit ordinal) (index_at births unit ordinal)))
+NextChange-row order known unit ordinal some =
+    NextChange-update known.table.update unit (birth known.table.births unit ordinal)
+    (first_due order known.place (birth known.table.births unit ordinal) (index_at known.table.births unit ordinal)) some
+
+-- the updates of the next unit make of a row that is born by a unit and kept the row that it is then
+pub waited-aged : (order : Order) (known : Known) (unit ordinal : ℕ) → IfSome known.table.update (λ period. 1 ≤ period) → ordinal < born_count known.table.births unit →
+    waited (suc unit) known.table (aged order known unit ordinal) ≡ row_by order known (suc unit) ordinal
+waited-aged order known unit ordinal some early =
+    let change : NextChange known.table.update unit _ _ = NextChange-row order known unit ordinal some in
+    rw (birth-early known.table.births unit ordinal early)
+    (waited-cases (suc unit) known.table (aged order known unit ordinal) _
+    (λ due. let e = change.ends due in
+    ap₂ (λ (changed : ℕ) (wait : Option ℕ). let row : Row = record (aged order known unit ordinal) { changed = changed; wait = wait } in row) (sym e.0) (sym e.1))
+    (λ on. let e = change.goes_on on in
+    ap₂ (λ (changed : ℕ) (wait : Option ℕ). let row : Row = record (aged order known unit ordinal) { changed = changed; wait = wait } in row) (sym e.0) (sym e.1)))
+
+pub death_by-early : (known : Known) (unit ordinal : ℕ) → ordinal < born_count known.table.births unit → death_by known (suc unit) ordinal ≡ death_by known unit ordinal
+death_by-early known unit ordinal early =
+    ap (λ (born : ℕ). known.death born (ordinal - first_ordinal known.table.births born)) (birth-early known.table.births unit ordinal early)
+
+pub waited-aged_row : (order : Order) (known : Known) (unit ordinal : ℕ) → IfSome known.table.update (λ period. 1 ≤ period) → ordinal < born_count known.table.births unit →
+    option_map (waited (suc unit) known.table) (aged_row order known unit ordinal) ≡ live_row order known (suc unit) ordinal
+waited-aged_row order known unit ordinal some early =
+    rw (death_by-early known unit ordinal early)
+    (elim (cases_Bool (is_after (death_by known unit ordinal) (suc unit))) [
+      | inr dead ↦ rw dead refl
+      | inl alive ↦ rw alive (ap Some (waited-aged order known unit ordinal some early))
+    ])
+
+-- ---- births
+
+same_row : (ordinal b b' c c' : ℕ) (l l' w w' : Option ℕ) (ps ps' : List ℕ) → b ≡ b' → c ≡ c' → l ≡ l' → w ≡ w' → ps ≡ ps' →
+    (let row : Row = record { ordinal = ordinal; born = b; changed = c; left = l; wait = w; parents = ps } in row)
+    ≡ record { ordinal = ordinal; born = b'; changed = c'; left = l'; wait = w'; parents = ps' }
+same_row ordinal b b' c c' l l' w w' ps ps' eb ec el ew eps = rw (eb, ec, el, ew, eps) refl
+
+-- what is left of a life at the birth
+left-born : (unit : ℕ) (life : Option ℕ) → life ≡ option_map (λ d. d - unit) (option_map (λ l. unit + l) life)
+left-born unit None = refl
+left-born unit (Some life) = ap Some (omega arith)
+
+-- a row lives past its birth
+own_death-born : (unit place : ℕ) (life : Option Span) → IfSome life IsLife → is_after (option_map (λ l. unit + l) (life_by life place)) unit ≡ true
+own_death-born unit place None is = refl
+own_death-born unit place (Some life) is = lt-ltb unit _ (omega (arith, is.some))
+
+index-first_ordinal : (first index : ℕ) → first + index - first ≡ index
+index-first_ordinal first index = omega arith
+
+-- the death of the row with an index in a cohort
+pub death_by-first_ordinal : (known : Known) (last unit index : ℕ) → unit ≤ last → index < cohort_size known.table.births unit →
+    death_by known last (first_ordinal known.table.births unit + index) ≡ known.death unit index
+death_by-first_ordinal known last unit index within below =
+    let ordinal : ℕ = first_ordinal known.table.births unit + index in
+    ap (λ (born : ℕ). known.death born (ordinal - first_ordinal known.table.births born)) (birth-first_ordinal known.table.births last unit index within below)
+    ∙ ap (known.death unit) (index-first_ordinal (first_ordinal known.table.births unit) index)
+
+-- a row by its birth unit and its index
+abbrev row_from : Order → Known → ℕ → ℕ → ℕ → ℕ → Row
+row_from order known unit ordinal born index = record {
+  ordinal = ordinal;
+  born = born;
+  changed = change_by order known.place known.table born index unit;
+  left = option_map (λ death. death - unit) (own_death_by order known.place known.table born index);
+  wait = wait_by order known.place known.table born index unit;
+  parents = known.parents born index;
+}
+
+row_by-first_ordinal : (order : Order) (known : Known) (last unit index : ℕ) → unit ≤ last → index < cohort_size known.table.births unit →
+    row_by order known last (first_ordinal known.table.births unit + index) ≡ row_from order known last (first_ordinal known.table.births unit + index) unit index
+row_by-first_ordinal order known last unit index within below =
+    let ordinal : ℕ = first_ordinal known.table.births unit + index in
+    ap (λ (born : ℕ). row_from order known last ordinal born (ordinal - first_ordinal known.table.births born)) (birth-first_ordinal known.table.births last unit index within below)
+    ∙ ap (row_from order known last ordinal unit) (index-first_ordinal (first_ordinal known.table.births unit) index)
+
+-- a row as it is born is the row of its ordinal, where it has the same parents and they are alive
+pub new_row-live_row : (order : Order) (earlier : List Known) (table : TableLayout) (unit index : ℕ) (state : State) → length state ≡ length earlier → index < cohort_size table.births unit →
+    IfSome table.life IsLife →
+    map (λ (reference : Reference). parent_choice reference unit (get_or state reference.parent []) (order (length state) reference.column unit index)) (references_of table)
+    ≡ parents_by order earlier table unit index →
+    is_after (parents_death order earlier table unit index) unit ≡ true →
+    Some (new_row order unit state table index) ≡ live_row order (known_by order earlier table) unit (first_ordinal table.births unit + index)
+new_row-live_row order earlier table unit index state places below life chosen alive =
+    let known : Known = known_by order earlier table in
+    let ordinal : ℕ = first_ordinal table.births unit + index in
+    let here : unit ≤ unit = omega arith in
+    let lives_on : is_after (known.death unit index) unit ≡ true =
+    is_after-lesser_from _ _ unit (own_death-born unit (order (length earlier) life_column unit index) table.life life) alive in
+    let row : new_row order unit state table index ≡ row_from order known unit ordinal unit index =
+    same_row ordinal unit unit unit _ _ _ _ _ _ _ refl
+    (sym (change-born table.update unit (order (length earlier) update_column unit index)))
+    (ap (λ (place : ℕ). life_by table.life (order place life_column unit index)) places ∙ left-born unit (life_by table.life (order (length earlier) life_column unit index)))
+    (ap (λ (place : ℕ). first_age_by table.update (order place update_column unit index)) places ∙ sym (wait-born table.update unit (order (length earlier) update_column unit index)))
+    chosen in
+    ap₂ (λ (alive : Bool) (row : Row). if alive then Some row else None) (sym lives_on) row
+    ∙ sym (ap₂ (λ (death : Option ℕ) (row : Row). if is_after death unit then Some row else None)
+    (death_by-first_ordinal known unit unit index here below) (row_by-first_ordinal order known unit unit index here below))
+
+-- ---- all rows of a known table
+
+-- those that are born by a unit and alive then
+abbrev pub live_rows : Order → Known → ℕ → List Row
+live_rows order known unit = filter_map (live_row order known unit) (range_with_len 0 (born_count known.table.births unit))
+
+-- the same after the deletions of the next unit
+abbrev pub aged_rows : Order → Known → ℕ → List Row
+aged_rows order known unit = filter_map (aged_row order known unit) (range_with_len 0 (born_count known.table.births unit))
+
+-- those that are born before a unit, at the unit
+abbrev pub older_rows : Order → Known → ℕ → List Row
+older_rows order known unit = filter_map (live_row order known unit) (range_with_len 0 (first_ordinal known.table.births unit))

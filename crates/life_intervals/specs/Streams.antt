@@ -1,0 +1,24 @@
+-- What a unit does to the rows of a table.
+use Rattle.std.specs.Prelude.{ℕ, zero, suc, ◌==◌, List, [], filter, map, take, is_none, slice_index_or}
+use Rattle.schema_check.specs.Layout.{table_at}
+use Rattle.life_intervals.specs.Generator.{Generator}
+use Rattle.life_intervals.specs.Rows.{Row}
+use Rattle.life_intervals.specs.Simulation.{is_due, kept, rows_at, simulation, waited, with_deletions}
+
+-- the rows of the table at a place that a unit's deletions don't keep, as they are at the unit before it
+unfoldable pub deleted : Generator → ℕ → ℕ → List Row
+deleted generator place zero = []
+deleted generator place (suc unit) =
+    let earlier = take place (with_deletions generator (simulation generator unit)) in
+    filter (λ row. is_none (kept earlier (table_at generator.tables place) row)) (rows_at generator place unit)
+
+-- the rows that a unit updates, as they are then
+unfoldable pub updated : Generator → ℕ → ℕ → List Row
+updated generator place zero = []
+updated generator place (suc unit) =
+    let kept_rows = slice_index_or (with_deletions generator (simulation generator unit)) place [] in
+    map (waited (suc unit) (table_at generator.tables place)) (filter is_due kept_rows)
+
+-- the rows that a unit inserts
+unfoldable pub inserted : Generator → ℕ → ℕ → List Row
+inserted generator place unit = filter (λ (row : Row). row.born == unit) (rows_at generator place unit)
