@@ -1,7 +1,10 @@
 pub mod Appends
 pub mod Stages
+pub mod DictionaryFiles
 pub mod DueFiles
 pub mod Jobs
+pub mod Limits
+pub mod ReadingList
 pub mod Statuses
 pub mod TopCall
 pub mod Verdict

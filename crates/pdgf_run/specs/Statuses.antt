@@ -2,6 +2,8 @@
 use Rattle.std.specs.Prelude.{◌≡◌, refl, ℕ, zero, Bool, ◌==◌, ◌||◌, List, [], ◌∷◌, ◌++◌, codes, decimal, if◌then◌else◌, Option, Some, None}
 use Rattle.std.specs.Fmt.{digits}
 use Rattle.std.specs.List.{list_any}
+use Rattle.dictionaries.specs.declared.fault.DictFault.{DictFault}
+use Rattle.dictionaries.specs.declared.fault.DictFault.TheVariants as grammar
 use Rattle.schema_read.specs.Keys.{key_name}
 use Rattle.schema_read.specs.declared.fault.Expected.{Expected}
 use Rattle.schema_read.specs.declared.fault.Expected.TheVariants.{Whole, TextValue, Flag, DelimiterName, TableList, TwoWholes, KindName, LeafName, DateText, TextList, Wholes, PartList, WindowValue, NoSuchKey}
@@ -15,6 +17,9 @@ use Rattle.schema_read.specs.declared.schema_key.SchemaKey.{SchemaKey}
 use Rattle.schema_read.specs.declared.schema_key.SchemaKey.TheVariants.{Units, Window, Other}
 use Rattle.pdgf_run.specs.declared.refusal.Refusal.{Refusal}
 use Rattle.pdgf_run.specs.declared.refusal.Refusal.TheVariants.{Words, Job}
+use Rattle.pdgf_run.specs.declared.refusal.DictionaryCause.{DictionaryCause}
+use Rattle.pdgf_run.specs.declared.refusal.DictionaryCause.TheVariants as cause
+use Rattle.pdgf_run.specs.declared.refusal.DictionaryFault.{DictionaryFault}
 use Rattle.pdgf_run.specs.declared.refusal.JobFault.{JobFault}
 use Rattle.pdgf_run.specs.declared.refusal.JobFault.TheVariants as job
 use Rattle.pdgf_run.specs.declared.refusal.TextFault.{TextFault}
@@ -28,9 +33,23 @@ use Rattle.pdgf_run.specs.declared.usage.UsageFault.TheVariants as usage
 
 -- ---- statuses
 
+-- the status of a file that wasn't read
+abbrev pub reading_status : ReadFault → ℕ
+reading_status reading.Failed = 5
+reading_status reading.TooLong = 10
+reading_status reading.Memory = 7
+
+-- the status of a file that gives no dictionary
+abbrev pub cause_status : DictionaryCause → ℕ
+cause_status (cause.Reading fault) = reading_status fault
+cause_status (cause.Grammar grammar.Memory) = 7
+cause_status (cause.Grammar fault) = 4
+cause_status cause.Memory = 7
+
 -- the status of a schema without a plan
 abbrev pub plan_status : PlanFault → ℕ
 plan_status plan.NotBuilt = 11
+plan_status (plan.Dictionary fault) = cause_status fault.cause
 plan_status (plan.Check check.Memory) = 7
 plan_status (plan.Check (check.Rule number table column)) = 4
 
@@ -49,9 +68,7 @@ text_status text.Memory = 7
 
 -- the status of a request that gives no job
 abbrev pub job_status : JobFault → ℕ
-job_status (job.Reading reading.Failed) = 5
-job_status (job.Reading reading.TooLong) = 10
-job_status (job.Reading reading.Memory) = 7
+job_status (job.Reading fault) = reading_status fault
 job_status (job.Text fault) = text_status fault
 
 -- the status of a refusal
@@ -145,8 +162,34 @@ schema_fault_text schema.Syntax = codes "schema: not TOML"
 schema_fault_text (schema.Shape place key expected) = shape_text place key expected
 schema_fault_text schema.Memory = codes "out of memory"
 
+-- what is wrong with a dictionary's bytes, behind its number
+abbrev pub grammar_text : DictFault → List ℕ
+grammar_text (grammar.NotUtf8 at) = codes "not UTF-8 at byte " ++ decimal at
+grammar_text (grammar.LongEntry line) = codes "long entry at line " ++ decimal line
+grammar_text (grammar.BadWeight line) = codes "bad weight at line " ++ decimal line
+grammar_text (grammar.TooMany line) = codes "too many entries at line " ++ decimal line
+grammar_text grammar.Empty = codes "empty"
+grammar_text grammar.Memory = codes "out of memory"
+
+-- a dictionary by its number, and what is wrong with it
+abbrev pub numbered_text : ℕ → DictFault → List ℕ
+numbered_text number grammar.Memory = codes "out of memory"
+numbered_text number fault = codes "dictionary " ++ decimal number ++ codes ": " ++ grammar_text fault
+
+-- why the dictionary of this number wasn't read
+abbrev pub reading_dictionary_text : ℕ → ReadFault → List ℕ
+reading_dictionary_text number reading.Failed = codes "read failed"
+reading_dictionary_text number reading.TooLong = codes "too long: dictionary " ++ decimal number
+reading_dictionary_text number reading.Memory = codes "out of memory"
+
+abbrev pub cause_text : ℕ → DictionaryCause → List ℕ
+cause_text number (cause.Reading fault) = reading_dictionary_text number fault
+cause_text number (cause.Grammar fault) = numbered_text number fault
+cause_text number cause.Memory = codes "out of memory"
+
 abbrev pub plan_fault_text : PlanFault → List ℕ
 plan_fault_text plan.NotBuilt = codes "not built"
+plan_fault_text (plan.Dictionary fault) = cause_text fault.number fault.cause
 plan_fault_text (plan.Check (check.Rule number table column)) = rule_text number table column
 plan_fault_text (plan.Check check.Memory) = codes "out of memory"
 
@@ -180,6 +223,13 @@ text_of refusal = message_line (refusal_text refusal)
 -- the message of a failed write
 abbrev pub write_failed_text : List ℕ
 write_failed_text = message_line (codes "write failed")
+
+-- the messages of files that are too long
+abbrev pub schema_too_long_text : List ℕ
+schema_too_long_text = message_line (codes "too long: schema")
+
+abbrev pub dictionary_too_long_text : ℕ → List ℕ
+dictionary_too_long_text number = message_line (codes "too long: dictionary " ++ decimal number)
 
 -- the message of a status that has only one
 abbrev pub fixed_text : ℕ → Option (List ℕ)
@@ -215,3 +265,15 @@ worked_rule_of_a_table = refl
 
 worked_range : text_of (Job (job.Text (text.Range option.Unit))) ≡ codes "pdgf: out of range: --unit\n"
 worked_range = refl
+
+worked_dictionary : text_of (Job (job.Text (text.Plan (plan.Dictionary (record { number = 1; cause = cause.Grammar (grammar.BadWeight 12) }))))) ≡ codes "pdgf: dictionary 1: bad weight at line 12\n"
+unfolding digits
+worked_dictionary = refl
+
+worked_empty_dictionary : text_of (Job (job.Text (text.Plan (plan.Dictionary (record { number = 10; cause = cause.Grammar grammar.Empty }))))) ≡ codes "pdgf: dictionary 10: empty\n"
+unfolding digits
+worked_empty_dictionary = refl
+
+worked_long_dictionary : text_of (Job (job.Text (text.Plan (plan.Dictionary (record { number = 2; cause = cause.Reading reading.TooLong }))))) ≡ codes "pdgf: too long: dictionary 2\n"
+unfolding digits
+worked_long_dictionary = refl

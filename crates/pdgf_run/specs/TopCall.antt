@@ -1,10 +1,14 @@
 -- What the top call promises of its report and of the shelf.
-use Rattle.std.specs.Prelude.{◌≡◌, List, [], Option, Result, Ok, Err}
+use Rattle.std.specs.Prelude.{◌≡◌, ◌⊎◌, ℕ, ◌+◌, List, [], Option, Result, Ok, Err}
 use Rattle.std.specs.Option.{option_map}
 use Rattle.pd_outside.specs.Files.{File}
 use Rattle.pd_outside.specs.Shelf.{Held, finish_files}
+use Rattle.pdgf_run.specs.Limits.{dictionary_limit, schema_limit}
 use Rattle.pdgf_run.specs.Statuses as status
+use Rattle.pdgf_run.specs.declared.refusal.JobFault.TheVariants as job
+use Rattle.pdgf_run.specs.declared.refusal.JobFault.{JobFault}
 use Rattle.pdgf_run.specs.declared.refusal.Refusal.{Refusal}
+use Rattle.pdgf_run.specs.declared.refusal.Refusal.TheVariants as refusal
 use Rattle.pdgf_run.specs.declared.report.Report.{Report}
 
 -- The report is the verdict's: the due files were finished, in order, and none is begun; or the shelf is as it was.
@@ -13,3 +17,18 @@ Carries (Ok due) report before now =
     (report ≡ record { status = status.done_status; message = [] }) × (now ≡ option_map (finish_files due) before)
 Carries (Err refusal) report before now =
     (report ≡ record { status = status.status_of refusal; message = status.text_of refusal }) × (now ≡ before)
+
+-- the limit of the file that a fault tells as too long: the schema's text, or a dictionary
+abbrev pub limit_of_job : JobFault → ℕ
+limit_of_job (job.Reading fault) = schema_limit
+limit_of_job (job.Text fault) = dictionary_limit
+
+abbrev pub limit_of : Refusal → ℕ
+limit_of (refusal.Words fault) = schema_limit
+limit_of (refusal.Job fault) = limit_of_job fault
+
+-- A file was too long: a byte more than its limit was taken of it, and the message names it.
+abbrev pub IsPastLimit : List ℕ → ℕ → Type 0
+IsPastLimit message taken =
+    ((message ≡ status.schema_too_long_text) × (taken ≡ schema_limit + 1))
+    ⊎ ((number : ℕ) × ((message ≡ status.dictionary_too_long_text number) × (taken ≡ dictionary_limit + 1)))

@@ -1,23 +1,28 @@
 //! From the words to a job: all that is read and all memory that is taken, stage by stage.
 
-ghost use Rattle.std.specs.Prelude.{◌≡◌, ◌≢◌, ◌≤◌, ◌+◌, [], false, length, map, string_bytes, Err, IfErr, IfOk, IfSome, OnOk};
+ghost use Rattle.std.specs.Prelude.{◌≡◌, ◌≢◌, ◌≤◌, ◌+◌, ◌⊎◌, [], false, map, string_bytes, Err, IfErr, IfOk, IfSome, Ok, OnOk};
 ghost use Rattle.std.specs.Option.{option_map};
 ghost use Rattle.pd_outside.specs.Faults.{Rose};
 ghost use Rattle.pd_outside.specs.Files.{bytes_of};
-ghost use Rattle.pd_outside.specs.Library.{Content, left, AskedAtMost, AskedPrefixOf};
+ghost use Rattle.pd_outside.specs.Library.{Content, left};
+ghost use Rattle.schema_read.specs.Schema.{schema_of};
 ghost use Rattle.pdgf_run.specs.Jobs.{due_of, CanFill};
+ghost use Rattle.pdgf_run.specs.Limits.{dictionary_limit, schema_limit};
+ghost use Rattle.pdgf_run.specs.ReadingList.{cited_by, cited_by_read, AsksInTurn, AsksNames};
 ghost use Rattle.pdgf_run.specs.Stages.{Decides};
 ghost use Rattle.pdgf_run.specs.Statuses.{job_status, plan_status, status_of, text_status};
-ghost use Rattle.pdgf_run.specs.Verdict.{in_mode, of_file, of_text, planned, reading_list, schema_limit, WhereTold};
+ghost use Rattle.pdgf_run.specs.TopCall.{limit_of, limit_of_job};
+ghost use Rattle.pdgf_run.specs.Verdict.{in_mode, of_file, of_text, planned, told_files, IsReadOut, WhereTold};
 ghost use Rattle.pdgf_run.specs.Words.{request};
 
 use crate::check::check_text;
+use crate::dictionary_files::read_dictionaries;
 use crate::job::{Job, choose, snapshot_job};
 use crate::refusal::{JobFault, PlanFault, Refusal, TextFault};
 use crate::usage::{Mode, OptionName, Request};
 use crate::words::read_words;
 use pd_outside::{Library, read_whole};
-use schema_check::{Plan, check, unbuilt};
+use schema_check::{Plan, check, citations, unbuilt};
 use schema_model::Schema;
 use schema_read::read_schema;
 use std::alloc::Global;
@@ -35,17 +40,18 @@ pub(crate) fn decide<L: Library>(
     ensures can { IfOk result CanFill }
     ensures usage { IfErr (request (map string_bytes words.now)) (λ fault. result ≡ Err (Refusal.Words fault)) }
     ensures no_usage { OnOk (request (map string_bytes words.now)) (IfErr result (λ refusal. status_of refusal ≢ 2)) }
-    ensures too_long { IfErr result (λ refusal. status_of refusal ≡ 10 → L.taken library.new ≡ schema_limit + 1) }
-    ensures longer { OnOk (request (map string_bytes words.now))
-        (IfErr result (λ refusal. status_of refusal ≢ 7 → L.taken library.new ≡ schema_limit + 1 → status_of refusal ≡ 10)) }
-    ensures within { OnOk result (L.taken library.new ≤ schema_limit) }
+    ensures too_long { IfErr result (λ refusal. status_of refusal ≡ 10 → L.taken library.new ≡ limit_of refusal + 1) }
+    ensures longer { OnOk (request (map string_bytes words.now)) (IfErr result (λ refusal.
+        status_of refusal ≢ 5 → status_of refusal ≢ 7 → L.taken library.new ≡ dictionary_limit + 1 → status_of refusal ≡ 10)) }
+    ensures schema_alone { IfErr result (λ refusal. (status_of refusal ≡ 3) ⊎ (status_of refusal ≡ 11) → L.taken library.new ≤ schema_limit) }
+    ensures within { OnOk result (L.taken library.new ≤ dictionary_limit) }
     ensures read_failed { IfErr result (λ refusal. status_of refusal ≡ 5 → Rose (L.faults library.old) (L.faults library.new)) }
     ensures stopped { IfErr result (λ refusal. status_of refusal ≡ 5 → L.is_started library.new ≡ false) }
     ensures no_fault { IfErr result (λ refusal. status_of refusal ≢ 5 → L.faults library.new ≡ L.faults library.old) }
     ensures no_fault_on_ok { OnOk result (L.faults library.new ≡ L.faults library.old) }
     ensures read_out { OnOk result (option_map left (L.content library.new) ≡ option_map (λ (c : Content). []) (L.content library.old)) }
-    ensures asked { AskedPrefixOf (reading_list (map string_bytes words.now)) (L.asked library.old) (L.asked library.new) }
-    ensures files { option_map (λ (c : Content). c.files) (L.content library.new) ≡ option_map (λ (c : Content). c.files) (L.content library.old) }
+    ensures asked { AsksInTurn (request (map string_bytes words.now)) (told_files (L.content library.old)) (L.asked library.old) (L.asked library.new) }
+    ensures files { told_files (L.content library.new) ≡ told_files (L.content library.old) }
     ensures never_falls { L.faults library.old ≤ L.faults library.new }
 {
     let request = read_words(alloc, words)?;
@@ -58,42 +64,80 @@ fn job_of_request<L: Library>(
     library: &mut L,
     request: &Request,
 ) -> Result<Job, JobFault>
-    ensures job { IfSome (L.content library.old) (λ c. Decides job_status due_of result (of_file request.now (bytes_of c.files request.now.schema))) }
+    ensures job { IfSome (told_files (L.content library.old)) (λ files.
+        Decides job_status due_of result (of_file request.now files (bytes_of files request.now.schema))) }
     ensures can { IfOk result CanFill }
-    ensures too_long { IfErr result (λ fault. job_status fault ≡ 10 → L.taken library.new ≡ schema_limit + 1) }
-    ensures longer { IfErr result (λ fault. job_status fault ≢ 7 → L.taken library.new ≡ schema_limit + 1 → job_status fault ≡ 10) }
-    ensures within { OnOk result (L.taken library.new ≤ schema_limit) }
+    ensures too_long { IfErr result (λ fault. job_status fault ≡ 10 → L.taken library.new ≡ limit_of_job fault + 1) }
+    ensures longer { IfErr result (λ fault.
+        job_status fault ≢ 5 → job_status fault ≢ 7 → L.taken library.new ≡ dictionary_limit + 1 → job_status fault ≡ 10) }
+    ensures schema_alone { IfErr result (λ fault. (job_status fault ≡ 3) ⊎ (job_status fault ≡ 11) → L.taken library.new ≤ schema_limit) }
+    ensures within { OnOk result (L.taken library.new ≤ dictionary_limit) }
     ensures read_failed { IfErr result (λ fault. job_status fault ≡ 5 → Rose (L.faults library.old) (L.faults library.new)) }
     ensures stopped { IfErr result (λ fault. job_status fault ≡ 5 → L.is_started library.new ≡ false) }
     ensures no_fault { IfErr result (λ fault. job_status fault ≢ 5 → L.faults library.new ≡ L.faults library.old) }
     ensures no_fault_on_ok { OnOk result (L.faults library.new ≡ L.faults library.old) }
-    ensures read_out { OnOk result (option_map left (L.content library.new) ≡ option_map (λ (c : Content). []) (L.content library.old)) }
-    ensures asked { AskedAtMost request.now.schema (L.asked library.old) (L.asked library.new) }
-    ensures files { option_map (λ (c : Content). c.files) (L.content library.new) ≡ option_map (λ (c : Content). c.files) (L.content library.old) }
+    ensures read_out { OnOk result (IsReadOut (L.content library.new)) }
+    ensures asked { AsksInTurn (Ok request.now) (told_files (L.content library.old)) (L.asked library.old) (L.asked library.new) }
+    ensures files { told_files (L.content library.new) ≡ told_files (L.content library.old) }
     ensures never_falls { L.faults library.old ≤ L.faults library.new }
 {
     let bytes = read_whole(alloc, library, request.schema.as_str(), SCHEMA_LIMIT)?;
-    Ok(job_of_text(alloc, &bytes, request)?)
+    Ok(job_of_text(alloc, library, &bytes, request)?)
 }
 
-/// The job of a request over a schema's text.
-fn job_of_text(alloc: Global, bytes: &[u8], request: &Request) -> Result<Job, TextFault>
-    ensures job { Decides text_status due_of result (of_text request.now bytes.now) }
+/// The job of a request over a schema's text, which was read to its end.
+fn job_of_text<L: Library>(
+    alloc: Global,
+    library: &mut L,
+    bytes: &[u8],
+    request: &Request,
+) -> Result<Job, TextFault>
+    requires taken { L.taken library.old ≤ schema_limit }
+    requires read_out { IsReadOut (L.content library.old) }
+    ensures job { IfSome (told_files (L.content library.old)) (λ files. Decides text_status due_of result (of_text request.now files bytes.now)) }
     ensures can { IfOk result CanFill }
+    ensures too_long { IfErr result (λ fault. text_status fault ≡ 10 → L.taken library.new ≡ dictionary_limit + 1) }
+    ensures longer { IfErr result (λ fault. text_status fault ≢ 7 → L.taken library.new ≡ dictionary_limit + 1 → text_status fault ≡ 10) }
+    ensures schema_alone { IfErr result (λ fault. (text_status fault ≡ 3) ⊎ (text_status fault ≡ 11) → L.taken library.new ≤ schema_limit) }
+    ensures within { OnOk result (L.taken library.new ≤ dictionary_limit) }
+    ensures read_failed { IfErr result (λ fault. text_status fault ≡ 5 → Rose (L.faults library.old) (L.faults library.new)) }
+    ensures stopped { IfErr result (λ fault. text_status fault ≡ 5 → L.is_started library.new ≡ false) }
+    ensures no_fault { IfErr result (λ fault. text_status fault ≢ 5 → L.faults library.new ≡ L.faults library.old) }
+    ensures no_fault_on_ok { OnOk result (L.faults library.new ≡ L.faults library.old) }
+    ensures read_out { OnOk result (IsReadOut (L.content library.new)) }
+    ensures asked { AsksNames (cited_by_read (schema_of bytes.now)) (told_files (L.content library.old)) (L.asked library.old) (L.asked library.new) }
+    ensures files { told_files (L.content library.new) ≡ told_files (L.content library.old) }
+    ensures never_falls { L.faults library.old ≤ L.faults library.new }
 {
     let schema = read_schema(alloc, bytes)?;
-    let plan = plan_of(alloc, schema)?;
+    let plan = plan_of(alloc, library, schema)?;
     job_of(alloc, plan, request)
 }
 
-/// The plan of a schema.
-fn plan_of(alloc: Global, schema: Schema) -> Result<Plan, PlanFault>
-    ensures { Decides plan_status (λ plan. plan) result (planned schema) }
+/// The plan of a schema with the dictionaries that it cites, each of which is read.
+fn plan_of<L: Library>(alloc: Global, library: &mut L, schema: Schema) -> Result<Plan, PlanFault>
+    requires taken { L.taken library.old ≤ schema_limit }
+    requires read_out { IsReadOut (L.content library.old) }
+    ensures plan { IfSome (told_files (L.content library.old)) (λ files. Decides plan_status (λ plan. plan) result (planned files schema)) }
+    ensures too_long { IfErr result (λ fault. plan_status fault ≡ 10 → L.taken library.new ≡ dictionary_limit + 1) }
+    ensures longer { IfErr result (λ fault. plan_status fault ≢ 7 → L.taken library.new ≡ dictionary_limit + 1 → plan_status fault ≡ 10) }
+    ensures schema_alone { IfErr result (λ fault. (plan_status fault ≡ 3) ⊎ (plan_status fault ≡ 11) → L.taken library.new ≤ schema_limit) }
+    ensures within { OnOk result (L.taken library.new ≤ dictionary_limit) }
+    ensures read_failed { IfErr result (λ fault. plan_status fault ≡ 5 → Rose (L.faults library.old) (L.faults library.new)) }
+    ensures stopped { IfErr result (λ fault. plan_status fault ≡ 5 → L.is_started library.new ≡ false) }
+    ensures no_fault { IfErr result (λ fault. plan_status fault ≢ 5 → L.faults library.new ≡ L.faults library.old) }
+    ensures no_fault_on_ok { OnOk result (L.faults library.new ≡ L.faults library.old) }
+    ensures read_out { OnOk result (IsReadOut (L.content library.new)) }
+    ensures asked { AsksNames (cited_by schema) (told_files (L.content library.old)) (L.asked library.old) (L.asked library.new) }
+    ensures files { told_files (L.content library.new) ≡ told_files (L.content library.old) }
+    ensures never_falls { L.faults library.old ≤ L.faults library.new }
 {
     if unbuilt(&schema) {
         return Err(PlanFault::NotBuilt);
     }
-    Ok(check(alloc, schema)?)
+    let names = citations(alloc, &schema)?;
+    let dictionaries = read_dictionaries(alloc, library, &names)?;
+    Ok(check(alloc, schema, dictionaries)?)
 }
 
 /// The job of a request over a plan.

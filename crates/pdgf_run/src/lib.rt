@@ -3,6 +3,7 @@
 
 mod check;
 mod decide;
+mod dictionary_files;
 mod fill;
 mod job;
 mod message;
@@ -12,7 +13,7 @@ mod run;
 mod usage;
 mod words;
 
-pub use refusal::{JobFault, PlanFault, Refusal, TextFault};
+pub use refusal::{DictionaryCause, DictionaryFault, JobFault, PlanFault, Refusal, TextFault};
 pub use report::Report;
 pub use run::pdgf;
 pub use usage::{Mode, OptionName, Request, UsageFault};

@@ -1,7 +1,8 @@
 //! Why a request isn't carried out, by the stage that found it. Each stage's fault stays as it came.
 
 ghost use Rattle.std.specs.Prelude.{◌≡◌};
-ghost use Rattle.pdgf_run.specs.Statuses.{status_of, text_of};
+ghost use Rattle.pdgf_run.specs.Statuses.{reading_status, status_of, text_of};
+ghost use Rattle.pdgf_run.specs.declared.refusal.DictionaryCause.TheVariants as dictionary_cause;
 ghost use Rattle.pdgf_run.specs.declared.refusal.PlanFault.TheVariants as plan_fault;
 ghost use Rattle.pdgf_run.specs.declared.refusal.TextFault.TheVariants as text_fault;
 ghost use Rattle.pdgf_run.specs.declared.refusal.JobFault.TheVariants as job_fault;
@@ -9,6 +10,7 @@ ghost use Rattle.pdgf_run.specs.declared.refusal.Refusal.TheVariants as refusal;
 
 use crate::message::{line, put_refusal};
 use crate::usage::{OptionName, UsageFault};
+use dictionaries::DictFault;
 use pd_outside::{Memory, Message, ReadFault};
 use schema_check::CheckFault;
 use schema_read::ReadSchemaFault;
@@ -49,8 +51,30 @@ pub enum TextFault {
 pub enum PlanFault {
     /// It holds something that isn't built.
     NotBuilt,
+    /// A dictionary that it cites isn't read.
+    Dictionary(DictionaryFault),
     /// It breaks a rule, or memory ran out.
     Check(CheckFault),
+}
+
+/// Which dictionary isn't read, and why.
+#[derive(Clone, Copy, Debug, PartialEq, Eq)]
+pub struct DictionaryFault {
+    /// The dictionary's number in the order of first citation, counted from 1.
+    pub number: u64,
+    /// Why it isn't read.
+    pub cause: DictionaryCause,
+}
+
+/// Why a file gives no dictionary.
+#[derive(Clone, Copy, Debug, PartialEq, Eq)]
+pub enum DictionaryCause {
+    /// The file wasn't read.
+    Reading(ReadFault),
+    /// Its bytes are no dictionary.
+    Grammar(DictFault),
+    /// Memory ran out.
+    Memory,
 }
 
 impl Refusal {
@@ -82,9 +106,7 @@ impl JobFault {
         ensures { result ≡ job_status self }
     {
         match self {
-            JobFault::Reading(ReadFault::Failed) => 5,
-            JobFault::Reading(ReadFault::TooLong) => 10,
-            JobFault::Reading(ReadFault::Memory) => 7,
+            JobFault::Reading(fault) => reading_status(fault),
             JobFault::Text(fault) => fault.status(),
         }
     }
@@ -97,14 +119,51 @@ impl TextFault {
         ensures { result ≡ text_status self }
     {
         match self {
-            TextFault::Schema(ReadSchemaFault::Memory)
-            | TextFault::Plan(PlanFault::Check(CheckFault::Memory))
-            | TextFault::Memory => 7,
+            TextFault::Schema(ReadSchemaFault::Memory) | TextFault::Memory => 7,
             TextFault::Schema(_) => 3,
-            TextFault::Plan(PlanFault::NotBuilt) => 11,
-            TextFault::Plan(PlanFault::Check(_)) => 4,
+            TextFault::Plan(fault) => fault.status(),
             TextFault::Range(_) => 8,
         }
+    }
+}
+
+impl PlanFault {
+    ghost use Rattle.pdgf_run.specs.Statuses.{plan_status};
+
+    fn status(self) -> u8
+        ensures { result ≡ plan_status self }
+    {
+        match self {
+            PlanFault::NotBuilt => 11,
+            PlanFault::Dictionary(fault) => fault.cause.status(),
+            PlanFault::Check(CheckFault::Memory) => 7,
+            PlanFault::Check(_) => 4,
+        }
+    }
+}
+
+impl DictionaryCause {
+    ghost use Rattle.pdgf_run.specs.Statuses.{cause_status};
+
+    fn status(self) -> u8
+        ensures { result ≡ cause_status self }
+    {
+        match self {
+            DictionaryCause::Reading(fault) => reading_status(fault),
+            DictionaryCause::Grammar(DictFault::Memory) | DictionaryCause::Memory => 7,
+            DictionaryCause::Grammar(_) => 4,
+        }
+    }
+}
+
+/// The status of a file that wasn't read.
+fn reading_status(fault: ReadFault) -> u8
+    ensures { result ≡ reading_status fault }
+{
+    match fault {
+        ReadFault::Failed => 5,
+        ReadFault::TooLong => 10,
+        ReadFault::Memory => 7,
     }
 }
 
@@ -169,5 +228,37 @@ impl From<CheckFault> for PlanFault {
 
     fn from(fault: CheckFault) -> PlanFault {
         PlanFault::Check(fault)
+    }
+}
+
+impl From<DictionaryFault> for PlanFault {
+    ghost from_gives = { λ fault made. made ≡ plan_fault.Dictionary fault };
+
+    fn from(fault: DictionaryFault) -> PlanFault {
+        PlanFault::Dictionary(fault)
+    }
+}
+
+impl From<ReadFault> for DictionaryCause {
+    ghost from_gives = { λ fault made. made ≡ dictionary_cause.Reading fault };
+
+    fn from(fault: ReadFault) -> DictionaryCause {
+        DictionaryCause::Reading(fault)
+    }
+}
+
+impl From<DictFault> for DictionaryCause {
+    ghost from_gives = { λ fault made. made ≡ dictionary_cause.Grammar fault };
+
+    fn from(fault: DictFault) -> DictionaryCause {
+        DictionaryCause::Grammar(fault)
+    }
+}
+
+impl From<schema_check::Memory> for DictionaryCause {
+    ghost from_gives = { λ fault made. made ≡ dictionary_cause.Memory };
+
+    fn from(_: schema_check::Memory) -> DictionaryCause {
+        DictionaryCause::Memory
     }
 }

@@ -1,13 +1,15 @@
 //! The top call.
 
-ghost use Rattle.std.specs.Prelude.{◌≡◌, ◌≢◌, ◌≤◌, ◌+◌, ◌↔◌, [], false, map, string_bytes, IfErr, IfSome, IsErr, IsOkAnd, IsTrue, OnOk};
+ghost use Rattle.std.specs.Prelude.{◌≡◌, ◌≢◌, ◌≤◌, ◌+◌, ◌↔◌, ◌⊎◌, [], false, map, string_bytes, IfErr, IfSome, IsErr, IsOkAnd, IsTrue, OnOk};
 ghost use Rattle.std.specs.Option.{option_map};
 ghost use Rattle.pd_outside.specs.Faults.{Rose};
-ghost use Rattle.pd_outside.specs.Library.{Content, left, AskedPrefixOf};
+ghost use Rattle.pd_outside.specs.Library.{Content, left};
 ghost use Rattle.pd_outside.specs.Shelf.{HoldsPrefixOf};
+ghost use Rattle.pdgf_run.specs.Limits.{dictionary_limit, schema_limit};
+ghost use Rattle.pdgf_run.specs.ReadingList.{AsksInTurn};
 ghost use Rattle.pdgf_run.specs.Statuses.{fixed_text, is_status, text_of};
-ghost use Rattle.pdgf_run.specs.TopCall.{Carries};
-ghost use Rattle.pdgf_run.specs.Verdict.{reading_list, schema_limit, WhereTold};
+ghost use Rattle.pdgf_run.specs.TopCall.{Carries, IsPastLimit};
+ghost use Rattle.pdgf_run.specs.Verdict.{told_files, WhereTold};
 ghost use Rattle.pdgf_run.specs.Words.{request};
 
 use crate::decide::decide;
@@ -46,9 +48,10 @@ pub fn pdgf<R: Threads + Sync, L: Library, S: Shelf, G: Gate + Sync>(
     ensures message { IfSome (fixed_text result.status) (λ text. result.message ≡ text) }
     ensures usage { (result.status ≡ 2) ↔ IsErr (request (map string_bytes words.now)) }
     ensures usage_text { IfErr (request (map string_bytes words.now)) (λ fault. result.message ≡ text_of (Refusal.Words fault)) }
-    ensures too_long { result.status ≡ 10 → L.taken library.new ≡ schema_limit + 1 }
+    ensures too_long { result.status ≡ 10 → IsPastLimit result.message (L.taken library.new) }
     ensures longer { OnOk (request (map string_bytes words.now))
-        (result.status ≢ 7 → L.taken library.new ≡ schema_limit + 1 → result.status ≡ 10) }
+        (result.status ≢ 5 → result.status ≢ 7 → L.taken library.new ≡ dictionary_limit + 1 → result.status ≡ 10) }
+    ensures schema_alone { (result.status ≡ 3) ⊎ (result.status ≡ 11) → L.taken library.new ≤ schema_limit }
     ensures read_failed { result.status ≡ 5 → Rose (L.faults library.old) (L.faults library.new) }
     ensures stopped { result.status ≡ 5 → L.is_started library.new ≡ false }
     ensures write_failed { result.status ≡ 6 → Rose (S.faults shelf.old) (S.faults shelf.new) }
@@ -64,10 +67,10 @@ pub fn pdgf<R: Threads + Sync, L: Library, S: Shelf, G: Gate + Sync>(
     ensures none_begun { result.status ≢ 6 → S.is_begun shelf.new ≡ false }
 
     // No other name is started than those of the reading list, in its order, and at a clean end the last is read to its end.
-    ensures asked { AskedPrefixOf (reading_list (map string_bytes words.now)) (L.asked library.old) (L.asked library.new) }
+    ensures asked { AsksInTurn (request (map string_bytes words.now)) (told_files (L.content library.old)) (L.asked library.old) (L.asked library.new) }
     ensures read_out { result.status ≡ 0 →
         option_map left (L.content library.new) ≡ option_map (λ (c : Content). []) (L.content library.old) }
-    ensures files { option_map (λ (c : Content). c.files) (L.content library.new) ≡ option_map (λ (c : Content). c.files) (L.content library.old) }
+    ensures files { told_files (L.content library.new) ≡ told_files (L.content library.old) }
     ensures library_never_falls { L.faults library.old ≤ L.faults library.new }
     ensures shelf_never_falls { S.faults shelf.old ≤ S.faults shelf.new }
 {

@@ -1,0 +1,89 @@
+//! The dictionaries that files hold, read one after the other.
+
+ghost use Rattle.std.specs.Prelude.{◌≡◌, ◌≢◌, ◌≤◌, ◌+◌, ◌^◌, [], Err, IfErr, IfSome, Ok, OnErr, OnOk, false, length};
+ghost use Rattle.pd_outside.specs.Faults.{Rose};
+ghost use Rattle.pd_outside.specs.Library.{AskedAtMost, ask};
+ghost use Rattle.pdgf_run.specs.DictionaryFiles.{with_dictionaries, with_dictionary};
+ghost use Rattle.pdgf_run.specs.Limits.{dictionary_limit};
+ghost use Rattle.pdgf_run.specs.ReadingList.{AsksNames};
+ghost use Rattle.pdgf_run.specs.Stages.{Decides};
+ghost use Rattle.pdgf_run.specs.Statuses.{cause_status, is_free};
+ghost use Rattle.pdgf_run.specs.Verdict.{told_files, IsReadOut};
+
+use crate::refusal::{DictionaryCause, DictionaryFault};
+use dictionaries::read_dictionary;
+use pd_outside::{Library, read_whole};
+use schema_check::Dictionaries;
+use schema_model::Texts;
+use std::alloc::Global;
+
+/// The most bytes of a dictionary.
+const DICTIONARY_LIMIT: u64 = 16_777_216;
+
+/// Reads the dictionaries of these names, each in its turn, up to the first fault.
+pub(crate) fn read_dictionaries<L: Library>(
+    alloc: Global,
+    library: &mut L,
+    names: &Texts,
+) -> Result<Dictionaries, DictionaryFault>
+    requires taken { L.taken library.old ≤ dictionary_limit }
+    requires read_out { IsReadOut (L.content library.old) }
+    ensures read { IfSome (told_files (L.content library.old)) (λ files.
+        Decides (λ fault. cause_status fault.cause) (λ dictionaries. dictionaries) result (with_dictionaries files [] names.now)) }
+    ensures too_long { IfErr result (λ fault. cause_status fault.cause ≡ 10 → L.taken library.new ≡ dictionary_limit + 1) }
+    ensures longer { IfErr result (λ fault. cause_status fault.cause ≢ 7 → L.taken library.new ≡ dictionary_limit + 1 → cause_status fault.cause ≡ 10) }
+    ensures within { OnOk result (L.taken library.new ≤ dictionary_limit) }
+    ensures read_failed { IfErr result (λ fault. cause_status fault.cause ≡ 5 → Rose (L.faults library.old) (L.faults library.new)) }
+    ensures stopped { IfErr result (λ fault. cause_status fault.cause ≡ 5 → L.is_started library.new ≡ false) }
+    ensures no_fault { IfErr result (λ fault. cause_status fault.cause ≢ 5 → L.faults library.new ≡ L.faults library.old) }
+    ensures no_fault_on_ok { OnOk result (L.faults library.new ≡ L.faults library.old) }
+    ensures read_out { OnOk result (IsReadOut (L.content library.new)) }
+    ensures asked { AsksNames names.now (told_files (L.content library.old)) (L.asked library.old) (L.asked library.new) }
+    ensures files { told_files (L.content library.new) ≡ told_files (L.content library.old) }
+    ensures never_falls { L.faults library.old ≤ L.faults library.new }
+{
+    let mut dictionaries = Dictionaries::new(alloc);
+    for place in 0..names.len() {
+        let name = names.get(place).as_str();
+        match add_dictionary(alloc, library, name, &mut dictionaries) {
+            Ok(()) => {}
+            Err(cause) => {
+                return Err(DictionaryFault {
+                    number: place as u64 + 1,
+                    cause,
+                });
+            }
+        }
+    }
+    Ok(dictionaries)
+}
+
+/// Reads the dictionary of a name, and puts it behind the others.
+fn add_dictionary<L: Library>(
+    alloc: Global,
+    library: &mut L,
+    name: &str,
+    dictionaries: &mut Dictionaries,
+) -> Result<(), DictionaryCause>
+    ensures read { IfSome (told_files (L.content library.old)) (λ files. OnOk result (with_dictionary files dictionaries.old name.now ≡ Ok dictionaries.new)) }
+    ensures refused { IfSome (told_files (L.content library.old)) (λ files.
+        IfErr result (λ cause. is_free (cause_status cause) ≡ false → with_dictionary files dictionaries.old name.now ≡ Err cause)) }
+    ensures count { OnOk result (length dictionaries.new ≡ length dictionaries.old + 1) }
+    ensures too_long { IfErr result (λ cause. cause_status cause ≡ 10 → L.taken library.new ≡ dictionary_limit + 1) }
+    ensures longer { IfErr result (λ cause. cause_status cause ≢ 7 → L.taken library.new ≡ dictionary_limit + 1 → cause_status cause ≡ 10) }
+    ensures within { OnOk result (L.taken library.new ≤ dictionary_limit) }
+    ensures read_failed { IfErr result (λ cause. cause_status cause ≡ 5 → Rose (L.faults library.old) (L.faults library.new)) }
+    ensures stopped { IfErr result (λ cause. cause_status cause ≡ 5 → L.is_started library.new ≡ false) }
+    ensures no_fault { IfErr result (λ cause. cause_status cause ≢ 5 → L.faults library.new ≡ L.faults library.old) }
+    ensures no_fault_on_ok { OnOk result (L.faults library.new ≡ L.faults library.old) }
+    ensures read_out { OnOk result (IsReadOut (L.content library.new)) }
+    ensures asked { OnOk result (L.asked library.new ≡ ask name.now (L.asked library.old)) }
+    ensures asked_at_most { AskedAtMost name.now (L.asked library.old) (L.asked library.new) }
+    ensures files { told_files (L.content library.new) ≡ told_files (L.content library.old) }
+    ensures never_falls { L.faults library.old ≤ L.faults library.new }
+{
+    let bytes = read_whole(alloc, library, name, DICTIONARY_LIMIT)?;
+    let words = read_dictionary(alloc, &bytes)?;
+    dictionaries.push(name, words)?;
+    Ok(())
+}
