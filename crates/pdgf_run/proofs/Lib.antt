@@ -1,3 +1,5 @@
 pub mod FillLemmas
 pub mod JobLemmas
 pub mod DecideLemmas
+pub mod DictionaryLemmas
+pub mod ReportLemmas

@@ -164,17 +164,21 @@ schema_fault_text schema.Memory = codes "out of memory"
 
 -- what is wrong with a dictionary's bytes, behind its number
 abbrev pub grammar_text : DictFault → List ℕ
-grammar_text (grammar.NotUtf8 at) = codes "not UTF-8 at byte " ++ decimal at
-grammar_text (grammar.LongEntry line) = codes "long entry at line " ++ decimal line
-grammar_text (grammar.BadWeight line) = codes "bad weight at line " ++ decimal line
-grammar_text (grammar.TooMany line) = codes "too many entries at line " ++ decimal line
-grammar_text grammar.Empty = codes "empty"
-grammar_text grammar.Memory = codes "out of memory"
+grammar_text (grammar.NotUtf8 at) = codes ": not UTF-8 at byte " ++ decimal at
+grammar_text (grammar.LongEntry line) = codes ": long entry at line " ++ decimal line
+grammar_text (grammar.BadWeight line) = codes ": bad weight at line " ++ decimal line
+grammar_text (grammar.TooMany line) = codes ": too many entries at line " ++ decimal line
+grammar_text grammar.Empty = codes ": empty"
+grammar_text grammar.Memory = codes ": out of memory"
 
--- a dictionary by its number, and what is wrong with it
-abbrev pub numbered_text : ℕ → DictFault → List ℕ
-numbered_text number grammar.Memory = codes "out of memory"
-numbered_text number fault = codes "dictionary " ++ decimal number ++ codes ": " ++ grammar_text fault
+-- a dictionary by its number, and what is wrong with its bytes
+abbrev pub broken_text : ℕ → DictFault → List ℕ
+broken_text number fault = codes "dictionary " ++ decimal number ++ grammar_text fault
+
+-- why the bytes of the dictionary of this number give none
+abbrev pub grammar_fault_text : ℕ → DictFault → List ℕ
+grammar_fault_text number grammar.Memory = codes "out of memory"
+grammar_fault_text number fault = broken_text number fault
 
 -- why the dictionary of this number wasn't read
 abbrev pub reading_dictionary_text : ℕ → ReadFault → List ℕ
@@ -184,7 +188,7 @@ reading_dictionary_text number reading.Memory = codes "out of memory"
 
 abbrev pub cause_text : ℕ → DictionaryCause → List ℕ
 cause_text number (cause.Reading fault) = reading_dictionary_text number fault
-cause_text number (cause.Grammar fault) = numbered_text number fault
+cause_text number (cause.Grammar fault) = grammar_fault_text number fault
 cause_text number cause.Memory = codes "out of memory"
 
 abbrev pub plan_fault_text : PlanFault → List ℕ

@@ -143,6 +143,7 @@ fn plan_of<L: Library>(alloc: Global, library: &mut L, schema: Schema) -> Result
 /// The job of a request over a plan.
 fn job_of(alloc: Global, plan: Plan, request: &Request) -> Result<Job, TextFault>
     ensures job { Decides text_status due_of result (in_mode request.now.mode request.now plan) }
+    ensures nothing_read { IfErr result (λ fault. text_status fault ≢ 5) }
     ensures can { IfOk result CanFill }
 {
     match request.mode {
@@ -154,6 +155,7 @@ fn job_of(alloc: Global, plan: Plan, request: &Request) -> Result<Job, TextFault
 /// The job of a snapshot of a plan's tables.
 fn plan_snapshot(alloc: Global, plan: Plan, request: &Request) -> Result<Job, TextFault>
     ensures job { Decides text_status due_of result (in_mode Mode.Snapshot request.now plan) }
+    ensures nothing_read { IfErr result (λ fault. text_status fault ≢ 5) }
     ensures can { IfOk result CanFill }
 {
     if plan.units() < request.unit {

@@ -1,7 +1,7 @@
 //! The messages, and the words that they are made of.
 
 ghost use Rattle.std.specs.Prelude.{◌≡◌, ◌≤◌, ◌+◌, ◌++◌, length, codes, decimal};
-ghost use Rattle.pdgf_run.specs.Statuses.{cause_text, expected_text, grammar_text, key_text, message_line, numbered_text, option_text, place_text, plan_fault_text, reading_dictionary_text, reading_text, refusal_text, rule_text, schema_fault_text, shape_text, text_fault_text, usage_text, wanted_text};
+ghost use Rattle.pdgf_run.specs.Statuses.{broken_text, cause_text, expected_text, grammar_fault_text, grammar_text, key_text, message_line, option_text, place_text, plan_fault_text, reading_dictionary_text, reading_text, refusal_text, rule_text, schema_fault_text, shape_text, text_fault_text, usage_text, wanted_text};
 
 use crate::refusal::{DictionaryCause, DictionaryFault, JobFault, PlanFault, Refusal, TextFault};
 use crate::usage::{OptionName, UsageFault};
@@ -95,7 +95,7 @@ fn put_dictionary_fault(message: &mut Message, fault: DictionaryFault)
 {
     match fault.cause {
         DictionaryCause::Reading(cause) => put_reading_fault(message, fault.number, cause),
-        DictionaryCause::Grammar(cause) => put_numbered(message, fault.number, cause),
+        DictionaryCause::Grammar(cause) => put_grammar_fault(message, fault.number, cause),
         DictionaryCause::Memory => message.put(b"out of memory"),
     }
 }
@@ -113,35 +113,41 @@ fn put_reading_fault(message: &mut Message, number: u64, fault: ReadFault)
     }
 }
 
-/// Appends a dictionary by its number, and what is wrong with its bytes.
-fn put_numbered(message: &mut Message, number: u64, fault: DictFault)
+/// Appends why the bytes of the dictionary of this number give none.
+fn put_grammar_fault(message: &mut Message, number: u64, fault: DictFault)
     requires { length message.old + 100 ≤ Message.ROOM }
-    ensures text { message.new ≡ message.old ++ numbered_text number fault }
+    ensures text { message.new ≡ message.old ++ grammar_fault_text number fault }
     ensures short { length message.new ≤ length message.old + 100 }
 {
     match fault {
         DictFault::Memory => message.put(b"out of memory"),
-        _ => {
-            put_counted(message, b"dictionary ", number);
-            message.put(b": ");
-            put_grammar(message, fault);
-        }
+        _ => put_broken(message, number, fault),
     }
 }
 
-/// Appends what is wrong with a dictionary's bytes.
+/// Appends a dictionary by its number, and what is wrong with its bytes.
+fn put_broken(message: &mut Message, number: u64, fault: DictFault)
+    requires { length message.old + 100 ≤ Message.ROOM }
+    ensures text { message.new ≡ message.old ++ broken_text number fault }
+    ensures short { length message.new ≤ length message.old + 100 }
+{
+    put_counted(message, b"dictionary ", number);
+    put_grammar(message, fault);
+}
+
+/// Appends what is wrong with a dictionary's bytes, behind its number.
 fn put_grammar(message: &mut Message, fault: DictFault)
     requires { length message.old + 50 ≤ Message.ROOM }
     ensures text { message.new ≡ message.old ++ grammar_text fault }
     ensures short { length message.new ≤ length message.old + 50 }
 {
     match fault {
-        DictFault::NotUtf8 { at } => put_counted(message, b"not UTF-8 at byte ", at),
-        DictFault::LongEntry { line } => put_counted(message, b"long entry at line ", line),
-        DictFault::BadWeight { line } => put_counted(message, b"bad weight at line ", line),
-        DictFault::TooMany { line } => put_counted(message, b"too many entries at line ", line),
-        DictFault::Empty => message.put(b"empty"),
-        DictFault::Memory => message.put(b"out of memory"),
+        DictFault::NotUtf8 { at } => put_counted(message, b": not UTF-8 at byte ", at),
+        DictFault::LongEntry { line } => put_counted(message, b": long entry at line ", line),
+        DictFault::BadWeight { line } => put_counted(message, b": bad weight at line ", line),
+        DictFault::TooMany { line } => put_counted(message, b": too many entries at line ", line),
+        DictFault::Empty => message.put(b": empty"),
+        DictFault::Memory => message.put(b": out of memory"),
     }
 }
 

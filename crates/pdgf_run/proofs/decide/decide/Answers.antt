@@ -1,6 +1,6 @@
 use Rattle.std.proofs.Common.{Ok, Err}
 use Rattle.std.proofs.lemmas.Result.{err_from_is_err_and}
-use Rattle.pdgf_run.proofs.DecideLemmas.{asked_one, decided_for_request, decided_for_words}
+use Rattle.pdgf_run.proofs.DecideLemmas.{asks_of_words, decided_for_request, decided_for_words}
 use Rattle.pdgf_run.proofs.decide.decide.Goals as goal
 
 pub returns-in_err-request-clause-verdict : goal.returns-in_err-request-clause-verdict
@@ -15,10 +15,10 @@ returns-in_err-job_of_request-clause-verdict g c =
     (decided_for_request _ _ c.in_ok-request.request (Err c.in_err-job_of_request.field-0.0) c.in_ok-request.ensures.read c.in_err-job_of_request.ensures.job)
 
 pub returns-in_err-job_of_request-clause-asked : goal.returns-in_err-job_of_request-clause-asked
-returns-in_err-job_of_request-clause-asked g c = asked_one _ c.in_ok-request.request _ _ c.in_ok-request.ensures.read c.in_err-job_of_request.ensures.asked
+returns-in_err-job_of_request-clause-asked g c = asks_of_words _ c.in_ok-request.request _ _ _ c.in_ok-request.ensures.read c.in_err-job_of_request.ensures.asked
 
 pub returns-clause-verdict : goal.returns-clause-verdict
 returns-clause-verdict g c = decided_for_request _ _ c.in_ok-request.request (Ok c.in_ok-job_of_request.field-0) c.in_ok-request.ensures.read c.in_ok-job_of_request.ensures.job
 
 pub returns-clause-asked : goal.returns-clause-asked
-returns-clause-asked g c = asked_one _ c.in_ok-request.request _ _ c.in_ok-request.ensures.read c.in_ok-job_of_request.ensures.asked
+returns-clause-asked g c = asks_of_words _ c.in_ok-request.request _ _ _ c.in_ok-request.ensures.read c.in_ok-job_of_request.ensures.asked

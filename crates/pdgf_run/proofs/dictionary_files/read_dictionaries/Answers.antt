@@ -1,0 +1,43 @@
+use Rattle.std.proofs.Common.{◌≡◌, ◌+◌, ℕ, List, [], Some, None, Option, ap, sym, ◌∙◌, refl, length}
+use Rattle.std.specs.Prelude.{slice_get}
+use Rattle.pdgf_run.proofs.DictionaryLemmas.{asked_more, asks_at_most, asks_first, none_asked, none_read, none_readable, readable_more, read_more, read_to_fault}
+use Rattle.pdgf_run.proofs.dictionary_files.read_dictionaries.Goals as goal
+
+pub loop-place-init : goal.loop-place-init
+loop-place-init g c = record {
+  count = ap length c.new-dictionaries.ensures;
+  read = none_read _ _ _ c.new-dictionaries.ensures;
+  readable = none_readable _ _;
+  asked = none_asked _;
+  files = refl;
+  taken = c.requires.taken;
+  read_out = c.requires.read_out;
+  faults = refl;
+}
+
+pub loop-place-preserved : goal.loop-place-preserved
+loop-place-preserved g c =
+    let inv = c.loop-place.invariant in
+    let at : slice_get c.args.names.now c.loop-place.place ≡ Some c.as_str-name.result.now = c.get.ensures ∙ ap Some (sym c.as_str-name.ensures.value) in
+    record {
+      count = c.in-Ok.ensures.count ∙ ap (λ (k : ℕ). k + 1) inv.count;
+      read = read_more _ _ _ _ _ c.loop-place.place c.as_str-name.result.now inv.files at inv.read c.in-Ok.ensures.read;
+      readable = readable_more _ _ _ _ _ c.loop-place.place c.as_str-name.result.now inv.files at inv.readable c.in-Ok.ensures.read;
+      asked = asked_more _ c.loop-place.place c.as_str-name.result.now _ _ _ at inv.asked c.in-Ok.ensures.asked;
+      files = c.in-Ok.ensures.files ∙ inv.files;
+      taken = c.in-Ok.ensures.within;
+      read_out = c.in-Ok.ensures.read_out;
+      faults = c.in-Ok.ensures.no_fault_on_ok ∙ inv.faults;
+    }
+
+pub returns-in-Err-clause-read : goal.returns-in-Err-clause-read
+returns-in-Err-clause-read g c =
+    let inv = c.loop-place.invariant in
+    let at : slice_get c.args.names.now c.loop-place.place ≡ Some c.as_str-name.result.now = c.get.ensures ∙ ap Some (sym c.as_str-name.ensures.value) in
+    read_to_fault _ _ _ _ c.loop-place.place c.as_str-name.result.now c.in-Err.cause inv.files inv.count at inv.read c.in-Err.ensures.refused
+
+pub returns-in-Err-clause-asked : goal.returns-in-Err-clause-asked
+returns-in-Err-clause-asked g c =
+    let inv = c.loop-place.invariant in
+    let at : slice_get c.args.names.now c.loop-place.place ≡ Some c.as_str-name.result.now = c.get.ensures ∙ ap Some (sym c.as_str-name.ensures.value) in
+    asks_at_most _ _ c.loop-place.place c.as_str-name.result.now _ _ _ at inv.readable inv.asked c.in-Err.ensures.asked_at_most
