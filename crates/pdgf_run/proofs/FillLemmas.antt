@@ -9,8 +9,7 @@ use Rattle.std.proofs.lemmas.List.Folds.{flat_map-map}
 use Rattle.pd_outside.proofs.Appending.{append_both, files_then_prefix, nothing_begun, nothing_done}
 use Rattle.pd_outside.specs.Files.{File}
 use Rattle.pd_outside.specs.Shelf.{Held, append_bytes, finish_files, HoldsPrefixOf, IsPrefixOfNext}
-use Rattle.schema_model.specs.declared.table.Schema.{Schema}
-use Rattle.schema_check.specs.Planned.{Planned}
+use Rattle.schema_check.specs.Dictionaries.{Project}
 use Rattle.life_intervals.proofs.Ranges.{flat_map-range_with_len_more}
 use Rattle.life_intervals.specs.Generator.{generator_of}
 use Rattle.row_lines.specs.Lines.{table_text}
@@ -49,19 +48,19 @@ flat_map-at f xs i x below is = ap (flat_map f) (item-at xs i x below is) ∙ fl
 
 -- ---- what is told of tables: nothing, and one more line
 
-pub check_lines-zero : (schema : Schema) → check_lines schema 0 ≡ []
+pub check_lines-zero : (plan : Project) → check_lines plan 0 ≡ []
 unfolding check_lines
-check_lines-zero schema = refl
+check_lines-zero plan = refl
 
-pub check_lines-add_one : (schema : Schema) (count : ℕ) → check_lines schema (count + 1) ≡ check_lines schema count ++ check_line schema count
+pub check_lines-add_one : (plan : Project) (count : ℕ) → check_lines plan (count + 1) ≡ check_lines plan count ++ check_line plan count
 unfolding check_lines
-check_lines-add_one schema count = flat_map-range_with_len_more (check_line schema) count
+check_lines-add_one plan count = flat_map-range_with_len_more (check_line plan) count
 
 -- the texts of the tables at the places of some items
-pub texts_at-map : {A : Type 0} (plan : Planned) (unit : ℕ) (place : A → ℕ) (tables : List A) →
-    texts_at plan unit (map place tables) ≡ flat_map (λ table. table_text (generator_of plan.schema) unit (place table)) tables
+pub texts_at-map : {A : Type 0} (plan : Project) (unit : ℕ) (place : A → ℕ) (tables : List A) →
+    texts_at plan unit (map place tables) ≡ flat_map (λ table. table_text (generator_of plan) unit (place table)) tables
 unfolding texts_at
-texts_at-map plan unit place tables = flat_map-map (table_text (generator_of plan.schema) unit) place tables
+texts_at-map plan unit place tables = flat_map-map (table_text (generator_of plan) unit) place tables
 
 -- ---- files, one after the other
 

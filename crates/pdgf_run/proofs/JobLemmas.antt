@@ -3,7 +3,7 @@ use Rattle.std.proofs.Common.{◌≡◌, ℕ, ◌+◌, List, [], ◌∷◌, ◌+
 use Rattle.std.specs.List.{range_with_len}
 use Rattle.std.proofs.lemmas.List.{map-append}
 use Rattle.std.proofs.lemmas.List.FromFn.{map-range_with_len_more}
-use Rattle.schema_check.specs.Planned.{Planned}
+use Rattle.schema_check.specs.Dictionaries.{Project}
 use Rattle.life_intervals.proofs.Ranges.{range_with_len-add}
 use Rattle.pdgf_run.specs.DueFiles.{file_of}
 use Rattle.pdgf_run.specs.Jobs.{due_file, places_in}
@@ -28,5 +28,5 @@ map-push_of_range f g items item from count sofar is =
     ∙ sym (map-range_with_len_more g from count (from + count) refl)
 
 -- a file by its name and the places of its tables
-pub due_file-is : (plan : Planned) (unit : ℕ) (file : JobFile) (name : List ℕ) (places : List ℕ) → file.name ≡ name → places_in file ≡ places → due_file plan unit file ≡ file_of plan unit name places
+pub due_file-is : (plan : Project) (unit : ℕ) (file : JobFile) (name : List ℕ) (places : List ℕ) → file.name ≡ name → places_in file ≡ places → due_file plan unit file ≡ file_of plan unit name places
 due_file-is plan unit file name places named placed = ap (λ (n : List ℕ). file_of plan unit n (places_in file)) named ∙ ap (file_of plan unit name) placed

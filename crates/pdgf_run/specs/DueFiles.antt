@@ -5,9 +5,10 @@ use Rattle.std.specs.Option.{option_map}
 use Rattle.pd_outside.specs.Files.{File}
 use Rattle.schema_model.specs.declared.table.Schema.{Schema}
 use Rattle.schema_model.specs.declared.table.Table.{Table}
+use Rattle.schema_check.specs.Dictionaries.{Project}
 use Rattle.schema_check.specs.Layout.{layout_of}
 use Rattle.schema_check.specs.Lineage.{sure_life}
-use Rattle.schema_check.specs.Planned.{Planned, table_named}
+use Rattle.schema_check.specs.Planned.{table_named}
 use Rattle.schema_check.specs.TableFacts.{cost, max_line}
 use Rattle.life_intervals.specs.Generator.{generator_of, rows_in_all}
 use Rattle.row_lines.specs.Lines.{table_text}
@@ -26,19 +27,19 @@ chosen schema None = Some (range_with_len 0 (length schema.tables))
 chosen schema (Some name) = option_map (λ place. place ∷ []) (table_named schema name)
 
 -- the texts of the tables at these places at a unit, one after the other
-unfoldable pub texts_at : Planned → ℕ → List ℕ → List ℕ
-texts_at plan unit places = flat_map (table_text (generator_of plan.schema) unit) places
+unfoldable pub texts_at : Project → ℕ → List ℕ → List ℕ
+texts_at plan unit places = flat_map (table_text (generator_of plan) unit) places
 
 -- the file of a table in a directory
 abbrev pub path_of : List ℕ → List ℕ → List ℕ
 path_of directory name = directory ++ codes "/" ++ name ++ codes ".tbl"
 
 -- a file of the texts of tables at a unit
-abbrev pub file_of : Planned → ℕ → List ℕ → List ℕ → File
+abbrev pub file_of : Project → ℕ → List ℕ → List ℕ → File
 file_of plan unit name places = record { name = name; bytes = texts_at plan unit places }
 
 -- the files of a snapshot of tables at a unit: one each in a directory, or all texts on the standard output
-abbrev pub snapshot_files : Planned → ℕ → List ℕ → Option (List ℕ) → List File
+abbrev pub snapshot_files : Project → ℕ → List ℕ → Option (List ℕ) → List File
 snapshot_files plan unit places None = file_of plan unit standard_output places ∷ []
 snapshot_files plan unit places (Some directory) =
     map (λ place. file_of plan unit (path_of directory (name_at plan.schema place)) (place ∷ [])) places
@@ -49,18 +50,18 @@ life_text None = codes "none"
 life_text (Some units) = decimal units
 
 -- what is told of a table: its name, the rows born in all units, its sure life, its cost and its greatest line
-abbrev pub check_line : Schema → ℕ → List ℕ
-check_line schema place =
-    name_at schema place ++ codes "\t"
-    ++ decimal (rows_in_all schema place) ++ codes "\t"
-    ++ life_text (sure_life (layout_of schema).tables place) ++ codes "\t"
-    ++ decimal (cost (layout_of schema) place) ++ codes "\t"
-    ++ decimal (max_line (layout_of schema) place) ++ codes "\n"
+abbrev pub check_line : Project → ℕ → List ℕ
+check_line plan place =
+    name_at plan.schema place ++ codes "\t"
+    ++ decimal (rows_in_all plan place) ++ codes "\t"
+    ++ life_text (sure_life (layout_of plan).tables place) ++ codes "\t"
+    ++ decimal (cost (layout_of plan) place) ++ codes "\t"
+    ++ decimal (max_line (layout_of plan) place) ++ codes "\n"
 
--- the lines of the first tables of a schema, as many as `count`
-unfoldable pub check_lines : Schema → ℕ → List ℕ
-check_lines schema count = flat_map (check_line schema) (range_with_len 0 count)
+-- the lines of the first tables of a plan, as many as `count`
+unfoldable pub check_lines : Project → ℕ → List ℕ
+check_lines plan count = flat_map (check_line plan) (range_with_len 0 count)
 
 -- the file of a check: a line for each table on the standard output
-abbrev pub check_files : Schema → List File
-check_files schema = record { name = standard_output; bytes = check_lines schema (length schema.tables) } ∷ []
+abbrev pub check_files : Project → List File
+check_files plan = record { name = standard_output; bytes = check_lines plan (length plan.schema.tables) } ∷ []

@@ -2,8 +2,8 @@
 use Rattle.std.specs.Prelude.{◌≡◌, ◌<◌, ◌≤◌, ℕ, List, [], ◌∷◌, length, map, All, ⊤}
 use Rattle.std.specs.List.{range_with_len}
 use Rattle.pd_outside.specs.Files.{File}
+use Rattle.schema_check.specs.Dictionaries.{Project}
 use Rattle.schema_check.specs.Layout.{layout_of}
-use Rattle.schema_check.specs.Planned.{Planned}
 use Rattle.schema_check.specs.TableFacts.{reach}
 use Rattle.life_intervals.specs.Generator.{last_unit}
 use Rattle.life_intervals.specs.KeyOrders.{key_orders}
@@ -24,7 +24,7 @@ abbrev pub places_in : JobFile → List ℕ
 places_in file = map (λ (table : JobTable). table.place) file.tables.items
 
 -- a file of a snapshot
-abbrev pub due_file : Planned → ℕ → JobFile → File
+abbrev pub due_file : Project → ℕ → JobFile → File
 due_file plan unit file = file_of plan unit file.name (places_in file)
 
 -- the files of a snapshot
@@ -37,20 +37,20 @@ due_of (Text bytes) = record { name = standard_output; bytes = bytes.items } ∷
 due_of (Snapshot job) = snapshot_due job
 
 -- a table is one of the plan's, with the orders of its keys up to the unit
-pub record IsTableOf (plan : Planned) (unit : ℕ) (table : JobTable) : Type 0 where
+pub record IsTableOf (plan : Project) (unit : ℕ) (table : JobTable) : Type 0 where
   pub place : table.place < length plan.schema.tables
-  pub orders : table.orders.items ≡ key_orders plan.schema table.place unit
+  pub orders : table.orders.items ≡ key_orders plan table.place unit
 
 -- a file's tables are the plan's
-abbrev pub IsFileOf : Planned → ℕ → JobFile → Type 0
+abbrev pub IsFileOf : Project → ℕ → JobFile → Type 0
 IsFileOf plan unit file = All (IsTableOf plan unit) file.tables.items
 
 -- a snapshot's unit and tables are the plan's, and its buffer holds the greatest line
 pub record CanWrite (job : SnapshotJob) : Type 0 where
-  pub unit : job.unit ≤ last_unit job.plan.schema
-  pub small : last_unit job.plan.schema ≤ 10000
+  pub unit : job.unit ≤ last_unit job.plan
+  pub small : last_unit job.plan ≤ 10000
   pub files : All (IsFileOf job.plan job.unit) job.files.items
-  pub room : reach (layout_of job.plan.schema) ≤ job.page.room
+  pub room : reach (layout_of job.plan) ≤ job.page.room
 
 abbrev pub CanFill : Job → Type 0
 CanFill (Text bytes) = ⊤

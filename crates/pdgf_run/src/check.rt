@@ -43,7 +43,7 @@ pub(crate) fn name_of(plan: &Plan, table: u32) -> &str
 /// Appends what is told of a table.
 fn push_line(text: &mut Vec<u8>, plan: &Plan, table: u32) -> Result<(), Memory>
     requires { table < length plan.now.schema.tables }
-    ensures { OnOk result (text.new.items ≡ text.old.items ++ check_line plan.now.schema table) }
+    ensures { OnOk result (text.new.items ≡ text.old.items ++ check_line plan.now table) }
 {
     text.extend_from_slice(name_of(plan, table).as_bytes())?;
     text.push(b'\t')?;
@@ -55,7 +55,7 @@ fn push_line(text: &mut Vec<u8>, plan: &Plan, table: u32) -> Result<(), Memory>
 
 /// A line for each table: its name, the rows born in all units, its sure life, its cost and its greatest line.
 pub(crate) fn check_text(alloc: Global, plan: &Plan) -> Result<Vec<u8>, Memory>
-    ensures { IfOk result (λ text. text.items ≡ check_lines plan.now.schema (length plan.now.schema.tables)) }
+    ensures { IfOk result (λ text. text.items ≡ check_lines plan.now (length plan.now.schema.tables)) }
 {
     let mut text = Vec::new(alloc);
     for table in 0..plan.tables() {

@@ -36,9 +36,9 @@ fn write_line<S: Shelf>(
 ) -> Result<(), WriteFailed>
     requires begun { IsTrue (S.is_begun shelf.old) }
     requires row { index < cohort_size (layout_for lines.now).births lines.now.born }
-    requires alive { is_live (generator_of lines.now.plan.schema) lines.now.table lines.now.unit (ordinal_of lines.now index) ≡ true }
+    requires alive { is_live (generator_of lines.now.plan) lines.now.table lines.now.unit (ordinal_of lines.now index) ≡ true }
     requires key { key ≡ key_for lines.now index }
-    requires room { max_line (layout_of lines.now.plan.schema) lines.now.table ≤ page.old.room }
+    requires room { max_line (layout_of lines.now.plan) lines.now.table ≤ page.old.room }
     ensures line { Appends result (line_in_cohort lines.now index) (S.held shelf.old) (S.held shelf.new) }
     ensures cause { OnErr result (Rose (S.faults shelf.old) (S.faults shelf.new)) }
     ensures no_fault { OnOk result (S.faults shelf.new ≡ S.faults shelf.old) }
@@ -64,9 +64,9 @@ fn write_cohort<S: Shelf, B: Ledger>(
     requires begun { IsTrue (S.is_begun shelf.old) }
     requires table { IsTableOf plan.now unit table.now }
     requires born { born ≤ unit }
-    requires unit { unit ≤ last_unit plan.now.schema }
-    requires room { max_line (layout_of plan.now.schema) table.now.place ≤ page.old.room }
-    ensures lines { Appends result (cohort_text (generator_of plan.now.schema) unit table.now.place born) (S.held shelf.old) (S.held shelf.new) }
+    requires unit { unit ≤ last_unit plan.now }
+    requires room { max_line (layout_of plan.now) table.now.place ≤ page.old.room }
+    ensures lines { Appends result (cohort_text (generator_of plan.now) unit table.now.place born) (S.held shelf.old) (S.held shelf.new) }
     ensures cause { OnErr result (Rose (S.faults shelf.old) (S.faults shelf.new)) }
     ensures no_fault { OnOk result (S.faults shelf.new ≡ S.faults shelf.old) }
     ensures never_falls { S.faults shelf.old ≤ S.faults shelf.new }
@@ -104,10 +104,10 @@ fn write_table<S: Shelf, B: Ledger>(
 ) -> Result<(), WriteFailed>
     requires begun { IsTrue (S.is_begun shelf.old) }
     requires table { IsTableOf plan.now unit table.now }
-    requires unit { unit ≤ last_unit plan.now.schema }
-    requires small { last_unit plan.now.schema ≤ 10000 }
-    requires room { reach (layout_of plan.now.schema) ≤ page.old.room }
-    ensures text { Appends result (table_text (generator_of plan.now.schema) unit table.now.place) (S.held shelf.old) (S.held shelf.new) }
+    requires unit { unit ≤ last_unit plan.now }
+    requires small { last_unit plan.now ≤ 10000 }
+    requires room { reach (layout_of plan.now) ≤ page.old.room }
+    ensures text { Appends result (table_text (generator_of plan.now) unit table.now.place) (S.held shelf.old) (S.held shelf.new) }
     ensures cause { OnErr result (Rose (S.faults shelf.old) (S.faults shelf.new)) }
     ensures no_fault { OnOk result (S.faults shelf.new ≡ S.faults shelf.old) }
     ensures never_falls { S.faults shelf.old ≤ S.faults shelf.new }
@@ -135,9 +135,9 @@ fn write_tables<S: Shelf, B: Ledger>(
 ) -> Result<(), WriteFailed>
     requires begun { IsTrue (S.is_begun shelf.old) }
     requires file { IsFileOf plan.now unit file.now }
-    requires unit { unit ≤ last_unit plan.now.schema }
-    requires small { last_unit plan.now.schema ≤ 10000 }
-    requires room { reach (layout_of plan.now.schema) ≤ page.old.room }
+    requires unit { unit ≤ last_unit plan.now }
+    requires small { last_unit plan.now ≤ 10000 }
+    requires room { reach (layout_of plan.now) ≤ page.old.room }
     ensures text { Appends result (texts_at plan.now unit (places_in file.now)) (S.held shelf.old) (S.held shelf.new) }
     ensures cause { OnErr result (Rose (S.faults shelf.old) (S.faults shelf.new)) }
     ensures no_fault { OnOk result (S.faults shelf.new ≡ S.faults shelf.old) }
@@ -165,9 +165,9 @@ fn write_file<S: Shelf, B: Ledger>(
 ) -> Result<(), WriteFailed>
     requires none_begun { S.is_begun shelf.old ≡ false }
     requires file { IsFileOf plan.now unit file.now }
-    requires unit { unit ≤ last_unit plan.now.schema }
-    requires small { last_unit plan.now.schema ≤ 10000 }
-    requires room { reach (layout_of plan.now.schema) ≤ page.old.room }
+    requires unit { unit ≤ last_unit plan.now }
+    requires small { last_unit plan.now ≤ 10000 }
+    requires room { reach (layout_of plan.now) ≤ page.old.room }
     ensures file { Finishes result (due_file plan.now unit file.now ∷ []) (S.held shelf.old) (S.held shelf.new) }
     ensures none_begun { OnOk result (S.is_begun shelf.new ≡ false) }
     ensures cause { OnErr result (Rose (S.faults shelf.old) (S.faults shelf.new)) }

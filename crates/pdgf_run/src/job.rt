@@ -94,7 +94,7 @@ fn push(path: &mut Name, piece: &str) -> Result<(), Memory>
 /// A table of a job.
 fn job_table(alloc: Global, plan: &Plan, place: u32, unit: u64) -> Result<JobTable, Memory>
     requires place { place < length plan.now.schema.tables }
-    requires unit { unit ≤ last_unit plan.now.schema }
+    requires unit { unit ≤ last_unit plan.now }
     ensures place { IfOk result (λ table. table.place ≡ place) }
     ensures is { IfOk result (IsTableOf plan.now unit) }
 {
@@ -112,7 +112,7 @@ fn job_file(
     name: Name,
     places: Places,
 ) -> Result<JobFile, Memory>
-    requires unit { unit ≤ last_unit plan.now.schema }
+    requires unit { unit ≤ last_unit plan.now }
     requires within { places.from + places.count ≤ length plan.now.schema.tables }
     ensures name { IfOk result (λ file. file.name ≡ name) }
     ensures places { IfOk result (λ file. places_in file ≡ places_of places) }
@@ -128,7 +128,7 @@ fn job_file(
 
 /// All texts in one file, the standard output.
 fn one_file(alloc: Global, plan: &Plan, unit: u64, places: Places) -> Result<Vec<JobFile>, Memory>
-    requires unit { unit ≤ last_unit plan.now.schema }
+    requires unit { unit ≤ last_unit plan.now }
     requires within { places.from + places.count ≤ length plan.now.schema.tables }
     ensures due { IfOk result (λ files. map (due_file plan.now unit) files.items ≡ snapshot_files plan.now unit (places_of places) None) }
     ensures are { IfOk result (λ files. All (IsFileOf plan.now unit) files.items) }
@@ -148,7 +148,7 @@ fn files_in(
     places: Places,
     directory: &str,
 ) -> Result<Vec<JobFile>, Memory>
-    requires unit { unit ≤ last_unit plan.now.schema }
+    requires unit { unit ≤ last_unit plan.now }
     requires within { places.from + places.count ≤ length plan.now.schema.tables }
     ensures due { IfOk result (λ files. map (due_file plan.now unit) files.items ≡ snapshot_files plan.now unit (places_of places) (Some directory.now)) }
     ensures are { IfOk result (λ files. All (IsFileOf plan.now unit) files.items) }
@@ -171,7 +171,7 @@ fn job_files(
     places: Places,
     out: &Option<Name>,
 ) -> Result<Vec<JobFile>, Memory>
-    requires unit { unit ≤ last_unit plan.now.schema }
+    requires unit { unit ≤ last_unit plan.now }
     requires within { places.from + places.count ≤ length plan.now.schema.tables }
     ensures due { IfOk result (λ files. map (due_file plan.now unit) files.items ≡ snapshot_files plan.now unit (places_of places) out.now) }
     ensures are { IfOk result (λ files. All (IsFileOf plan.now unit) files.items) }
@@ -190,7 +190,7 @@ pub(crate) fn snapshot_job(
     places: Places,
     out: &Option<Name>,
 ) -> Result<SnapshotJob, Memory>
-    requires unit { unit ≤ last_unit plan.schema }
+    requires unit { unit ≤ last_unit plan }
     requires within { places.from + places.count ≤ length plan.schema.tables }
     ensures due { IfOk result (λ job. snapshot_due job ≡ snapshot_files plan unit (places_of places) out.now) }
     ensures can { IfOk result CanWrite }

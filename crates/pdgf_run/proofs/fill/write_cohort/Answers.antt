@@ -17,7 +17,7 @@ use Rattle.pdgf_run.proofs.fill.write_cohort.Goals as goal
 
 pub index-order-requires : goal.index-order-requires
 index-order-requires g c =
-    let count = ap length c.requires.table.orders ∙ length-map-range_with_len (key_order c.args.plan.now.schema c.args.table.now.place) 0 (c.args.unit + 1) in
+    let count = ap length c.requires.table.orders ∙ length-map-range_with_len (key_order c.args.plan.now c.args.table.now.place) 0 (c.args.unit + 1) in
     omega (arith, count)
 
 pub new-lines-requires-clause-order : goal.new-lines-requires-clause-order
@@ -25,7 +25,7 @@ new-lines-requires-clause-order g c =
     let within : c.args.born < c.args.unit + 1 = omega arith in
     c.index-order.ensures
     ∙ ap (λ (orders : List Arrangement). get_or orders c.args.born c.index-order.result.now) c.requires.table.orders
-    ∙ get_or-map-range_with_len (key_order c.args.plan.now.schema c.args.table.now.place) 0 (c.args.unit + 1) c.args.born c.args.born c.index-order.result.now within (omega arith)
+    ∙ get_or-map-range_with_len (key_order c.args.plan.now c.args.table.now.place) 0 (c.args.unit + 1) c.args.born c.args.born c.index-order.result.now within (omega arith)
 
 pub loop-first-init : goal.loop-first-init
 loop-first-init g c = record {
@@ -34,7 +34,7 @@ loop-first-init g c = record {
   lines =
       append_nothing (g.S.Shelf.held c.args.shelf.now)
       ∙ ap (λ (text : List ℕ). option_map (append_bytes text) (g.S.Shelf.held c.args.shelf.now))
-      (sym (first_lines-zero (generator_of c.args.plan.now.schema) c.args.unit c.args.table.now.place c.args.born));
+      (sym (first_lines-zero (generator_of c.args.plan.now) c.args.unit c.args.table.now.place c.args.born));
   begun = c.requires.begun;
   no_fault = refl;
   room = refl;
@@ -42,14 +42,14 @@ loop-first-init g c = record {
 
 pub loop-index-preserved : goal.loop-index-preserved
 loop-index-preserved g c =
-    let generator : Generator = generator_of c.args.plan.now.schema in
+    let generator : Generator = generator_of c.args.plan.now in
     let index : ℕ = c.loop-first.first + c.loop-index.index in
     let next : index + 1 ≡ c.loop-first.first + (c.loop-index.index + 1) = omega arith in
     record {
       lines =
           appended_then (first_lines generator c.args.unit c.args.table.now.place c.args.born index)
           (line_in_cohort (record { plan = c.args.plan.now; table = c.args.table.now.place; born = c.args.born; unit = c.args.unit }) index) _ _ _ _
-          (first_lines-add_live generator c.args.unit c.args.table.now.place c.args.born index (is_live-built c.args.plan.now.schema c.schema-built.ensures.built c.args.table.now.place c.args.unit _)) c.loop-index.invariant.lines
+          (first_lines-add_live generator c.args.unit c.args.table.now.place c.args.born index (is_live-built c.args.plan.now c.schema-built.ensures.built c.args.table.now.place c.args.unit _)) c.loop-index.invariant.lines
           (c.in-Ok.ensures.line ∙ ap (λ (lines : LinesOf). option_map (append_bytes (line_in_cohort lines index)) (g.S.Shelf.held c.loop-index.shelf)) c.new-lines.ensures)
           ∙ ap (λ (count : ℕ). option_map (append_bytes (first_lines generator c.args.unit c.args.table.now.place c.args.born count)) (g.S.Shelf.held c.args.shelf.now)) next;
       begun = c.in-Ok.ensures.begun;
@@ -60,22 +60,22 @@ loop-index-preserved g c =
 pub returns-in-Err-clause-lines : goal.returns-in-Err-clause-lines
 returns-in-Err-clause-lines g c =
     let index : ℕ = c.loop-first.first + c.loop-index.index in
-    let below : index < cohort_size (table_of c.args.plan.now.schema c.args.table.now.place).births c.args.born =
+    let below : index < cohort_size (table_of c.args.plan.now c.args.table.now.place).births c.args.born =
     omega (arith, c.cohort-size.ensures.size, c.min-count.ensures, c.loop-first-test.true, c.loop-index.auto.index-end, c.loop-index-test.true) in
-    prefix_after _ _ _ _ _ _ _ (cohort_text-at (generator_of c.args.plan.now.schema) c.args.unit c.args.table.now.place c.args.born index below (is_live-built c.args.plan.now.schema c.schema-built.ensures.built c.args.table.now.place c.args.unit _))
+    prefix_after _ _ _ _ _ _ _ (cohort_text-at (generator_of c.args.plan.now) c.args.unit c.args.table.now.place c.args.born index below (is_live-built c.args.plan.now c.schema-built.ensures.built c.args.table.now.place c.args.unit _))
     c.loop-index.invariant.lines
     (subst (λ (lines : LinesOf). AppendedPrefixOf (line_in_cohort lines index) (g.S.Shelf.held c.loop-index.shelf) (g.S.Shelf.held c.write_line.new.shelf)) c.new-lines.ensures c.in-Err.ensures.line)
 
 pub returns-clause-lines : goal.returns-clause-lines
 returns-clause-lines g c =
-    let all : c.loop-first.first ≡ cohort_size (table_of c.args.plan.now.schema c.args.table.now.place).births c.args.born =
+    let all : c.loop-first.first ≡ cohort_size (table_of c.args.plan.now c.args.table.now.place).births c.args.born =
     omega (arith, c.cohort-size.ensures.size, c.loop-first.invariant.within, c.loop-first-test.false) in
     c.loop-first.invariant.lines
     ∙ ap (λ (text : List ℕ). option_map (append_bytes text) (g.S.Shelf.held c.args.shelf.now))
-    (first_lines-all (generator_of c.args.plan.now.schema) c.args.unit c.args.table.now.place c.args.born c.loop-first.first all)
+    (first_lines-all (generator_of c.args.plan.now) c.args.unit c.args.table.now.place c.args.born c.loop-first.first all)
 
 pub write_line-requires-clause-alive : goal.write_line-requires-clause-alive
 write_line-requires-clause-alive g c =
     let index : ℕ = c.loop-first.first + c.loop-index.index in
-    ap (λ (lines : LinesOf). is_live (generator_of lines.plan.schema) lines.table lines.unit (ordinal_of lines index)) c.new-lines.ensures
-    ∙ is_live-built c.args.plan.now.schema c.schema-built.ensures.built c.args.table.now.place c.args.unit _
+    ap (λ (lines : LinesOf). is_live (generator_of lines.plan) lines.table lines.unit (ordinal_of lines index)) c.new-lines.ensures
+    ∙ is_live-built c.args.plan.now c.schema-built.ensures.built c.args.table.now.place c.args.unit _

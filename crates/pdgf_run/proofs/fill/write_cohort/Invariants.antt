@@ -11,7 +11,7 @@ invariant-loop-first g l = record {
   keys : length l.keys ≡ 256;
   lines :
       g.S.Shelf.held l.shelf
-      ≡ option_map (append_bytes (first_lines (generator_of l.plan.schema) l.unit l.table.place l.born l.first)) (g.S.Shelf.held l.fn.shelf);
+      ≡ option_map (append_bytes (first_lines (generator_of l.plan) l.unit l.table.place l.born l.first)) (g.S.Shelf.held l.fn.shelf);
   begun : g.S.Shelf.is_begun l.shelf ≡ true;
   no_fault : g.S.Shelf.faults l.shelf ≡ g.S.Shelf.faults l.fn.shelf;
   room : l.page.room ≡ l.fn.page.room;
@@ -24,7 +24,7 @@ abbrev pub invariant-loop-index : goal.invariant-loop-index
 invariant-loop-index g l = record {
   lines :
       g.S.Shelf.held l.shelf
-      ≡ option_map (append_bytes (first_lines (generator_of l.plan.schema) l.unit l.table.place l.born (l.first + l.index))) (g.S.Shelf.held l.fn.shelf);
+      ≡ option_map (append_bytes (first_lines (generator_of l.plan) l.unit l.table.place l.born (l.first + l.index))) (g.S.Shelf.held l.fn.shelf);
   begun : g.S.Shelf.is_begun l.shelf ≡ true;
   no_fault : g.S.Shelf.faults l.shelf ≡ g.S.Shelf.faults l.fn.shelf;
   room : l.page.room ≡ l.fn.page.room;

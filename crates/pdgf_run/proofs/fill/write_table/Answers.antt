@@ -16,7 +16,7 @@ loop-born-init g c = record {
   text =
       append_nothing (g.S.Shelf.held c.args.shelf.now)
       ∙ ap (λ (text : List ℕ). option_map (append_bytes text) (g.S.Shelf.held c.args.shelf.now))
-      (sym (text_before-zero (generator_of c.args.plan.now.schema) c.args.unit c.args.table.now.place));
+      (sym (text_before-zero (generator_of c.args.plan.now) c.args.unit c.args.table.now.place));
   begun = c.requires.begun;
   no_fault = refl;
   room = refl;
@@ -24,7 +24,7 @@ loop-born-init g c = record {
 
 pub loop-born-preserved : goal.loop-born-preserved
 loop-born-preserved g c =
-    let generator : Generator = generator_of c.args.plan.now.schema in
+    let generator : Generator = generator_of c.args.plan.now in
     record {
       text =
           appended_then (text_before generator c.args.unit c.args.table.now.place c.loop-born.born) (cohort_text generator c.args.unit c.args.table.now.place c.loop-born.born) _ _ _ _
@@ -36,18 +36,18 @@ loop-born-preserved g c =
 
 pub write_cohort-requires-clause-room : goal.write_cohort-requires-clause-room
 write_cohort-requires-clause-room g c =
-    omega (arith, max_line-reach (layout_of c.args.plan.now.schema) c.args.table.now.place, c.loop-born.invariant.room, c.requires.room)
+    omega (arith, max_line-reach (layout_of c.args.plan.now) c.args.table.now.place, c.loop-born.invariant.room, c.requires.room)
 
 pub returns-in-Err-clause-text : goal.returns-in-Err-clause-text
 returns-in-Err-clause-text g c =
     let within : c.loop-born.born ≤ c.args.unit = omega arith in
-    prefix_after _ _ _ _ _ _ _ (table_text-at c.args.unit (generator_of c.args.plan.now.schema) c.args.unit c.args.table.now.place c.loop-born.born (AreSound-built c.args.plan.now.schema c.schema-built.ensures.built c.args.unit) (omega arith) within)
+    prefix_after _ _ _ _ _ _ _ (table_text-at c.args.unit (generator_of c.args.plan.now) c.args.unit c.args.table.now.place c.loop-born.born (AreSound-built c.args.plan.now c.schema-built.ensures.built c.args.unit) (omega arith) within)
     c.loop-born.invariant.text c.in-Err.ensures.lines
 
 pub returns-clause-text : goal.returns-clause-text
 returns-clause-text g c =
     let all : c.loop-born.born ≡ c.args.unit + 1 = omega arith in
     c.loop-born.invariant.text
-    ∙ ap (λ (born : ℕ). option_map (append_bytes (text_before (generator_of c.args.plan.now.schema) c.args.unit c.args.table.now.place born)) (g.S.Shelf.held c.args.shelf.now)) all
+    ∙ ap (λ (born : ℕ). option_map (append_bytes (text_before (generator_of c.args.plan.now) c.args.unit c.args.table.now.place born)) (g.S.Shelf.held c.args.shelf.now)) all
     ∙ ap (λ (text : List ℕ). option_map (append_bytes text) (g.S.Shelf.held c.args.shelf.now))
-    (sym (table_text-text_before c.args.unit (generator_of c.args.plan.now.schema) c.args.unit c.args.table.now.place (AreSound-built c.args.plan.now.schema c.schema-built.ensures.built c.args.unit) (omega arith)))
+    (sym (table_text-text_before c.args.unit (generator_of c.args.plan.now) c.args.unit c.args.table.now.place (AreSound-built c.args.plan.now c.schema-built.ensures.built c.args.unit) (omega arith)))

@@ -20,7 +20,7 @@ loop-table-init g c = record {
 
 pub loop-table-preserved : goal.loop-table-preserved
 loop-table-preserved g c =
-    let text : JobTable → List ℕ = λ table. table_text (generator_of c.args.plan.now.schema) c.args.unit table.place in
+    let text : JobTable → List ℕ = λ table. table_text (generator_of c.args.plan.now) c.args.unit table.place in
     let tables : List JobTable = c.deref-table-items.result.now in
     record {
       text =
@@ -33,7 +33,7 @@ loop-table-preserved g c =
 
 pub returns-in-Err-clause-text : goal.returns-in-Err-clause-text
 returns-in-Err-clause-text g c =
-    let text : JobTable → List ℕ = λ table. table_text (generator_of c.args.plan.now.schema) c.args.unit table.place in
+    let text : JobTable → List ℕ = λ table. table_text (generator_of c.args.plan.now) c.args.unit table.place in
     let tables : List JobTable = c.deref-table-items.result.now in
     prefix_after _ _ _ _ _ _ _
     (texts_at-map c.args.plan.now c.args.unit (λ (table : JobTable). table.place) c.args.file.now.tables.items
@@ -43,7 +43,7 @@ returns-in-Err-clause-text g c =
 
 pub returns-clause-text : goal.returns-clause-text
 returns-clause-text g c =
-    let text : JobTable → List ℕ = λ table. table_text (generator_of c.args.plan.now.schema) c.args.unit table.place in
+    let text : JobTable → List ℕ = λ table. table_text (generator_of c.args.plan.now) c.args.unit table.place in
     c.loop-table.invariant.text
     ∙ ap (λ (tables : List JobTable). option_map (append_bytes (flat_map text tables)) (g.S.Shelf.held c.args.shelf.now))
     (take_all c.loop-table.table-index c.deref-table-items.result.now (omega (arith, c.loop-table-test.false)) ∙ c.deref-table-items.ensures.value)

@@ -11,7 +11,7 @@ abbrev pub invariant-loop-table : goal.invariant-loop-table
 invariant-loop-table g l = record {
   text :
       g.S.Shelf.held l.shelf
-      ≡ option_map (append_bytes (flat_map (λ (table : JobTable). table_text (generator_of l.plan.schema) l.unit table.place) (take l.table-index l.table-items))) (g.S.Shelf.held l.fn.shelf);
+      ≡ option_map (append_bytes (flat_map (λ (table : JobTable). table_text (generator_of l.plan) l.unit table.place) (take l.table-index l.table-items))) (g.S.Shelf.held l.fn.shelf);
   begun : g.S.Shelf.is_begun l.shelf ≡ true;
   no_fault : g.S.Shelf.faults l.shelf ≡ g.S.Shelf.faults l.fn.shelf;
   room : l.page.room ≡ l.fn.page.room;
