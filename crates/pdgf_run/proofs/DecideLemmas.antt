@@ -75,20 +75,8 @@ decided_for_request words (Some c) r (Err fault) is decided = λ not_free.
 
 -- ---- the schema's file
 
-of_file-long : (r : Request) (files : List File) (bytes : List ℕ) → schema_limit < length bytes → of_file r files bytes ≡ Err (job.Reading reading.TooLong)
-of_file-long r files bytes long = grind (arith, nat_tests)
-
 of_file-within : (r : Request) (files : List File) (bytes : List ℕ) → length bytes ≤ schema_limit → of_file r files bytes ≡ in_stage job.Text (of_text r files bytes)
 of_file-within r files bytes within = grind (arith, nat_tests)
-
--- a file that wasn't read
-pub file_not_read : (content : Option Content) (r : Request) (fault : ReadFault) →
-    (fault ≡ reading.TooLong → IfSome content (λ c. schema_limit < length (bytes_of c.files r.schema))) →
-    IfSome (told_files content) (λ files. Decides job_status due_of (Err (job.Reading fault)) (of_file r files (bytes_of files r.schema)))
-file_not_read None r fault longer = tt
-file_not_read (Some c) r reading.Failed longer = λ free. absurd (cc)
-file_not_read (Some c) r reading.Memory longer = λ free. absurd (cc)
-file_not_read (Some c) r reading.TooLong longer = λ free. of_file-long r c.files (bytes_of c.files r.schema) (longer refl)
 
 -- what is decided of bytes is decided of their file
 decided_for_file : (files : List File) (r : Request) (bytes : List ℕ) (made : Result Job TextFault) → bytes ≡ bytes_of files r.schema → length bytes ≤ schema_limit →
@@ -98,116 +86,14 @@ decided_for_file files r bytes (Ok made) whole within decided =
 decided_for_file files r bytes (Err fault) whole within decided = λ free.
     ap (of_file r files) (sym whole) ∙ of_file-within r files bytes within ∙ ap (in_stage job.Text) (decided free)
 
-pub decided_for_text : (content : Option Content) (told : Option (List File)) (r : Request) (bytes text : List ℕ) (made : Result Job TextFault) →
-    told ≡ told_files content → IfSome content (λ c. bytes ≡ bytes_of c.files r.schema) → length bytes ≤ schema_limit → text ≡ bytes →
+pub decided_for_text : (content : Option Content) (told : Option (List File)) (r : Request) (name bytes text : List ℕ) (made : Result Job TextFault) →
+    name ≡ r.schema → told ≡ told_files content → IfSome content (λ c. bytes ≡ bytes_of c.files name) → length bytes ≤ schema_limit → text ≡ bytes →
     IfSome told (λ files. Decides text_status due_of made (of_text r files text)) →
     IfSome (told_files content) (λ files. Decides job_status due_of (in_stage job.Text made) (of_file r files (bytes_of files r.schema)))
-decided_for_text None told r bytes text made same whole within is decided = tt
-decided_for_text (Some c) told r bytes text made same whole within is decided =
-    decided_for_file c.files r text made (is ∙ whole) (subst (λ (b : List ℕ). length b ≤ schema_limit) (sym is) within)
+decided_for_text None told r name bytes text made named same whole within is decided = tt
+decided_for_text (Some c) told r name bytes text made named same whole within is decided =
+    decided_for_file c.files r text made (is ∙ whole ∙ ap (bytes_of c.files) named) (subst (λ (b : List ℕ). length b ≤ schema_limit) (sym is) within)
     (IfSome-same (λ files. Decides text_status due_of made (of_text r files text)) told (Some c.files) same decided)
-
--- ---- the schema's text
-
--- a text that is no schema
-pub no_schema : (told : Option (List File)) (r : Request) (bytes : List ℕ) (fault : ReadSchemaFault) → (fault ≢ schema.Memory → schema_of bytes ≡ Err fault) →
-    IfSome told (λ files. Decides text_status due_of (Err (text.Schema fault)) (of_text r files bytes))
-no_schema None r bytes fault refused = tt
-no_schema (Some files) r bytes fault refused = λ free.
-    ap (λ (s : Result Schema ReadSchemaFault). on_ok (in_stage text.Schema s) (of_schema r files))
-    (refused (λ same. let free' = ap (λ (f : ReadSchemaFault). is_free (text_status (text.Schema f))) same in cc))
-
-of_text-is : (r : Request) (files : List File) (bytes : List ℕ) (s : Schema) (plan : Result Project PlanFault) → schema_of bytes ≡ Ok s → planned files s ≡ plan →
-    of_text r files bytes ≡ on_ok (in_stage text.Plan plan) (in_mode r.mode r)
-of_text-is r files bytes s plan read made =
-    ap (λ (x : Result Schema ReadSchemaFault). on_ok (in_stage text.Schema x) (of_schema r files)) read
-    ∙ ap (λ (p : Result Project PlanFault). on_ok (in_stage text.Plan p) (in_mode r.mode r)) made
-
--- a schema without a plan
-pub no_plan : (told : Option (List File)) (r : Request) (bytes : List ℕ) (s : Schema) (fault : PlanFault) → schema_of bytes ≡ Ok s →
-    IfSome told (λ files. Decides plan_status (λ (plan : Project). plan) (Err fault) (planned files s)) →
-    IfSome told (λ files. Decides text_status due_of (Err (text.Plan fault)) (of_text r files bytes))
-no_plan None r bytes s fault read refused = tt
-no_plan (Some files) r bytes s fault read refused = λ free. of_text-is r files bytes s (Err fault) read (refused free)
-
--- what is decided over a plan is decided of the text
-decided_over_plan : (files : List File) (r : Request) (bytes : List ℕ) (s : Schema) (plan : Project) (made : Result Job TextFault) → schema_of bytes ≡ Ok s → planned files s ≡ Ok plan →
-    Decides text_status due_of made (in_mode r.mode r plan) → Decides text_status due_of made (of_text r files bytes)
-decided_over_plan files r bytes s plan (Ok made) read is decided = of_text-is r files bytes s (Ok plan) read is ∙ decided
-decided_over_plan files r bytes s plan (Err fault) read is decided = λ free. of_text-is r files bytes s (Ok plan) read is ∙ decided free
-
-pub decided_for_plan : (told : Option (List File)) (r : Request) (bytes : List ℕ) (s : Schema) (plan : Project) (made : Result Job TextFault) → schema_of bytes ≡ Ok s →
-    IfSome told (λ files. planned files s ≡ Ok plan) → Decides text_status due_of made (in_mode r.mode r plan) →
-    IfSome told (λ files. Decides text_status due_of made (of_text r files bytes))
-decided_for_plan None r bytes s plan made read is decided = tt
-decided_for_plan (Some files) r bytes s plan made read is decided = decided_over_plan files r bytes s plan made read is decided
-
--- ---- the plan
-
-citations-unbuilt : (s : Schema) → is_unbuilt s ≡ true → citations_of s ≡ Err plan.NotBuilt
-citations-unbuilt s unbuilt =
-    ap (λ (b : Bool). if b then Err plan.NotBuilt else unless_refused (citation_refusal s) (cited_names s.tables)) unbuilt
-
-citations-built : (s : Schema) (fault : Option CheckFault) → is_unbuilt s ≡ false → citation_refusal s ≡ fault → citations_of s ≡ unless_refused fault (cited_names s.tables)
-citations-built s fault built is =
-    ap (λ (b : Bool). if b then Err plan.NotBuilt else unless_refused (citation_refusal s) (cited_names s.tables)) built
-    ∙ ap (λ (f : Option CheckFault). unless_refused f (cited_names s.tables)) is
-
-planned-is : (files : List File) (s : Schema) (names : Result (List (List ℕ)) PlanFault) → citations_of s ≡ names → planned files s ≡ on_ok names (planned_with files s)
-planned-is files s names is = ap (λ (n : Result (List (List ℕ)) PlanFault). on_ok n (planned_with files s)) is
-
--- what isn't built
-pub not_built : (told : Option (List File)) (s : Schema) → is_unbuilt s ≡ true →
-    IfSome told (λ files. Decides plan_status (λ (plan : Project). plan) (Err plan.NotBuilt) (planned files s))
-not_built None s unbuilt = tt
-not_built (Some files) s unbuilt = λ free. planned-is files s _ (citations-unbuilt s unbuilt)
-
--- what isn't to be cited
-pub not_citable : (told : Option (List File)) (s : Schema) (fault : CheckFault) → is_unbuilt s ≡ false → (fault ≢ check.Memory → citation_refusal s ≡ Some fault) →
-    IfSome told (λ files. Decides plan_status (λ (plan : Project). plan) (Err (plan.Check fault)) (planned files s))
-not_citable None s fault built refused = tt
-not_citable (Some files) s fault built refused = λ free.
-    planned-is files s _
-    (citations-built s (Some fault) built
-    (refused (λ same. let free' = ap (λ (f : CheckFault). is_free (plan_status (plan.Check f))) same in cc)))
-
-planned_with-is : (files : List File) (s : Schema) (names : List (List ℕ)) (dictionaries : Result (List Dictionary) DictionaryFault) →
-    is_unbuilt s ≡ false → citation_refusal s ≡ None → names ≡ cited_names s.tables → with_dictionaries files [] names ≡ dictionaries →
-    planned files s ≡ on_ok (in_stage plan.Dictionary dictionaries) (accepted_with s)
-planned_with-is files s names dictionaries built citable cited read =
-    planned-is files s _ (citations-built s None built citable)
-    ∙ ap (planned_with files s) (sym cited)
-    ∙ ap (λ (d : Result (List Dictionary) DictionaryFault). on_ok (in_stage plan.Dictionary d) (accepted_with s)) read
-
--- dictionaries that aren't read
-pub no_dictionaries : (told : Option (List File)) (s : Schema) (names : List (List ℕ)) (fault : DictionaryFault) →
-    is_unbuilt s ≡ false → citation_refusal s ≡ None → names ≡ cited_names s.tables →
-    IfSome told (λ files. Decides (λ (f : DictionaryFault). cause_status f.cause) (λ (d : List Dictionary). d) (Err fault) (with_dictionaries files [] names)) →
-    IfSome told (λ files. Decides plan_status (λ (plan : Project). plan) (Err (plan.Dictionary fault)) (planned files s))
-no_dictionaries None s names fault built citable cited refused = tt
-no_dictionaries (Some files) s names fault built citable cited refused = λ free. planned_with-is files s names _ built citable cited (refused free)
-
--- a schema that breaks a rule with its dictionaries
-pub not_accepted : (told : Option (List File)) (s : Schema) (names : List (List ℕ)) (dictionaries : List Dictionary) (fault : CheckFault) →
-    is_unbuilt s ≡ false → citation_refusal s ≡ None → names ≡ cited_names s.tables →
-    IfSome told (λ files. with_dictionaries files [] names ≡ Ok dictionaries) → (fault ≢ check.Memory → refusal_of (project_of s dictionaries) ≡ Some fault) →
-    IfSome told (λ files. Decides plan_status (λ (plan : Project). plan) (Err (plan.Check fault)) (planned files s))
-not_accepted None s names dictionaries fault built citable cited read refused = tt
-not_accepted (Some files) s names dictionaries fault built citable cited read refused = λ free.
-    planned_with-is files s names _ built citable cited read
-    ∙ ap (λ (f : Option CheckFault). unless_refused f (project_of s dictionaries))
-    (refused (λ same. let free' = ap (λ (f : CheckFault). is_free (plan_status (plan.Check f))) same in cc))
-
--- one that breaks none
-pub accepted : (told : Option (List File)) (s : Schema) (names : List (List ℕ)) (dictionaries : List Dictionary) (made : Project) →
-    is_unbuilt s ≡ false → citation_refusal s ≡ None → names ≡ cited_names s.tables →
-    IfSome told (λ files. with_dictionaries files [] names ≡ Ok dictionaries) → refusal_of (project_of s dictionaries) ≡ None → made ≡ project_of s dictionaries →
-    IfSome told (λ files. planned files s ≡ Ok made)
-accepted None s names dictionaries made built citable cited read is same = tt
-accepted (Some files) s names dictionaries made built citable cited read is same =
-    planned_with-is files s names _ built citable cited read
-    ∙ ap (λ (f : Option CheckFault). unless_refused f (project_of s dictionaries)) is
-    ∙ ap Ok (sym same)
 
 -- ---- the names that are asked
 
@@ -275,33 +161,6 @@ asks_then content told r name bytes text before mid now named same whole within 
     (subst (λ (n : List ℕ). IfSome content (λ (c : Content). bytes ≡ bytes_of c.files n)) named whole)
     (ap (λ (b : List ℕ). cited_by_read (schema_of b)) is ∙ sym (cited_in-within bytes within))
     (once ∙ ap (λ (n : List ℕ). ask n before) named) asks
-
--- some names of a list are some of an equal one, where told files stay
-pub asks_same : (names list : List (List ℕ)) (told now_told : Option (List File)) (before now : Option (List (List ℕ))) → names ≡ list → now_told ≡ told →
-    AsksNames names now_told before now → AsksNames list told before now
-asks_same names list told now_told before now same files asks =
-    subst (λ (t : Option (List File)). AsksNames list t before now) files (subst (λ (n : List (List ℕ)). AsksNames n now_told before now) same asks)
-
-pub cited_by-names : (s : Schema) (names : List (List ℕ)) → is_unbuilt s ≡ false → citation_refusal s ≡ None → names ≡ cited_names s.tables → names ≡ cited_by s
-cited_by-names s names built citable cited = cited ∙ sym (ap (λ (n : Result (List (List ℕ)) PlanFault). result_unwrap_or n []) (citations-built s None built citable))
-
-pub cited_by_read-is : (bytes : List ℕ) (s : Schema) → schema_of bytes ≡ Ok s → cited_by s ≡ cited_by_read (schema_of bytes)
-cited_by_read-is bytes s read = sym (ap cited_by_read read)
-
--- ---- what is left of the last file
-
--- where the last started file is read out, nothing is left of it, and files are told as before
-pub nothing_left : (before now : Option Content) → IsReadOut now → told_files now ≡ told_files before →
-    option_map left now ≡ option_map (λ (c : Content). []) before
-nothing_left None None out same = refl
-nothing_left None (Some d) out same = absurd (cc)
-nothing_left (Some c) None out same = absurd (cc)
-nothing_left (Some c) (Some d) out same = ap Some out
-
--- a file that was read out
-pub read_out-of : (name : List ℕ) (before now : Option Content) → now ≡ option_map (read_out name) before → IsReadOut now
-read_out-of name None now is = subst IsReadOut (sym is) tt
-read_out-of name (Some c) now is = subst IsReadOut (sym is) refl
 
 -- ---- words are never at fault for want of memory
 

@@ -187,14 +187,6 @@ pub none_asked : (before : Option (List (List ℕ))) → before ≡ option_map (
 none_asked None = refl
 none_asked (Some names) = ap Some (sym (append-nil names))
 
--- nothing was asked
-pub asks_none : (names : List (List ℕ)) (told : Option (List File)) (before : Option (List (List ℕ))) → AsksNames names told before before
-asks_none names None before = record { told = tt; untold = asked_first names [] names before before (none_asked before) refl }
-asks_none names (Some files) before = record {
-  told = asked_first (up_to_fault files names) [] (up_to_fault files names) before before (none_asked before) refl;
-  untold = asked_first names [] names before before (none_asked before) refl;
-}
-
 -- all were asked, and the first of them gave dictionaries
 pub asks_first : (told : Option (List File)) (names : List (List ℕ)) (place : ℕ) (before now : Option (List (List ℕ))) → IfSome told (AreReadable names place) →
     now ≡ option_map (λ all. all ++ take place names) before → AsksNames names told before now
