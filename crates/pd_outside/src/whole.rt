@@ -16,7 +16,8 @@ const CHUNK: usize = 65536;
 /// Reads the whole file of this name, to its end, where it has at most `limit` bytes.
 ///
 /// `Failed` comes only where the library's count of faults rose, and no file is started then; any other answer leaves
-/// the count as it was. `TooLong` comes exactly where `limit` + 1 bytes of the file were taken.
+/// the count as it was. `TooLong` comes exactly where `limit` + 1 bytes of the file were taken, and no more are ever taken.
+/// Nothing is taken of a file whose name isn't asked.
 pub fn read_whole<L: Library>(
     alloc: Global,
     library: &mut L,
@@ -29,6 +30,7 @@ pub fn read_whole<L: Library>(
     ensures read_out { OnOk result (L.content library.new ≡ option_map (read_out name.now) (L.content library.old)) }
     ensures taken { IfOk result (λ bytes. L.taken library.new ≡ length bytes.items) }
     ensures within { OnOk result (L.taken library.new ≤ limit) }
+    ensures at_most { L.taken library.new ≤ limit + 1 }
 
     ensures too_long { IsErrOf result ReadFault.TooLong ↔ (L.taken library.new ≡ limit + 1) }
     ensures longer { IsErrOf result ReadFault.TooLong → IfSome (L.content library.old) (λ c. limit < length (bytes_of c.files name.now)) }
@@ -38,6 +40,7 @@ pub fn read_whole<L: Library>(
 
     ensures asked { IsOk result ⊎ IsErrOf result ReadFault.TooLong → L.asked library.new ≡ ask name.now (L.asked library.old) }
     ensures asked_at_most { AskedAtMost name.now (L.asked library.old) (L.asked library.new) }
+    ensures unasked { (L.asked library.new ≡ ask name.now (L.asked library.old)) ⊎ (L.taken library.new ≡ 0) }
     ensures files { option_map (λ (c : Content). c.files) (L.content library.new) ≡ option_map (λ (c : Content). c.files) (L.content library.old) }
     ensures never_falls { L.faults library.old ≤ L.faults library.new }
     ensures no_fault { IsErrOf result ReadFault.Failed ⊎ (L.faults library.new ≡ L.faults library.old) }

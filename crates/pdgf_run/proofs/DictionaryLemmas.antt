@@ -1,23 +1,23 @@
 -- Dictionaries read one after the other, and the names that are asked meanwhile.
 use Rattle.std.proofs.Common.{◌≡◌, ◌≢◌, ◌<◌, ◌≤◌, ℕ, suc, ◌+◌, Bool, true, false, List, [], ◌∷◌, ◌++◌, length, take, drop, Option, None, Some, Result, Ok, Err, inl, inr, refl, ap, sym, subst, ◌∙◌, arith, append_assoc, add-one}
-use Rattle.std.specs.Prelude.{IfSome, is_ok, if◌then◌else◌, slice_get}
+use Rattle.std.specs.Prelude.{◌⊎◌, IfSome, is_ok, if◌then◌else◌, slice_get}
 use Rattle.std.specs.Option.{option_map}
 use Rattle.std.proofs.Math.Seq.{drop-cons, take-append_seam}
 use Rattle.std.proofs.lemmas.Bool.Decides.{nat_tests}
-use Rattle.std.proofs.lemmas.List.{append-nil, take-append-drop, take_more}
+use Rattle.std.proofs.lemmas.List.{append-nil, length-append, length-take-le, take-append-drop, take_more}
 use Rattle.std.proofs.lemmas.Option.{get_or_from_slice_get, slice_get_within}
 use Rattle.dictionaries.specs.Grammar.{dictionary_of}
 use Rattle.dictionaries.specs.WordList.{WordList}
 use Rattle.dictionaries.specs.declared.fault.DictFault.{DictFault}
 use Rattle.dictionaries.specs.declared.fault.DictFault.TheVariants as grammar
 use Rattle.pd_outside.specs.Files.{File, bytes_of}
-use Rattle.pd_outside.specs.Library.{Content, AskedAtMost, AskedPrefixOf}
+use Rattle.pd_outside.specs.Library.{Content, ask, AskedAtMost, AskedPrefixOf}
 use Rattle.pd_outside.specs.declared.faults.ReadFault.{ReadFault}
 use Rattle.pd_outside.specs.declared.faults.ReadFault.TheVariants as reading
 use Rattle.schema_check.specs.Dictionaries.{Dictionary}
 use Rattle.pdgf_run.specs.DictionaryFiles.{fault_at, named, with_dictionaries, with_dictionary, words_in, words_of}
 use Rattle.pdgf_run.specs.Limits.{dictionary_limit}
-use Rattle.pdgf_run.specs.ReadingList.{up_to_fault, AsksNames}
+use Rattle.pdgf_run.specs.ReadingList.{up_to_fault, AskedNone, AsksNames}
 use Rattle.pdgf_run.specs.Stages.{in_stage, on_ok}
 use Rattle.pdgf_run.specs.Statuses.{cause_status, is_free, reading_status}
 use Rattle.pdgf_run.specs.Verdict.{told_files}
@@ -222,3 +222,31 @@ pub asks_at_most : (told : Option (List File)) (names : List (List ℕ)) (place 
 asks_at_most told names place name before mid now at readable sofar (inl once) =
     asks_next told names place name before now at readable (asked_more names place name before mid now at sofar once)
 asks_at_most told names place name before mid now at readable sofar (inr never) = asks_first told names place before now readable (never ∙ sofar)
+
+-- ---- what was taken where no name was asked
+
+nothing_behind : (names added : List (List ℕ)) → ◌≡◌ {A = Option (List (List ℕ))} (Some (names ++ added)) (Some names) → length added ≡ 0
+nothing_behind names added same =
+    let lengths : length (names ++ added) ≡ length names = ap length (let back : names ++ added ≡ names = cc in back) in
+    omega (arith, length-append names added)
+
+asked_of_told : (now : Option (List (List ℕ))) (names added : List (List ℕ)) → now ≡ Some (names ++ added) → now ≡ Some names → length added ≡ 0
+asked_of_told now names added more none = nothing_behind names added (sym more ∙ none)
+
+-- the next one wasn't read, and its name wasn't asked
+pub unasked_at_fault : (names : List (List ℕ)) (place : ℕ) (name : List ℕ) (before mid now : Option (List (List ℕ))) (taken earlier : ℕ) → slice_get names place ≡ Some name →
+    mid ≡ option_map (λ all. all ++ take place names) before → (now ≡ ask name mid) ⊎ (taken ≡ 0) → AskedNone before now → taken ≤ earlier
+unasked_at_fault names place name before mid now taken earlier at sofar (inr none) alone = omega arith
+unasked_at_fault names place name None mid now taken earlier at sofar (inl asked) alone = absurd alone
+unasked_at_fault names place name (Some all) mid now taken earlier at sofar (inl asked) alone =
+    let none : length (take (place + 1) names) ≡ 0 = asked_of_told now all (take (place + 1) names) (asked_more names place name (Some all) mid now at sofar asked) alone in
+    absurd (omega (arith, ap length (take-at names place name at), length-append (take place names) (name ∷ [])))
+
+-- all were read, or there are none
+pub unasked_at_end : (names : List (List ℕ)) (place : ℕ) (before now : Option (List (List ℕ))) (taken earlier : ℕ) → place ≤ length names →
+    now ≡ option_map (λ all. all ++ take place names) before → (place ≡ 0 → taken ≡ earlier) → AskedNone before now → taken ≤ earlier
+unasked_at_end names place None now taken earlier within asked still alone = absurd alone
+unasked_at_end names place (Some all) now taken earlier within asked still alone =
+    let none : length (take place names) ≡ 0 = asked_of_told now all (take place names) asked alone in
+    let first : place ≡ 0 = omega (arith, length-take-le place names within) in
+    omega (arith, still first)

@@ -1,5 +1,5 @@
 -- The names that are asked of a library, each in its turn.
-use Rattle.std.specs.Prelude.{ℕ, nat_lt, List, [], ◌∷◌, length, Option, Result, Ok, Err, IfSome, is_ok, if◌then◌else◌}
+use Rattle.std.specs.Prelude.{◌≡◌, ℕ, nat_lt, List, [], ◌∷◌, ◌++◌, length, Option, Some, None, Result, Ok, Err, IfSome, is_ok, if◌then◌else◌}
 use Rattle.std.specs.Result.{result_unwrap_or}
 use Rattle.pd_outside.specs.Files.{File, bytes_of}
 use Rattle.pd_outside.specs.Library.{AskedPrefixOf}
@@ -57,3 +57,13 @@ pub record AsksInTurn (request : Result Request UsageFault) (files : Option (Lis
   pub told : IfSome files (λ (f : List File). AskedPrefixOf (reading_list request f) before now)
   pub bytes : List ℕ
   pub untold : AskedPrefixOf (possible_list request bytes) before now
+
+-- names are told, and none was asked meanwhile
+abbrev pub AskedNone : Option (List (List ℕ)) → Option (List (List ℕ)) → Type 0
+AskedNone None now = ⊥
+AskedNone (Some names) now = now ≡ Some names
+
+-- names are told, and this one alone was asked meanwhile
+abbrev pub AskedAlone : List ℕ → Option (List (List ℕ)) → Option (List (List ℕ)) → Type 0
+AskedAlone name None now = ⊥
+AskedAlone name (Some names) now = now ≡ Some (names ++ name ∷ [])

@@ -1,6 +1,6 @@
 //! From the words to a job: all that is read and all memory that is taken, stage by stage.
 
-ghost use Rattle.std.specs.Prelude.{◌≡◌, ◌≢◌, ◌≤◌, ◌+◌, ◌⊎◌, [], false, map, string_bytes, Err, IfErr, IfOk, IfSome, Ok, OnOk};
+ghost use Rattle.std.specs.Prelude.{◌≡◌, ◌≢◌, ◌≤◌, ◌+◌, ◌⊎◌, [], false, map, string_bytes, Err, IfErr, IfOk, IfSome, IsErrAnd, Ok, OnOk};
 ghost use Rattle.std.specs.Option.{option_map};
 ghost use Rattle.pd_outside.specs.Faults.{Rose};
 ghost use Rattle.pd_outside.specs.Files.{bytes_of};
@@ -8,7 +8,7 @@ ghost use Rattle.pd_outside.specs.Library.{Content, left};
 ghost use Rattle.schema_read.specs.Schema.{schema_of};
 ghost use Rattle.pdgf_run.specs.Jobs.{due_of, CanFill};
 ghost use Rattle.pdgf_run.specs.Limits.{dictionary_limit, schema_limit};
-ghost use Rattle.pdgf_run.specs.ReadingList.{cited_by, cited_by_read, AsksInTurn, AsksNames};
+ghost use Rattle.pdgf_run.specs.ReadingList.{cited_by, cited_by_read, AskedAlone, AskedNone, AsksInTurn, AsksNames};
 ghost use Rattle.pdgf_run.specs.Stages.{Decides};
 ghost use Rattle.pdgf_run.specs.Statuses.{job_status, plan_status, status_of, text_status};
 ghost use Rattle.pdgf_run.specs.TopCall.{limit_of, limit_of_job};
@@ -41,9 +41,11 @@ pub(crate) fn decide<L: Library>(
     ensures usage { IfErr (request (map string_bytes words.now)) (λ fault. result ≡ Err (Refusal.Words fault)) }
     ensures no_usage { OnOk (request (map string_bytes words.now)) (IfErr result (λ refusal. status_of refusal ≢ 2)) }
     ensures too_long { IfErr result (λ refusal. status_of refusal ≡ 10 → L.taken library.new ≡ limit_of refusal + 1) }
-    ensures longer { OnOk (request (map string_bytes words.now)) (IfErr result (λ refusal.
-        status_of refusal ≢ 5 → status_of refusal ≢ 7 → L.taken library.new ≡ dictionary_limit + 1 → status_of refusal ≡ 10)) }
-    ensures schema_alone { IfErr result (λ refusal. (status_of refusal ≡ 3) ⊎ (status_of refusal ≡ 11) → L.taken library.new ≤ schema_limit) }
+    ensures longer_schema { IfOk (request (map string_bytes words.now)) (λ request. AskedAlone request.schema (L.asked library.old) (L.asked library.new) →
+        (L.taken library.new ≤ schema_limit) ⊎ IsErrAnd result (λ refusal. status_of refusal ≡ 10)) }
+    ensures longer_dictionary { OnOk (request (map string_bytes words.now)) (IfErr result (λ refusal.
+        status_of refusal ≢ 7 → L.taken library.new ≡ dictionary_limit + 1 → status_of refusal ≡ 10)) }
+    ensures schema_read { IfErr result (λ refusal. (status_of refusal ≡ 3) ⊎ (status_of refusal ≡ 11) → L.taken library.new ≤ schema_limit) }
     ensures within { OnOk result (L.taken library.new ≤ dictionary_limit) }
     ensures read_failed { IfErr result (λ refusal. status_of refusal ≡ 5 → Rose (L.faults library.old) (L.faults library.new)) }
     ensures stopped { IfErr result (λ refusal. status_of refusal ≡ 5 → L.is_started library.new ≡ false) }
@@ -68,9 +70,10 @@ fn job_of_request<L: Library>(
         Decides job_status due_of result (of_file request.now files (bytes_of files request.now.schema))) }
     ensures can { IfOk result CanFill }
     ensures too_long { IfErr result (λ fault. job_status fault ≡ 10 → L.taken library.new ≡ limit_of_job fault + 1) }
-    ensures longer { IfErr result (λ fault.
-        job_status fault ≢ 5 → job_status fault ≢ 7 → L.taken library.new ≡ dictionary_limit + 1 → job_status fault ≡ 10) }
-    ensures schema_alone { IfErr result (λ fault. (job_status fault ≡ 3) ⊎ (job_status fault ≡ 11) → L.taken library.new ≤ schema_limit) }
+    ensures longer_schema { AskedAlone request.now.schema (L.asked library.old) (L.asked library.new) →
+        (L.taken library.new ≤ schema_limit) ⊎ IsErrAnd result (λ fault. job_status fault ≡ 10) }
+    ensures longer_dictionary { IfErr result (λ fault. L.taken library.new ≡ dictionary_limit + 1 → job_status fault ≡ 10) }
+    ensures schema_read { IfErr result (λ fault. (job_status fault ≡ 3) ⊎ (job_status fault ≡ 11) → L.taken library.new ≤ schema_limit) }
     ensures within { OnOk result (L.taken library.new ≤ dictionary_limit) }
     ensures read_failed { IfErr result (λ fault. job_status fault ≡ 5 → Rose (L.faults library.old) (L.faults library.new)) }
     ensures stopped { IfErr result (λ fault. job_status fault ≡ 5 → L.is_started library.new ≡ false) }
@@ -97,8 +100,8 @@ fn job_of_text<L: Library>(
     ensures job { IfSome (told_files (L.content library.old)) (λ files. Decides text_status due_of result (of_text request.now files bytes.now)) }
     ensures can { IfOk result CanFill }
     ensures too_long { IfErr result (λ fault. text_status fault ≡ 10 → L.taken library.new ≡ dictionary_limit + 1) }
-    ensures longer { IfErr result (λ fault. text_status fault ≢ 7 → L.taken library.new ≡ dictionary_limit + 1 → text_status fault ≡ 10) }
-    ensures schema_alone { IfErr result (λ fault. (text_status fault ≡ 3) ⊎ (text_status fault ≡ 11) → L.taken library.new ≤ schema_limit) }
+    ensures longer { IfErr result (λ fault. L.taken library.new ≡ dictionary_limit + 1 → text_status fault ≡ 10) }
+    ensures schema_read { IfErr result (λ fault. (text_status fault ≡ 3) ⊎ (text_status fault ≡ 11) → L.taken library.new ≤ schema_limit) }
     ensures within { OnOk result (L.taken library.new ≤ dictionary_limit) }
     ensures read_failed { IfErr result (λ fault. text_status fault ≡ 5 → Rose (L.faults library.old) (L.faults library.new)) }
     ensures stopped { IfErr result (λ fault. text_status fault ≡ 5 → L.is_started library.new ≡ false) }
@@ -106,6 +109,7 @@ fn job_of_text<L: Library>(
     ensures no_fault_on_ok { OnOk result (L.faults library.new ≡ L.faults library.old) }
     ensures read_out { OnOk result (IsReadOut (L.content library.new)) }
     ensures asked { AsksNames (cited_by_read (schema_of bytes.now)) (told_files (L.content library.old)) (L.asked library.old) (L.asked library.new) }
+    ensures unasked { AskedNone (L.asked library.old) (L.asked library.new) → L.taken library.new ≤ L.taken library.old }
     ensures files { told_files (L.content library.new) ≡ told_files (L.content library.old) }
     ensures never_falls { L.faults library.old ≤ L.faults library.new }
 {
@@ -120,8 +124,8 @@ fn plan_of<L: Library>(alloc: Global, library: &mut L, schema: Schema) -> Result
     requires read_out { IsReadOut (L.content library.old) }
     ensures plan { IfSome (told_files (L.content library.old)) (λ files. Decides plan_status (λ plan. plan) result (planned files schema)) }
     ensures too_long { IfErr result (λ fault. plan_status fault ≡ 10 → L.taken library.new ≡ dictionary_limit + 1) }
-    ensures longer { IfErr result (λ fault. plan_status fault ≢ 7 → L.taken library.new ≡ dictionary_limit + 1 → plan_status fault ≡ 10) }
-    ensures schema_alone { IfErr result (λ fault. (plan_status fault ≡ 3) ⊎ (plan_status fault ≡ 11) → L.taken library.new ≤ schema_limit) }
+    ensures longer { IfErr result (λ fault. L.taken library.new ≡ dictionary_limit + 1 → plan_status fault ≡ 10) }
+    ensures schema_read { IfErr result (λ fault. (plan_status fault ≡ 3) ⊎ (plan_status fault ≡ 11) → L.taken library.new ≤ schema_limit) }
     ensures within { OnOk result (L.taken library.new ≤ dictionary_limit) }
     ensures read_failed { IfErr result (λ fault. plan_status fault ≡ 5 → Rose (L.faults library.old) (L.faults library.new)) }
     ensures stopped { IfErr result (λ fault. plan_status fault ≡ 5 → L.is_started library.new ≡ false) }
@@ -129,6 +133,7 @@ fn plan_of<L: Library>(alloc: Global, library: &mut L, schema: Schema) -> Result
     ensures no_fault_on_ok { OnOk result (L.faults library.new ≡ L.faults library.old) }
     ensures read_out { OnOk result (IsReadOut (L.content library.new)) }
     ensures asked { AsksNames (cited_by schema) (told_files (L.content library.old)) (L.asked library.old) (L.asked library.new) }
+    ensures unasked { AskedNone (L.asked library.old) (L.asked library.new) → L.taken library.new ≤ L.taken library.old }
     ensures files { told_files (L.content library.new) ≡ told_files (L.content library.old) }
     ensures never_falls { L.faults library.old ≤ L.faults library.new }
 {

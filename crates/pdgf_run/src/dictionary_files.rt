@@ -1,11 +1,11 @@
 //! The dictionaries that files hold, read one after the other.
 
-ghost use Rattle.std.specs.Prelude.{◌≡◌, ◌≢◌, ◌≤◌, ◌+◌, ◌^◌, [], Err, IfErr, IfSome, Ok, OnErr, OnOk, false, length};
+ghost use Rattle.std.specs.Prelude.{◌≡◌, ◌≢◌, ◌≤◌, ◌⊎◌, ◌+◌, ◌^◌, [], Err, IfErr, IfSome, Ok, OnErr, OnOk, false, length};
 ghost use Rattle.pd_outside.specs.Faults.{Rose};
 ghost use Rattle.pd_outside.specs.Library.{AskedAtMost, ask};
 ghost use Rattle.pdgf_run.specs.DictionaryFiles.{with_dictionaries, with_dictionary};
 ghost use Rattle.pdgf_run.specs.Limits.{dictionary_limit};
-ghost use Rattle.pdgf_run.specs.ReadingList.{AsksNames};
+ghost use Rattle.pdgf_run.specs.ReadingList.{AskedNone, AsksNames};
 ghost use Rattle.pdgf_run.specs.Stages.{Decides};
 ghost use Rattle.pdgf_run.specs.Statuses.{cause_status, is_free};
 ghost use Rattle.pdgf_run.specs.Verdict.{told_files, IsReadOut};
@@ -31,7 +31,7 @@ pub(crate) fn read_dictionaries<L: Library>(
     ensures read { IfSome (told_files (L.content library.old)) (λ files.
         Decides (λ fault. cause_status fault.cause) (λ dictionaries. dictionaries) result (with_dictionaries files [] names.now)) }
     ensures too_long { IfErr result (λ fault. cause_status fault.cause ≡ 10 → L.taken library.new ≡ dictionary_limit + 1) }
-    ensures longer { IfErr result (λ fault. cause_status fault.cause ≢ 7 → L.taken library.new ≡ dictionary_limit + 1 → cause_status fault.cause ≡ 10) }
+    ensures longer { IfErr result (λ fault. L.taken library.new ≡ dictionary_limit + 1 → cause_status fault.cause ≡ 10) }
     ensures within { OnOk result (L.taken library.new ≤ dictionary_limit) }
     ensures read_failed { IfErr result (λ fault. cause_status fault.cause ≡ 5 → Rose (L.faults library.old) (L.faults library.new)) }
     ensures stopped { IfErr result (λ fault. cause_status fault.cause ≡ 5 → L.is_started library.new ≡ false) }
@@ -39,6 +39,7 @@ pub(crate) fn read_dictionaries<L: Library>(
     ensures no_fault_on_ok { OnOk result (L.faults library.new ≡ L.faults library.old) }
     ensures read_out { OnOk result (IsReadOut (L.content library.new)) }
     ensures asked { AsksNames names.now (told_files (L.content library.old)) (L.asked library.old) (L.asked library.new) }
+    ensures unasked { AskedNone (L.asked library.old) (L.asked library.new) → L.taken library.new ≤ L.taken library.old }
     ensures files { told_files (L.content library.new) ≡ told_files (L.content library.old) }
     ensures never_falls { L.faults library.old ≤ L.faults library.new }
 {
@@ -70,7 +71,7 @@ fn add_dictionary<L: Library>(
         IfErr result (λ cause. is_free (cause_status cause) ≡ false → with_dictionary files dictionaries.old name.now ≡ Err cause)) }
     ensures count { OnOk result (length dictionaries.new ≡ length dictionaries.old + 1) }
     ensures too_long { IfErr result (λ cause. cause_status cause ≡ 10 → L.taken library.new ≡ dictionary_limit + 1) }
-    ensures longer { IfErr result (λ cause. cause_status cause ≢ 7 → L.taken library.new ≡ dictionary_limit + 1 → cause_status cause ≡ 10) }
+    ensures longer { IfErr result (λ cause. L.taken library.new ≡ dictionary_limit + 1 → cause_status cause ≡ 10) }
     ensures within { OnOk result (L.taken library.new ≤ dictionary_limit) }
     ensures read_failed { IfErr result (λ cause. cause_status cause ≡ 5 → Rose (L.faults library.old) (L.faults library.new)) }
     ensures stopped { IfErr result (λ cause. cause_status cause ≡ 5 → L.is_started library.new ≡ false) }
@@ -79,6 +80,7 @@ fn add_dictionary<L: Library>(
     ensures read_out { OnOk result (IsReadOut (L.content library.new)) }
     ensures asked { OnOk result (L.asked library.new ≡ ask name.now (L.asked library.old)) }
     ensures asked_at_most { AskedAtMost name.now (L.asked library.old) (L.asked library.new) }
+    ensures unasked { (L.asked library.new ≡ ask name.now (L.asked library.old)) ⊎ (L.taken library.new ≡ 0) }
     ensures files { told_files (L.content library.new) ≡ told_files (L.content library.old) }
     ensures never_falls { L.faults library.old ≤ L.faults library.new }
 {

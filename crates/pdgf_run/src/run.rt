@@ -1,12 +1,12 @@
 //! The top call.
 
-ghost use Rattle.std.specs.Prelude.{◌≡◌, ◌≢◌, ◌≤◌, ◌+◌, ◌↔◌, ◌⊎◌, [], false, map, string_bytes, IfErr, IfSome, IsErr, IsOkAnd, IsTrue, OnOk};
+ghost use Rattle.std.specs.Prelude.{◌≡◌, ◌≢◌, ◌≤◌, ◌+◌, ◌↔◌, ◌⊎◌, [], false, map, string_bytes, IfErr, IfOk, IfSome, IsErr, IsOkAnd, IsTrue, OnOk};
 ghost use Rattle.std.specs.Option.{option_map};
 ghost use Rattle.pd_outside.specs.Faults.{Rose};
 ghost use Rattle.pd_outside.specs.Library.{Content, left};
 ghost use Rattle.pd_outside.specs.Shelf.{HoldsPrefixOf};
 ghost use Rattle.pdgf_run.specs.Limits.{dictionary_limit, schema_limit};
-ghost use Rattle.pdgf_run.specs.ReadingList.{AsksInTurn};
+ghost use Rattle.pdgf_run.specs.ReadingList.{AskedAlone, AsksInTurn};
 ghost use Rattle.pdgf_run.specs.Statuses.{fixed_text, is_status, text_of};
 ghost use Rattle.pdgf_run.specs.TopCall.{Carries, IsPastLimit};
 ghost use Rattle.pdgf_run.specs.Verdict.{told_files, WhereTold};
@@ -49,9 +49,11 @@ pub fn pdgf<R: Threads + Sync, L: Library, S: Shelf, G: Gate + Sync>(
     ensures usage { (result.status ≡ 2) ↔ IsErr (request (map string_bytes words.now)) }
     ensures usage_text { IfErr (request (map string_bytes words.now)) (λ fault. result.message ≡ text_of (Refusal.Words fault)) }
     ensures too_long { result.status ≡ 10 → IsPastLimit result.message (L.taken library.new) }
-    ensures longer { OnOk (request (map string_bytes words.now))
-        (result.status ≢ 5 → result.status ≢ 7 → L.taken library.new ≡ dictionary_limit + 1 → result.status ≡ 10) }
-    ensures schema_alone { (result.status ≡ 3) ⊎ (result.status ≡ 11) → L.taken library.new ≤ schema_limit }
+    ensures longer_schema { IfOk (request (map string_bytes words.now)) (λ request. AskedAlone request.schema (L.asked library.old) (L.asked library.new) →
+        L.taken library.new ≡ schema_limit + 1 → result.status ≡ 10) }
+    ensures longer_dictionary { OnOk (request (map string_bytes words.now))
+        (result.status ≢ 7 → L.taken library.new ≡ dictionary_limit + 1 → result.status ≡ 10) }
+    ensures schema_read { (result.status ≡ 3) ⊎ (result.status ≡ 11) → L.taken library.new ≤ schema_limit }
     ensures read_failed { result.status ≡ 5 → Rose (L.faults library.old) (L.faults library.new) }
     ensures stopped { result.status ≡ 5 → L.is_started library.new ≡ false }
     ensures write_failed { result.status ≡ 6 → Rose (S.faults shelf.old) (S.faults shelf.new) }

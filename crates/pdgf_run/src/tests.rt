@@ -145,10 +145,105 @@ kind = "key"
 base = 1
 "#;
 
+// A table with a row at each unit, whose last three fields are drawn from two dictionaries, the first of them cited twice.
+const CITING: &str = r#"seed = 1
+units = 2
+[[table]]
+name = "t"
+rows = 1
+insert = 1
+[[table.column]]
+name = "id"
+kind = "key"
+base = 1
+[[table.column]]
+name = "first"
+kind = "dict"
+file = "n"
+[[table.column]]
+name = "second"
+kind = "words"
+file = "m"
+lo = 2
+hi = 2
+[[table.column]]
+name = "third"
+kind = "dict"
+file = "n"
+"#;
+
+// The same with a dictionary that no schema may cite, and more rows than a table may have.
+const CITING_NO_NAME: &str = r#"seed = 1
+units = 2
+[[table]]
+name = "t"
+rows = 1099511627777
+[[table.column]]
+name = "id"
+kind = "key"
+base = 1
+[[table.column]]
+name = "first"
+kind = "dict"
+file = "n"
+[[table.column]]
+name = "second"
+kind = "dict"
+file = ""
+"#;
+
+// More rows than a table may have, beside a dictionary.
+const CITING_TOO_MANY_ROWS: &str = r#"seed = 1
+units = 2
+[[table]]
+name = "t"
+rows = 1099511627777
+[[table.column]]
+name = "id"
+kind = "key"
+base = 1
+[[table.column]]
+name = "first"
+kind = "dict"
+file = "n"
+"#;
+
 fn library(alloc: Global, schema: &[u8]) -> Result<MemLibrary, Memory> {
     let mut files = Files::new(alloc);
     files.push("s.toml", schema)?;
     Ok(MemLibrary::new(alloc, files, LibraryFails::new(alloc)))
+}
+
+// A schema, the dictionaries `n` and `m` where they are there, and the call on one of the files that fails.
+#[derive(Clone, Copy)]
+struct Given<'a> {
+    schema: &'a str,
+    n: Option<&'a [u8]>,
+    m: Option<&'a [u8]>,
+    fail: (&'a str, u64),
+}
+
+const fn of_two<'a>(n: &'a [u8], m: &'a [u8]) -> Given<'a> {
+    Given {
+        schema: CITING,
+        n: Some(n),
+        m: Some(m),
+        fail: ("", 1),
+    }
+}
+
+fn library_of(alloc: Global, given: Given<'_>) -> Result<MemLibrary, Memory> {
+    let mut files = Files::new(alloc);
+    files.push("s.toml", given.schema.as_bytes())?;
+    if let Some(bytes) = given.n {
+        files.push("n", bytes)?;
+    }
+    if let Some(bytes) = given.m {
+        files.push("m", bytes)?;
+    }
+    let mut fails = LibraryFails::new(alloc);
+    fails.push(given.fail.0, given.fail.1)?;
+    Ok(MemLibrary::new(alloc, files, fails))
 }
 
 fn words(alloc: Global, words: &[&str]) -> Result<Vec<String>, AllocError> {
@@ -220,13 +315,25 @@ fn run_gives<R: Threads + Sync + Abort>(
     shelf: MemShelf,
     outcome: Outcome<'_>,
 ) -> Result<(), Fail> {
+    let mut library = library(alloc, schema)?;
+    run_over_gives(rt, alloc, &mut library, given, shelf, outcome)
+}
+
+// Runs the words over a library and a shelf, and compares what they come to.
+fn run_over_gives<R: Threads + Sync + Abort>(
+    rt: &R,
+    alloc: Global,
+    library: &mut MemLibrary,
+    given: &[&str],
+    shelf: MemShelf,
+    outcome: Outcome<'_>,
+) -> Result<(), Fail> {
     let mut shelf = shelf;
     if shelf.begun().is_some() {
         return Err(Fail::from("begun"));
     }
-    let mut library = library(alloc, schema)?;
     let given = words(alloc, given)?;
-    let Report { status, message } = pdgf(rt, alloc, &given, &mut library, &mut shelf, &OpenGate);
+    let Report { status, message } = pdgf(rt, alloc, &given, library, &mut shelf, &OpenGate);
     assert_eq!(rt; status, outcome.status);
     assert_eq!(rt; message.text(), outcome.message.as_bytes());
     assert_eq!(rt; shelf.begun(), outcome.begun);
@@ -499,6 +606,85 @@ fn a_schema_of_a_byte_too_many_is_refused(rt: HostRuntime) -> Result<(), Fail> {
         shelf_for_too_long,
         refused(10, "pdgf: too long: schema\n"),
     )
+}
+
+// Runs a snapshot over a schema and its dictionaries, and compares what it comes to and which names it asks: so many of the
+// schema's, the first dictionary's and the second's.
+fn dictionaries_give<R: Threads + Sync + Abort>(
+    rt: &R,
+    alloc: Global,
+    given: Given<'_>,
+    outcome: Outcome<'_>,
+    asked: usize,
+) -> Result<(), Fail> {
+    let mut library = library_of(alloc, given)?;
+    let shelf = shelf(alloc, ShelfFail::Begin(9), 1000)?;
+    run_over_gives(rt, alloc, &mut library, &TWO, shelf, outcome)?;
+    assert_eq!(rt; library.asked_len(), asked);
+    let names = ["s.toml", "n", "m"];
+    for number in 0..library.asked_len() {
+        if let Some(name) = names.get(number) {
+            assert_eq!(rt; library.asked_name(number), *name);
+        }
+    }
+    Ok(())
+}
+
+// So many lines with one letter each.
+fn lines(alloc: Global, count: u32) -> Result<Vec<u8>, AllocError> {
+    let mut bytes = Vec::new(alloc);
+    for _ in 0..count {
+        bytes.extend_from_slice(b"a\n")?;
+    }
+    Ok(bytes)
+}
+
+#[test]
+fn dictionaries_are_read_in_turn(rt: HostRuntime) -> Result<(), Fail> {
+    let alloc = rt.alloc();
+    let written = [("-", "1\tAnn\tBo Bo\tAnn\n2\tAnn\tBo Bo\tAnn\n3\tAnn\tBo Bo\tAnn\n")];
+    let given = of_two(b"Ann\n", b"Bo\t3\r\n\r\n");
+    dictionaries_give(&rt, alloc, given, all_done(&written), 3)?;
+    let long = Vec::from_elem(alloc, b'x', 256)?;
+    let many = lines(alloc, 1_000_001)?;
+    let read_failed = "pdgf: read failed\n";
+    let rule = "pdgf: rule V6 at table 1\n";
+    let cases: [(Given<'_>, u8, &str, usize); 14] = [
+        (Given { n: None, ..given }, 5, read_failed, 2),
+        (Given { m: None, ..given }, 5, read_failed, 3),
+        (Given { fail: ("s.toml", 2), ..given }, 5, read_failed, 1),
+        (Given { fail: ("n", 1), ..given }, 5, read_failed, 2),
+        (Given { fail: ("n", 3), ..given }, 5, read_failed, 2),
+        (Given { fail: ("m", 2), ..given }, 5, read_failed, 3),
+        (of_two(b"Ann\t0", b""), 4, "pdgf: dictionary 1: bad weight at line 1\n", 2),
+        (of_two(b"Ann", b"A\n\xFF"), 4, "pdgf: dictionary 2: not UTF-8 at byte 2\n", 3),
+        (of_two(b"Ann", &long), 4, "pdgf: dictionary 2: long entry at line 1\n", 3),
+        (of_two(b"Ann", b"\na\tx"), 4, "pdgf: dictionary 2: bad weight at line 2\n", 3),
+        (of_two(b"Ann", &many), 4, "pdgf: dictionary 2: too many entries at line 1000001\n", 3),
+        (of_two(b"Ann", b"\n"), 4, "pdgf: dictionary 2: empty\n", 3),
+        (
+            Given { schema: CITING_NO_NAME, ..given },
+            4,
+            "pdgf: rule V13 at table 1 column 3\n",
+            1,
+        ),
+        (Given { schema: CITING_TOO_MANY_ROWS, ..given }, 4, rule, 2),
+    ];
+    for (given, status, message, asked) in cases {
+        dictionaries_give(&rt, alloc, given, refused(status, message), asked)?;
+    }
+    Ok(())
+}
+
+#[test]
+fn a_dictionary_of_a_byte_too_many_is_refused(rt: HostRuntime) -> Result<(), Fail> {
+    let alloc = rt.alloc();
+    let fits = Vec::from_elem(alloc, 0xFF, 16_777_216)?;
+    let message = "pdgf: dictionary 2: not UTF-8 at byte 0\n";
+    dictionaries_give(&rt, alloc, of_two(b"Ann", &fits), refused(4, message), 3)?;
+    let too_long = Vec::from_elem(alloc, 0xFF, 16_777_217)?;
+    let message = "pdgf: too long: dictionary 1\n";
+    dictionaries_give(&rt, alloc, of_two(&too_long, b""), refused(10, message), 2)
 }
 
 // A table of one row, and one of 1,000 rows at unit 0 and 10 at each later one, with scrambled keys from 1 and their

@@ -1,6 +1,6 @@
-use Rattle.std.proofs.Common.{◌≡◌, ◌+◌, ℕ, List, [], Some, None, Option, ap, sym, ◌∙◌, refl, length}
+use Rattle.std.proofs.Common.{arith, ◌≡◌, ◌+◌, ℕ, List, [], Some, None, Option, ap, sym, ◌∙◌, refl, length}
 use Rattle.std.specs.Prelude.{slice_get}
-use Rattle.pdgf_run.proofs.DictionaryLemmas.{asked_more, asks_at_most, asks_first, none_asked, none_read, none_readable, readable_more, read_more, read_to_fault}
+use Rattle.pdgf_run.proofs.DictionaryLemmas.{asked_more, asks_at_most, asks_first, none_asked, none_read, none_readable, readable_more, read_more, read_to_fault, unasked_at_end, unasked_at_fault}
 use Rattle.pdgf_run.proofs.dictionary_files.read_dictionaries.Goals as goal
 
 pub loop-place-init : goal.loop-place-init
@@ -11,6 +11,7 @@ loop-place-init g c = record {
   asked = none_asked _;
   files = refl;
   taken = c.requires.taken;
+  still = λ _. refl;
   read_out = c.requires.read_out;
   faults = refl;
 }
@@ -26,6 +27,7 @@ loop-place-preserved g c =
       asked = asked_more _ c.loop-place.place c.as_str-name.result.now _ _ _ at inv.asked c.in-Ok.ensures.asked;
       files = c.in-Ok.ensures.files ∙ inv.files;
       taken = c.in-Ok.ensures.within;
+      still = λ first. absurd (omega (arith, first));
       read_out = c.in-Ok.ensures.read_out;
       faults = c.in-Ok.ensures.no_fault_on_ok ∙ inv.faults;
     }
@@ -41,3 +43,13 @@ returns-in-Err-clause-asked g c =
     let inv = c.loop-place.invariant in
     let at : slice_get c.args.names.now c.loop-place.place ≡ Some c.as_str-name.result.now = c.get.ensures ∙ ap Some (sym c.as_str-name.ensures.value) in
     asks_at_most _ _ c.loop-place.place c.as_str-name.result.now _ _ _ at inv.readable inv.asked c.in-Err.ensures.asked_at_most
+
+pub returns-in-Err-clause-unasked : goal.returns-in-Err-clause-unasked
+returns-in-Err-clause-unasked g c =
+    let inv = c.loop-place.invariant in
+    let at : slice_get c.args.names.now c.loop-place.place ≡ Some c.as_str-name.result.now = c.get.ensures ∙ ap Some (sym c.as_str-name.ensures.value) in
+    unasked_at_fault _ c.loop-place.place c.as_str-name.result.now _ _ _ _ _ at inv.asked c.in-Err.ensures.unasked
+
+pub returns-clause-unasked : goal.returns-clause-unasked
+returns-clause-unasked g c =
+    unasked_at_end c.args.names.now c.loop-place.place _ _ _ _ (omega arith) c.loop-place.invariant.asked c.loop-place.invariant.still

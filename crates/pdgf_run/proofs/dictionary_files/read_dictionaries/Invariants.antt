@@ -14,6 +14,7 @@ invariant-loop-place g l = record {
   asked : g.L.Library.asked l.library ≡ option_map (λ (names : List (List ℕ)). names ++ take l.place l.names) (g.L.Library.asked l.fn.library);
   files : told_files (g.L.Library.content l.library) ≡ told_files (g.L.Library.content l.fn.library);
   taken : g.L.Library.taken l.library ≤ dictionary_limit;
+  still : l.place ≡ 0 → g.L.Library.taken l.library ≡ g.L.Library.taken l.fn.library;
   read_out : IsReadOut (g.L.Library.content l.library);
   faults : g.L.Library.faults l.library ≡ g.L.Library.faults l.fn.library;
 }
