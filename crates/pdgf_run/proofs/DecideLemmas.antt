@@ -1,43 +1,25 @@
 -- What words come to, as it is found.
-use Rattle.std.proofs.Common.{◌≡◌, ◌≢◌, ◌<◌, ◌≤◌, ℕ, suc, Bool, true, false, List, [], ◌∷◌, ◌++◌, length, take, Option, None, Some, Result, Ok, Err, inl, inr, refl, ap, sym, subst, ◌∙◌, arith}
+use Rattle.std.proofs.Common.{◌≡◌, ◌≢◌, ◌≤◌, ℕ, suc, Bool, true, false, List, [], ◌∷◌, ◌++◌, length, take, Option, None, Some, Result, Ok, Err, inl, inr, refl, ap, sym, subst, ◌∙◌, arith}
 use Rattle.std.specs.Prelude.{⊤, if◌then◌else◌, IfErr, IfSome, IsErr, OnOk, ◌↔◌}
 use Rattle.std.specs.Option.{option_map, option_or}
-use Rattle.std.specs.Result.{result_unwrap_or}
 use Rattle.std.proofs.lemmas.Bool.Decides.{nat_tests}
 use Rattle.pd_outside.specs.Files.{File, bytes_of}
-use Rattle.pd_outside.specs.Library.{Content, ask, left, read_out, AskedAtMost, AskedPrefixOf}
-use Rattle.pd_outside.specs.declared.faults.ReadFault.{ReadFault}
-use Rattle.pd_outside.specs.declared.faults.ReadFault.TheVariants as reading
-use Rattle.schema_check.specs.Citations.{cited_names}
-use Rattle.schema_check.specs.Dictionaries.{Dictionary, Project, project_of}
-use Rattle.schema_check.specs.Faults.{citation_refusal, refusal_of}
-use Rattle.schema_check.specs.Unbuilt.{is_unbuilt}
-use Rattle.schema_check.specs.declared.checker.CheckFault.{CheckFault}
-use Rattle.schema_check.specs.declared.checker.CheckFault.TheVariants as check
-use Rattle.schema_model.specs.declared.table.Schema.{Schema}
+use Rattle.pd_outside.specs.Library.{Content, ask, AskedAtMost, AskedPrefixOf}
 use Rattle.schema_read.specs.Schema.{schema_of}
-use Rattle.schema_read.specs.declared.read.ReadSchemaFault.{ReadSchemaFault}
-use Rattle.schema_read.specs.declared.read.ReadSchemaFault.TheVariants as schema
 use Rattle.pdgf_run.proofs.DictionaryLemmas.{asked_also, asked_first, none_asked, IfSome-same}
-use Rattle.pdgf_run.specs.DictionaryFiles.{with_dictionaries}
 use Rattle.pdgf_run.specs.Jobs.{due_of}
 use Rattle.pdgf_run.specs.Limits.{schema_limit}
-use Rattle.pdgf_run.specs.ReadingList.{cited_by, cited_by_read, cited_in, up_to_fault, AsksInTurn, AsksNames}
-use Rattle.pdgf_run.specs.Stages.{in_stage, on_ok, Decides}
-use Rattle.pdgf_run.specs.Statuses.{cause_status, is_free, job_status, plan_status, status_of, text_status}
-use Rattle.pdgf_run.specs.Verdict.{accepted_with, citations_of, of_file, of_request, of_schema, of_text, planned, planned_with, told_files, unless_refused, verdict, IsReadOut, WhereTold}
-use Rattle.pdgf_run.specs.Verdict.{in_mode}
+use Rattle.pdgf_run.specs.ReadingList.{cited_by_read, cited_in, up_to_fault, AsksInTurn, AsksNames}
+use Rattle.pdgf_run.specs.Stages.{in_stage, Decides}
+use Rattle.pdgf_run.specs.Statuses.{is_free, job_status, status_of, text_status}
+use Rattle.pdgf_run.specs.Verdict.{of_file, of_request, of_text, told_files, verdict, WhereTold}
 use Rattle.pdgf_run.specs.Words.{Given, directory_wrong, form, in_mode as words_in_mode, is_number, missing, mode_named, number_wrong, of_form, request, request_of, unless_wrong, unwanted, wrong}
 use Rattle.pdgf_run.specs.declared.job.Job.{Job}
-use Rattle.pdgf_run.specs.declared.refusal.DictionaryFault.{DictionaryFault}
 use Rattle.pdgf_run.specs.declared.refusal.JobFault.{JobFault}
 use Rattle.pdgf_run.specs.declared.refusal.JobFault.TheVariants as job
-use Rattle.pdgf_run.specs.declared.refusal.PlanFault.{PlanFault}
-use Rattle.pdgf_run.specs.declared.refusal.PlanFault.TheVariants as plan
 use Rattle.pdgf_run.specs.declared.refusal.Refusal.{Refusal}
 use Rattle.pdgf_run.specs.declared.refusal.Refusal.TheVariants as refusal
 use Rattle.pdgf_run.specs.declared.refusal.TextFault.{TextFault}
-use Rattle.pdgf_run.specs.declared.refusal.TextFault.TheVariants as text
 use Rattle.pdgf_run.specs.declared.usage.Mode.{Mode}
 use Rattle.pdgf_run.specs.declared.usage.Mode.TheVariants.{Check, Snapshot}
 use Rattle.pdgf_run.specs.declared.usage.OptionName.{OptionName}

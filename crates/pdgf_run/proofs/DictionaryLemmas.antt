@@ -23,7 +23,6 @@ use Rattle.pdgf_run.specs.Statuses.{cause_status, is_free, reading_status}
 use Rattle.pdgf_run.specs.Verdict.{told_files}
 use Rattle.pdgf_run.specs.declared.refusal.DictionaryCause.{DictionaryCause}
 use Rattle.pdgf_run.specs.declared.refusal.DictionaryCause.TheVariants as cause
-use Rattle.pdgf_run.specs.declared.refusal.DictionaryFault.{DictionaryFault}
 
 -- ---- one dictionary
 

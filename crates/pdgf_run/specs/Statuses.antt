@@ -19,7 +19,6 @@ use Rattle.pdgf_run.specs.declared.refusal.Refusal.{Refusal}
 use Rattle.pdgf_run.specs.declared.refusal.Refusal.TheVariants.{Words, Job}
 use Rattle.pdgf_run.specs.declared.refusal.DictionaryCause.{DictionaryCause}
 use Rattle.pdgf_run.specs.declared.refusal.DictionaryCause.TheVariants as cause
-use Rattle.pdgf_run.specs.declared.refusal.DictionaryFault.{DictionaryFault}
 use Rattle.pdgf_run.specs.declared.refusal.JobFault.{JobFault}
 use Rattle.pdgf_run.specs.declared.refusal.JobFault.TheVariants as job
 use Rattle.pdgf_run.specs.declared.refusal.TextFault.{TextFault}

@@ -25,9 +25,9 @@ use std::thread::Threads;
 ///
 /// What words and files come to is the definition `verdict`: due files by a plain simulation that steps from unit to unit,
 /// or a refusal. The statuses are 0 (all is done), 2 (the words give no request), 3 (the schema's text isn't a schema), 4
-/// (the schema breaks a rule), 5 (a read failed), 6 (a write failed), 7 (memory ran out), 8 (an option's value is out of the
-/// schema's range), 10 (the schema's text is too long) and 11 (what is asked for isn't built). Where a library or a shelf
-/// doesn't tell its files, the clauses say only what can be said.
+/// (the schema breaks a rule, or what it cites is no dictionary), 5 (a read failed), 6 (a write failed), 7 (memory ran out), 8
+/// (an option's value is out of the schema's range), 10 (the schema's text or a dictionary is too long) and 11 (what is asked
+/// for isn't built). Where a library or a shelf doesn't tell its files, the clauses say only what can be said.
 pub fn pdgf<R: Threads + Sync, L: Library, S: Shelf, G: Gate + Sync>(
     _rt: &R,
     alloc: Global,

@@ -642,7 +642,10 @@ fn lines(alloc: Global, count: u32) -> Result<Vec<u8>, AllocError> {
 #[test]
 fn dictionaries_are_read_in_turn(rt: HostRuntime) -> Result<(), Fail> {
     let alloc = rt.alloc();
-    let written = [("-", "1\tAnn\tBo Bo\tAnn\n2\tAnn\tBo Bo\tAnn\n3\tAnn\tBo Bo\tAnn\n")];
+    let written = [(
+        "-",
+        "1\tAnn\tBo Bo\tAnn\n2\tAnn\tBo Bo\tAnn\n3\tAnn\tBo Bo\tAnn\n",
+    )];
     let given = of_two(b"Ann\n", b"Bo\t3\r\n\r\n");
     dictionaries_give(&rt, alloc, given, all_done(&written), 3)?;
     let long = Vec::from_elem(alloc, b'x', 256)?;
@@ -652,23 +655,91 @@ fn dictionaries_are_read_in_turn(rt: HostRuntime) -> Result<(), Fail> {
     let cases: [(Given<'_>, u8, &str, usize); 14] = [
         (Given { n: None, ..given }, 5, read_failed, 2),
         (Given { m: None, ..given }, 5, read_failed, 3),
-        (Given { fail: ("s.toml", 2), ..given }, 5, read_failed, 1),
-        (Given { fail: ("n", 1), ..given }, 5, read_failed, 2),
-        (Given { fail: ("n", 3), ..given }, 5, read_failed, 2),
-        (Given { fail: ("m", 2), ..given }, 5, read_failed, 3),
-        (of_two(b"Ann\t0", b""), 4, "pdgf: dictionary 1: bad weight at line 1\n", 2),
-        (of_two(b"Ann", b"A\n\xFF"), 4, "pdgf: dictionary 2: not UTF-8 at byte 2\n", 3),
-        (of_two(b"Ann", &long), 4, "pdgf: dictionary 2: long entry at line 1\n", 3),
-        (of_two(b"Ann", b"\na\tx"), 4, "pdgf: dictionary 2: bad weight at line 2\n", 3),
-        (of_two(b"Ann", &many), 4, "pdgf: dictionary 2: too many entries at line 1000001\n", 3),
+        (
+            Given {
+                fail: ("s.toml", 2),
+                ..given
+            },
+            5,
+            read_failed,
+            1,
+        ),
+        (
+            Given {
+                fail: ("n", 1),
+                ..given
+            },
+            5,
+            read_failed,
+            2,
+        ),
+        (
+            Given {
+                fail: ("n", 3),
+                ..given
+            },
+            5,
+            read_failed,
+            2,
+        ),
+        (
+            Given {
+                fail: ("m", 2),
+                ..given
+            },
+            5,
+            read_failed,
+            3,
+        ),
+        (
+            of_two(b"Ann\t0", b""),
+            4,
+            "pdgf: dictionary 1: bad weight at line 1\n",
+            2,
+        ),
+        (
+            of_two(b"Ann", b"A\n\xFF"),
+            4,
+            "pdgf: dictionary 2: not UTF-8 at byte 2\n",
+            3,
+        ),
+        (
+            of_two(b"Ann", &long),
+            4,
+            "pdgf: dictionary 2: long entry at line 1\n",
+            3,
+        ),
+        (
+            of_two(b"Ann", b"\na\tx"),
+            4,
+            "pdgf: dictionary 2: bad weight at line 2\n",
+            3,
+        ),
+        (
+            of_two(b"Ann", &many),
+            4,
+            "pdgf: dictionary 2: too many entries at line 1000001\n",
+            3,
+        ),
         (of_two(b"Ann", b"\n"), 4, "pdgf: dictionary 2: empty\n", 3),
         (
-            Given { schema: CITING_NO_NAME, ..given },
+            Given {
+                schema: CITING_NO_NAME,
+                ..given
+            },
             4,
             "pdgf: rule V13 at table 1 column 3\n",
             1,
         ),
-        (Given { schema: CITING_TOO_MANY_ROWS, ..given }, 4, rule, 2),
+        (
+            Given {
+                schema: CITING_TOO_MANY_ROWS,
+                ..given
+            },
+            4,
+            rule,
+            2,
+        ),
     ];
     for (given, status, message, asked) in cases {
         dictionaries_give(&rt, alloc, given, refused(status, message), asked)?;

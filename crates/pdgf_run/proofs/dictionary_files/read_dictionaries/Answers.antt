@@ -1,6 +1,6 @@
-use Rattle.std.proofs.Common.{arith, ◌≡◌, ◌+◌, ℕ, List, [], Some, None, Option, ap, sym, ◌∙◌, refl, length}
+use Rattle.std.proofs.Common.{arith, ◌≡◌, ◌+◌, ℕ, Some, ap, sym, ◌∙◌, refl, length}
 use Rattle.std.specs.Prelude.{slice_get}
-use Rattle.pdgf_run.proofs.DictionaryLemmas.{asked_more, asks_at_most, asks_first, none_asked, none_read, none_readable, readable_more, read_more, read_to_fault, unasked_at_end, unasked_at_fault}
+use Rattle.pdgf_run.proofs.DictionaryLemmas.{asked_more, asks_at_most, none_asked, none_read, none_readable, readable_more, read_more, read_to_fault, unasked_at_end, unasked_at_fault}
 use Rattle.pdgf_run.proofs.dictionary_files.read_dictionaries.Goals as goal
 
 pub loop-place-init : goal.loop-place-init
