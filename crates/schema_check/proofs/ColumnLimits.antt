@@ -1,5 +1,5 @@
 -- Columns that pass the tests of the rules are within their limits.
-use Rattle.std.proofs.Common.{◌≡◌, ◌∙◌, ℕ, ℤ, pos, ◌<◌, ◌≤◌, ◌==◌, ◌&&◌, ◌||◌, not, zero, suc, ◌∷◌, All, Bool, true, false, List, [], length, map, get_or, nat_le, nat_lt, int_le, refl, sym, ap, subst, arith}
+use Rattle.std.proofs.Common.{◌≡◌, ◌∙◌, ℕ, ℤ, pos, ◌<◌, ◌≤◌, ◌&&◌, ◌||◌, not, zero, suc, ◌∷◌, All, Bool, true, false, List, [], length, map, get_or, nat_le, nat_lt, int_le, refl, sym, ap, subst, arith}
 use Rattle.std.specs.List.{list_all}
 use Rattle.std.specs.Ordering.{int_eq}
 use Rattle.std.proofs.lemmas.Bool.{and_parts, eqb-true, leb-true, ltb-true}
@@ -16,7 +16,7 @@ use Rattle.schema_model.specs.declared.column.Part.TheVariants as part
 use Rattle.schema_check.specs.Citations.{leaves_of}
 use Rattle.schema_check.specs.Counts.{count}
 use Rattle.schema_check.specs.Dictionaries.{AreWordLists, Dictionary, Project}
-use Rattle.schema_check.specs.Layout.{ColumnLayout, LeafLayout, column_at, column_layout, kind_layout, leaf_layout, no_column, part_layout, place_of_column}
+use Rattle.schema_check.specs.Layout.{ColumnLayout, column_at, column_layout, kind_layout, leaf_layout, no_column, part_layout, place_of_column}
 use Rattle.schema_check.specs.Limits.{AreParts, CitesStill, IsCase, IsKindInLimits, IsLeafInLimits, IsPart, IsPickOf, IsStillPart, can_change, is_change_unit, is_cited, moves}
 use Rattle.schema_check.specs.Rules.{are_supplied, changes_at, cites_still, is_between, is_case, is_change, is_changed, is_citable, is_date_range, is_key_in_range, is_length_range, is_null_share, is_number_range, is_part, is_pick_of, is_skew_range, is_still_kind, is_still_part, is_template, is_weighted, kind_at, may_change, moves_at, null_at}
 use Rattle.schema_check.proofs.FromTests.{limit_from_test, passes_each}

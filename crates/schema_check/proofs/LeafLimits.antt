@@ -1,5 +1,5 @@
 -- Drawn values that pass the tests of the rules are within their limits.
-use Rattle.std.proofs.Common.{◌≡◌, ◌∙◌, ℕ, ℤ, pos, negsuc, neg_ℤ, ◌+ℤ◌, ◌-ℤ◌, ◌<ℤ◌, ◌≤ℤ◌, ◌<◌, ◌≤◌, ◌-◌, ◌^◌, ◌==◌, ◌&&◌, All, Bool, true, false, suc, List, [], ◌∷◌, length, map, sum, get_or, nat_le, int_le, cond, Option, Some, None, is_some, sym, subst, arith}
+use Rattle.std.proofs.Common.{◌≡◌, ◌∙◌, ℕ, ℤ, pos, negsuc, neg_ℤ, ◌+ℤ◌, ◌-ℤ◌, ◌<ℤ◌, ◌≤ℤ◌, ◌<◌, ◌≤◌, ◌-◌, ◌^◌, ◌==◌, ◌&&◌, All, Bool, true, false, suc, List, [], ◌∷◌, length, map, sum, get_or, nat_le, int_le, cond, Option, Some, is_some, sym, subst, arith}
 use Rattle.std.specs.List.{find, list_all}
 use Rattle.std.specs.Option.{option_map, unwrap_or}
 use Rattle.std.specs.Str.{chars}

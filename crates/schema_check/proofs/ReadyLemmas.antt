@@ -1,7 +1,7 @@
 -- What is kept of columns: it doesn't depend on other tables, and where tables can be made of all of a schema, each column is
 -- served.
-use Rattle.std.proofs.Common.{◌≡◌, ℕ, ◌+◌, ◌<◌, true, false, ◌&&◌, ◌||◌, List, [], ◌∷◌, ◌++◌, length, map, get_or, is_some, refl, sym, ap, ◌∙◌, subst, arith}
-use Rattle.std.specs.List.{All, list_all, list_any, range_with_len}
+use Rattle.std.proofs.Common.{◌≡◌, ℕ, ◌+◌, ◌<◌, true, false, ◌||◌, List, [], ◌∷◌, ◌++◌, length, map, get_or, is_some, refl, sym, ap, ◌∙◌, subst, arith}
+use Rattle.std.specs.List.{All, list_any, range_with_len}
 use Rattle.std.proofs.lemmas.Bool.{or_parts}
 use Rattle.std.proofs.lemmas.List.{get_or-map, get_or_default, length-map}
 use Rattle.std.proofs.lemmas.List.Elements.{All-cons, All-map, All-same}
@@ -16,7 +16,7 @@ use Rattle.schema_check.specs.Citations.{leaves_of}
 use Rattle.schema_check.specs.Counts.{count}
 use Rattle.schema_check.specs.Delimiters.{delimiter_byte}
 use Rattle.schema_check.specs.Dictionaries.{Dictionary, Project}
-use Rattle.schema_check.specs.Layout.{ColumnLayout, LeafLayout, TableLayout, column_at, column_layout, kind_layout, layout_of, leaf_layout, no_column, no_table, place_of_column, table_at, table_layout, table_layouts}
+use Rattle.schema_check.specs.Layout.{ColumnLayout, TableLayout, column_at, column_layout, kind_layout, layout_of, leaf_layout, no_column, no_table, table_at, table_layout, table_layouts}
 use Rattle.schema_check.specs.Limits.{IsInLimits, IsKindInLimits, IsLeafInLimits, IsTableInLimits}
 use Rattle.schema_check.specs.Ready.{is_served, is_served_kind, ready_column, ready_columns, ready_kind}
 use Rattle.schema_check.specs.Rules.{schema_table}

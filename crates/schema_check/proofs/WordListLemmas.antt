@@ -1,12 +1,12 @@
 -- Word lists by their names, and names as they are cited.
-use Rattle.std.proofs.Common.{◌≡◌, ℕ, suc, zero, ◌+◌, ◌<◌, ◌≤◌, not, Bool, true, false, cond, ◌||◌, Option, Some, None, List, [], ◌∷◌, ◌++◌, flat_map, length, map, get_or, slice_get, take, drop, refl, sym, ap, ◌∙◌, arith, length-append, one-add}
-use Rattle.std.specs.List.{find, fold, list_any, position_or_len}
+use Rattle.std.proofs.Common.{◌≡◌, ℕ, ◌+◌, ◌<◌, ◌≤◌, not, Bool, true, false, cond, ◌||◌, Some, List, [], ◌∷◌, ◌++◌, flat_map, length, get_or, slice_get, take, drop, refl, sym, ap, ◌∙◌, arith, length-append, one-add}
+use Rattle.std.specs.List.{find, fold, position_or_len}
 use Rattle.std.specs.Option.{option_map, unwrap_or}
 use Rattle.std.proofs.lemmas.Grind.{fold-append}
 use Rattle.std.proofs.lemmas.List.{flat_map_more, length-take, take-append-drop, take-append-le, take_all, take_more}
 use Rattle.std.proofs.lemmas.List.Folds.{list_any-append}
 use Rattle.std.proofs.lemmas.Option.{get_or_from_slice_get, slice_get_within}
-use Rattle.dictionaries.specs.WordList.{IsWordList, WordList}
+use Rattle.dictionaries.specs.WordList.{IsWordList}
 use Rattle.schema_check.specs.Citations.{has_name, with_name}
 use Rattle.schema_check.specs.Dictionaries.{Dictionary, no_words}
 use Rattle.schema_check.specs.Names.{same_text}

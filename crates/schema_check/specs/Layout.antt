@@ -1,8 +1,8 @@
 -- The layout of a schema with its dictionaries: its tables and columns with each name resolved to what it names, a table or a
 -- column to its place, counted from 0, and a dictionary to its words. It is total: a name that nothing has stands for the place
 -- past the last one or for no words, and a number below 0 counts as 0.
-use Rattle.std.specs.Prelude.{ℕ, ℤ, Bool, false, if◌then◌else◌, List, [], ◌∷◌, ◌++◌, map, flat_map, length, Option, Some, None, slice_index_or}
-use Rattle.std.specs.List.{fold, list_any, position_or_len}
+use Rattle.std.specs.Prelude.{ℕ, ℤ, Bool, false, List, [], map, length, Option, Some, None, slice_index_or}
+use Rattle.std.specs.List.{position_or_len}
 use Rattle.std.specs.Option.{option_map}
 use Rattle.dictionaries.specs.WordList.{WordList}
 use Rattle.schema_model.specs.declared.table.Table.{Table}

@@ -1,5 +1,5 @@
 -- What a plan is, and what it keeps.
-use Rattle.std.specs.Prelude.{◌≡◌, ℕ, false, List, [], map, length, Option}
+use Rattle.std.specs.Prelude.{◌≡◌, ℕ, false, List, map, length, Option}
 use Rattle.std.specs.List.{position, range_with_len}
 use Rattle.schema_model.specs.declared.table.Schema.{Schema}
 use Rattle.schema_model.specs.declared.table.Table.{Table}

@@ -434,39 +434,48 @@ fn moving(alloc: Global, changes: bool) -> Result<Table, AllocError> {
     with_column(alloc, table, "unit", Kind::Changed, false)
 }
 
-// A column of a kind that may not change is told where it does.
-#[test]
-fn kinds_that_change(rt: HostRuntime) -> Result<(), Fail> {
-    let alloc = rt.alloc();
-    let reference = Kind::Ref {
+fn reference(alloc: Global) -> Result<Kind, AllocError> {
+    Ok(Kind::Ref {
         table: text(alloc, "t")?,
         window: Window::All,
         spread: Longs::new(alloc),
-    };
-    let lookup = Kind::Lookup {
-        via: text(alloc, "c")?,
-        column: text(alloc, "id")?,
-    };
-    for (kind, may_change) in [
-        (Kind::Born, false),
-        (Kind::Changed, false),
-        (Kind::Leaf(pick(alloc, 1, 1, &[(1, 1)])?), true),
-        (citing(alloc, "unit")?, true),
-        (case(alloc)?, true),
-        (reference, false),
-        (lookup, false),
-    ] {
-        let table = with_column(alloc, moving(alloc, true)?, "c", kind, true)?;
-        let told = fault_of_table(alloc, table)?;
-        assert_eq!(rt; told, fault_unless(may_change, 25, 4));
-    }
-    let empty = table(alloc, "t", (1, 1), &[])?;
-    let key = Kind::Key {
-        base: 1,
-        scramble: false,
-    };
-    let told = fault_of_table(alloc, with_column(alloc, empty, "id", key, true)?)?;
-    assert_eq!(rt; told, fault_unless(false, 25, 1));
+    })
+}
+
+fn lookup(alloc: Global) -> Result<Kind, AllocError> {
+    let via = text(alloc, "c")?;
+    let column = text(alloc, "id")?;
+    Ok(Kind::Lookup { via, column })
+}
+
+/// The first fault where a fourth column of this kind changes.
+fn fault_of_change(alloc: Global, kind: Kind) -> Result<Option<CheckFault>, AllocError> {
+    let table = with_column(alloc, moving(alloc, true)?, "c", kind, true)?;
+    fault_of_table(alloc, table)
+}
+
+#[test]
+fn kinds_that_change(rt: HostRuntime) -> Result<(), Fail> {
+    let alloc = rt.alloc();
+    let leaf = Kind::Leaf(pick(alloc, 1, 1, &[(1, 1)])?);
+    assert_eq!(rt; fault_of_change(alloc, leaf)?, None);
+    assert_eq!(rt; fault_of_change(alloc, citing(alloc, "unit")?)?, None);
+    assert_eq!(rt; fault_of_change(alloc, case(alloc)?)?, None);
+    Ok(())
+}
+
+#[test]
+fn kinds_that_may_not_change(rt: HostRuntime) -> Result<(), Fail> {
+    let alloc = rt.alloc();
+    let fault = fault_unless(false, 25, 4);
+    assert_eq!(rt; fault_of_change(alloc, Kind::Born)?, fault);
+    assert_eq!(rt; fault_of_change(alloc, Kind::Changed)?, fault);
+    assert_eq!(rt; fault_of_change(alloc, reference(alloc)?)?, fault);
+    assert_eq!(rt; fault_of_change(alloc, lookup(alloc)?)?, fault);
+    let (base, scramble) = (1, false);
+    let key = Kind::Key { base, scramble };
+    let table = with_column(alloc, table(alloc, "t", (1, 1), &[])?, "id", key, true)?;
+    assert_eq!(rt; fault_of_table(alloc, table)?, fault_unless(false, 25, 1));
     Ok(())
 }
 

@@ -1,4 +1,4 @@
-use Rattle.std.proofs.Common.{◌≡◌, ℕ, List, take}
+use Rattle.std.proofs.Common.{◌≡◌, take}
 use Rattle.schema_check.specs.Capped.{capped}
 use Rattle.schema_check.specs.FieldBounds.{greatest_by, leaf_size}
 use Rattle.schema_check.specs.Layout.{leaf_layout}

@@ -1,4 +1,4 @@
-use Rattle.std.proofs.Common.{◌≡◌, [], map, take}
+use Rattle.std.proofs.Common.{◌≡◌, map, take}
 use Rattle.schema_model.specs.declared.column.Leaf.{Leaf}
 use Rattle.schema_check.specs.Layout.{leaf_layout}
 use Rattle.schema_check.specs.Ready.{ready_leaf}

@@ -1,4 +1,4 @@
-use Rattle.std.proofs.Common.{◌≡◌, ◌∙◌, ◌++◌, ◌∷◌, [], ap, sym, arith, map, take}
+use Rattle.std.proofs.Common.{◌∙◌, ◌++◌, ◌∷◌, [], ap, sym, arith, map, take}
 use Rattle.std.proofs.lemmas.List.{map-append, take_all}
 use Rattle.row_text.specs.Fields.{piece_text}
 use Rattle.schema_check.proofs.WordListLemmas.{take_more_got}

@@ -1,4 +1,4 @@
-use Rattle.std.proofs.Common.{◌∙◌, ap, sym, length, arith, false, true, take, ◌≤◌, ◌<◌, ◌≡◌, ◌++◌, ◌∷◌, [], subst}
+use Rattle.std.proofs.Common.{◌∙◌, ap, sym, length, arith, ◌++◌, ◌∷◌, []}
 use Rattle.schema_check.specs.Citations.{has_name}
 use Rattle.schema_check.proofs.WordListLemmas.{name_joins, name_known, names_full}
 use Rattle.schema_check.proofs.cited_names.CitedNames.add.Goals as goal

@@ -1,4 +1,4 @@
-use Rattle.std.proofs.Common.{◌≡◌, ℕ, List, [], take}
+use Rattle.std.proofs.Common.{◌≡◌, [], take}
 use Rattle.std.specs.List.{fold}
 use Rattle.schema_check.specs.Citations.{names_in_tables, with_name}
 use Rattle.schema_check.proofs.cited_names.CitedNames.of.Given as goal

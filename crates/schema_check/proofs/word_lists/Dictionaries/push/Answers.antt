@@ -1,6 +1,6 @@
-use Rattle.std.proofs.Common.{◌≡◌, ◌++◌, ◌∷◌, [], All, List, sym, arith, subst}
+use Rattle.std.proofs.Common.{◌∷◌, [], sym, arith, subst}
 use Rattle.std.proofs.lemmas.List.Elements.{All-append, All-cons}
-use Rattle.dictionaries.specs.WordList.{IsWordList, WordList}
+use Rattle.dictionaries.specs.WordList.{IsWordList}
 use Rattle.schema_check.specs.Dictionaries.{AreWordLists, Dictionary}
 use Rattle.schema_check.proofs.word_lists.Dictionaries.push.Goals as goal
 
