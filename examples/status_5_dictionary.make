@@ -1,0 +1,2 @@
+# A word list that is not there.
+rm names.txt
