@@ -8,4 +8,4 @@ use Rattle.row_lines.proofs.tests.cohort_checksum.Goals as goal
 pub put_line-requires-clause-alive : goal.put_line-requires-clause-alive
 put_line-requires-clause-alive g c =
     ap (λ (lines : LinesOf). is_live (generator_of lines.plan) lines.table lines.unit (ordinal_of lines c.loop-index.index)) c.new-lines.ensures
-    ∙ is_live-built c.args.plan.now.schema c.schema-built.ensures.built 0 _ _
+    ∙ is_live-built c.args.plan.now c.schema-built.ensures.built 0 _ _
