@@ -79,8 +79,7 @@ life_in_limits (Some life) h =
     let v = and_parts (int_le (pos 1) life.lo && int_le life.lo life.hi) (int_le life.hi (pos 20000)) h in
     let w = and_parts (int_le (pos 1) life.lo) (int_le life.lo life.hi) v.0 in
     record {
-      some_unit = least_from_test life.lo 1 w.0;
-      ordered = count-ordered life.lo life.hi w.1;
+      span = record { some_unit = least_from_test life.lo 1 w.0; ordered = count-ordered life.lo life.hi w.1 };
       life_limit = limit_from_test life.hi 20000 v.1;
     }
 

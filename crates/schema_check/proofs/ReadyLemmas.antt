@@ -1,8 +1,7 @@
 -- What is kept of columns: it doesn't depend on other tables, and where tables can be made of all of a schema, each column is
 -- served.
-use Rattle.std.proofs.Common.{◌≡◌, ℕ, ◌+◌, ◌<◌, true, false, ◌||◌, List, [], ◌∷◌, ◌++◌, length, map, get_or, is_some, refl, sym, ap, ◌∙◌, subst, arith}
-use Rattle.std.specs.List.{All, list_any, range_with_len}
-use Rattle.std.proofs.lemmas.Bool.{or_parts}
+use Rattle.std.proofs.Common.{◌≡◌, ℕ, ◌+◌, ◌<◌, true, false, List, [], ◌∷◌, ◌++◌, length, map, get_or, refl, sym, ap, ◌∙◌, subst, arith}
+use Rattle.std.specs.List.{All, range_with_len}
 use Rattle.std.proofs.lemmas.List.{get_or-map, get_or_default, length-map}
 use Rattle.std.proofs.lemmas.List.Elements.{All-cons, All-map, All-same}
 use Rattle.std.proofs.lemmas.List.FromFn.{map-range_with_len_more}
@@ -20,7 +19,7 @@ use Rattle.schema_check.specs.Layout.{ColumnLayout, TableLayout, column_at, colu
 use Rattle.schema_check.specs.Limits.{IsInLimits, IsKindInLimits, IsLeafInLimits, IsTableInLimits}
 use Rattle.schema_check.specs.Ready.{is_served, is_served_kind, ready_column, ready_columns, ready_kind}
 use Rattle.schema_check.specs.Rules.{schema_table}
-use Rattle.schema_check.specs.Unbuilt.{is_unbuilt, is_unbuilt_column, is_unbuilt_kind, is_unbuilt_table}
+use Rattle.schema_check.specs.Unbuilt.{is_unbuilt, is_unbuilt_kind, is_unbuilt_table}
 use Rattle.schema_check.proofs.FactsLemmas.{table_at-is}
 use Rattle.schema_check.proofs.FromTests.{fails_each}
 use Rattle.schema_check.proofs.Lists.{map-map}
@@ -80,20 +79,16 @@ ready_columns-is project place table within is =
 served_kind : (dictionaries : List Dictionary) (delimiter : ℕ) (columns : List Column) (kind : Kind) → is_unbuilt_kind kind ≡ false → is_served_kind (ready_kind delimiter (kind_layout dictionaries [] columns kind)) ≡ true
 served_kind dictionaries delimiter columns (kind.Key base scramble) h = refl
 served_kind dictionaries delimiter columns kind.Born h = refl
+served_kind dictionaries delimiter columns kind.Changed h = refl
 served_kind dictionaries delimiter columns (kind.Leaf leaf) h = refl
 served_kind dictionaries delimiter columns (kind.Template parts) h = refl
 served_kind dictionaries delimiter columns (kind.Case on branches) h = refl
 served_kind dictionaries delimiter columns _ h = cc
 
-served_column : (dictionaries : List Dictionary) (delimiter : ℕ) (columns : List Column) (column : Column) → is_unbuilt_column column ≡ false → is_served (kept_column dictionaries delimiter columns column) ≡ true
-served_column dictionaries delimiter columns column h =
-    served_kind dictionaries delimiter columns column.kind (or_parts column.changes (is_unbuilt_kind column.kind) h).1
-
 table_served : (dictionaries : List Dictionary) (delimiter : ℕ) (table : Table) → is_unbuilt_table table ≡ false → All (λ column. is_served column ≡ true) (map (kept_column dictionaries delimiter table.columns) table.columns)
-table_served dictionaries delimiter table h =
-    let built = (or_parts (is_some table.life || is_some table.update) (list_any is_unbuilt_column table.columns) h).1 in
+table_served dictionaries delimiter table built =
     All-map (λ column. is_served column ≡ true) (kept_column dictionaries delimiter table.columns) table.columns
-    (λ i d within. served_column dictionaries delimiter table.columns (get_or table.columns i d) (fails_each is_unbuilt_column table.columns i d within built))
+    (λ i d within. served_kind dictionaries delimiter table.columns (get_or table.columns i d).kind (fails_each (λ (column : Column). is_unbuilt_kind column.kind) table.columns i d within built))
 
 -- each column of a table of a built schema
 pub columns_served : (project : Project) (place : ℕ) → is_unbuilt project.schema ≡ false → place < length project.schema.tables → All (λ column. is_served column ≡ true) (ready_columns (layout_of project) place)

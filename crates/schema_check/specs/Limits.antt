@@ -124,10 +124,14 @@ CitesStill columns (template_kind parts) = All (IsStillPart columns) parts
 CitesStill columns (case_kind on branches) = moves (column_at columns on) ≡ false
 CitesStill columns _ = ⊤
 
--- a life, in units
+-- a number of units that is at least one, from its least to its most
+pub record IsSpan (span : Span) : Type 0 where
+  pub some_unit : 1 ≤ span.least
+  pub ordered : span.least ≤ span.most
+
+-- a life within its limits, in units
 pub record IsLife (life : Span) : Type 0 where
-  pub some_unit : 1 ≤ life.least
-  pub ordered : life.least ≤ life.most
+  pub span : IsSpan life
   pub life_limit : life.most ≤ 20000
 
 -- the units from one change of a row to its next

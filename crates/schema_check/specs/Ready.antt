@@ -53,7 +53,6 @@ ready_columns layout place = map (ready_column layout.delimiter) (table_at layou
 
 -- whether tables can be made of a column
 abbrev pub is_served_kind : ReadyKind → Bool
-is_served_kind kind.Changed = false
 is_served_kind kind.Unserved = false
 is_served_kind _ = true
 

@@ -1,5 +1,5 @@
 -- What a schema may hold that no table can be made of yet.
-use Rattle.std.specs.Prelude.{Bool, true, false, ◌||◌, is_some}
+use Rattle.std.specs.Prelude.{Bool, true, false}
 use Rattle.std.specs.List.{list_any}
 use Rattle.schema_model.specs.declared.table.Schema.{Schema}
 use Rattle.schema_model.specs.declared.table.Table.{Table}
@@ -7,21 +7,15 @@ use Rattle.schema_model.specs.declared.column.Column.{Column}
 use Rattle.schema_model.specs.declared.column.Kind.{Kind}
 use Rattle.schema_model.specs.declared.column.Kind.TheVariants as kind
 
--- what speaks of changes or of other rows
+-- what speaks of other rows
 abbrev pub is_unbuilt_kind : Kind → Bool
-is_unbuilt_kind kind.Changed = true
 is_unbuilt_kind (kind.Ref table window spread) = true
 is_unbuilt_kind (kind.Lookup via column) = true
 is_unbuilt_kind _ = false
 
--- a column that changes, or has such a kind
-abbrev pub is_unbuilt_column : Column → Bool
-is_unbuilt_column column = column.changes || is_unbuilt_kind column.kind
-
--- a table with a life, updates, or such a column
+-- a table with a column of such a kind
 abbrev pub is_unbuilt_table : Table → Bool
-is_unbuilt_table table =
-    is_some table.life || is_some table.update || list_any is_unbuilt_column table.columns
+is_unbuilt_table table = list_any (λ (column : Column). is_unbuilt_kind column.kind) table.columns
 
 -- a schema that has such a table
 abbrev pub is_unbuilt : Schema → Bool

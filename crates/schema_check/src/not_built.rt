@@ -2,12 +2,11 @@
 
 ghost use Rattle.std.specs.Prelude.{◌≡◌};
 ghost use Rattle.std.specs.List.{list_any};
-ghost use Rattle.schema_check.specs.Unbuilt.{is_unbuilt, is_unbuilt_table, is_unbuilt_column, is_unbuilt_kind};
+ghost use Rattle.schema_check.specs.Unbuilt.{is_unbuilt, is_unbuilt_kind, is_unbuilt_table};
 
 use schema_model::{Column, Kind, Schema, Table};
 
-/// Whether a schema holds something that isn't built: a table with a life or updates, a column that changes, holds the unit of
-/// the last change or speaks of other rows.
+/// Whether a schema holds something that isn't built: a column that speaks of other rows.
 pub fn unbuilt(schema: &Schema) -> bool
     ensures { result ≡ is_unbuilt schema.now }
 {
@@ -23,29 +22,20 @@ fn is_any_table_unbuilt(tables: &[Table]) -> bool
 fn is_unbuilt_table(table: &Table) -> bool
     ensures { result ≡ is_unbuilt_table table.now }
 {
-    if table.life.is_some() || table.update.is_some() {
-        return true;
-    }
     is_any_column_unbuilt(table.columns.as_slice())
 }
 
 fn is_any_column_unbuilt(columns: &[Column]) -> bool
-    ensures { result ≡ list_any is_unbuilt_column columns.now }
+    ensures { result ≡ list_any (λ column. is_unbuilt_kind column.kind) columns.now }
 {
-    columns.iter().any(|column| is_unbuilt_column(column))
-}
-
-fn is_unbuilt_column(column: &Column) -> bool
-    ensures { result ≡ is_unbuilt_column column.now }
-{
-    column.changes || is_unbuilt_kind(&column.kind)
+    columns.iter().any(|column| is_unbuilt_kind(&column.kind))
 }
 
 fn is_unbuilt_kind(kind: &Kind) -> bool
     ensures { result ≡ is_unbuilt_kind kind.now }
 {
     match kind {
-        Kind::Changed | Kind::Ref { .. } | Kind::Lookup { .. } => true,
+        Kind::Ref { .. } | Kind::Lookup { .. } => true,
         _ => false,
     }
 }

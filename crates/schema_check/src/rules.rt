@@ -5,8 +5,7 @@ ghost use Rattle.std.specs.List.{list_any};
 ghost use Rattle.schema_check.specs.Capped.{capped, is_known_at_most};
 ghost use Rattle.schema_check.specs.Counts.{count};
 ghost use Rattle.schema_check.specs.Names.{same_text};
-ghost use Rattle.schema_check.specs.Citations.{leaves_of};
-ghost use Rattle.schema_check.specs.Rules.{break_in_table, first_break, first_broken, holds, is_between, is_key_first, is_life, is_new_at, is_one_to_64, is_row_count, is_update_period, kind_at, number_of};
+ghost use Rattle.schema_check.specs.Rules.{break_in_table, first_break, first_broken, holds, is_between, is_key_first, is_life, is_new_at, is_one_to_64, is_row_count, is_update_period, number_of};
 ghost use Rattle.schema_check.specs.Sites.{columns_at, IsSiteOf};
 
 use crate::broken::Broken;
@@ -20,7 +19,7 @@ use crate::leaf_rules::{
 };
 use crate::names::is_name;
 use crate::site::Site;
-use schema_model::{Column, Kind, Leaf, Life, Schema, Table, Text};
+use schema_model::{Column, Kind, Life, Schema, Table, Text};
 
 /// The greatest last unit.
 const MAX_UNITS: i64 = 10_000;
@@ -200,58 +199,65 @@ impl Rule {
         requires { IsSiteOf candidate.now.schema site }
         ensures { result ≡ holds self candidate.now site }
     {
+        match site {
+            Site::Whole => self.holds_of_whole(candidate),
+            Site::OfTable(table) => self.holds_of_table(candidate, table),
+            Site::OfColumn(table, column) => self.holds_of_column(candidate, table, column),
+        }
+    }
+
+    /// Whether it holds of a schema as a whole.
+    fn holds_of_whole(self, candidate: &Candidate<'_>) -> bool
+        ensures { result ≡ holds self candidate.now Site.Whole }
+    {
+        let schema = candidate.schema();
+        match self {
+            Rule::SeedAndUnits => is_seed_and_units(schema),
+            Rule::TableCount => is_one_to_64(schema.tables.len()),
+            _ => true,
+        }
+    }
+
+    /// Whether it holds of the table at a place.
+    fn holds_of_table(self, candidate: &Candidate<'_>, table: usize) -> bool
+        requires { table < length candidate.now.schema.tables }
+        ensures { result ≡ holds self candidate.now (Site.OfTable table) }
+    {
         let schema = candidate.schema();
         let tables = schema.tables.as_slice();
-        match (self, site) {
-            (Rule::Dictionaries, Site::OfColumn(table, column)) => {
-                are_supplied(candidate, leaves_at(schema, table, column))
-            }
-            (Rule::CitedNames, Site::OfColumn(table, column)) => {
-                are_citable(candidate.names(), leaves_at(schema, table, column))
-            }
-            (Rule::SeedAndUnits, Site::Whole) => is_seed_and_units(schema),
-            (Rule::TableCount, Site::Whole) => is_one_to_64(tables.len()),
-            (Rule::TableNames, Site::OfTable(table)) => is_new_table(tables, table),
-            (Rule::Columns, Site::OfTable(table)) => is_one_to_64(columns_at(schema, table).len()),
-            (Rule::Columns, Site::OfColumn(table, column)) => {
-                is_new_column(columns_at(schema, table), column)
-            }
-            (Rule::KeyColumn, Site::OfColumn(table, column)) => {
-                is_key_first(column, &columns_at(schema, table)[column].kind)
-            }
-            (Rule::RowCount, Site::OfTable(table)) => is_row_count(schema.units, &tables[table]),
-            (Rule::LifeRange, Site::OfTable(table)) => is_life(tables[table].life),
-            (Rule::UpdatePeriod, Site::OfTable(table)) => is_update_period(tables[table].update),
-            (Rule::NumberRange, Site::OfColumn(table, column)) => {
-                are_number_ranges(leaves_at(schema, table, column))
-            }
-            (Rule::DateRange, Site::OfColumn(table, column)) => {
-                are_date_ranges(leaves_at(schema, table, column))
-            }
-            (Rule::PickEntries, Site::OfColumn(table, column)) => {
-                are_weighted(leaves_at(schema, table, column))
-            }
-            (Rule::SkewRange, Site::OfColumn(table, column)) => {
-                are_skew_ranges(leaves_at(schema, table, column))
-            }
-            (Rule::LengthRange, Site::OfColumn(table, column)) => {
-                are_length_ranges(leaves_at(schema, table, column))
-            }
-            (Rule::TemplateParts, Site::OfColumn(table, column)) => {
-                is_template(columns_at(schema, table), column)
-            }
-            (Rule::CaseBranches, Site::OfColumn(table, column)) => {
-                is_case(columns_at(schema, table), column)
-            }
-            (Rule::StillCitations, Site::OfColumn(table, column)) => {
-                cites_still(columns_at(schema, table), column)
-            }
-            (Rule::RowCost, Site::OfTable(table)) => is_row_cost(candidate.facts(), table),
-            (Rule::LineSize, Site::OfTable(table)) => is_line_size(candidate.facts(), table),
-            (Rule::ChangesAndNulls, Site::OfColumn(table, column)) => {
-                let column = &columns_at(schema, table)[column];
-                is_null_share(column) && is_change(column)
-            }
+        match self {
+            Rule::TableNames => is_new_table(tables, table),
+            Rule::Columns => is_one_to_64(columns_at(schema, table).len()),
+            Rule::RowCount => is_row_count(schema.units, &tables[table]),
+            Rule::LifeRange => is_life(tables[table].life),
+            Rule::UpdatePeriod => is_update_period(tables[table].update),
+            Rule::RowCost => is_row_cost(candidate.facts(), table),
+            Rule::LineSize => is_line_size(candidate.facts(), table),
+            _ => true,
+        }
+    }
+
+    /// Whether it holds of the column at a place in the table at a place.
+    fn holds_of_column(self, candidate: &Candidate<'_>, table: usize, column: usize) -> bool
+        requires { IsSiteOf candidate.now.schema (Site.OfColumn table column) }
+        ensures { result ≡ holds self candidate.now (Site.OfColumn table column) }
+    {
+        let columns = columns_at(candidate.schema(), table);
+        let leaves = leaves_of(&columns[column].kind);
+        match self {
+            Rule::Dictionaries => are_supplied(candidate, leaves),
+            Rule::CitedNames => are_citable(candidate.names(), leaves),
+            Rule::Columns => is_new_column(columns, column),
+            Rule::KeyColumn => is_key_first(column, &columns[column].kind),
+            Rule::NumberRange => are_number_ranges(leaves),
+            Rule::DateRange => are_date_ranges(leaves),
+            Rule::PickEntries => are_weighted(leaves),
+            Rule::SkewRange => are_skew_ranges(leaves),
+            Rule::LengthRange => are_length_ranges(leaves),
+            Rule::TemplateParts => is_template(columns, column),
+            Rule::CaseBranches => is_case(columns, column),
+            Rule::StillCitations => cites_still(columns, column),
+            Rule::ChangesAndNulls => is_null_share(&columns[column]) && is_change(&columns[column]),
             _ => true,
         }
     }
@@ -263,14 +269,6 @@ pub(crate) fn columns_at(schema: &Schema, table: usize) -> &[Column]
     ensures { result.now ≡ columns_at schema.now table }
 {
     schema.tables.as_slice()[table].columns.as_slice()
-}
-
-/// The values that are drawn for the column at a place.
-fn leaves_at(schema: &Schema, table: usize, column: usize) -> &[Leaf]
-    requires { IsSiteOf schema.now (Site.OfColumn table column) }
-    ensures { result.now ≡ leaves_of (kind_at (columns_at schema.now table) column) }
-{
-    leaves_of(&columns_at(schema, table)[column].kind)
 }
 
 fn is_seed_and_units(schema: &Schema) -> bool
