@@ -16,6 +16,7 @@ use Rattle.schema_check.specs.Ready.{is_served_kind, ready_column, ready_columns
 use Rattle.draw_values.specs.declared.values.RowAt.{RowAt}
 use Rattle.draw_values.specs.ReadyValues.{IsReady, IsReadyKind, chooser_of, ready_branch, ready_entry, ready_field, ready_held_entry, ready_kind_size, ready_size, ready_text, ready_value}
 use Rattle.draw_values.specs.Values.{Draws, RowDraws, branch_at, chosen_group, entry_of, held_entry, is_null, is_own, leaf_value, own_field, own_value, unless_null}
+use Rattle.draw_values.specs.WrittenUnits.{units_at}
 use Rattle.draw_values.proofs.PlainLemmas.{piece_text-plain, plain-decimal}
 use Rattle.draw_values.proofs.ReadyLemmas.{leaf_is_ready, leaf_size-ready, leaf_value-written}
 
@@ -111,7 +112,7 @@ pub chooser_of-within : (delimiter : ℕ) (columns : List ColumnLayout) (place :
     chooser_of place (ready_kind delimiter kind) < length columns
 chooser_of-within delimiter columns place key_kind of within = absurd (let own = of.own in cc)
 chooser_of-within delimiter columns place born_kind of within = within
-chooser_of-within delimiter columns place changed_kind of within = absurd (let own = of.own in cc)
+chooser_of-within delimiter columns place changed_kind of within = within
 chooser_of-within delimiter columns place (leaf_kind leaf) of within = within
 chooser_of-within delimiter columns place (template_kind parts) of within = absurd (let own = of.own in cc)
 chooser_of-within delimiter columns place (case_kind on branches) of within = omega (arith, of.limits.earlier)
@@ -135,7 +136,7 @@ pub kind_is_ready : (delimiter : ℕ) (columns : List ColumnLayout) (place : ℕ
     IsReadyKind (ready_kind delimiter (column_at columns (chooser_of place (ready_kind delimiter kind))).kind) (ready_kind delimiter kind)
 kind_is_ready delimiter columns place key_kind of all within = absurd (let own = of.own in cc)
 kind_is_ready delimiter columns place born_kind of all within = tt
-kind_is_ready delimiter columns place changed_kind of all within = absurd (let own = of.own in cc)
+kind_is_ready delimiter columns place changed_kind of all within = tt
 kind_is_ready delimiter columns place (leaf_kind leaf) of all within = leaf_is_ready delimiter leaf of.limits
 kind_is_ready delimiter columns place (template_kind parts) of all within = absurd (let own = of.own in cc)
 kind_is_ready delimiter columns place (case_kind on branches) of all within =
@@ -148,7 +149,7 @@ pub bounds_of-ready : (delimiter : ℕ) (tables : List TableLayout) (table : Tab
     (bounds_of delimiter tables table kind).size ≡ max 2 (ready_kind_size (ready_kind delimiter kind))
 bounds_of-ready delimiter tables table columns place key_kind of = absurd (let own = of.own in cc)
 bounds_of-ready delimiter tables table columns place born_kind of = refl
-bounds_of-ready delimiter tables table columns place changed_kind of = absurd (let own = of.own in cc)
+bounds_of-ready delimiter tables table columns place changed_kind of = refl
 bounds_of-ready delimiter tables table columns place (leaf_kind leaf) of = ap (max 2) (leaf_size-ready delimiter leaf of.limits)
 bounds_of-ready delimiter tables table columns place (template_kind parts) of = absurd (let own = of.own in cc)
 bounds_of-ready delimiter tables table columns place (case_kind on branches) of = ap (max 2) (greatest_from delimiter 0 branches of.limits.each)
@@ -169,14 +170,14 @@ held_entry-within columns on count draw pick limits =
 abbrev ready_value_at : ℕ → List ColumnLayout → RowAt → RowDraws → ℕ → KindLayout → Option (List ℕ)
 ready_value_at delimiter columns at draws place kind =
     let chooser : ℕ = chooser_of place (ready_kind delimiter kind) in
-    ready_value (decimal at.born) (ready_held_entry (ready_column delimiter (column_at columns chooser)) (draws chooser)) (draws place) (ready_kind delimiter kind)
+    ready_value (units_at at) (ready_held_entry (ready_column delimiter (column_at columns chooser)) (draws chooser)) (draws place) (ready_kind delimiter kind)
 
 own_value-written : (delimiter : ℕ) (columns : List ColumnLayout) (at : RowAt) (draws : RowDraws) (place : ℕ) (kind : KindLayout) → IsOwn delimiter columns place kind →
     IsAllInLimits columns → place < length columns →
     option_map (piece_text delimiter) (own_value columns at draws place kind) ≡ ready_value_at delimiter columns at draws place kind
 own_value-written delimiter columns at draws place key_kind of all within = absurd (let own = of.own in cc)
 own_value-written delimiter columns at draws place born_kind of all within = ap Some (piece_text-plain delimiter (decimal at.born) (plain-decimal at.born))
-own_value-written delimiter columns at draws place changed_kind of all within = absurd (let own = of.own in cc)
+own_value-written delimiter columns at draws place changed_kind of all within = ap Some (piece_text-plain delimiter (decimal at.changed) (plain-decimal at.changed))
 own_value-written delimiter columns at draws place (leaf_kind leaf) of all within = leaf_value-written delimiter leaf (draws place) of.limits
 own_value-written delimiter columns at draws place (template_kind parts) of all within = absurd (let own = of.own in cc)
 own_value-written delimiter columns at draws place (case_kind on branches) of all within =
@@ -194,9 +195,9 @@ option_map-if f false held = refl
 pub own_field-written : (delimiter : ℕ) (columns : List ColumnLayout) (at : RowAt) (draws : RowDraws) (place chooser : ℕ) → IsOwn delimiter columns place (column_at columns place).kind →
     IsAllInLimits columns → place < length columns → chooser ≡ chooser_of place (ready_kind delimiter (column_at columns place).kind) →
     option_map (piece_text delimiter) (own_field columns at draws place)
-    ≡ ready_field (decimal at.born) (ready_column delimiter (column_at columns chooser)) (draws chooser) (ready_column delimiter (column_at columns place)) (draws place)
+    ≡ ready_field (units_at at) (ready_column delimiter (column_at columns chooser)) (draws chooser) (ready_column delimiter (column_at columns place)) (draws place)
 own_field-written delimiter columns at draws place chooser of all within chosen =
     let column : ColumnLayout = column_at columns place in
     option_map-if (piece_text delimiter) (is_null column.null (draws place)) (own_value columns at draws place column.kind)
     ∙ ap (unless_null column.null (draws place)) (own_value-written delimiter columns at draws place column.kind of all within)
-    ∙ ap (λ (by : ℕ). ready_field (decimal at.born) (ready_column delimiter (column_at columns by)) (draws by) (ready_column delimiter column) (draws place)) (sym chosen)
+    ∙ ap (λ (by : ℕ). ready_field (units_at at) (ready_column delimiter (column_at columns by)) (draws by) (ready_column delimiter column) (draws place)) (sym chosen)

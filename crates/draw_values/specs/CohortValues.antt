@@ -1,21 +1,20 @@
--- The values of the rows of one cohort, and what the code keeps of them.
-use Rattle.std.specs.Prelude.{◌≡◌, ◌<◌, ◌≤◌, ℕ, List, Bool, Option, decimal, length, get_or, All, true}
-use Rattle.philox_seeds.specs.SeedTree.{table_seed, column_seed, unit_seed}
-use Rattle.pd_outside.specs.declared.piece.Piece.{Piece}
-use Rattle.pd_outside.specs.Pieces.{piece_text}
+-- The values of the rows of a table that are born at one unit and changed last at another, and what the code keeps of them.
+use Rattle.std.specs.Prelude.{◌≡◌, ℕ, List, Bool, Option, All, true}
 use Rattle.schema_check.specs.declared.ready.ReadyColumn.{ReadyColumn}
 use Rattle.schema_check.specs.Layout.{column_at, layout_of, table_at, TableLayout}
 use Rattle.schema_check.specs.Limits.{IsTableInLimits}
 use Rattle.schema_check.specs.Dictionaries.{Project}
 use Rattle.schema_check.specs.Ready.{ready_columns, is_served}
 use Rattle.draw_values.specs.declared.values.RowAt.{RowAt}
+use Rattle.draw_values.specs.UnitDraws.{DrawsOf, unit_draws}
 use Rattle.draw_values.specs.Values.{draws_at, is_null, size_at, value_at}
 
--- the values of the rows that are born at a unit, in the table at a place
+-- the values of the rows that are born at a unit and changed last at another, in the table at a place
 pub record ValuesOf : Type 0 where
   pub plan : Project
   pub table : ℕ
-  pub unit : ℕ
+  pub born : ℕ
+  pub changed : ℕ
 
 -- the layout of the table
 abbrev pub layout_for : ValuesOf → TableLayout
@@ -23,7 +22,7 @@ layout_for values = table_at (layout_of values.plan).tables values.table
 
 -- the row with an ordinal
 abbrev pub row_for : ValuesOf → ℕ → RowAt
-row_for values ordinal = record { ordinal = ordinal; born = values.unit; changed = values.unit }
+row_for values ordinal = record { ordinal = ordinal; born = values.born; changed = values.changed }
 
 -- what it holds in the column at a place
 abbrev pub value_for : ValuesOf → ℕ → ℕ → Option (List ℕ)
@@ -39,12 +38,10 @@ is_null_for values column ordinal =
 abbrev pub size_for : ValuesOf → ℕ → ℕ
 size_for values column = size_at (layout_of values.plan) values.table column
 
--- what is kept is of the table's columns, with the seed of the unit for each
-pub record AreValuesOf (values : ValuesOf) (ready : List ReadyColumn) (seeds : List ℕ) (birth : Piece) : Type 0 where
+-- what is kept is of the table's columns, with the draws at the two units
+pub record AreValuesOf (values : ValuesOf) (ready : List ReadyColumn) (births changes : DrawsOf) : Type 0 where
   pub columns : ready ≡ ready_columns (layout_of values.plan) values.table
   pub served : All (λ column. is_served column ≡ true) ready
   pub limits : IsTableInLimits (layout_of values.plan).units (layout_for values)
-  pub seeds_are : (column : ℕ) → column < length ready →
-      get_or seeds column 0 ≡ unit_seed (column_seed (table_seed (layout_of values.plan).seed values.table) column) values.unit
-  pub birth_text : piece_text birth ≡ decimal values.unit
-  pub unit_limit : values.unit ≤ 10000
+  pub births_are : births ≡ unit_draws values.plan values.table values.born
+  pub changes_are : changes ≡ unit_draws values.plan values.table values.changed

@@ -13,6 +13,7 @@ use Rattle.schema_check.specs.FieldBounds.{greatest_by, joined_size}
 use Rattle.schema_check.specs.Limits.{IsDateRange, IsRange}
 use Rattle.draw_values.specs.Dates.{date_text}
 use Rattle.draw_values.specs.Digits.{signed_pointed}
+use Rattle.draw_values.specs.WrittenUnits.{WrittenUnits}
 use Rattle.draw_values.specs.Values.{Draws, chosen, chosen_group, drawn_words, unless_null}
 
 -- the draws of the field of the row with an ordinal, by the seed of its column at its unit
@@ -75,22 +76,24 @@ ready_held_entry column draw = unless_null column.null draw (ready_entry column.
 abbrev pub ready_branch : List ReadyLeaf → ℕ → ReadyLeaf
 ready_branch branches place = slice_index_or branches place (leaf.Int (pos 0) (pos 0) 1 1)
 
--- what is written for a field of units or of draws that isn't null, by its unit of birth as it is written, the entry that its
+-- what is written for a field of units or of draws that isn't null, by the row's units as they are written, the entry that its
 -- pick column holds, and its draws; None where its pick column's field is null
-abbrev pub ready_value : List ℕ → Option ℕ → Draws → ReadyKind → Option (List ℕ)
-ready_value birth entry draw kind.Born = Some birth
-ready_value birth entry draw (kind.Drawn leaf) = Some (ready_text leaf draw)
-ready_value birth entry draw (kind.Case on branches) = option_map (λ e. ready_text (ready_branch branches e) draw) entry
-ready_value birth entry draw _ = None
+abbrev pub ready_value : WrittenUnits → Option ℕ → Draws → ReadyKind → Option (List ℕ)
+ready_value units entry draw kind.Born = Some units.born
+ready_value units entry draw kind.Changed = Some units.changed
+ready_value units entry draw (kind.Drawn leaf) = Some (ready_text leaf draw)
+ready_value units entry draw (kind.Case on branches) = option_map (λ e. ready_text (ready_branch branches e) draw) entry
+ready_value units entry draw _ = None
 
 -- what is written for a field, None where it is null
-abbrev pub ready_field : List ℕ → ReadyColumn → Draws → ReadyColumn → Draws → Option (List ℕ)
-ready_field birth chooser chooser_draw column draw =
-    unless_null column.null draw (ready_value birth (ready_held_entry chooser chooser_draw) draw column.kind)
+abbrev pub ready_field : WrittenUnits → ReadyColumn → Draws → ReadyColumn → Draws → Option (List ℕ)
+ready_field units chooser chooser_draw column draw =
+    unless_null column.null draw (ready_value units (ready_held_entry chooser chooser_draw) draw column.kind)
 
 -- the greatest size of such a text, in bytes
 abbrev pub ready_kind_size : ReadyKind → ℕ
 ready_kind_size kind.Born = 5
+ready_kind_size kind.Changed = 5
 ready_kind_size (kind.Drawn leaf) = ready_size leaf
 ready_kind_size (kind.Case on branches) = greatest_by ready_size branches
 ready_kind_size _ = 0
@@ -108,6 +111,7 @@ IsReadyPick _ = ⊥
 -- a field of this kind can be written, where it is chosen by a column of the other
 abbrev pub IsReadyKind : ReadyKind → ReadyKind → Type 0
 IsReadyKind chooser kind.Born = ⊤
+IsReadyKind chooser kind.Changed = ⊤
 IsReadyKind chooser (kind.Drawn leaf) = IsReady leaf
 IsReadyKind chooser (kind.Case on branches) = All IsReady branches × IsReadyPick chooser × (entry_count chooser ≡ length branches)
 IsReadyKind chooser _ = ⊥

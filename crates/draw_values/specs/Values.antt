@@ -85,6 +85,7 @@ branch_at branches place = slice_index_or branches place (int_leaf (pos 0) (pos 
 -- whether a field of this kind is made of its row's units and of draws
 abbrev pub is_own : KindLayout → Bool
 is_own born_kind = true
+is_own changed_kind = true
 is_own (leaf_kind leaf) = true
 is_own (case_kind on branches) = true
 is_own _ = false
@@ -94,7 +95,7 @@ is_own _ = false
 abbrev pub own_value : List ColumnLayout → RowAt → RowDraws → ℕ → KindLayout → Option (List ℕ)
 own_value columns at draws column key_kind = not_served
 own_value columns at draws column born_kind = Some (decimal at.born)
-own_value columns at draws column changed_kind = not_served
+own_value columns at draws column changed_kind = Some (decimal at.changed)
 own_value columns at draws column (leaf_kind leaf) = leaf_value leaf (draws column)
 own_value columns at draws column (template_kind parts) = not_served
 own_value columns at draws column (case_kind on branches) =
@@ -109,9 +110,14 @@ own_field columns at draws column =
     unless_null (column_at columns column).null (draws column)
     (own_value columns at draws column (column_at columns column).kind)
 
--- the draws of a row of the table at a place. Columns that change aren't served yet, so fields are drawn at the birth of their row
+-- the unit at which a row's field is drawn: that of its last change in a column that changes, that of its birth in any other
+abbrev pub draw_unit : ColumnLayout → RowAt → ℕ
+draw_unit column at = if column.changes then at.changed else at.born
+
+-- the draws of a row of the table at a place
 abbrev pub draws_at : Layout → ℕ → RowAt → RowDraws
-draws_at layout table at column = field_draw layout.seed table column at.born at.ordinal
+draws_at layout table at column =
+    field_draw layout.seed table column (draw_unit (column_at (table_at layout.tables table).columns column) at) at.ordinal
 
 -- the field of a row of the table at a place
 abbrev pub value_at : Layout → ℕ → ℕ → RowAt → Option (List ℕ)

@@ -1,33 +1,31 @@
-//! The values of the rows of a cohort, with what doesn't change from row to row taken once.
+//! The values of the rows that are born at one unit and changed last at another, with what doesn't change from row to row taken
+//! once.
 
-ghost use Rattle.std.specs.Prelude.{◌≡◌, ◌<◌, ◌≤◌, ◌+◌, ◌++◌, true, length};
+ghost use Rattle.std.specs.Prelude.{◌≡◌, ◌<◌, ◌≤◌, ℕ, ◌+◌, ◌++◌, true, length};
+ghost use Rattle.philox_seeds.specs.SeedTree.{field_draw};
 ghost use Rattle.row_text.specs.Fields.{field_text};
 ghost use Rattle.schema_check.specs.Layout.{column_at, layout_of};
-ghost use Rattle.draw_values.specs.CohortValues.{is_null_for, layout_for, size_for, value_for};
-ghost use Rattle.draw_values.specs.Values.{is_own, put_of, written};
+ghost use Rattle.draw_values.specs.CohortValues.{is_null_for, layout_for, row_for, size_for, value_for};
+ghost use Rattle.draw_values.specs.ReadyValues.{row_draws};
+ghost use Rattle.draw_values.specs.UnitDraws.{unit_draws};
+ghost use Rattle.draw_values.specs.Values.{draws_at, is_own, put_of, written};
 
 use crate::Put;
-use crate::fields::{chooser_of, is_null, put_field};
-use pd_outside::{PageBuf, Piece};
-use philox_seeds::{column_seed, table_seed, unit_seed};
+use crate::fields::{Drawn, Units, chooser_of, is_null, put_field};
+use crate::draws::UnitDraws;
+use pd_outside::PageBuf;
 use schema_check::{Plan, ReadyColumn};
 use std::marker::Model;
 
-/// The most columns that a table has.
-const COLUMN_LIMIT: usize = 64;
-
-/// The values of a cohort's rows: of those of a table that are born at one unit. A contract sees the plan, the table and the
-/// unit.
+/// The values of the rows of a table that are born at one unit and changed last at another. A contract sees the plan, the table
+/// and the two units.
 #[derive(Drop)]
 pub struct CohortValues<'a> {
     plan: &'a Plan,
     table: u32,
-    unit: u64,
     columns: &'a [ReadyColumn],
-    /// The seed of the unit for each column, and behind these what no call reads.
-    seeds: [u64; COLUMN_LIMIT],
-    /// The unit of birth as it is written.
-    birth: Piece,
+    births: &'a UnitDraws,
+    changes: &'a UnitDraws,
 }
 
 impl<'a> Model for CohortValues<'a> {
@@ -35,31 +33,46 @@ impl<'a> Model for CohortValues<'a> {
 
     ghost Value = { ValuesOf };
 
-    ghost view = { λ v. record { plan = v.plan.now; table = v.table; unit = v.unit } };
+    ghost view = { λ v. record { plan = v.plan.now; table = v.table; born = v.births.now.unit; changed = v.changes.now.unit } };
 
-    ghost invariant = { λ v. AreValuesOf (record { plan = v.plan.now; table = v.table; unit = v.unit }) v.columns.now v.seeds v.birth };
+    ghost invariant = { λ v. AreValuesOf (record { plan = v.plan.now; table = v.table; born = v.births.now.unit; changed = v.changes.now.unit }) v.columns.now v.births.now v.changes.now };
 }
 
 impl<'a> CohortValues<'a> {
-    /// The values of the rows of a table that are born at `unit`.
-    pub fn new(plan: &'a Plan, table: u32, unit: u64) -> CohortValues<'a>
+    /// The values of the rows of a table that are born at the unit of `births` and changed last at that of `changes`, which are the
+    /// same draws for rows that never changed.
+    #[inline(always)]
+    pub fn new(
+        plan: &'a Plan,
+        table: u32,
+        births: &'a UnitDraws,
+        changes: &'a UnitDraws,
+    ) -> CohortValues<'a>
         requires table { table < length plan.now.schema.tables }
-        requires unit { unit ≤ (layout_of plan.now).units }
-        ensures { result ≡ record { plan = plan.now; table = table; unit = unit } }
+        requires births { births.now ≡ unit_draws plan.now table births.now.unit }
+        requires changes { changes.now ≡ unit_draws plan.now table changes.now.unit }
+        ensures { result ≡ record { plan = plan.now; table = table; born = births.now.unit; changed = changes.now.unit } }
     {
-        let columns = plan.columns(table);
-        let seed = table_seed(plan.seed(), table);
-        let mut seeds = [0; COLUMN_LIMIT];
-        for column in 0..columns.len() {
-            seeds[column] = unit_seed(column_seed(seed, column as u32), unit);
-        }
         CohortValues {
             plan,
             table,
-            unit,
-            columns,
-            seeds,
-            birth: Piece::of_number(unit),
+            columns: plan.columns(table),
+            births,
+            changes,
+        }
+    }
+
+    /// The seed that the fields of the column at a place are drawn from.
+    #[inline(always)]
+    fn seed(&self, column: usize) -> u64
+        requires { column < length (layout_for self.now).columns }
+        ensures { (ordinal : ℕ) → row_draws result ordinal ≡ draws_at (layout_of self.now.plan) self.now.table (row_for self.now ordinal) column }
+    {
+        let columns = self.columns;
+        if columns[column].changes {
+            self.changes.seed(column)
+        } else {
+            self.births.seed(column)
         }
     }
 
@@ -71,7 +84,7 @@ impl<'a> CohortValues<'a> {
         ensures { result ≡ is_null_for self.now column ordinal }
     {
         let columns = self.columns;
-        is_null(columns[column].null, self.seeds[column], ordinal)
+        is_null(columns[column].null, self.seed(column), ordinal)
     }
 
     /// Appends what the row with an ordinal holds in the column at a place, one of units, of drawn values or of cases, as it is
@@ -88,12 +101,14 @@ impl<'a> CohortValues<'a> {
         let columns = self.columns;
         let own = &columns[column];
         let chooser = chooser_of(column, own);
+        let units = Units {
+            born: self.births.text(),
+            changed: self.changes.text(),
+        };
         put_field(
-            own,
-            self.seeds[column],
-            &columns[chooser],
-            self.seeds[chooser],
-            &self.birth,
+            Drawn { column: own, seed: self.seed(column) },
+            Drawn { column: &columns[chooser], seed: self.seed(chooser) },
+            units,
             ordinal,
             buf,
         )

@@ -6,6 +6,7 @@ ghost use Rattle.pd_outside.specs.Pieces.{piece_text};
 ghost use Rattle.schema_check.specs.FieldBounds.{greatest_by};
 ghost use Rattle.draw_values.specs.ReadyValues.{IsReady, IsReadyKind, IsReadyPick, chooser_of, entry_count, ready_branch, ready_field, ready_held_entry, ready_kind_size, ready_size, ready_text, row_draws};
 ghost use Rattle.draw_values.specs.Values.{is_null, put_of};
+ghost use Rattle.draw_values.specs.WrittenUnits.{IsWritten, written_units};
 
 use crate::Put;
 use crate::leaves::{FIRST_DRAW, put_leaf};
@@ -75,35 +76,47 @@ fn put_branch(branches: &[ReadyLeaf], entry: Option<usize>, seed: u64, buf: &mut
     }
 }
 
+/// A column, with the seed that the fields of a row are drawn from in it.
+#[derive(Clone, Copy)]
+pub(crate) struct Drawn<'a> {
+    pub(crate) column: &'a ReadyColumn,
+    pub(crate) seed: u64,
+}
+
+/// The units of a row's birth and last change, as they are written.
+#[derive(Clone, Copy)]
+pub(crate) struct Units<'a> {
+    pub(crate) born: &'a Piece,
+    pub(crate) changed: &'a Piece,
+}
+
 /// Appends what the row with an ordinal holds in a column, as it is written; nothing where it is null. `chooser` is the column
-/// that the field is chosen by, and `birth` the row's unit of birth as it is written; the seeds are those of the two columns at
-/// that unit. The greatest size of the column's fields has to be free.
+/// that the field is chosen by. The greatest size of the column's fields has to be free.
 #[inline(always)]
 pub(crate) fn put_field(
-    column: &ReadyColumn,
-    seed: u64,
-    chooser: &ReadyColumn,
-    chooser_seed: u64,
-    birth: &Piece,
+    own: Drawn<'_>,
+    chooser: Drawn<'_>,
+    units: Units<'_>,
     ordinal: u64,
     buf: &mut PageBuf,
 ) -> Put
-    requires ready { IsReadyKind chooser.now.kind column.now.kind }
-    requires birth { length (piece_text birth.now) ≤ 5 }
-    requires room { length buf.old.text + ready_kind_size column.now.kind ≤ buf.old.room }
-    ensures put { result ≡ put_of (ready_field (piece_text birth.now) chooser.now (row_draws chooser_seed ordinal) column.now (row_draws seed ordinal)) }
-    ensures text { buf.new ≡ record buf.old { text = buf.old.text ++ unwrap_or (ready_field (piece_text birth.now) chooser.now (row_draws chooser_seed ordinal) column.now (row_draws seed ordinal)) [] } }
-    ensures size { length (unwrap_or (ready_field (piece_text birth.now) chooser.now (row_draws chooser_seed ordinal) column.now (row_draws seed ordinal)) []) ≤ ready_kind_size column.now.kind }
+    requires ready { IsReadyKind chooser.column.now.kind own.column.now.kind }
+    requires units { IsWritten units }
+    requires room { length buf.old.text + ready_kind_size own.column.now.kind ≤ buf.old.room }
+    ensures put { result ≡ put_of (ready_field (written_units units.old) chooser.old.column.now (row_draws chooser.old.seed ordinal) own.old.column.now (row_draws own.old.seed ordinal)) }
+    ensures text { buf.new ≡ record buf.old { text = buf.old.text ++ unwrap_or (ready_field (written_units units.old) chooser.old.column.now (row_draws chooser.old.seed ordinal) own.old.column.now (row_draws own.old.seed ordinal)) [] } }
+    ensures size { length (unwrap_or (ready_field (written_units units.old) chooser.old.column.now (row_draws chooser.old.seed ordinal) own.old.column.now (row_draws own.old.seed ordinal)) []) ≤ ready_kind_size own.old.column.now.kind }
 {
-    if is_null(column.null, seed, ordinal) {
+    if is_null(own.column.null, own.seed, ordinal) {
         return Put::Null;
     }
-    match &column.kind {
-        ReadyKind::Born => buf.put_piece(birth),
-        ReadyKind::Drawn(leaf) => put_leaf(leaf, row_seed(seed, ordinal), buf),
+    match &own.column.kind {
+        ReadyKind::Born => buf.put_piece(units.born),
+        ReadyKind::Changed => buf.put_piece(units.changed),
+        ReadyKind::Drawn(leaf) => put_leaf(leaf, row_seed(own.seed, ordinal), buf),
         ReadyKind::Case { branches, .. } => {
-            let entry = held_entry(chooser, chooser_seed, ordinal);
-            return put_branch(branches.as_slice(), entry, row_seed(seed, ordinal), buf);
+            let entry = held_entry(chooser.column, chooser.seed, ordinal);
+            return put_branch(branches.as_slice(), entry, row_seed(own.seed, ordinal), buf);
         }
         _ => unreachable!(),
     }

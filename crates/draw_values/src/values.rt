@@ -3,9 +3,10 @@
 ghost use Rattle.std.specs.Prelude.{◌≡◌, ◌<◌, ◌≤◌, ◌+◌, ◌++◌, true, length};
 ghost use Rattle.row_text.specs.Fields.{field_text};
 ghost use Rattle.schema_check.specs.Layout.{column_at, layout_of, table_at};
-ghost use Rattle.draw_values.specs.Values.{is_own, put_of, size_at, value_at, written};
+ghost use Rattle.draw_values.specs.ReadyValues.{row_draws};
+ghost use Rattle.draw_values.specs.Values.{draws_at, is_own, put_of, size_at, value_at, written};
 
-use crate::fields::{chooser_of, put_field};
+use crate::fields::{Drawn, Units, chooser_of, put_field};
 use pd_outside::{PageBuf, Piece};
 use philox_seeds::{column_seed, table_seed, unit_seed};
 use schema_check::Plan;
@@ -30,6 +31,17 @@ pub enum Put {
     Null,
 }
 
+/// The seed that the field of a row is drawn from in the column at a place.
+fn drawn_seed(plan: &Plan, table: u32, place: usize, at: RowAt) -> u64
+    requires table { table < length plan.now.schema.tables }
+    requires column { place < length (table_at (layout_of plan.now).tables table).columns }
+    ensures { row_draws result at.ordinal ≡ draws_at (layout_of plan.now) table at place }
+{
+    let columns = plan.columns(table);
+    let unit = if columns[place].changes { at.changed } else { at.born };
+    unit_seed(column_seed(table_seed(plan.seed(), table), place as u32), unit)
+}
+
 /// Appends what a row of a table holds in a column of units, of drawn values or of cases, as it is written; nothing where it is
 /// null. The greatest size of the column's fields has to be free.
 pub fn put_value(plan: &Plan, table: u32, column: u32, at: RowAt, buf: &mut PageBuf) -> Put
@@ -37,6 +49,7 @@ pub fn put_value(plan: &Plan, table: u32, column: u32, at: RowAt, buf: &mut Page
     requires column { column < length (table_at (layout_of plan.now).tables table).columns }
     requires own { is_own (column_at (table_at (layout_of plan.now).tables table).columns column).kind ≡ true }
     requires born { at.born ≤ (layout_of plan.now).units }
+    requires changed { at.changed ≤ (layout_of plan.now).units }
     requires room { length buf.old.text + size_at (layout_of plan.now) table column ≤ buf.old.room }
     ensures put { result ≡ put_of (value_at (layout_of plan.now) table column at) }
     ensures text { buf.new ≡ record buf.old { text = buf.old.text ++ written (layout_of plan.now).delimiter (value_at (layout_of plan.now) table column at) } }
@@ -45,13 +58,14 @@ pub fn put_value(plan: &Plan, table: u32, column: u32, at: RowAt, buf: &mut Page
     let columns = plan.columns(table);
     let own = &columns[column as usize];
     let chooser = chooser_of(column as usize, own);
-    let seed = table_seed(plan.seed(), table);
+    let units = Units {
+        born: &Piece::of_number(at.born),
+        changed: &Piece::of_number(at.changed),
+    };
     put_field(
-        own,
-        unit_seed(column_seed(seed, column), at.born),
-        &columns[chooser],
-        unit_seed(column_seed(seed, chooser as u32), at.born),
-        &Piece::of_number(at.born),
+        Drawn { column: own, seed: drawn_seed(plan, table, column as usize, at) },
+        Drawn { column: &columns[chooser], seed: drawn_seed(plan, table, chooser, at) },
+        units,
         at.ordinal,
         buf,
     )

@@ -1,4 +1,4 @@
-use Rattle.std.proofs.Common.{◌++◌, ℕ, List, [], length, ap, ◌∙◌, arith}
+use Rattle.std.proofs.Common.{◌++◌, ℕ, [], length, ap, ◌∙◌, arith}
 use Rattle.std.specs.Prelude.{slice_index_or}
 use Rattle.draw_values.proofs.words.put_word.Goals as goal
 
