@@ -14,4 +14,4 @@ pub mod SoundLemmas
 pub mod StillLemmas
 pub mod LifeLemmas
 pub mod KeyLemmas
-pub mod KeyOrderLemmas
+pub mod OrderLemmas

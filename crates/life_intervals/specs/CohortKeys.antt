@@ -5,7 +5,7 @@ use Rattle.schema_check.specs.Cohorts.{cohort_size, first_ordinal}
 use Rattle.schema_check.specs.Dictionaries.{Project}
 use Rattle.life_intervals.specs.declared.cohorts.Cohort.{Cohort}
 use Rattle.life_intervals.specs.Generator.{table_of}
-use Rattle.life_intervals.specs.KeyOrders.{key_order}
+use Rattle.life_intervals.specs.CohortOrders.{key_order}
 
 -- the cohort that is born at a unit in the table at a place
 pub record CohortOf : Type 0 where

@@ -7,6 +7,7 @@ pub mod Intervals
 pub mod Streams
 pub mod Sound
 pub mod Keys
-pub mod KeyOrders
+pub mod CohortOrders
+pub mod CohortLives
 pub mod CohortKeys
 pub mod Worked

@@ -1,15 +1,10 @@
 -- Tables of which the simulation has a closed form.
 use Rattle.std.specs.Prelude.{◌≡◌, ℕ, ◌<◌, ◌≤◌, ⊤, All, IfSome, List, [], length, Option, Some, None}
-use Rattle.schema_check.specs.declared.layout.Span.{Span}
 use Rattle.schema_check.specs.Cohorts.{born_count, cohort_size}
 use Rattle.schema_check.specs.Layout.{TableLayout, table_at}
+use Rattle.schema_check.specs.Limits.{IsSpan}
 use Rattle.schema_check.specs.Lineage.{sure_life}
 use Rattle.life_intervals.specs.References.{Reference, first_in_window, references_of}
-
--- a life lasts for one unit at least
-pub record IsLife (life : Span) : Type 0 where
-  pub some : 1 ≤ life.least
-  pub ordered : life.least ≤ life.most
 
 -- each row that is born in a window is alive at its end, by how long rows live for sure
 abbrev pub IsWithinLife : Option ℕ → Option ℕ → Type 0
@@ -28,16 +23,10 @@ pub record IsSoundReference (units : ℕ) (tables : List TableLayout) (place : �
 
 -- the table at a place: its life, every how many units its rows change, its references
 pub record IsSoundTable (units : ℕ) (tables : List TableLayout) (place : ℕ) : Type 0 where
-  pub life : IfSome (table_at tables place).life IsLife
+  pub life : IfSome (table_at tables place).life IsSpan
   pub period : IfSome (table_at tables place).update (λ period. 1 ≤ period)
   pub references : All (IsSoundReference units tables place) (references_of (table_at tables place))
 
 -- each table, up to a last unit
 abbrev pub AreSound : ℕ → List TableLayout → Type 0
 AreSound units tables = (place : ℕ) → place < length tables → IsSoundTable units tables place
-
--- a table whose rows neither die nor change, and have no parents
-pub record IsStill (table : TableLayout) : Type 0 where
-  pub no_life : table.life ≡ None
-  pub no_update : table.update ≡ None
-  pub no_references : references_of table ≡ []

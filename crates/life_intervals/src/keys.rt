@@ -5,7 +5,7 @@ ghost use Rattle.std.specs.Prelude.{◌≡◌, ◌≢◌, ◌<◌, ◌≤◌, �
 ghost use Rattle.schema_check.specs.Cohorts.{cohort_size};
 ghost use Rattle.schema_check.specs.Lineage.{one_if};
 ghost use Rattle.life_intervals.specs.Generator.{generator_of, last_unit, rows_in_all, table_of};
-ghost use Rattle.life_intervals.specs.KeyOrders.{key_order};
+ghost use Rattle.life_intervals.specs.CohortOrders.{key_order};
 ghost use Rattle.life_intervals.specs.Keys.{key_in_cohort, key_of, place_in_cohort};
 
 use crate::births::{birth, born, cohort};

@@ -9,6 +9,7 @@ ghost use Rattle.schema_check.specs.declared.layout.Births.{Births};
 ghost use Rattle.schema_check.specs.Cohorts.{born_count, cohort_size, first_ordinal};
 ghost use Rattle.schema_check.specs.Dictionaries.{Project};
 ghost use Rattle.schema_check.specs.Layout.{TableLayout, table_at};
+ghost use Rattle.schema_check.specs.Limits.{IsInLimits};
 ghost use Rattle.schema_check.specs.Unbuilt.{is_unbuilt};
 ghost use Rattle.life_intervals.specs.Changes.{IsLastDue, first_due};
 ghost use Rattle.life_intervals.specs.Generator.{Generator, generator_of};
@@ -17,7 +18,7 @@ ghost use Rattle.life_intervals.specs.Keys.{OrdersCohorts, key_in_cohort, key_of
 ghost use Rattle.life_intervals.specs.References.{count_in_window, first_in_window, references_of};
 ghost use Rattle.life_intervals.specs.Rows.{candidates, cohort};
 ghost use Rattle.life_intervals.specs.Simulation.{rows_at, simulation};
-ghost use Rattle.life_intervals.specs.Sound.{AreSound, IsStill};
+ghost use Rattle.life_intervals.specs.Sound.{AreSound};
 ghost use Rattle.life_intervals.specs.Streams.{deleted, inserted, updated};
 ghost use Rattle.life_intervals.specs.Worked.{customer_row, line_row, order_row, sales_in_place};
 
@@ -142,18 +143,12 @@ pub fn change_unit_is_the_last_due()
         (change_unit generator place unit ordinal) }
 {}
 
-/// Tables whose rows neither die nor change, and have no parents, are sound for any number of units.
-pub fn still_tables_are_sound()
-    ensures sound { (tables : List TableLayout) → All IsStill tables → (units : ℕ) → AreSound units tables }
-    ensures alive { (generator : Generator) → All IsStill generator.tables → (place unit ordinal : ℕ) →
-        is_live generator place unit ordinal ≡ true }
-    ensures unchanged { (generator : Generator) → All IsStill generator.tables → (place unit ordinal : ℕ) →
-        change_unit generator place unit ordinal ≡ birth (table_at generator.tables place).births unit ordinal }
-{}
-
-/// So are the tables that can be made yet.
-pub fn built_tables_are_still()
-    ensures { (project : Project) → is_unbuilt project.schema ≡ false → All IsStill (generator_of project).tables }
+/// The tables of an accepted schema that can be made yet refer to no others, and are sound for any number of units.
+pub fn built_tables_are_sound()
+    ensures alone { (project : Project) → is_unbuilt project.schema ≡ false →
+        (place : ℕ) → references_of (table_at (generator_of project).tables place) ≡ [] }
+    ensures sound { (project : Project) → IsInLimits project → is_unbuilt project.schema ≡ false → (units : ℕ) →
+        AreSound units (generator_of project).tables }
 {}
 
 /// The tables of customers, orders and lines are sound up to the last unit of their schema.

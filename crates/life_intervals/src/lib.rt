@@ -7,23 +7,28 @@
 //! laws, among them that the simulation of sound tables is its closed form, with lives, updates, references and what dies
 //! with their parents.
 //!
-//! A table is named by its place in the schema, counted from 0. Only `key_orders` takes memory.
+//! A table is named by its place in the schema, counted from 0. Only `table_orders` takes memory.
 #![tactic(auto)]
 
 mod births;
+mod cohort_lives;
 mod cohorts;
 mod keys;
 pub mod laws;
 mod lives;
 mod memory;
 mod orders;
+mod wanted;
 
 pub use births::{birth, born, cohort};
+pub use cohort_lives::{CohortChanges, CohortLives};
 pub use cohorts::Cohort;
 pub use keys::{CohortKeys, key, row_of_key};
-pub use lives::{last_change, own_death};
+pub use lives::{Survival, death, last_change, own_death, survival_at};
 pub use memory::Memory;
-pub use orders::{key_order, key_orders};
+pub use orders::{
+    CohortOrders, cohort_orders, key_order, life_order, table_orders, update_order,
+};
 
 #[cfg(test)]
 mod tests;

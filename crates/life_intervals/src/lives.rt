@@ -1,24 +1,35 @@
-//! When the own life of a row ends, and when it changed last.
+//! When rows die, which of a cohort's are alive at a unit, and when they changed last.
 
-ghost use Rattle.std.specs.Prelude.{◌≡◌, ◌+◌, ◌<◌, ◌≤◌, IfSome, Some, is_some, length};
-ghost use Rattle.std.specs.Option.{option_map};
-ghost use Rattle.philox_seeds.specs.SeedTree.{life_order_seed, update_order_seed};
-ghost use Rattle.schema_check.specs.Cohorts.{born_count, cohort_size};
+ghost use Rattle.std.specs.Prelude.{◌≡◌, ◌+◌, ◌<◌, ◌≤◌, IfSome, Some, length};
+ghost use Rattle.schema_check.specs.Cohorts.{born_count};
 ghost use Rattle.schema_check.specs.Layout.{layout_of};
-ghost use Rattle.schema_check.specs.Lineage.{one_if};
+ghost use Rattle.schema_check.specs.Lineage.{death_cost, one_if};
 ghost use Rattle.life_intervals.specs.Changes.{last_due};
+ghost use Rattle.life_intervals.specs.CohortLives.{survival_by};
+ghost use Rattle.life_intervals.specs.CohortOrders.{do_lives_differ, do_updates_differ};
 ghost use Rattle.life_intervals.specs.Generator.{generator_of, last_unit, rows_in_all, table_of};
-ghost use Rattle.life_intervals.specs.Intervals.{change_unit, own_death};
+ghost use Rattle.life_intervals.specs.Intervals.{change_unit, death, own_death};
 ghost use Rattle.life_intervals.specs.Rows.{life_by};
 
 use crate::births::{birth, cohort};
-use id_permutation::Order;
-use philox_seeds::{life_order_seed, update_order_seed};
+use crate::orders::{life_order, update_order};
 use schema_check::{Plan, Span};
 use std::sync::ledger::Ledger;
 use step_count::Steps;
 
+/// What lives say at a unit of the rows that are born at another.
+#[derive(Clone, Copy, Debug, PartialEq, Eq)]
+pub enum Survival {
+    /// Each of them is alive: the shortest life ends later.
+    Sure,
+    /// Each is alive or not, by the length of its own life.
+    Drawn,
+    /// None of them is alive: the longest life has ended.
+    Over,
+}
+
 /// How long a row lives by itself, by its place among the lives of its cohort.
+#[inline(always)]
 pub(crate) fn lifetime(life: Span, place: u64) -> u64
     requires ordered { life.least ≤ life.most }
     requires limit { life.most ≤ 20000 }
@@ -30,6 +41,7 @@ pub(crate) fn lifetime(life: Span, place: u64) -> u64
 }
 
 /// The last up to a unit of the units `first`, `first` + `period`, and so on; `born` where the first of them is past it.
+#[inline(always)]
 pub(crate) fn last_due(born: u64, first: u64, period: u64, unit: u64) -> u64
     requires { 1 ≤ period }
     ensures { result ≡ last_due born first period unit }
@@ -41,35 +53,37 @@ pub(crate) fn last_due(born: u64, first: u64, period: u64, unit: u64) -> u64
     }
 }
 
-/// The order of the lives of the rows of a table that are born at a unit.
-fn life_order(plan: &Plan, table: u32, unit: u64) -> Order
-    requires table { table < length plan.now.schema.tables }
-    requires unit { unit ≤ last_unit plan.now }
-    requires some { 0 < cohort_size (table_of plan.now table).births unit }
-    ensures { result ≡ record { size = cohort_size (table_of plan.now table).births unit; seed = Some (life_order_seed (layout_of plan.now).seed table unit) } }
+/// What lives say at `unit` of the rows that are born at another unit.
+fn survival_by(life: Option<Span>, born: u64, unit: u64) -> Survival
+    requires small { born ≤ 10000 }
+    requires limit { IfSome life (λ span. span.most ≤ 20000) }
+    requires ordered { IfSome life (λ span. span.least ≤ span.most) }
+    ensures { result ≡ survival_by life born unit }
 {
-    let size = cohort(plan, table, unit).size;
-    Order::by_rounds(size, life_order_seed(plan.seed(), table, unit))
+    match life {
+        Some(life) if unit >= born + life.most => Survival::Over,
+        Some(life) if unit >= born + life.least => Survival::Drawn,
+        _ => Survival::Sure,
+    }
 }
 
-/// The order of the updates of the rows of a table that are born at a unit.
-fn update_order(plan: &Plan, table: u32, unit: u64) -> Order
+/// What lives say at `unit` of the rows of a table that are born at unit `born`.
+pub fn survival_at(plan: &Plan, table: u32, born: u64, unit: u64) -> Survival
     requires table { table < length plan.now.schema.tables }
-    requires unit { unit ≤ last_unit plan.now }
-    requires some { 0 < cohort_size (table_of plan.now table).births unit }
-    ensures { result ≡ record { size = cohort_size (table_of plan.now table).births unit; seed = Some (update_order_seed (layout_of plan.now).seed table unit) } }
+    requires born { born ≤ last_unit plan.now }
+    ensures { result ≡ survival_by (table_of plan.now table).life born unit }
 {
-    let size = cohort(plan, table, unit).size;
-    Order::by_rounds(size, update_order_seed(plan.seed(), table, unit))
+    let _limits = plan.schema(); // there are at most 10,000 units
+    survival_by(plan.life(table), born, unit)
 }
 
 /// The unit at which the own life of the row of ordinal `j` ends; None where it has no end of its own. It takes one step
-/// where the rows of the table have a life, else none.
+/// where lives of the table differ, else none.
 pub fn own_death<L: Ledger>(plan: &Plan, table: u32, j: u64, steps: &mut Steps<L>) -> Option<u64>
     requires table { table < length plan.now.schema.tables }
     requires row { j < rows_in_all plan.now table }
     ensures death { result ≡ own_death (generator_of plan.now) table (last_unit plan.now) j }
-    ensures steps { steps.new ≡ steps.old + one_if (is_some (table_of plan.now table).life) }
+    ensures steps { steps.new ≡ steps.old + one_if (do_lives_differ (table_of plan.now table).life) }
 {
     let Some(life) = plan.life(table) else {
         return None;
@@ -81,15 +95,28 @@ pub fn own_death<L: Ledger>(plan: &Plan, table: u32, j: u64, steps: &mut Steps<L
     Some(born + lifetime(life, place))
 }
 
+/// The unit at which the row of ordinal `j` dies; None where it never does. It takes at most as many steps as the cost of a death
+/// says.
+pub fn death<L: Ledger>(plan: &Plan, table: u32, j: u64, steps: &mut Steps<L>) -> Option<u64>
+    requires table { table < length plan.now.schema.tables }
+    requires row { j < rows_in_all plan.now table }
+    ensures death { result ≡ death (generator_of plan.now) table (last_unit plan.now) j }
+    ensures steps { steps.new ≤ steps.old + death_cost (layout_of plan.now).tables table }
+{
+    let _built = plan.schema(); // no row has a parent yet
+    own_death(plan, table, j, steps)
+}
+
 /// The unit at which the row of ordinal `j`, which is born by unit `t`, changed last: its birth where it didn't change yet.
-/// It takes no notice of the row's death, and takes one step where the rows of the table change, else none.
+/// It takes no notice of the row's death. It takes one step where rows of a cohort may change at different units, else
+/// none.
 pub fn last_change<L: Ledger>(plan: &Plan, table: u32, j: u64, t: u64, steps: &mut Steps<L>) -> u64
     requires table { table < length plan.now.schema.tables }
     requires unit { t ≤ last_unit plan.now }
     requires born { j < born_count (table_of plan.now table).births t }
     ensures unit { result ≡ change_unit (generator_of plan.now) table t j }
     ensures within { result ≤ t }
-    ensures steps { steps.new ≡ steps.old + one_if (is_some (table_of plan.now table).update) }
+    ensures steps { steps.new ≡ steps.old + one_if (do_updates_differ (table_of plan.now table).update) }
 {
     let born = birth(plan, table, j);
     let Some(period) = plan.update(table) else {

@@ -1,28 +1,96 @@
-//! The orders of the keys of cohorts.
+//! The orders of cohorts: of their keys, their lives and their updates.
 
-ghost use Rattle.std.specs.Prelude.{◌≡◌, ◌<◌, ◌≤◌, true, IfOk, length};
-ghost use Rattle.schema_check.specs.Cohorts.{cohort_size};
-ghost use Rattle.life_intervals.specs.Generator.{last_unit, table_of};
-ghost use Rattle.life_intervals.specs.KeyOrders.{is_permuted, key_order, key_orders};
+ghost use Rattle.std.specs.Prelude.{◌≡◌, ◌<◌, ◌≤◌, IfOk, length};
+ghost use Rattle.life_intervals.specs.CohortOrders.{cohort_orders, do_lives_differ, do_updates_differ, key_order, life_order, order_by, table_orders, update_order};
+ghost use Rattle.life_intervals.specs.Generator.{last_unit};
 
 use crate::births::cohort;
+use crate::lives::{Survival, survival_at};
 use crate::memory::Memory;
+use crate::wanted::Wanted;
 use id_permutation::Order;
-use philox_seeds::key_order_seed;
-use schema_check::Plan;
+use philox_seeds::{key_order_seed, life_order_seed, update_order_seed};
+use schema_check::{Plan, Span};
 use std::alloc::Global;
 
-/// The most entries that the tables of a table's key orders have together. Of 4 bytes each, they take at most 4 MiB.
+/// The most entries that the tables of a table's orders have together. Of 4 bytes each, they take at most 4 MiB.
 const MOST_ENTRIES: u64 = 1 << 20;
 
-/// Whether the keys of the rows of a table that are born at a unit are permuted: they are scrambled, and there are some.
-fn is_permuted(plan: &Plan, table: u32, unit: u64) -> bool
+/// The orders of a cohort's rows. An order is a permutation where what its places decide is drawn, else each row has its own place.
+#[derive(Drop)]
+pub struct CohortOrders {
+    /// Of the keys.
+    pub keys: Order,
+    /// Of the lives: a permutation where they may differ.
+    pub lives: Order,
+    /// Of the updates: a permutation where rows may change at different units.
+    pub updates: Order,
+}
+
+/// Whether rows of a table may live for different numbers of units.
+fn do_lives_differ(life: Option<Span>) -> bool
+    ensures { result ≡ do_lives_differ life }
+{
+    match life {
+        Some(span) => span.least < span.most,
+        None => false,
+    }
+}
+
+/// Whether rows of one cohort may change at different units.
+fn do_updates_differ(update: Option<u64>) -> bool
+    ensures { result ≡ do_updates_differ update }
+{
+    match update {
+        Some(period) => period > 1,
+        None => false,
+    }
+}
+
+/// The order of the rows of a table that are born at a unit, by a seed where their places matter.
+fn order_by(plan: &Plan, table: u32, unit: u64, drawn: bool, seed: u64) -> Wanted
     requires table { table < length plan.now.schema.tables }
     requires unit { unit ≤ last_unit plan.now }
-    ensures exact { result ≡ is_permuted plan.now table unit }
-    ensures some { result ≡ true → 0 < cohort_size (table_of plan.now table).births unit }
+    ensures { result ≡ order_by plan.now table unit drawn seed }
 {
-    plan.keys(table).scramble && cohort(plan, table, unit).size > 0
+    let size = cohort(plan, table, unit).size;
+    Wanted {
+        size,
+        seed: if drawn && size > 0 { Some(seed) } else { None },
+    }
+}
+
+/// The order of the keys of the rows of a table that are born at a unit.
+fn of_keys(plan: &Plan, table: u32, unit: u64) -> Wanted
+    requires table { table < length plan.now.schema.tables }
+    requires unit { unit ≤ last_unit plan.now }
+    ensures { result ≡ key_order plan.now table unit }
+{
+    let drawn = plan.keys(table).scramble;
+    let seed = key_order_seed(plan.seed(), table, unit);
+    order_by(plan, table, unit, drawn, seed)
+}
+
+/// The order of their lives.
+fn of_lives(plan: &Plan, table: u32, unit: u64) -> Wanted
+    requires table { table < length plan.now.schema.tables }
+    requires unit { unit ≤ last_unit plan.now }
+    ensures { result ≡ life_order plan.now table unit }
+{
+    let drawn = do_lives_differ(plan.life(table));
+    let seed = life_order_seed(plan.seed(), table, unit);
+    order_by(plan, table, unit, drawn, seed)
+}
+
+/// The order of their updates.
+fn of_updates(plan: &Plan, table: u32, unit: u64) -> Wanted
+    requires table { table < length plan.now.schema.tables }
+    requires unit { unit ≤ last_unit plan.now }
+    ensures { result ≡ update_order plan.now table unit }
+{
+    let drawn = do_updates_differ(plan.update(table));
+    let seed = update_order_seed(plan.seed(), table, unit);
+    order_by(plan, table, unit, drawn, seed)
 }
 
 /// The order of the keys of the rows of a table that are born at a unit, in no memory.
@@ -31,53 +99,88 @@ pub fn key_order(plan: &Plan, table: u32, unit: u64) -> Order
     requires unit { unit ≤ last_unit plan.now }
     ensures { result ≡ key_order plan.now table unit }
 {
-    let size = cohort(plan, table, unit).size;
-    if is_permuted(plan, table, unit) {
-        Order::by_rounds(size, key_order_seed(plan.seed(), table, unit))
-    } else {
-        Order::in_place(size)
-    }
+    of_keys(plan, table, unit).by_rounds()
 }
 
-/// The same, by tables where they pay for all rows of the cohort.
-fn key_order_by_tables(alloc: Global, plan: &Plan, table: u32, unit: u64) -> Result<Order, Memory>
+/// The order of their lives, in no memory.
+pub fn life_order(plan: &Plan, table: u32, unit: u64) -> Order
     requires table { table < length plan.now.schema.tables }
     requires unit { unit ≤ last_unit plan.now }
-    ensures { IfOk result (λ order. order ≡ key_order plan.now table unit) }
+    ensures { result ≡ life_order plan.now table unit }
 {
-    let size = cohort(plan, table, unit).size;
-    if is_permuted(plan, table, unit) {
-        let seed = key_order_seed(plan.seed(), table, unit);
-        Ok(Order::for_rows(alloc, size, seed, size)?)
-    } else {
-        Ok(Order::in_place(size))
+    of_lives(plan, table, unit).by_rounds()
+}
+
+/// The order of their updates, in no memory.
+pub fn update_order(plan: &Plan, table: u32, unit: u64) -> Order
+    requires table { table < length plan.now.schema.tables }
+    requires unit { unit ≤ last_unit plan.now }
+    ensures { result ≡ update_order plan.now table unit }
+{
+    of_updates(plan, table, unit).by_rounds()
+}
+
+/// The orders of the rows of a table that are born at a unit, in no memory.
+pub fn cohort_orders(plan: &Plan, table: u32, unit: u64) -> CohortOrders
+    requires table { table < length plan.now.schema.tables }
+    requires unit { unit ≤ last_unit plan.now }
+    ensures { result ≡ cohort_orders plan.now table unit }
+{
+    CohortOrders {
+        keys: key_order(plan, table, unit),
+        lives: life_order(plan, table, unit),
+        updates: update_order(plan, table, unit),
     }
 }
 
-/// How many entries the tables of an order of so many numbers have at most.
-fn table_entries(size: u64) -> u64 {
-    6 * (size.isqrt() + 1)
+/// The orders of the rows of a table that are born at unit `born`, for their lines at unit `last`: by tables where places are
+/// asked, they pay for all rows and so many entries are left, of which the tables' are taken.
+fn orders_for_lines(
+    alloc: Global,
+    plan: &Plan,
+    table: u32,
+    born: u64,
+    last: u64,
+    entries: &mut u64,
+) -> Result<CohortOrders, Memory>
+    requires table { table < length plan.now.schema.tables }
+    requires born { born ≤ last }
+    requires unit { last ≤ last_unit plan.now }
+    ensures { IfOk result (λ orders. orders ≡ cohort_orders plan.now table born) }
+{
+    let survival = survival_at(plan, table, born, last);
+    if survival == Survival::Over {
+        return Ok(cohort_orders(plan, table, born));
+    }
+    let lives = of_lives(plan, table, born);
+    Ok(CohortOrders {
+        keys: of_keys(plan, table, born).by_tables(alloc, entries)?,
+        lives: if survival == Survival::Drawn {
+            lives.by_tables(alloc, entries)?
+        } else {
+            lives.by_rounds()
+        },
+        updates: of_updates(plan, table, born).by_tables(alloc, entries)?,
+    })
 }
 
-/// The orders of the keys of a table's cohorts, unit by unit from 0 to `last`. Where they are scrambled, they take up to 4 MiB for
-/// tables by which places are found in a tenth of the time. At `Memory` none are made.
-pub fn key_orders(alloc: Global, plan: &Plan, table: u32, last: u64) -> Result<Vec<Order>, Memory>
+/// The orders of a table's cohorts for its lines at unit `last`, unit by unit from 0 to it. They take up to 4 MiB for tables by
+/// which places are found in a tenth of the time. At `Memory` none are made.
+pub fn table_orders(
+    alloc: Global,
+    plan: &Plan,
+    table: u32,
+    last: u64,
+) -> Result<Vec<CohortOrders>, Memory>
     requires table { table < length plan.now.schema.tables }
     requires unit { last ≤ last_unit plan.now }
-    ensures { IfOk result (λ orders. orders.items ≡ key_orders plan.now table last) }
+    ensures { IfOk result (λ orders. orders.items ≡ table_orders plan.now table last) }
 {
     let _limits = plan.schema(); // there are at most 10,000 units
     let mut orders = Vec::new(alloc);
     let mut entries = MOST_ENTRIES;
     for unit in 0..last + 1 {
-        let needed = table_entries(cohort(plan, table, unit).size);
-        let order = if needed <= entries {
-            entries -= needed;
-            key_order_by_tables(alloc, plan, table, unit)?
-        } else {
-            key_order(plan, table, unit)
-        };
-        orders.push(order)?;
+        orders.push(orders_for_lines(alloc, plan, table, unit, last, &mut entries)?)?;
     }
     Ok(orders)
 }

@@ -3,7 +3,7 @@
 
 ghost use Rattle.std.specs.Prelude.{◌≡◌, ◌<◌, length};
 ghost use Rattle.life_intervals.specs.Generator.{last_unit};
-ghost use Rattle.life_intervals.specs.KeyOrders.{key_orders};
+ghost use Rattle.life_intervals.specs.CohortOrders.{key_orders};
 
 use super::*;
 use crate::lives::{last_due, lifetime};

@@ -1,6 +1,6 @@
 use Rattle.std.proofs.Common.{length, get_or, ap, arith, ◌∙◌}
 use Rattle.life_intervals.specs.Generator.{last_unit}
-use Rattle.life_intervals.proofs.KeyOrderLemmas.{key_orders-at, length-key_orders}
+use Rattle.life_intervals.proofs.OrderLemmas.{key_orders-at, length-key_orders}
 use Rattle.life_intervals.proofs.tests.key_checksum.Goals as goal
 
 pub index-requires : goal.index-requires

@@ -11,7 +11,7 @@ use Rattle.schema_check.specs.Dictionaries.{Project}
 use Rattle.schema_check.specs.Layout.{layout_of}
 use Rattle.schema_check.specs.Lineage.{one_if}
 use Rattle.life_intervals.specs.Generator.{generator_of, table_of}
-use Rattle.life_intervals.specs.KeyOrders.{key_order, key_orders}
+use Rattle.life_intervals.specs.CohortOrders.{key_order, key_orders}
 use Rattle.life_intervals.specs.Keys.{place_in_cohort}
 
 place_by-if : (scramble : Bool) (size seed index : ℕ) → index < size →

@@ -1,7 +1,0 @@
-use Rattle.std.proofs.Common.{◌≡◌, map}
-use Rattle.std.specs.List.{range_with_len}
-use Rattle.life_intervals.specs.KeyOrders.{key_order}
-use Rattle.life_intervals.proofs.orders.key_orders.Given as goal
-
-abbrev pub invariant-loop-unit : goal.invariant-loop-unit
-invariant-loop-unit l = l.orders.items ≡ map (key_order l.plan l.table) (range_with_len 0 l.unit)

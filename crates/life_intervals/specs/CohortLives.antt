@@ -1,0 +1,68 @@
+-- Which rows of a cohort are alive at a unit, and when they changed last, as the code keeps it.
+use Rattle.std.specs.Prelude.{◌≡◌, ◌≤◌, ℕ, ◌+◌, Bool, false, nat_lt, if◌then◌else◌, IfSome, Option, Some, None}
+use Rattle.id_permutation.specs.Order.{Arrangement}
+use Rattle.schema_check.specs.declared.layout.Span.{Span}
+use Rattle.schema_check.specs.Cohorts.{cohort_size, first_ordinal}
+use Rattle.schema_check.specs.Dictionaries.{Project}
+use Rattle.schema_check.specs.Limits.{IsLife}
+use Rattle.schema_check.specs.Unbuilt.{is_unbuilt}
+use Rattle.life_intervals.specs.declared.lives.Survival.{Survival}
+use Rattle.life_intervals.specs.declared.lives.Survival.TheVariants.{Sure, Drawn, Over}
+use Rattle.life_intervals.specs.CohortOrders.{life_order, update_order}
+use Rattle.life_intervals.specs.Generator.{generator_of, last_unit, table_of}
+use Rattle.life_intervals.specs.Intervals.{change_unit, is_live}
+
+-- the cohort that is born at a unit in the table at a place, as it is at another unit
+pub record CohortAt : Type 0 where
+  pub plan : Project
+  pub table : ℕ
+  pub born : ℕ
+  pub unit : ℕ
+
+-- the ordinal of the row with an index in the cohort
+abbrev pub ordinal_in : CohortAt → ℕ → ℕ
+ordinal_in cohort index = first_ordinal (table_of cohort.plan cohort.table).births cohort.born + index
+
+-- how many rows it has
+abbrev pub size_of : CohortAt → ℕ
+size_of cohort = cohort_size (table_of cohort.plan cohort.table).births cohort.born
+
+-- what lives say of the rows that are born at a unit, at another: before the shortest ends each is alive, and none from the end of the
+-- longest on
+abbrev pub survival_by : Option Span → ℕ → ℕ → Survival
+survival_by None born unit = Sure
+survival_by (Some life) born unit =
+    if nat_lt unit (born + life.least) then Sure else if nat_lt unit (born + life.most) then Drawn else Over
+
+-- what they say of the cohort
+abbrev pub survival_of : CohortAt → Survival
+survival_of cohort = survival_by (table_of cohort.plan cohort.table).life cohort.born cohort.unit
+
+-- whether the row with an index is alive
+abbrev pub is_live_in : CohortAt → ℕ → Bool
+is_live_in cohort index = is_live (generator_of cohort.plan) cohort.table cohort.unit (ordinal_in cohort index)
+
+-- the unit of its last change
+abbrev pub change_in : CohortAt → ℕ → ℕ
+change_in cohort index = change_unit (generator_of cohort.plan) cohort.table cohort.unit (ordinal_in cohort index)
+
+-- a cohort of a plan that is born by the unit
+pub record IsCohortAt (cohort : CohortAt) : Type 0 where
+  pub born : cohort.born ≤ cohort.unit
+  pub unit : cohort.unit ≤ last_unit cohort.plan
+  pub last : last_unit cohort.plan ≤ 10000
+
+-- what is kept is of the cohort's lives
+pub record AreLivesOf (cohort : CohortAt) (life : Option Span) (placed : Arrangement) : Type 0 where
+  pub cohort_is : IsCohortAt cohort
+  pub built : is_unbuilt cohort.plan.schema ≡ false
+  pub life_is : life ≡ (table_of cohort.plan cohort.table).life
+  pub limits : IfSome life IsLife
+  pub order : placed ≡ life_order cohort.plan cohort.table cohort.born
+
+-- what is kept is of its changes
+pub record AreChangesOf (cohort : CohortAt) (update : Option ℕ) (placed : Arrangement) : Type 0 where
+  pub cohort_is : IsCohortAt cohort
+  pub update_is : update ≡ (table_of cohort.plan cohort.table).update
+  pub limits : IfSome update (λ period. 1 ≤ period)
+  pub order : placed ≡ update_order cohort.plan cohort.table cohort.born

@@ -1,0 +1,152 @@
+//! Which rows of a cohort are alive at a unit, and when they changed last, with what doesn't change from row to row taken once.
+
+ghost use Rattle.std.specs.Prelude.{◌≡◌, ◌+◌, ◌<◌, ◌≤◌, ◌⊎◌, ℕ, IfSome, false, length, min, true};
+ghost use Rattle.schema_check.specs.Lineage.{one_if};
+ghost use Rattle.life_intervals.specs.CohortLives.{change_in, is_live_in, size_of, survival_of};
+ghost use Rattle.life_intervals.specs.CohortOrders.{do_lives_differ, do_updates_differ, life_order, update_order};
+ghost use Rattle.life_intervals.specs.Generator.{last_unit, table_of};
+
+use crate::lives::{Survival, last_due, lifetime, survival_at};
+use id_permutation::Order;
+use schema_check::{Plan, Span};
+use std::marker::Model;
+use std::sync::ledger::Ledger;
+use step_count::Steps;
+
+/// The lives of a cohort's rows at a unit. A contract sees the plan, the table, the unit of birth and the unit.
+#[derive(Drop)]
+pub struct CohortLives<'a> {
+    plan: &'a Plan,
+    table: u32,
+    born: u64,
+    unit: u64,
+    life: Option<Span>,
+    order: &'a Order,
+}
+
+impl<'a> Model for CohortLives<'a> {
+    ghost use Rattle.life_intervals.specs.CohortLives.{AreLivesOf, CohortAt};
+
+    ghost Value = { CohortAt };
+
+    ghost view = { λ l. record { plan = l.plan.now; table = l.table; born = l.born; unit = l.unit } };
+
+    ghost invariant = { λ l. AreLivesOf (record { plan = l.plan.now; table = l.table; born = l.born; unit = l.unit }) l.life l.order.now };
+}
+
+impl<'a> CohortLives<'a> {
+    /// The lives at `unit` of the rows of a table that are born at unit `born`, by their order.
+    pub fn new(
+        plan: &'a Plan,
+        table: u32,
+        born: u64,
+        unit: u64,
+        order: &'a Order,
+    ) -> CohortLives<'a>
+        requires table { table < length plan.now.schema.tables }
+        requires born { born ≤ unit }
+        requires unit { unit ≤ last_unit plan.now }
+        requires order { order.now ≡ life_order plan.now table born }
+        ensures { result ≡ record { plan = plan.now; table = table; born = born; unit = unit } }
+    {
+        let _built = plan.schema(); // no row has a parent yet, and there are at most 10,000 units
+        CohortLives {
+            plan,
+            table,
+            born,
+            unit,
+            life: plan.life(table),
+            order,
+        }
+    }
+
+    /// What lives say of the whole cohort, so that its rows needn't be asked: all are alive at `Sure`, and none is at `Over`.
+    pub fn survival(&self) -> Survival
+        ensures exact { result ≡ survival_of self.now }
+        ensures sure { result ≡ Survival.Sure → (index : ℕ) → index < size_of self.now → is_live_in self.now index ≡ true }
+        ensures over { result ≡ Survival.Over → (index : ℕ) → index < size_of self.now → is_live_in self.now index ≡ false }
+    {
+        survival_at(self.plan, self.table, self.born, self.unit)
+    }
+
+    /// Whether the row with this index in the cohort is alive. It takes one step where lives of the table differ, else none.
+    #[inline]
+    pub fn is_live<L: Ledger>(&self, index: u64, steps: &mut Steps<L>) -> bool
+        requires { index < size_of self.now }
+        ensures live { result ≡ is_live_in self.now index }
+        ensures steps { steps.new ≡ steps.old + one_if (do_lives_differ (table_of self.now.plan self.now.table).life) }
+    {
+        match self.life {
+            Some(life) => self.unit < self.born + lifetime(life, self.order.place(index, steps)),
+            None => true,
+        }
+    }
+}
+
+/// The changes of a cohort's rows up to a unit. A contract sees the plan, the table, the unit of birth and the unit.
+#[derive(Drop)]
+pub struct CohortChanges<'a> {
+    plan: &'a Plan,
+    table: u32,
+    born: u64,
+    unit: u64,
+    update: Option<u64>,
+    order: &'a Order,
+}
+
+impl<'a> Model for CohortChanges<'a> {
+    ghost use Rattle.life_intervals.specs.CohortLives.{AreChangesOf, CohortAt};
+
+    ghost Value = { CohortAt };
+
+    ghost view = { λ c. record { plan = c.plan.now; table = c.table; born = c.born; unit = c.unit } };
+
+    ghost invariant = { λ c. AreChangesOf (record { plan = c.plan.now; table = c.table; born = c.born; unit = c.unit }) c.update c.order.now };
+}
+
+impl<'a> CohortChanges<'a> {
+    /// The changes up to `unit` of the rows of a table that are born at unit `born`, by the order of their updates.
+    pub fn new(
+        plan: &'a Plan,
+        table: u32,
+        born: u64,
+        unit: u64,
+        order: &'a Order,
+    ) -> CohortChanges<'a>
+        requires table { table < length plan.now.schema.tables }
+        requires born { born ≤ unit }
+        requires unit { unit ≤ last_unit plan.now }
+        requires order { order.now ≡ update_order plan.now table born }
+        ensures { result ≡ record { plan = plan.now; table = table; born = born; unit = unit } }
+    {
+        let _limits = plan.schema(); // there are at most 10,000 units
+        CohortChanges {
+            plan,
+            table,
+            born,
+            unit,
+            update: plan.update(table),
+            order,
+        }
+    }
+
+    /// The unit at which the row with this index in the cohort changed last: that of its birth where it didn't change yet. It takes
+    /// no notice of the row's death. It takes at most one step, and none where all rows of a cohort change at the same units, or never.
+    #[inline]
+    pub fn unit<L: Ledger>(&self, index: u64, steps: &mut Steps<L>) -> u64
+        requires { index < size_of self.now }
+        ensures unit { result ≡ change_in self.now index }
+        ensures from { self.now.born ≤ result }
+        ensures within { result ≤ self.now.unit }
+        ensures recent { result ≡ self.now.born ⊎ IfSome (table_of self.now.plan self.now.table).update (λ period. self.now.unit < result + min period self.now.unit) }
+        ensures steps { steps.new ≤ steps.old + one_if (do_updates_differ (table_of self.now.plan self.now.table).update) }
+    {
+        match self.update {
+            Some(period) if self.born < self.unit => {
+                let place = self.order.place(index, steps);
+                last_due(self.born, self.born + (1 + place % period), period, self.unit)
+            }
+            _ => self.born,
+        }
+    }
+}
