@@ -1,5 +1,5 @@
 -- The line of a row of a cohort, field by field.
-use Rattle.std.proofs.Common.{◌≡◌, ◌<◌, ◌≤◌, ◌^◌, ℕ, zero, suc, ◌+◌, ◌==◌, if◌then◌else◌, false, true, List, [], ◌∷◌, ◌++◌, map, length, min, sum_by, take, codes, decimal, All, Option, Some, None, get_or, refl, ap, sym, subst, ◌∙◌, arith}
+use Rattle.std.proofs.Common.{◌≡◌, ◌<◌, ◌≤◌, ◌^◌, ℕ, zero, suc, ◌+◌, ◌==◌, if◌then◌else◌, false, true, List, [], ◌∷◌, ◌++◌, map, length, min, sum_by, take, codes, decimal, is_some, All, Option, Some, None, get_or, refl, ap, sym, subst, ◌∙◌, arith}
 use Rattle.std.specs.List.{join_with_byte, range_with_len}
 use Rattle.std.proofs.lemmas.Bool.Decides.{nat_tests}
 use Rattle.std.proofs.lemmas.List.{get_or-map, length-map}
@@ -12,24 +12,23 @@ use Rattle.schema_check.specs.declared.ready.ReadyKind.TheVariants.{Key, Templat
 use Rattle.schema_check.specs.declared.ready.ReadyPart.{ReadyPart}
 use Rattle.schema_check.specs.Cohorts.{cohort_size}
 use Rattle.schema_check.specs.FieldBounds.{bounds_of}
-use Rattle.schema_check.specs.Layout.{ColumnLayout, KindLayout, born_kind, case_kind, column_at, key_kind, layout_of, leaf_kind, no_column, template_kind}
+use Rattle.schema_check.specs.Layout.{ColumnLayout, KindLayout, born_kind, case_kind, changed_kind, column_at, key_kind, layout_of, leaf_kind, no_column, table_layout, template_kind}
 use Rattle.schema_check.specs.Lineage.{one_if}
 use Rattle.schema_check.specs.Ready.{is_served, is_served_kind, ready_column, ready_kind}
 use Rattle.schema_check.specs.TableFacts.{line_cost, max_line}
-use Rattle.schema_check.specs.Unbuilt.{is_unbuilt}
-use Rattle.draw_values.specs.declared.values.RowAt.{RowAt}
 use Rattle.draw_values.specs.CohortValues.{ValuesOf, value_for}
 use Rattle.draw_values.specs.declared.values.Put.TheVariants.{Text, Null}
-use Rattle.draw_values.specs.Values.{is_own, own_field, put_of, written}
+use Rattle.draw_values.specs.UnitDraws.{DrawsOf}
+use Rattle.draw_values.specs.Values.{is_own, put_of, written}
 use Rattle.life_intervals.specs.CohortKeys.{CohortOf}
+use Rattle.life_intervals.specs.CohortLives.{CohortAt}
 use Rattle.life_intervals.specs.Generator.{Generator, generator_of, last_unit}
 use Rattle.life_intervals.specs.Intervals.{row_at}
 use Rattle.life_intervals.specs.Rows.{Row}
 use Rattle.life_intervals.proofs.CohortLemmas.{birth-first_ordinal, cohort-within}
 use Rattle.life_intervals.proofs.KeyLemmas.{key_of-first_ordinal}
-use Rattle.life_intervals.proofs.SoundLemmas.{row_at-still}
-use Rattle.life_intervals.proofs.StillLemmas.{All-IsStill-built}
-use Rattle.row_lines.specs.CohortLines.{AreLinesOf, LinesOf, key_for, layout_for, line_in_cohort, ordinal_of, size_for, text_in_cohort}
+use Rattle.life_intervals.proofs.BuiltLemmas.{row_at-changed}
+use Rattle.row_lines.specs.CohortLines.{AreLinesOf, LinesOf, change_for, key_for, layout_for, line_in_cohort, ordinal_of, size_for, text_in_cohort, values_at}
 use Rattle.row_lines.specs.Lines.{draws_of, field, line}
 use Rattle.row_lines.proofs.FieldLemmas.{field-key, field-own}
 
@@ -56,32 +55,23 @@ max_line-columns lines =
     sum_by-map (λ (column : ColumnLayout). bounds_of (layout_of lines.plan).delimiter (layout_of lines.plan).tables (layout_for lines) column.kind)
     (layout_for lines).columns (λ bounds. bounds.size + 1)
 
-line_cost-columns : (lines : LinesOf) → sum_by (permutations_in lines) (layout_for lines).columns ≤ line_cost (layout_of lines.plan) lines.table
-unfolding line_cost
-line_cost-columns lines =
-    omega (
-      arith,
-      sum_by-map (λ (column : ColumnLayout). bounds_of (layout_of lines.plan).delimiter (layout_of lines.plan).tables (layout_for lines) column.kind)
-          (layout_for lines).columns (λ bounds. bounds.permutations),
-    )
-
 -- what is kept is of the lines that a contract sees
-pub AreLinesOf-view : (kept lines : LinesOf) (keys : CohortOf) (values : ValuesOf) (columns : List ReadyColumn) (first byte : ℕ) → kept ≡ lines → AreLinesOf kept keys values columns first byte →
-    AreLinesOf lines keys values columns first byte
-AreLinesOf-view kept lines keys values columns first byte same known = subst (λ (of : LinesOf). AreLinesOf of keys values columns first byte) same known
+pub AreLinesOf-view : (kept lines : LinesOf) (keys : CohortOf) (lives changes : CohortAt) (births : DrawsOf) (columns : List ReadyColumn) (first byte : ℕ) → kept ≡ lines → AreLinesOf kept keys lives changes births columns first byte →
+    AreLinesOf lines keys lives changes births columns first byte
+AreLinesOf-view kept lines keys lives changes births columns first byte same known = subst (λ (of : LinesOf). AreLinesOf of keys lives changes births columns first byte) same known
 
 -- as many columns as the schema has
-pub length-columns : (lines : LinesOf) (keys : CohortOf) (values : ValuesOf) (columns : List ReadyColumn) (first byte : ℕ) → AreLinesOf lines keys values columns first byte →
+pub length-columns : (lines : LinesOf) (keys : CohortOf) (lives changes : CohortAt) (births : DrawsOf) (columns : List ReadyColumn) (first byte : ℕ) → AreLinesOf lines keys lives changes births columns first byte →
     length (layout_for lines).columns ≡ length columns
-length-columns lines keys values columns first byte known =
+length-columns lines keys lives changes births columns first byte known =
     sym (ap (λ (ready : List ReadyColumn). length ready) known.columns_are
     ∙ length-map (layout_for lines).columns (ready_column (layout_of lines.plan).delimiter))
 
 -- the column at a place is ready for what the layout has there
-pub ready_at : (lines : LinesOf) (keys : CohortOf) (values : ValuesOf) (columns : List ReadyColumn) (first byte : ℕ) → AreLinesOf lines keys values columns first byte →
+pub ready_at : (lines : LinesOf) (keys : CohortOf) (lives changes : CohortAt) (births : DrawsOf) (columns : List ReadyColumn) (first byte : ℕ) → AreLinesOf lines keys lives changes births columns first byte →
     (place : ℕ) (column : ReadyColumn) → place < length (layout_for lines).columns → column ≡ get_or columns place column →
     ready_column (layout_of lines.plan).delimiter (column_at (layout_for lines).columns place) ≡ column
-ready_at lines keys values columns first byte known place column within is =
+ready_at lines keys lives changes births columns first byte known place column within is =
     sym (is
     ∙ ap (λ (ready : List ReadyColumn). get_or ready place column) known.columns_are
     ∙ get_or-map (ready_column (layout_of lines.plan).delimiter) (layout_for lines).columns place no_column column within)
@@ -100,22 +90,25 @@ pub own_from_ready : (delimiter : ℕ) (kind : KindLayout) → is_served_kind (r
     ((parts : List ReadyPart) → ready_kind delimiter kind ≡ Template parts → ⊥) → is_own kind ≡ true
 own_from_ready delimiter key_kind served no_key no_template = absurd (no_key refl)
 own_from_ready delimiter born_kind served no_key no_template = refl
+own_from_ready delimiter changed_kind served no_key no_template = refl
 own_from_ready delimiter (leaf_kind leaf) served no_key no_template = refl
 own_from_ready delimiter (template_kind parts) served no_key no_template = absurd (no_template _ refl)
 own_from_ready delimiter (case_kind on branches) served no_key no_template = refl
 own_from_ready delimiter _ served no_key no_template = cc
 
--- a line may ask the permutation of its key, which is its first field
-pub scramble-line_cost : (lines : LinesOf) (keys : CohortOf) (values : ValuesOf) (columns : List ReadyColumn) (first byte : ℕ) → AreLinesOf lines keys values columns first byte →
-    one_if (layout_for lines).key.scramble ≤ line_cost (layout_of lines.plan) lines.table
-scramble-line_cost lines keys values ready first byte known =
+-- a line may ask the permutation of its key, which is its first field, and that of its update
+pub steps-line_cost : (lines : LinesOf) (keys : CohortOf) (lives changes : CohortAt) (births : DrawsOf) (columns : List ReadyColumn) (first byte : ℕ) → AreLinesOf lines keys lives changes births columns first byte →
+    one_if (layout_for lines).key.scramble + one_if (is_some (layout_for lines).update) ≤ line_cost (layout_of lines.plan) lines.table
+unfolding line_cost
+steps-line_cost lines keys lives changes births ready first byte known =
     let columns : List ColumnLayout = (layout_for lines).columns in
     omega (
       arith,
       ap (λ (kind : KindLayout). (bounds_of (layout_of lines.plan).delimiter (layout_of lines.plan).tables (layout_for lines) kind).permutations)
           known.limits.key_first,
       sum_by_more_le (permutations_in lines) columns 0 no_column known.limits.some_column,
-      line_cost-columns lines,
+      sum_by-map (λ (column : ColumnLayout). bounds_of (layout_of lines.plan).delimiter (layout_of lines.plan).tables (layout_for lines) column.kind)
+          (layout_for lines).columns (λ bounds. bounds.permutations),
     )
 
 -- a key is never null
@@ -152,29 +145,44 @@ text-key lines place index key is never within below key_is small =
     ap (field_text (layout_of lines.plan).delimiter) (held-key lines place index key is never within below key_is)
     ∙ piece_text-decimal (layout_of lines.plan).delimiter key small
 
+-- the rows of a cohort are those of its birth, and changed last when their layout says
+abbrev row_of_index : LinesOf → ℕ → Row
+row_of_index lines index = row_at (generator_of lines.plan) lines.table lines.unit (ordinal_of lines index)
+
+born_of_index : (lines : LinesOf) (index : ℕ) → lines.born ≤ lines.unit → index < cohort_size (layout_for lines).births lines.born →
+    (row_of_index lines index).born ≡ lines.born
+born_of_index lines index within below = birth-first_ordinal (layout_for lines).births lines.unit lines.born index within below
+
+changed_of_index : (lines : LinesOf) (index : ℕ) → lines.table < length lines.plan.schema.tables → (row_of_index lines index).changed ≡ change_for lines index
+changed_of_index lines index table =
+    row_at-changed (generator_of lines.plan) lines.table lines.unit (ordinal_of lines index)
+    (omega (arith, table, length-map lines.plan.schema.tables (table_layout lines.plan.dictionaries lines.plan.schema.tables)))
+
+-- so what is made of a row's units is made of the cohort's birth and of the unit of its last change
+pub of_units : {A : Type 0} (lines : LinesOf) (index : ℕ) (f : ℕ → ℕ → A) → lines.table < length lines.plan.schema.tables → lines.born ≤ lines.unit →
+    index < cohort_size (layout_for lines).births lines.born →
+    f (row_of_index lines index).born (row_of_index lines index).changed ≡ f lines.born (change_for lines index)
+of_units lines index f table within below =
+    ap (λ (born : ℕ). f born (row_of_index lines index).changed) (born_of_index lines index within below)
+    ∙ ap (f lines.born) (changed_of_index lines index table)
+
 -- what a column holds that needs no other row, as the values of the cohort have it
-pub held-own : (lines : LinesOf) (values : ValuesOf) (place index ordinal : ℕ) → values ≡ record { plan = lines.plan; table = lines.table; unit = lines.born } →
+pub held-own : (lines : LinesOf) (values : ValuesOf) (place index ordinal : ℕ) → values ≡ values_at lines (change_for lines index) →
     ordinal ≡ ordinal_of lines index → is_own (column_at (layout_for lines).columns place).kind ≡ true → lines.born ≤ lines.unit →
-    index < cohort_size (layout_for lines).births lines.born → is_unbuilt lines.plan.schema ≡ false →
+    index < cohort_size (layout_for lines).births lines.born → lines.table < length lines.plan.schema.tables →
     held_in_cohort lines index place ≡ value_for values place ordinal
-held-own lines values place index ordinal values_are ordinal_is own within below built =
-    let generator : Generator = generator_of lines.plan in
-    let row : Row = row_at generator lines.table lines.unit (ordinal_of lines index) in
-    let at : ℕ → RowAt = λ born. record { ordinal = ordinal_of lines index; born = born; changed = born } in
-    let held : ℕ → Option (List ℕ) = λ born. own_field (layout_for lines).columns (at born) (λ column. generator.draw lines.table column born (ordinal_of lines index)) place in
-    field-own generator lines.unit lines.table (ordinal_of lines index) place own
-    ∙ ap (λ (changed : ℕ). own_field (layout_for lines).columns (record { ordinal = ordinal_of lines index; born = row.born; changed = changed }) (draws_of generator lines.table row) place)
-    (row_at-still generator (All-IsStill-built lines.plan built) lines.table lines.unit (ordinal_of lines index))
-    ∙ ap held (birth-first_ordinal (layout_for lines).births lines.unit lines.born index within below)
-    ∙ ap (value_for (record { plan = lines.plan; table = lines.table; unit = lines.born }) place) (sym ordinal_is)
+held-own lines values place index ordinal values_are ordinal_is own within below table =
+    field-own (generator_of lines.plan) lines.unit lines.table (ordinal_of lines index) place own
+    ∙ of_units lines index (λ (born changed : ℕ). value_for (record { plan = lines.plan; table = lines.table; born = born; changed = changed }) place (ordinal_of lines index)) table within below
+    ∙ ap (value_for (values_at lines (change_for lines index)) place) (sym ordinal_is)
     ∙ ap (λ (of : ValuesOf). value_for of place ordinal) (sym values_are)
 
-pub text-own : (lines : LinesOf) (values : ValuesOf) (place index ordinal : ℕ) → values ≡ record { plan = lines.plan; table = lines.table; unit = lines.born } →
+pub text-own : (lines : LinesOf) (values : ValuesOf) (place index ordinal : ℕ) → values ≡ values_at lines (change_for lines index) →
     ordinal ≡ ordinal_of lines index → is_own (column_at (layout_for lines).columns place).kind ≡ true → lines.born ≤ lines.unit →
-    index < cohort_size (layout_for lines).births lines.born → is_unbuilt lines.plan.schema ≡ false →
+    index < cohort_size (layout_for lines).births lines.born → lines.table < length lines.plan.schema.tables →
     text_in_cohort lines index place ≡ field_text (layout_of lines.plan).delimiter (value_for values place ordinal)
-text-own lines values place index ordinal values_are ordinal_is own within below built =
-    ap (field_text (layout_of lines.plan).delimiter) (held-own lines values place index ordinal values_are ordinal_is own within below built)
+text-own lines values place index ordinal values_are ordinal_is own within below table =
+    ap (field_text (layout_of lines.plan).delimiter) (held-own lines values place index ordinal values_are ordinal_is own within below table)
 
 -- a value that isn't null is written as its field, and a null one leaves nothing before it
 pub written-text : (delimiter : ℕ) (value : Option (List ℕ)) → Text ≡ put_of value → written delimiter value ≡ field_text delimiter value
@@ -203,9 +211,9 @@ line_in_cohort-fields lines index count all =
     ap (λ (n : ℕ). join_with_byte (layout_of lines.plan).delimiter (map (text_in_cohort lines index) (range_with_len 0 n)) ++ codes "\n") all
 
 -- a cohort has no more rows than a table
-pub cohort_size-limit : (lines : LinesOf) (keys : CohortOf) (values : ValuesOf) (columns : List ReadyColumn) (first byte : ℕ) → AreLinesOf lines keys values columns first byte →
+pub cohort_size-limit : (lines : LinesOf) (keys : CohortOf) (lives changes : CohortAt) (births : DrawsOf) (columns : List ReadyColumn) (first byte : ℕ) → AreLinesOf lines keys lives changes births columns first byte →
     cohort_size (layout_for lines).births lines.born ≤ 2 ^ 40
-cohort_size-limit lines keys values columns first byte known =
+cohort_size-limit lines keys lives changes births columns first byte known =
     omega (
       arith,
       known.limits.row_limit,
@@ -213,9 +221,9 @@ cohort_size-limit lines keys values columns first byte known =
     )
 
 -- the ordinal of a row is no sum past 64 bits
-pub ordinal-limit : (lines : LinesOf) (keys : CohortOf) (values : ValuesOf) (columns : List ReadyColumn) (first byte : ℕ) → AreLinesOf lines keys values columns first byte →
+pub ordinal-limit : (lines : LinesOf) (keys : CohortOf) (lives changes : CohortAt) (births : DrawsOf) (columns : List ReadyColumn) (first byte : ℕ) → AreLinesOf lines keys lives changes births columns first byte →
     (index : ℕ) → index < cohort_size (layout_for lines).births lines.born → first + index < 2 ^ 64
-ordinal-limit lines keys values columns first byte known index below =
+ordinal-limit lines keys lives changes births columns first byte known index below =
     omega (
       arith,
       known.first_is,

@@ -35,6 +35,7 @@ field-key generator unit place ordinal column is never =
 value-own : (generator : Generator) (place column : ℕ) (row : Row) (kind : KindLayout) → is_own kind ≡ true →
     value generator place row column kind ≡ own_value (table_at generator.tables place).columns (at_row row) (draws_of generator place row) column kind
 value-own generator place column row born_kind own = refl
+value-own generator place column row changed_kind own = refl
 value-own generator place column row (leaf_kind leaf) own = refl
 value-own generator place column row (case_kind on branches) own = refl
 value-own generator place column row _ own = cc
@@ -87,6 +88,15 @@ field-born generator unit place ordinal column is =
     let row : Row = row_at generator place unit ordinal in
     ap (λ (kind : KindLayout). unless_null (column_at (table_at generator.tables place).columns column).null (draws_of generator place row column) (value generator place row column kind)) is
 
+-- its unit of the last change
+pub field-changed : (generator : Generator) (unit place ordinal column : ℕ) → (column_at (table_at generator.tables place).columns column).kind ≡ changed_kind →
+    field generator unit place (row_at generator place unit ordinal) column
+    ≡ unless_null (column_at (table_at generator.tables place).columns column).null (draws_of generator place (row_at generator place unit ordinal) column)
+    (Some (decimal (row_at generator place unit ordinal).changed))
+field-changed generator unit place ordinal column is =
+    let row : Row = row_at generator place unit ordinal in
+    ap (λ (kind : KindLayout). unless_null (column_at (table_at generator.tables place).columns column).null (draws_of generator place row column) (value generator place row column kind)) is
+
 -- what is drawn for it
 pub field-drawn : (generator : Generator) (unit place ordinal column : ℕ) (leaf : LeafLayout) → (column_at (table_at generator.tables place).columns column).kind ≡ leaf_kind leaf →
     field generator unit place (row_at generator place unit ordinal) column
@@ -95,6 +105,17 @@ pub field-drawn : (generator : Generator) (unit place ordinal column : ℕ) (lea
 field-drawn generator unit place ordinal column leaf is =
     let row : Row = row_at generator place unit ordinal in
     ap (λ (kind : KindLayout). unless_null (column_at (table_at generator.tables place).columns column).null (draws_of generator place row column) (value generator place row column kind)) is
+
+-- the unit that it is drawn at
+pub draws_of-changed : (generator : Generator) (place column : ℕ) (row : Row) → (column_at (table_at generator.tables place).columns column).changes ≡ true →
+    draws_of generator place row column ≡ generator.draw place column row.changed row.ordinal
+draws_of-changed generator place column row changes =
+    ap (λ (c : Bool). generator.draw place column (if c then row.changed else row.born) row.ordinal) changes
+
+pub draws_of-born : (generator : Generator) (place column : ℕ) (row : Row) → (column_at (table_at generator.tables place).columns column).changes ≡ false →
+    draws_of generator place row column ≡ generator.draw place column row.born row.ordinal
+draws_of-born generator place column row changes =
+    ap (λ (c : Bool). generator.draw place column (if c then row.changed else row.born) row.ordinal) changes
 
 -- the key line is the key's field
 pub key_line-field : (generator : Generator) (last unit place ordinal : ℕ) → unit ≤ last → ordinal < born_count (table_at generator.tables place).births unit →

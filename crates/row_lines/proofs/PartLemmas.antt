@@ -14,17 +14,15 @@ use Rattle.schema_check.specs.FieldBounds.{bounds_alone, bounds_of, bounds_of_pa
 use Rattle.schema_check.specs.Layout.{KindLayout, PartLayout, TableLayout, born_kind, changed_kind, cited_part, column_at, key_kind, layout_of, leaf_kind, literal_part, reference_kind, template_kind}
 use Rattle.schema_check.specs.Limits.{AreParts, IsKindInLimits, IsPart, is_cited}
 use Rattle.schema_check.specs.Ready.{is_served_kind, ready_kind, ready_part}
-use Rattle.schema_check.specs.Unbuilt.{is_unbuilt}
 use Rattle.draw_values.specs.CohortValues.{ValuesOf, is_null_for, value_for}
 use Rattle.draw_values.specs.Values.{is_null, is_own, written}
 use Rattle.life_intervals.specs.Generator.{Generator, generator_of}
 use Rattle.life_intervals.specs.Intervals.{row_at}
 use Rattle.life_intervals.specs.Rows.{Row}
-use Rattle.life_intervals.proofs.CohortLemmas.{birth-first_ordinal}
-use Rattle.row_lines.specs.CohortLines.{LinesOf, key_for, layout_for, ordinal_of, size_for, text_in_cohort}
+use Rattle.row_lines.specs.CohortLines.{LinesOf, change_for, key_for, layout_for, ordinal_of, size_for, text_in_cohort, values_at}
 use Rattle.row_lines.specs.Lines.{draws_of, part_text}
 use Rattle.row_lines.specs.Parts.{IsCitable, IsPartOf, cited_for, cited_size, cited_text, part_size, written_part}
-use Rattle.row_lines.proofs.CohortLineLemmas.{held-key, held-own, held_in_cohort}
+use Rattle.row_lines.proofs.CohortLineLemmas.{held-key, held-own, held_in_cohort, of_units}
 use Rattle.row_lines.proofs.FieldLemmas.{field-cited, field-template}
 
 -- ---- a column that is cited
@@ -34,7 +32,7 @@ pub own_from_cited : (delimiter : ℕ) (kind : KindLayout) → is_cited kind ≡
 own_from_cited delimiter key_kind cited served no_key = absurd (no_key refl)
 own_from_cited delimiter born_kind cited served no_key = refl
 own_from_cited delimiter (leaf_kind leaf) cited served no_key = refl
-own_from_cited delimiter changed_kind cited served no_key = cc
+own_from_cited delimiter changed_kind cited served no_key = refl
 own_from_cited delimiter (reference_kind parent window spread) cited served no_key = cc
 own_from_cited delimiter _ cited served no_key = cc
 
@@ -71,12 +69,12 @@ cited_text-key lines place index key citable is never within below key_is small 
     ap (written (layout_of lines.plan).delimiter) (cited_for-held lines index place citable ∙ held-key lines place index key is never within below key_is)
     ∙ piece_text-decimal (layout_of lines.plan).delimiter key small
 
-pub cited_for-own : (lines : LinesOf) (values : ValuesOf) (place index ordinal : ℕ) → IsCitable lines place → values ≡ record { plan = lines.plan; table = lines.table; unit = lines.born } →
+pub cited_for-own : (lines : LinesOf) (values : ValuesOf) (place index ordinal : ℕ) → IsCitable lines place → values ≡ values_at lines (change_for lines index) →
     ordinal ≡ ordinal_of lines index → is_own (column_at (layout_for lines).columns place).kind ≡ true → lines.born ≤ lines.unit →
-    index < cohort_size (layout_for lines).births lines.born → is_unbuilt lines.plan.schema ≡ false →
+    index < cohort_size (layout_for lines).births lines.born → lines.table < length lines.plan.schema.tables →
     cited_for lines index place ≡ value_for values place ordinal
-cited_for-own lines values place index ordinal citable values_are ordinal_is own within below built =
-    cited_for-held lines index place citable ∙ held-own lines values place index ordinal values_are ordinal_is own within below built
+cited_for-own lines values place index ordinal citable values_are ordinal_is own within below table =
+    cited_for-held lines index place citable ∙ held-own lines values place index ordinal values_are ordinal_is own within below table
 
 -- what is written for it is no longer than its field
 pub length-written : (delimiter : ℕ) (value : Option (List ℕ)) → length (written delimiter value) ≤ length (field_text delimiter value)
@@ -176,29 +174,29 @@ size-template lines column ready template =
     ∙ ap (λ (size : ℕ). max 2 size) (sym (parts-size lines template.parts) ∙ ap (λ (parts : List ReadyPart). sum_by (part_size lines) parts) (sym template.ready_are))
 
 -- whether it is null, as the values of the cohort have it
-null-template : (lines : LinesOf) (values : ValuesOf) (column index ordinal : ℕ) → values ≡ record { plan = lines.plan; table = lines.table; unit = lines.born } →
-    ordinal ≡ ordinal_of lines index → lines.born ≤ lines.unit → index < cohort_size (layout_for lines).births lines.born →
+null-template : (lines : LinesOf) (values : ValuesOf) (column index ordinal : ℕ) → values ≡ values_at lines (change_for lines index) →
+    ordinal ≡ ordinal_of lines index → lines.born ≤ lines.unit → index < cohort_size (layout_for lines).births lines.born → lines.table < length lines.plan.schema.tables →
     is_null (column_at (layout_for lines).columns column).null
     (draws_of (generator_of lines.plan) lines.table (row_at (generator_of lines.plan) lines.table lines.unit (ordinal_of lines index)) column)
     ≡ is_null_for values column ordinal
-null-template lines values column index ordinal values_are ordinal_is within below =
-    ap (λ (born : ℕ). is_null (column_at (layout_for lines).columns column).null ((generator_of lines.plan).draw lines.table column born (ordinal_of lines index)))
-    (birth-first_ordinal (layout_for lines).births lines.unit lines.born index within below)
-    ∙ ap (λ (j : ℕ). is_null_for (record { plan = lines.plan; table = lines.table; unit = lines.born }) column j) (sym ordinal_is)
+null-template lines values column index ordinal values_are ordinal_is within below table =
+    of_units lines index (λ (born changed : ℕ). is_null_for (record { plan = lines.plan; table = lines.table; born = born; changed = changed }) column (ordinal_of lines index)) table within below
+    ∙ ap (λ (j : ℕ). is_null_for (values_at lines (change_for lines index)) column j) (sym ordinal_is)
     ∙ ap (λ (of : ValuesOf). is_null_for of column ordinal) (sym values_are)
 
 -- how it is written
 pub text-template : (lines : LinesOf) (values : ValuesOf) (column index ordinal : ℕ) (ready : List ReadyPart) (null : Bool) → IsTemplateOf lines column ready →
-    values ≡ record { plan = lines.plan; table = lines.table; unit = lines.born } →
-    ordinal ≡ ordinal_of lines index → lines.born ≤ lines.unit → index < cohort_size (layout_for lines).births lines.born → is_null_for values column ordinal ≡ null →
+    values ≡ values_at lines (change_for lines index) →
+    ordinal ≡ ordinal_of lines index → lines.born ≤ lines.unit → index < cohort_size (layout_for lines).births lines.born → lines.table < length lines.plan.schema.tables →
+    is_null_for values column ordinal ≡ null →
     text_in_cohort lines index column ≡ (if null then codes "\\N" else flat_map (written_part lines index) ready)
-text-template lines values column index ordinal ready null template values_are ordinal_is within below null_is =
+text-template lines values column index ordinal ready null template values_are ordinal_is within below table null_is =
     let generator : Generator = generator_of lines.plan in
     let d : ℕ = (layout_of lines.plan).delimiter in
     let row : Row = row_at (generator_of lines.plan) lines.table lines.unit (ordinal_of lines index) in
     let text : List ℕ = flat_map (part_text generator lines.table row) template.parts in
     ap (field_text d) (field-template generator lines.unit lines.table (ordinal_of lines index) column template.parts template.is)
-    ∙ ap (λ (null : Bool). field_text d (if null then None else Some text)) (null-template lines values column index ordinal values_are ordinal_is within below ∙ null_is)
+    ∙ ap (λ (null : Bool). field_text d (if null then None else Some text)) (null-template lines values column index ordinal values_are ordinal_is within below table ∙ null_is)
     ∙ field_text-if d null text
     ∙ ap (λ (bytes : List ℕ). if null then codes "\\N" else bytes)
     (parts-written lines index template.parts ∙ ap (λ (parts : List ReadyPart). flat_map (written_part lines index) parts) (sym template.ready_are))

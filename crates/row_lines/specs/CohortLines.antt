@@ -1,5 +1,5 @@
 -- The lines of one cohort, and what the code keeps of them.
-use Rattle.std.specs.Prelude.{◌≡◌, ◌≤◌, ℕ, ◌+◌, List, All, false, true}
+use Rattle.std.specs.Prelude.{◌≡◌, ◌<◌, ◌≤◌, ℕ, ◌+◌, Bool, List, All, length, true}
 use Rattle.row_text.specs.Fields.{field_text}
 use Rattle.schema_check.specs.Cohorts.{first_ordinal}
 use Rattle.schema_check.specs.FieldBounds.{bounds_of}
@@ -8,11 +8,12 @@ use Rattle.schema_check.specs.Limits.{IsTableInLimits}
 use Rattle.schema_check.specs.Dictionaries.{Project}
 use Rattle.schema_check.specs.declared.ready.ReadyColumn.{ReadyColumn}
 use Rattle.schema_check.specs.Ready.{ready_columns, is_served}
-use Rattle.schema_check.specs.Unbuilt.{is_unbuilt}
 use Rattle.draw_values.specs.CohortValues.{ValuesOf}
+use Rattle.draw_values.specs.UnitDraws.{DrawsOf, unit_draws}
 use Rattle.life_intervals.specs.CohortKeys.{CohortOf}
+use Rattle.life_intervals.specs.CohortLives.{CohortAt}
 use Rattle.life_intervals.specs.Generator.{generator_of, last_unit, table_of}
-use Rattle.life_intervals.specs.Intervals.{row_at}
+use Rattle.life_intervals.specs.Intervals.{change_unit, is_live, row_at}
 use Rattle.life_intervals.specs.Keys.{key_in_cohort}
 use Rattle.row_lines.specs.Lines.{field, line_of}
 
@@ -46,18 +47,33 @@ text_in_cohort lines index column =
     field_text (layout_of lines.plan).delimiter
     (field (generator_of lines.plan) lines.unit lines.table (row_at (generator_of lines.plan) lines.table lines.unit (ordinal_of lines index)) column)
 
--- the keys and the values are the cohort's, and what is kept beside is what the schema says
-pub record AreLinesOf (lines : LinesOf) (keys : CohortOf) (values : ValuesOf) (columns : List ReadyColumn) (first byte : ℕ) : Type 0 where
+-- whether it is alive
+abbrev pub is_live_for : LinesOf → ℕ → Bool
+is_live_for lines index = is_live (generator_of lines.plan) lines.table lines.unit (ordinal_of lines index)
+
+-- the unit of its last change
+abbrev pub change_for : LinesOf → ℕ → ℕ
+change_for lines index = change_unit (generator_of lines.plan) lines.table lines.unit (ordinal_of lines index)
+
+-- the values of the rows of the cohort that changed last at a unit
+abbrev pub values_at : LinesOf → ℕ → ValuesOf
+values_at lines changed = record { plan = lines.plan; table = lines.table; born = lines.born; changed = changed }
+
+-- what is kept of the cohort, its lives, its changes and the draws of its birth is the cohort's, and what is kept beside is what the
+-- schema says
+pub record AreLinesOf (lines : LinesOf) (keys : CohortOf) (lives changes : CohortAt) (births : DrawsOf) (columns : List ReadyColumn) (first byte : ℕ) : Type 0 where
   pub keys_are : keys ≡ record { plan = lines.plan; table = lines.table; unit = lines.born }
-  pub values_are : values ≡ record { plan = lines.plan; table = lines.table; unit = lines.born }
+  pub lives_are : lives ≡ record { plan = lines.plan; table = lines.table; born = lines.born; unit = lines.unit }
+  pub changes_are : changes ≡ record { plan = lines.plan; table = lines.table; born = lines.born; unit = lines.unit }
+  pub births_are : births ≡ unit_draws lines.plan lines.table lines.born
   pub columns_are : columns ≡ ready_columns (layout_of lines.plan) lines.table
   pub served : All (λ column. is_served column ≡ true) columns
   pub limits : IsTableInLimits (last_unit lines.plan) (layout_for lines)
   pub first_is : first ≡ first_ordinal (layout_for lines).births lines.born
   pub delimiter : byte ≡ (layout_of lines.plan).delimiter
+  pub table : lines.table < length lines.plan.schema.tables
   pub born : lines.born ≤ lines.unit
   pub unit : lines.unit ≤ last_unit lines.plan
-  pub built : is_unbuilt lines.plan.schema ≡ false
 
 -- what the field of the column at a place takes at most, in bytes
 abbrev pub size_for : LinesOf → ℕ → ℕ

@@ -1,4 +1,5 @@
 pub mod Lines
+pub mod ChangeDraws
 pub mod CohortLines
 pub mod Parts
 pub mod Worked

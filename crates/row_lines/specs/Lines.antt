@@ -5,7 +5,7 @@ use Rattle.row_text.specs.Fields.{field_text}
 use Rattle.schema_check.specs.Cohorts.{cohort_size, first_ordinal}
 use Rattle.schema_check.specs.Layout.{PartLayout, literal_part, cited_part, KindLayout, key_kind, template_kind, reference_kind, lookup_kind, table_at, column_at}
 use Rattle.draw_values.specs.declared.values.RowAt.{RowAt}
-use Rattle.draw_values.specs.Values.{RowDraws, own_value, not_served, unless_null}
+use Rattle.draw_values.specs.Values.{RowDraws, draw_unit, own_value, not_served, unless_null}
 use Rattle.life_intervals.specs.Generator.{Generator}
 use Rattle.life_intervals.specs.Intervals.{is_live, row_at}
 use Rattle.life_intervals.specs.Keys.{key_in_cohort, key_of}
@@ -16,9 +16,10 @@ use Rattle.life_intervals.specs.Simulation.{rows_at}
 abbrev pub at_row : Row → RowAt
 at_row row = record { ordinal = row.ordinal; born = row.born; changed = row.changed }
 
--- the draws of a row's fields, by the column's place. Columns that change aren't served yet: so each is drawn at the birth of its row
+-- the draws of a row's fields, by the column's place
 abbrev pub draws_of : Generator → ℕ → Row → RowDraws
-draws_of generator place row column = generator.draw place column row.born row.ordinal
+draws_of generator place row column =
+    generator.draw place column (draw_unit (column_at (table_at generator.tables place).columns column) (at_row row)) row.ordinal
 
 -- what a row of the table at a place holds in the column at a place, which is of this kind and puts no fields together, where that
 -- isn't null by its own draw
@@ -47,8 +48,8 @@ value generator place row column (reference_kind parent window spread) = not_ser
 value generator place row column (lookup_kind via parent name) = not_served
 value generator place row column kind = value_alone generator place row column kind
 
--- what a row of the table at a place holds at a unit in the column at a place, None where it is null. Columns that change aren't served
--- yet, and no value that is speaks of other rows: so the unit isn't asked yet
+-- what a row of the table at a place holds at a unit in the column at a place, None where it is null. No value that is served speaks of
+-- other rows: so the unit isn't asked yet
 abbrev pub field : Generator → ℕ → ℕ → Row → ℕ → Option (List ℕ)
 field generator unit place row column =
     unless_null (column_at (table_at generator.tables place).columns column).null (draws_of generator place row column)

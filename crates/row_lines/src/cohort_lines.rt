@@ -1,6 +1,6 @@
 //! The lines of the rows of a cohort, with what doesn't change from row to row taken once.
 
-ghost use Rattle.std.specs.Prelude.{◌≡◌, ◌<◌, ◌≤◌, ℕ, ◌+◌, ◌*◌, ◌==◌, get_or, [], ◌∷◌, ◌++◌, if◌then◌else◌, true, All, flat_map, length, min, sum_by};
+ghost use Rattle.std.specs.Prelude.{◌≡◌, ◌<◌, ◌≤◌, ℕ, ◌+◌, ◌*◌, ◌==◌, get_or, [], ◌∷◌, ◌++◌, if◌then◌else◌, false, true, All, flat_map, length, min, sum_by};
 ghost use Rattle.schema_check.specs.declared.ready.ReadyKind.TheVariants.{Template};
 ghost use Rattle.schema_check.specs.Cohorts.{cohort_size};
 ghost use Rattle.schema_check.specs.Delimiters.{delimiter_byte as byte_of};
@@ -8,16 +8,16 @@ ghost use Rattle.schema_check.specs.Layout.{column_at, layout_of};
 ghost use Rattle.schema_check.specs.Lineage.{one_if};
 ghost use Rattle.schema_check.specs.Ready.{ready_kind};
 ghost use Rattle.schema_check.specs.TableFacts.{line_cost, max_line};
+ghost use Rattle.draw_values.specs.UnitDraws.{unit_draws};
 ghost use Rattle.draw_values.specs.Values.{is_own};
-ghost use Rattle.life_intervals.specs.Generator.{generator_of, last_unit};
-ghost use Rattle.life_intervals.specs.Intervals.{is_live};
-ghost use Rattle.life_intervals.specs.KeyOrders.{key_order};
-ghost use Rattle.row_lines.specs.CohortLines.{key_for, layout_for, line_in_cohort, ordinal_of, size_for, text_in_cohort};
+ghost use Rattle.life_intervals.specs.Generator.{last_unit};
+ghost use Rattle.life_intervals.specs.CohortOrders.{cohort_orders, do_lives_differ, do_updates_differ};
+ghost use Rattle.row_lines.specs.ChangeDraws.{change_draws};
+ghost use Rattle.row_lines.specs.CohortLines.{change_for, is_live_for, key_for, layout_for, line_in_cohort, size_for, text_in_cohort, values_at};
 ghost use Rattle.row_lines.specs.Parts.{IsCitable, IsPartOf, cited_size, cited_text, part_size, written_part};
 
-use draw_values::{CohortValues, Put};
-use id_permutation::Order;
-use life_intervals::{CohortKeys, cohort};
+use draw_values::{CohortValues, Put, UnitDraws};
+use life_intervals::{CohortChanges, CohortKeys, CohortLives, CohortOrders, Survival, cohort};
 use pd_outside::{PageBuf, Piece};
 use row_text::put_null;
 use schema_check::{Plan, ReadyColumn, ReadyKind, ReadyPart};
@@ -35,7 +35,9 @@ pub struct CohortLines<'a> {
     unit: u64,
     first: u64,
     keys: CohortKeys<'a>,
-    values: CohortValues<'a>,
+    lives: CohortLives<'a>,
+    changes: CohortChanges<'a>,
+    births: UnitDraws,
     columns: &'a [ReadyColumn],
     delimiter: u8,
 }
@@ -47,22 +49,22 @@ impl<'a> Model for CohortLines<'a> {
 
     ghost view = { λ l. record { plan = l.plan.now; table = l.place; born = l.born; unit = l.unit } };
 
-    ghost invariant = { λ l. AreLinesOf (record { plan = l.plan.now; table = l.place; born = l.born; unit = l.unit }) l.keys l.values l.columns.now l.first l.delimiter };
+    ghost invariant = { λ l. AreLinesOf (record { plan = l.plan.now; table = l.place; born = l.born; unit = l.unit }) l.keys l.lives l.changes l.births l.columns.now l.first l.delimiter };
 }
 
 impl<'a> CohortLines<'a> {
-    /// The lines at `unit` of the rows of a table that are born at unit `born`, with the order of their keys.
+    /// The lines at `unit` of the rows of a table that are born at unit `born`, with the orders of these.
     pub fn new(
         plan: &'a Plan,
         table: u32,
         born: u64,
         unit: u64,
-        order: &'a Order,
+        orders: &'a CohortOrders,
     ) -> CohortLines<'a>
         requires table { table < length plan.now.schema.tables }
         requires born { born ≤ unit }
         requires unit { unit ≤ last_unit plan.now }
-        requires order { order.now ≡ key_order plan.now table born }
+        requires orders { orders.now ≡ cohort_orders plan.now table born }
         ensures { result ≡ record { plan = plan.now; table = table; born = born; unit = unit } }
     {
         CohortLines {
@@ -71,11 +73,21 @@ impl<'a> CohortLines<'a> {
             born,
             unit,
             first: cohort(plan, table, born).first,
-            keys: CohortKeys::new(plan, table, born, order),
-            values: CohortValues::new(plan, table, born),
+            keys: CohortKeys::new(plan, table, born, &orders.keys),
+            lives: CohortLives::new(plan, table, born, unit, &orders.lives),
+            changes: CohortChanges::new(plan, table, born, unit, &orders.updates),
+            births: UnitDraws::new(plan, table, born),
             columns: plan.columns(table),
             delimiter: delimiter_byte(plan.schema().delimiter),
         }
+    }
+
+    /// What lives say of the whole cohort, so that its rows needn't be asked: all are alive at `Sure`, and none is at `Over`.
+    pub fn survival(&self) -> Survival
+        ensures sure { result ≡ Survival.Sure → (index : ℕ) → index < cohort_size (layout_for self.now).births self.now.born → is_live_for self.now index ≡ true }
+        ensures over { result ≡ Survival.Over → (index : ℕ) → index < cohort_size (layout_for self.now).births self.now.born → is_live_for self.now index ≡ false }
+    {
+        self.lives.survival()
     }
 
     /// The key of the row with this index in the cohort. It takes one step where the keys are scrambled, else none; the cost
@@ -85,7 +97,6 @@ impl<'a> CohortLines<'a> {
         requires { index < cohort_size (layout_for self.now).births self.now.born }
         ensures key { result ≡ key_for self.now index }
         ensures steps { steps.new ≡ steps.old + one_if (layout_for self.now).key.scramble }
-        ensures in_cost { steps.new ≤ steps.old + line_cost (layout_of self.now.plan) self.now.table }
     {
         self.keys.key(index, steps)
     }
@@ -112,43 +123,130 @@ impl<'a> CohortLines<'a> {
         }
     }
 
+    /// Puts the units of the last changes of so many rows into the list, the first that of the row with the index `first` in the
+    /// cohort. Each takes at most one step, and none where all rows of a cohort change at the same units, or never.
+    pub fn put_changes<L: Ledger>(
+        &self,
+        first: u64,
+        count: u64,
+        changed: &mut [u64],
+        steps: &mut Steps<L>,
+    )
+        requires rows { first + count ≤ cohort_size (layout_for self.now).births self.now.born }
+        requires room { count ≤ length changed.old }
+        ensures changed { (i : ℕ) → i < count → get_or changed.new i 0 ≡ change_for self.now (first + i) }
+        ensures rest { (i : ℕ) → count ≤ i → get_or changed.new i 0 ≡ get_or changed.old i 0 }
+        ensures length { length changed.new ≡ length changed.old }
+        ensures steps { steps.new ≤ steps.old + count * one_if (do_updates_differ (layout_for self.now).update) }
+    {
+        let changes = &self.changes;
+        for index in 0..count {
+            changed[index as usize] = changes.unit(first + index, steps);
+        }
+    }
+
+    /// Puts into the list which of so many rows are alive, the first that with the index `first` in the cohort. Each takes at most
+    /// one step, and none where lives of the table don't differ, or all of the cohort are alive, or none.
+    pub fn put_lives<L: Ledger>(
+        &self,
+        first: u64,
+        count: u64,
+        live: &mut [bool],
+        steps: &mut Steps<L>,
+    )
+        requires rows { first + count ≤ cohort_size (layout_for self.now).births self.now.born }
+        requires room { count ≤ length live.old }
+        ensures live { (i : ℕ) → i < count → get_or live.new i false ≡ is_live_for self.now (first + i) }
+        ensures rest { (i : ℕ) → count ≤ i → get_or live.new i false ≡ get_or live.old i false }
+        ensures length { length live.new ≡ length live.old }
+        ensures steps { steps.new ≤ steps.old + count * one_if (do_lives_differ (layout_for self.now).life) }
+    {
+        let lives = &self.lives;
+        let survival = lives.survival();
+        for index in 0..count {
+            live[index as usize] = match survival {
+                Survival::Sure => true,
+                Survival::Over => false,
+                Survival::Drawn => lives.is_live(first + index, steps),
+            };
+        }
+    }
+
     /// Appends the line of the row with this index in the cohort, which is alive at the unit and for which the greatest line
     /// of the table has to be free. It asks at most as many permutations as the cost of a row counts for its line.
-    #[inline]
     pub fn put_line<L: Ledger>(&self, index: u64, buf: &mut PageBuf, steps: &mut Steps<L>)
         requires row { index < cohort_size (layout_for self.now).births self.now.born }
-        requires alive { is_live (generator_of self.now.plan) self.now.table self.now.unit (ordinal_of self.now index) ≡ true }
+        requires alive { is_live_for self.now index ≡ true }
         requires room { length buf.old.text + max_line (layout_of self.now.plan) self.now.table ≤ buf.old.room }
         ensures line { buf.new ≡ record buf.old { text = buf.old.text ++ line_in_cohort self.now index } }
         ensures size { length (line_in_cohort self.now index) ≤ max_line (layout_of self.now.plan) self.now.table }
         ensures steps { steps.new ≤ steps.old + line_cost (layout_of self.now.plan) self.now.table }
     {
         let key = self.key(index, steps);
-        self.put_keyed_line(index, key, buf);
+        let changed = self.changes.unit(index, steps);
+        let draws = UnitDraws::new(self.plan, self.place, changed);
+        self.put_drawn_line(index, key, &draws, buf);
     }
 
-    /// The same for a row whose key is known, so that its line asks no permutation.
+    /// The same for a row whose key and whose unit of the last change are known, with the draws of the table's changes, so that its
+    /// line asks no permutation and makes no seed but its own.
     #[inline]
-    pub fn put_keyed_line(&self, index: u64, key: u64, buf: &mut PageBuf)
+    pub fn put_known_line(
+        &self,
+        index: u64,
+        key: u64,
+        changed: u64,
+        changes: &[UnitDraws],
+        buf: &mut PageBuf,
+    )
         requires row { index < cohort_size (layout_for self.now).births self.now.born }
-        requires alive { is_live (generator_of self.now.plan) self.now.table self.now.unit (ordinal_of self.now index) ≡ true }
+        requires alive { is_live_for self.now index ≡ true }
         requires key { key ≡ key_for self.now index }
+        requires changed { changed ≡ change_for self.now index }
+        requires changes { changes.now ≡ change_draws self.now.plan self.now.table self.now.unit }
         requires room { length buf.old.text + max_line (layout_of self.now.plan) self.now.table ≤ buf.old.room }
         ensures line { buf.new ≡ record buf.old { text = buf.old.text ++ line_in_cohort self.now index } }
         ensures size { length (line_in_cohort self.now index) ≤ max_line (layout_of self.now.plan) self.now.table }
     {
+        if changed == self.born {
+            self.put_drawn_line(index, key, &self.births, buf);
+        } else {
+            let draws = &changes[changes.len() - 1 - (self.unit - changed) as usize];
+            self.put_drawn_line(index, key, draws, buf);
+        }
+    }
+
+    /// The same with the draws of the row's last change.
+    #[inline]
+    fn put_drawn_line(&self, index: u64, key: u64, draws: &UnitDraws, buf: &mut PageBuf)
+        requires row { index < cohort_size (layout_for self.now).births self.now.born }
+        requires key { key ≡ key_for self.now index }
+        requires draws { draws.now ≡ unit_draws self.now.plan self.now.table (change_for self.now index) }
+        requires room { length buf.old.text + max_line (layout_of self.now.plan) self.now.table ≤ buf.old.room }
+        ensures line { buf.new ≡ record buf.old { text = buf.old.text ++ line_in_cohort self.now index } }
+        ensures size { length (line_in_cohort self.now index) ≤ max_line (layout_of self.now.plan) self.now.table }
+    {
+        let values = CohortValues::new(self.plan, self.place, &self.births, draws);
         for column in 0..self.columns.len() {
             put_delimiter(buf, self.delimiter, column);
-            self.put_field(column, index, key, buf);
+            self.put_field(column, index, key, &values, buf);
         }
         buf.put_piece(&Piece::of_byte(b'\n'));
     }
 
     /// Appends the field of the column at a place.
     #[inline(always)]
-    fn put_field(&self, column: usize, index: u64, key: u64, buf: &mut PageBuf)
+    fn put_field(
+        &self,
+        column: usize,
+        index: u64,
+        key: u64,
+        values: &CohortValues<'_>,
+        buf: &mut PageBuf,
+    )
         requires column { column < length (layout_for self.now).columns }
         requires row { index < cohort_size (layout_for self.now).births self.now.born }
+        requires values { values.now ≡ values_at self.now (change_for self.now index) }
         requires key { key ≡ key_for self.now index }
         requires room { length buf.old.text + size_for self.now column ≤ buf.old.room }
         ensures text { buf.new ≡ record buf.old { text = buf.old.text ++ text_in_cohort self.now index column } }
@@ -158,9 +256,9 @@ impl<'a> CohortLines<'a> {
         match &columns[column].kind {
             ReadyKind::Key => buf.put_number(key),
             ReadyKind::Template { parts } => {
-                self.put_template(column, parts.as_slice(), index, key, buf)
+                self.put_template(column, parts.as_slice(), index, key, values, buf)
             }
-            _ => self.put_own(column, index, buf),
+            _ => self.put_own(column, index, values, buf),
         }
     }
 
@@ -171,42 +269,60 @@ impl<'a> CohortLines<'a> {
         parts: &[ReadyPart],
         index: u64,
         key: u64,
+        values: &CohortValues<'_>,
         buf: &mut PageBuf,
     )
         requires column { column < length (layout_for self.now).columns }
         requires template { ready_kind (layout_of self.now.plan).delimiter (column_at (layout_for self.now).columns column).kind ≡ Template parts.now }
         requires row { index < cohort_size (layout_for self.now).births self.now.born }
+        requires values { values.now ≡ values_at self.now (change_for self.now index) }
         requires key { key ≡ key_for self.now index }
         requires room { length buf.old.text + size_for self.now column ≤ buf.old.room }
         ensures text { buf.new ≡ record buf.old { text = buf.old.text ++ text_in_cohort self.now index column } }
         ensures size { length (text_in_cohort self.now index column) ≤ size_for self.now column }
     {
-        if self.values.is_null(column, self.first + index) {
+        if values.is_null(column, self.first + index) {
             put_null(buf);
         } else {
-            self.put_parts(parts, index, key, buf);
+            self.put_parts(parts, index, key, values, buf);
         }
     }
 
     /// Appends some parts, one after the other.
-    fn put_parts(&self, parts: &[ReadyPart], index: u64, key: u64, buf: &mut PageBuf)
+    fn put_parts(
+        &self,
+        parts: &[ReadyPart],
+        index: u64,
+        key: u64,
+        values: &CohortValues<'_>,
+        buf: &mut PageBuf,
+    )
         requires parts { All (IsPartOf self.now) parts.now }
         requires row { index < cohort_size (layout_for self.now).births self.now.born }
+        requires values { values.now ≡ values_at self.now (change_for self.now index) }
         requires key { key ≡ key_for self.now index }
         requires room { length buf.old.text + sum_by (part_size self.now) parts.now ≤ buf.old.room }
         ensures text { buf.new ≡ record buf.old { text = buf.old.text ++ flat_map (written_part self.now index) parts.now } }
         ensures size { length (flat_map (written_part self.now index) parts.now) ≤ sum_by (part_size self.now) parts.now }
     {
         for part in parts {
-            self.put_part(part, index, key, buf);
+            self.put_part(part, index, key, values, buf);
         }
     }
 
     /// Appends a part.
     #[inline(always)]
-    fn put_part(&self, part: &ReadyPart, index: u64, key: u64, buf: &mut PageBuf)
+    fn put_part(
+        &self,
+        part: &ReadyPart,
+        index: u64,
+        key: u64,
+        values: &CohortValues<'_>,
+        buf: &mut PageBuf,
+    )
         requires part { IsPartOf self.now part.now }
         requires row { index < cohort_size (layout_for self.now).births self.now.born }
+        requires values { values.now ≡ values_at self.now (change_for self.now index) }
         requires key { key ≡ key_for self.now index }
         requires room { length buf.old.text + part_size self.now part.now ≤ buf.old.room }
         ensures text { buf.new ≡ record buf.old { text = buf.old.text ++ written_part self.now index part.now } }
@@ -214,15 +330,23 @@ impl<'a> CohortLines<'a> {
     {
         match part {
             ReadyPart::Literal(written) => buf.put(written.as_slice()),
-            ReadyPart::Cited(column) => self.put_cited(*column as usize, index, key, buf),
+            ReadyPart::Cited(column) => self.put_cited(*column as usize, index, key, values, buf),
         }
     }
 
     /// Appends the field of the column at a place, which may be cited; nothing where it is null.
     #[inline(always)]
-    fn put_cited(&self, column: usize, index: u64, key: u64, buf: &mut PageBuf)
+    fn put_cited(
+        &self,
+        column: usize,
+        index: u64,
+        key: u64,
+        values: &CohortValues<'_>,
+        buf: &mut PageBuf,
+    )
         requires column { IsCitable self.now column }
         requires row { index < cohort_size (layout_for self.now).births self.now.born }
+        requires values { values.now ≡ values_at self.now (change_for self.now index) }
         requires key { key ≡ key_for self.now index }
         requires room { length buf.old.text + cited_size self.now column ≤ buf.old.room }
         ensures text { buf.new ≡ record buf.old { text = buf.old.text ++ cited_text self.now index column } }
@@ -232,22 +356,23 @@ impl<'a> CohortLines<'a> {
         match &columns[column].kind {
             ReadyKind::Key => buf.put_number(key),
             _ => {
-                self.values.put(column, self.first + index, buf);
+                values.put(column, self.first + index, buf);
             }
         }
     }
 
     /// Appends the field of a column that needs no other row.
     #[inline(always)]
-    fn put_own(&self, column: usize, index: u64, buf: &mut PageBuf)
+    fn put_own(&self, column: usize, index: u64, values: &CohortValues<'_>, buf: &mut PageBuf)
         requires column { column < length (layout_for self.now).columns }
         requires row { index < cohort_size (layout_for self.now).births self.now.born }
+        requires values { values.now ≡ values_at self.now (change_for self.now index) }
         requires own { is_own (column_at (layout_for self.now).columns column).kind ≡ true }
         requires room { length buf.old.text + size_for self.now column ≤ buf.old.room }
         ensures text { buf.new ≡ record buf.old { text = buf.old.text ++ text_in_cohort self.now index column } }
         ensures size { length (text_in_cohort self.now index column) ≤ size_for self.now column }
     {
-        match self.values.put(column, self.first + index, buf) {
+        match values.put(column, self.first + index, buf) {
             Put::Text => {}
             Put::Null => put_null(buf),
         }

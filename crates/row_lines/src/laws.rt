@@ -5,10 +5,10 @@
 //! A table is named by its place in the schema from 0. Units and ordinals count from 0, and so do the indices of a
 //! cohort's rows.
 
-ghost use Rattle.std.specs.Prelude.{◌≡◌, ℕ, ◌+◌, ◌<◌, ◌≤◌, ◌++◌, [], List, Some, codes, decimal, flat_map, if◌then◌else◌, true, unwrap_or};
+ghost use Rattle.std.specs.Prelude.{◌≡◌, ℕ, ◌+◌, ◌<◌, ◌≤◌, ◌++◌, [], List, Some, codes, decimal, flat_map, if◌then◌else◌, false, true, unwrap_or};
 ghost use Rattle.row_text.specs.Fields.{field_text, piece_text};
 ghost use Rattle.schema_check.specs.Cohorts.{born_count, cohort_size, first_ordinal};
-ghost use Rattle.schema_check.specs.Layout.{LeafLayout, PartLayout, born_kind, cited_part, column_at, key_kind, leaf_kind, literal_part, table_at, template_kind};
+ghost use Rattle.schema_check.specs.Layout.{LeafLayout, PartLayout, born_kind, changed_kind, cited_part, column_at, key_kind, leaf_kind, literal_part, table_at, template_kind};
 ghost use Rattle.schema_check.specs.Limits.{is_cited};
 ghost use Rattle.draw_values.specs.Values.{leaf_value, unless_null};
 ghost use Rattle.life_intervals.specs.Generator.{Generator};
@@ -16,7 +16,7 @@ ghost use Rattle.life_intervals.specs.Intervals.{is_live, living, row_at};
 ghost use Rattle.life_intervals.specs.Keys.{key_of};
 ghost use Rattle.life_intervals.specs.Rows.{Row};
 ghost use Rattle.life_intervals.specs.Sound.{AreSound};
-ghost use Rattle.row_lines.specs.Lines.{cohort_text, field, first_lines, key_line_of, line_of, part_text, table_text, text_before};
+ghost use Rattle.row_lines.specs.Lines.{cohort_text, draws_of, field, first_lines, key_line_of, line_of, part_text, table_text, text_before};
 ghost use Rattle.row_lines.specs.Worked.{labels, one, pairs};
 
 /// The text of a table at a unit is the lines of the ordinals that are born by then and alive.
@@ -60,8 +60,9 @@ pub fn text_so_far_begins_the_text()
 {}
 
 /// What a row holds at a unit by which it is born: its key in a key column that is never null; in a column of units of birth, of
-/// drawn values or of templates the unit, what its draws at its birth give, or the template's parts one after the other, unless draw
-/// 0 makes it null. A part is a text, or what the row holds in the column that is cited, and nothing where that is null.
+/// units of the last change, of drawn values or of templates the unit, what its draws give, or the template's parts one after the
+/// other, unless draw 0 makes it null. A part is a text, or what the row holds in the column that is cited, and nothing where that is
+/// null. The draws are those at the unit of the row's last change in a column that changes, and those at its birth in any other.
 pub fn fields_of_a_row()
     ensures key { (generator : Generator) (unit place ordinal column : ℕ) →
         (column_at (table_at generator.tables place).columns column).kind ≡ key_kind →
@@ -72,25 +73,37 @@ pub fn fields_of_a_row()
         (column_at (table_at generator.tables place).columns column).kind ≡ born_kind →
         field generator unit place (row_at generator place unit ordinal) column
         ≡ unless_null (column_at (table_at generator.tables place).columns column).null
-        (generator.draw place column (row_at generator place unit ordinal).born ordinal)
+        (draws_of generator place (row_at generator place unit ordinal) column)
         (Some (decimal (row_at generator place unit ordinal).born)) }
+    ensures changed { (generator : Generator) (unit place ordinal column : ℕ) →
+        (column_at (table_at generator.tables place).columns column).kind ≡ changed_kind →
+        field generator unit place (row_at generator place unit ordinal) column
+        ≡ unless_null (column_at (table_at generator.tables place).columns column).null
+        (draws_of generator place (row_at generator place unit ordinal) column)
+        (Some (decimal (row_at generator place unit ordinal).changed)) }
     ensures drawn { (generator : Generator) (unit place ordinal column : ℕ) (leaf : LeafLayout) →
         (column_at (table_at generator.tables place).columns column).kind ≡ leaf_kind leaf →
         field generator unit place (row_at generator place unit ordinal) column
         ≡ unless_null (column_at (table_at generator.tables place).columns column).null
-        (generator.draw place column (row_at generator place unit ordinal).born ordinal)
-        (leaf_value leaf (generator.draw place column (row_at generator place unit ordinal).born ordinal)) }
+        (draws_of generator place (row_at generator place unit ordinal) column)
+        (leaf_value leaf (draws_of generator place (row_at generator place unit ordinal) column)) }
     ensures template { (generator : Generator) (unit place ordinal column : ℕ) (parts : List PartLayout) →
         (column_at (table_at generator.tables place).columns column).kind ≡ template_kind parts →
         field generator unit place (row_at generator place unit ordinal) column
         ≡ unless_null (column_at (table_at generator.tables place).columns column).null
-        (generator.draw place column (row_at generator place unit ordinal).born ordinal)
+        (draws_of generator place (row_at generator place unit ordinal) column)
         (Some (flat_map (part_text generator place (row_at generator place unit ordinal)) parts)) }
     ensures text { (generator : Generator) (place : ℕ) (row : Row) (bytes : List ℕ) →
         part_text generator place row (literal_part bytes) ≡ bytes }
     ensures cited { (generator : Generator) (unit place column : ℕ) (row : Row) →
         is_cited (column_at (table_at generator.tables place).columns column).kind ≡ true →
         part_text generator place row (cited_part column) ≡ unwrap_or (field generator unit place row column) [] }
+    ensures drawn_at_change { (generator : Generator) (place column : ℕ) (row : Row) →
+        (column_at (table_at generator.tables place).columns column).changes ≡ true →
+        draws_of generator place row column ≡ generator.draw place column row.changed row.ordinal }
+    ensures drawn_at_birth { (generator : Generator) (place column : ℕ) (row : Row) →
+        (column_at (table_at generator.tables place).columns column).changes ≡ false →
+        draws_of generator place row column ≡ generator.draw place column row.born row.ordinal }
 {}
 
 /// A template is escaped once: what is written for it is what is written for its parts, one after the other.

@@ -3,18 +3,38 @@
 ghost use Rattle.std.specs.Prelude.{◌≡◌, ◌<◌, ◌≤◌, ◌+◌, ◌++◌, true, length};
 ghost use Rattle.schema_check.specs.Cohorts.{born_count};
 ghost use Rattle.schema_check.specs.Layout.{layout_of};
-ghost use Rattle.schema_check.specs.Lineage.{one_if};
+ghost use Rattle.schema_check.specs.Lineage.{death_cost, one_if};
 ghost use Rattle.schema_check.specs.TableFacts.{line_cost, max_line};
 ghost use Rattle.life_intervals.specs.Generator.{generator_of, last_unit, rows_in_all, table_of};
 ghost use Rattle.life_intervals.specs.Intervals.{is_live};
+ghost use Rattle.life_intervals.specs.Simulation.{holds_row, rows_at};
 ghost use Rattle.row_lines.specs.Lines.{key_line_of, line_of};
 
 use crate::cohort_lines::CohortLines;
-use life_intervals::{birth, cohort, key, key_order};
+use life_intervals::{birth, born, cohort, cohort_orders, death, key};
 use pd_outside::{PageBuf, Piece};
 use schema_check::Plan;
 use std::sync::ledger::Ledger;
 use step_count::Steps;
+
+/// Whether a table holds the row of ordinal `j` at unit `t`: it is born by then and not dead. It asks at most as many permutations as
+/// the cost of a row counts for its death.
+pub fn live<L: Ledger>(plan: &Plan, table: u32, j: u64, t: u64, steps: &mut Steps<L>) -> bool
+    requires table { table < length plan.now.schema.tables }
+    requires unit { t ≤ last_unit plan.now }
+    requires row { j < rows_in_all plan.now table }
+    ensures held { result ≡ holds_row (rows_at (generator_of plan.now) table t) j }
+    ensures live { j < born_count (table_of plan.now table).births t → result ≡ is_live (generator_of plan.now) table t j }
+    ensures steps { steps.new ≤ steps.old + death_cost (layout_of plan.now).tables table }
+{
+    if j >= born(plan, table, t) {
+        return false;
+    }
+    match death(plan, table, j, steps) {
+        Some(unit) => t < unit,
+        None => true,
+    }
+}
 
 /// Appends the line at unit `t` of the row of ordinal `j`, which is born by then and alive. The greatest line of the table has
 /// to be free. It asks at most as many permutations as the cost of a row counts for its line.
@@ -37,8 +57,8 @@ pub fn put_line<L: Ledger>(
 {
     let born = birth(plan, table, j);
     let index = j - cohort(plan, table, born).first;
-    let order = key_order(plan, table, born);
-    CohortLines::new(plan, table, born, t, &order).put_line(index, buf, steps);
+    let orders = cohort_orders(plan, table, born);
+    CohortLines::new(plan, table, born, t, &orders).put_line(index, buf, steps);
 }
 
 /// Appends the key line of the row of ordinal `j`: its key and a line feed, for which 21 bytes have to be free. It takes

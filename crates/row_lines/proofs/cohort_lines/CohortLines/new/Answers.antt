@@ -1,18 +1,30 @@
 use Rattle.std.proofs.Common.{ap, ◌∙◌}
-use Rattle.schema_check.specs.Delimiters.{delimiter_byte}
-use Rattle.row_lines.proofs.cohort_lines.CohortLines.new.Goals as goal
 use Rattle.schema_model.specs.declared.table.Schema.{Schema}
+use Rattle.schema_check.specs.Delimiters.{delimiter_byte}
+use Rattle.life_intervals.specs.declared.orders.CohortOrders.{CohortOrders}
+use Rattle.row_lines.proofs.cohort_lines.CohortLines.new.Goals as goal
+
+pub new-requires-clause-order : goal.new-requires-clause-order
+new-requires-clause-order c = ap (λ (orders : CohortOrders). orders.keys) c.requires.orders
+
+pub new-2-requires-clause-order : goal.new-2-requires-clause-order
+new-2-requires-clause-order c = ap (λ (orders : CohortOrders). orders.lives) c.requires.orders
+
+pub new-3-requires-clause-order : goal.new-3-requires-clause-order
+new-3-requires-clause-order c = ap (λ (orders : CohortOrders). orders.updates) c.requires.orders
 
 pub invariant_of-result : goal.invariant_of-result
 invariant_of-result c = record {
   keys_are = c.new.ensures;
-  values_are = c.new-2.ensures;
+  lives_are = c.new-2.ensures;
+  changes_are = c.new-3.ensures;
+  births_are = c.new-4.ensures;
   columns_are = c.columns.ensures.columns;
   served = c.columns.ensures.served;
   limits = c.columns.ensures.limits;
   first_is = c.cohort.ensures.first;
   delimiter = c.delimiter_byte.ensures ∙ ap (λ (schema : Schema). delimiter_byte schema.delimiter) c.schema.ensures.value;
+  table = c.requires.table;
   born = c.requires.born;
   unit = c.requires.unit;
-  built = c.schema.ensures.built;
 }

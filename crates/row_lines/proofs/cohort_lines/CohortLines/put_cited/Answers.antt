@@ -13,11 +13,11 @@ use Rattle.row_lines.proofs.PartLemmas.{cited_for-own, cited_size-key, cited_tex
 use Rattle.row_lines.proofs.cohort_lines.CohortLines.put_cited.Goals as goal
 use Rattle.row_lines.proofs.cohort_lines.CohortLines.put_cited.Goals.{After-index-columns-column}
 
-known : (c : After-index-columns-column) → AreLinesOf c.args.self.now c.self.inside.keys c.self.inside.values c.self.inside.columns.now c.self.inside.first c.self.inside.delimiter
-known c = AreLinesOf-view _ c.args.self.now c.self.inside.keys c.self.inside.values c.self.inside.columns.now c.self.inside.first c.self.inside.delimiter c.self.view_is c.self.invariant
+known : (c : After-index-columns-column) → AreLinesOf c.args.self.now c.self.inside.keys c.self.inside.lives c.self.inside.changes c.self.inside.births c.self.inside.columns.now c.self.inside.first c.self.inside.delimiter
+known c = AreLinesOf-view _ c.args.self.now c.self.inside.keys c.self.inside.lives c.self.inside.changes c.self.inside.births c.self.inside.columns.now c.self.inside.first c.self.inside.delimiter c.self.view_is c.self.invariant
 
 ready : (c : After-index-columns-column) → ready_column (layout_of c.args.self.now.plan).delimiter (column_at (layout_for c.args.self.now).columns c.args.column) ≡ c.index-columns-column.result
-ready c = ready_at c.args.self.now _ _ _ _ _ (known c) c.args.column c.index-columns-column.result c.requires.column.within c.index-columns-column.is
+ready c = ready_at c.args.self.now _ _ _ _ _ _ _ (known c) c.args.column c.index-columns-column.result c.requires.column.within c.index-columns-column.is
 
 -- the column is the key
 is_key : (c : After-index-columns-column) → c.index-columns-column.result.kind ≡ Key → (column_at (layout_for c.args.self.now).columns c.args.column).kind ≡ key_kind
@@ -29,7 +29,7 @@ is_own_column : (c : After-index-columns-column) → (c.index-columns-column.res
 is_own_column c no_key =
     let lines : LinesOf = c.args.self.now in
     let served = served_at c.self.inside.columns.now (known c).served c.args.column c.index-columns-column.result
-    (omega (arith, c.requires.column.within, length-columns lines _ _ _ _ _ (known c))) c.index-columns-column.is in
+    (omega (arith, c.requires.column.within, length-columns lines _ _ _ _ _ _ _ (known c))) c.index-columns-column.is in
     own_from_cited (layout_of lines.plan).delimiter _ c.requires.column.cited (ap is_served (ready c) ∙ served)
     (λ key. no_key (ap (λ (column : ReadyColumn). column.kind) (sym (ready c)) ∙ key))
 
@@ -70,36 +70,36 @@ returns-in-Key-clause-size c =
 
 pub overflow_add-self-inside : goal.overflow_add-self-inside
 overflow_add-self-inside c =
-    omega (arith, ordinal-limit c.args.self.now _ _ _ _ _ (known (goal.at.overflow_add-self-inside c).After-index-columns-column) c.args.index c.requires.row)
+    omega (arith, ordinal-limit c.args.self.now _ _ _ _ _ _ _ (known (goal.at.overflow_add-self-inside c).After-index-columns-column) c.args.index c.requires.row)
 
 pub put-requires-clause-own : goal.put-requires-clause-own
 put-requires-clause-own c =
     let here = (goal.at.put-requires-clause-own c).After-index-columns-column in
-    ap (λ (of : ValuesOf). is_own (column_at (layout_of_values of).columns c.args.column).kind) (known here).values_are
+    ap (λ (of : ValuesOf). is_own (column_at (layout_of_values of).columns c.args.column).kind) c.requires.values
     ∙ is_own_column here
     (λ key. c.in_default.not-Key (ap (λ (column : ReadyColumn). column.kind) (sym c.index-columns-column.is) ∙ key))
 
 pub put-requires-clause-room : goal.put-requires-clause-room
 put-requires-clause-room c =
     let here = known (goal.at.put-requires-clause-room c).After-index-columns-column in
-    let taken : size_for c.self.inside.values c.args.column ≡ cited_size c.args.self.now c.args.column =
-    ap (λ (of : ValuesOf). size_for of c.args.column) here.values_are ∙ size_for-cited c.args.self.now c.args.column c.requires.column in
+    let taken : size_for c.args.values.now c.args.column ≡ cited_size c.args.self.now c.args.column =
+    ap (λ (of : ValuesOf). size_for of c.args.column) c.requires.values ∙ size_for-cited c.args.self.now c.args.column c.requires.column in
     omega (arith, taken, c.requires.room)
 
 -- what is put is what the column holds
 held_is : (c : After-index-columns-column) → (c.index-columns-column.result.kind ≡ Key → ⊥) →
-    cited_for c.args.self.now c.args.index c.args.column ≡ value_for c.self.inside.values c.args.column (c.self.inside.first + c.args.index)
+    cited_for c.args.self.now c.args.index c.args.column ≡ value_for c.args.values.now c.args.column (c.self.inside.first + c.args.index)
 held_is c no_key =
-    cited_for-own c.args.self.now c.self.inside.values c.args.column c.args.index (c.self.inside.first + c.args.index) c.requires.column (known c).values_are
-    (ap (λ (first : ℕ). first + c.args.index) (known c).first_is) (is_own_column c no_key) (known c).born c.requires.row (known c).built
+    cited_for-own c.args.self.now c.args.values.now c.args.column c.args.index (c.self.inside.first + c.args.index) c.requires.column c.requires.values
+    (ap (λ (first : ℕ). first + c.args.index) (known c).first_is) (is_own_column c no_key) (known c).born c.requires.row (known c).table
 
 text_is_own : (c : After-index-columns-column) → (c.index-columns-column.result.kind ≡ Key → ⊥) →
     cited_text c.args.self.now c.args.index c.args.column
-    ≡ written (layout_of c.self.inside.values.plan).delimiter (value_for c.self.inside.values c.args.column (c.self.inside.first + c.args.index))
+    ≡ written (layout_of c.args.values.now.plan).delimiter (value_for c.args.values.now c.args.column (c.self.inside.first + c.args.index))
 text_is_own c no_key =
-    let value = value_for c.self.inside.values c.args.column (c.self.inside.first + c.args.index) in
+    let value = value_for c.args.values.now c.args.column (c.self.inside.first + c.args.index) in
     ap (written (layout_of c.args.self.now.plan).delimiter) (held_is c no_key)
-    ∙ sym (ap (λ (of : ValuesOf). written (layout_of of.plan).delimiter value) (known c).values_are)
+    ∙ sym (ap (λ (of : ValuesOf). written (layout_of of.plan).delimiter value) c.requires.values)
 
 pub returns-in_default-clause-text : goal.returns-in_default-clause-text
 returns-in_default-clause-text c =
@@ -111,14 +111,14 @@ returns-in_default-clause-text c =
 pub returns-in_default-clause-size : goal.returns-in_default-clause-size
 returns-in_default-clause-size c =
     let here = (goal.at.returns-in_default-clause-size c).After-index-columns-column in
-    let value = value_for c.self.inside.values c.args.column (c.self.inside.first + c.args.index) in
-    let taken : size_for c.self.inside.values c.args.column ≡ cited_size c.args.self.now c.args.column =
-    ap (λ (of : ValuesOf). size_for of c.args.column) (known here).values_are ∙ size_for-cited c.args.self.now c.args.column c.requires.column in
+    let value = value_for c.args.values.now c.args.column (c.self.inside.first + c.args.index) in
+    let taken : size_for c.args.values.now c.args.column ≡ cited_size c.args.self.now c.args.column =
+    ap (λ (of : ValuesOf). size_for of c.args.column) c.requires.values ∙ size_for-cited c.args.self.now c.args.column c.requires.column in
     let is = text_is_own here (λ key. c.in_default.not-Key (ap (λ (column : ReadyColumn). column.kind) (sym c.index-columns-column.is) ∙ key)) in
     omega (
       arith,
       ap (λ (text : List ℕ). length text) is,
-      length-written (layout_of c.self.inside.values.plan).delimiter value,
+      length-written (layout_of c.args.values.now.plan).delimiter value,
       c.put.ensures.size,
       taken,
     )

@@ -11,8 +11,8 @@ use Rattle.row_lines.proofs.cohort_lines.CohortLines.put_field.Goals as goal
 is_key : (c : goal.After-put_number-arg-1) → (column_at (layout_for c.args.self.now).columns c.args.column).kind ≡ key_kind
 is_key c =
     let lines : LinesOf = c.args.self.now in
-    let known = AreLinesOf-view _ lines c.self.inside.keys c.self.inside.values c.self.inside.columns.now c.self.inside.first c.self.inside.delimiter c.self.view_is c.self.invariant in
-    key_from_ready (layout_of lines.plan).delimiter _ (ap (λ (ready : ReadyColumn). ready.kind) (ready_at lines _ _ _ _ _ known c.args.column c.index-columns-column.result c.requires.column c.index-columns-column.is ∙ c.index-columns-column.is) ∙ c.in-Key.is)
+    let known = AreLinesOf-view _ lines c.self.inside.keys c.self.inside.lives c.self.inside.changes c.self.inside.births c.self.inside.columns.now c.self.inside.first c.self.inside.delimiter c.self.view_is c.self.invariant in
+    key_from_ready (layout_of lines.plan).delimiter _ (ap (λ (ready : ReadyColumn). ready.kind) (ready_at lines _ _ _ _ _ _ _ known c.args.column c.index-columns-column.result c.requires.column c.index-columns-column.is ∙ c.index-columns-column.is) ∙ c.in-Key.is)
 
 pub put_number-requires : goal.put_number-requires
 put_number-requires c =
@@ -26,10 +26,10 @@ put_number-requires c =
 pub put_own-requires-clause-own : goal.put_own-requires-clause-own
 put_own-requires-clause-own c =
     let lines : LinesOf = c.args.self.now in
-    let known = AreLinesOf-view _ lines c.self.inside.keys c.self.inside.values c.self.inside.columns.now c.self.inside.first c.self.inside.delimiter c.self.view_is c.self.invariant in
+    let known = AreLinesOf-view _ lines c.self.inside.keys c.self.inside.lives c.self.inside.changes c.self.inside.births c.self.inside.columns.now c.self.inside.first c.self.inside.delimiter c.self.view_is c.self.invariant in
     let column = c.index-columns-column.result in
-    let is = ready_at lines _ _ _ _ _ known c.args.column column c.requires.column c.index-columns-column.is in
-    let served = served_at c.self.inside.columns.now known.served c.args.column column (omega (arith, c.requires.column, length-columns lines _ _ _ _ _ known)) c.index-columns-column.is in
+    let is = ready_at lines _ _ _ _ _ _ _ known c.args.column column c.requires.column c.index-columns-column.is in
+    let served = served_at c.self.inside.columns.now known.served c.args.column column (omega (arith, c.requires.column, length-columns lines _ _ _ _ _ _ _ known)) c.index-columns-column.is in
     own_from_ready (layout_of lines.plan).delimiter _ (ap is_served is ∙ served) (λ key. c.in_default.not-Key (ap (λ (ready : ReadyColumn). ready.kind) (sym (is ∙ c.index-columns-column.is)) ∙ key))
     (λ parts template. c.in_default.not-Template parts (ap (λ (ready : ReadyColumn). ready.kind) (sym (is ∙ c.index-columns-column.is)) ∙ template))
 
@@ -37,8 +37,8 @@ put_own-requires-clause-own c =
 text_is_key : (c : goal.After-put_number) → text_in_cohort c.args.self.now c.args.index c.args.column ≡ decimal c.args.key
 text_is_key c =
     let lines : LinesOf = c.args.self.now in
-    let known = AreLinesOf-view _ lines c.self.inside.keys c.self.inside.values c.self.inside.columns.now c.self.inside.first c.self.inside.delimiter c.self.view_is c.self.invariant in
-    let is = key_from_ready (layout_of lines.plan).delimiter _ (ap (λ (ready : ReadyColumn). ready.kind) (ready_at lines _ _ _ _ _ known c.args.column c.index-columns-column.result c.requires.column c.index-columns-column.is ∙ c.index-columns-column.is) ∙ c.in-Key.is) in
+    let known = AreLinesOf-view _ lines c.self.inside.keys c.self.inside.lives c.self.inside.changes c.self.inside.births c.self.inside.columns.now c.self.inside.first c.self.inside.delimiter c.self.view_is c.self.invariant in
+    let is = key_from_ready (layout_of lines.plan).delimiter _ (ap (λ (ready : ReadyColumn). ready.kind) (ready_at lines _ _ _ _ _ _ _ known c.args.column c.index-columns-column.result c.requires.column c.index-columns-column.is ∙ c.index-columns-column.is) ∙ c.in-Key.is) in
     let never = key_never_null (layout_for lines).columns c.args.column known.limits.key_never_null known.limits.no_other_key c.requires.column is in
     text-key lines c.args.column c.args.index c.args.key is never known.born c.requires.row c.requires.key (omega (arith, c.ranges.key))
 
@@ -50,8 +50,8 @@ returns-in-Key-clause-text c =
 pub returns-in-Key-clause-size : goal.returns-in-Key-clause-size
 returns-in-Key-clause-size c =
     let lines : LinesOf = c.args.self.now in
-    let known = AreLinesOf-view _ lines c.self.inside.keys c.self.inside.values c.self.inside.columns.now c.self.inside.first c.self.inside.delimiter c.self.view_is c.self.invariant in
-    let is = key_from_ready (layout_of lines.plan).delimiter _ (ap (λ (ready : ReadyColumn). ready.kind) (ready_at lines _ _ _ _ _ known c.args.column c.index-columns-column.result c.requires.column c.index-columns-column.is ∙ c.index-columns-column.is) ∙ c.in-Key.is) in
+    let known = AreLinesOf-view _ lines c.self.inside.keys c.self.inside.lives c.self.inside.changes c.self.inside.births c.self.inside.columns.now c.self.inside.first c.self.inside.delimiter c.self.view_is c.self.invariant in
+    let is = key_from_ready (layout_of lines.plan).delimiter _ (ap (λ (ready : ReadyColumn). ready.kind) (ready_at lines _ _ _ _ _ _ _ known c.args.column c.index-columns-column.result c.requires.column c.index-columns-column.is ∙ c.index-columns-column.is) ∙ c.in-Key.is) in
     omega (
       arith,
       length-decimal-le_20 c.args.key (omega (arith, c.ranges.key)),

@@ -12,20 +12,20 @@ use Rattle.row_lines.proofs.cohort_lines.CohortLines.put_own.Goals as goal
 pub overflow_add-self-inside : goal.overflow_add-self-inside
 overflow_add-self-inside c =
     let lines : LinesOf = c.args.self.now in
-    let known = AreLinesOf-view _ lines c.self.inside.keys c.self.inside.values c.self.inside.columns.now c.self.inside.first c.self.inside.delimiter c.self.view_is c.self.invariant in
-    omega (arith, ordinal-limit lines _ _ _ _ _ known c.args.index c.requires.row)
+    let known = AreLinesOf-view _ lines c.self.inside.keys c.self.inside.lives c.self.inside.changes c.self.inside.births c.self.inside.columns.now c.self.inside.first c.self.inside.delimiter c.self.view_is c.self.invariant in
+    omega (arith, ordinal-limit lines _ _ _ _ _ _ _ known c.args.index c.requires.row)
 
 -- what is put is the field of the line
 text_is_own : (c : goal.In-Text) →
     text_in_cohort c.args.self.now c.args.index c.args.column
-    ≡ written (layout_of c.self.inside.values.plan).delimiter (value_for c.self.inside.values c.args.column (c.self.inside.first + c.args.index))
+    ≡ written (layout_of c.args.values.now.plan).delimiter (value_for c.args.values.now c.args.column (c.self.inside.first + c.args.index))
 text_is_own c =
     let lines : LinesOf = c.args.self.now in
-    let known = AreLinesOf-view _ lines c.self.inside.keys c.self.inside.values c.self.inside.columns.now c.self.inside.first c.self.inside.delimiter c.self.view_is c.self.invariant in
-    let value = value_for c.self.inside.values c.args.column (c.self.inside.first + c.args.index) in
-    text-own lines c.self.inside.values c.args.column c.args.index (c.self.inside.first + c.args.index) known.values_are
-    (ap (λ (first : ℕ). first + c.args.index) known.first_is) c.requires.own known.born c.requires.row known.built
-    ∙ sym (ap (λ (of : ValuesOf). written (layout_of of.plan).delimiter value) known.values_are
+    let known = AreLinesOf-view _ lines c.self.inside.keys c.self.inside.lives c.self.inside.changes c.self.inside.births c.self.inside.columns.now c.self.inside.first c.self.inside.delimiter c.self.view_is c.self.invariant in
+    let value = value_for c.args.values.now c.args.column (c.self.inside.first + c.args.index) in
+    text-own lines c.args.values.now c.args.column c.args.index (c.self.inside.first + c.args.index) c.requires.values
+    (ap (λ (first : ℕ). first + c.args.index) known.first_is) c.requires.own known.born c.requires.row known.table
+    ∙ sym (ap (λ (of : ValuesOf). written (layout_of of.plan).delimiter value) c.requires.values
     ∙ written-text (layout_of lines.plan).delimiter value (sym c.in-Text.is ∙ c.put.ensures.put))
 
 pub returns-in-Text-clause-text : goal.returns-in-Text-clause-text
@@ -36,42 +36,42 @@ returns-in-Text-clause-text c =
 pub returns-in-Text-clause-size : goal.returns-in-Text-clause-size
 returns-in-Text-clause-size c =
     let lines : LinesOf = c.args.self.now in
-    let known = AreLinesOf-view _ lines c.self.inside.keys c.self.inside.values c.self.inside.columns.now c.self.inside.first c.self.inside.delimiter c.self.view_is c.self.invariant in
+    let known = AreLinesOf-view _ lines c.self.inside.keys c.self.inside.lives c.self.inside.changes c.self.inside.births c.self.inside.columns.now c.self.inside.first c.self.inside.delimiter c.self.view_is c.self.invariant in
     let ordinal : ℕ = c.self.inside.first + c.args.index in
-    let value = value_for c.self.inside.values c.args.column ordinal in
-    let is = text-own lines c.self.inside.values c.args.column c.args.index ordinal known.values_are (ap (λ (first : ℕ). first + c.args.index) known.first_is) c.requires.own known.born c.requires.row known.built in
+    let value = value_for c.args.values.now c.args.column ordinal in
+    let is = text-own lines c.args.values.now c.args.column c.args.index ordinal c.requires.values (ap (λ (first : ℕ). first + c.args.index) known.first_is) c.requires.own known.born c.requires.row known.table in
     let size : length (field_text (layout_of lines.plan).delimiter value) ≤ size_for (record { plan = lines.plan; table = lines.table; unit = lines.born }) c.args.column =
-    subst (λ (of : ValuesOf). length (field_text (layout_of of.plan).delimiter value) ≤ size_for of c.args.column) known.values_are c.put.ensures.size in
+    subst (λ (of : ValuesOf). length (field_text (layout_of of.plan).delimiter value) ≤ size_for of c.args.column) c.requires.values c.put.ensures.size in
     subst (λ (text : List ℕ). length text ≤ size_for (record { plan = lines.plan; table = lines.table; unit = lines.born }) c.args.column) (sym is) size
 
 -- a null field is written as such
 text_is_null : (c : goal.After-put_null) → text_in_cohort c.args.self.now c.args.index c.args.column ≡ codes "\\N"
 text_is_null c =
     let lines : LinesOf = c.args.self.now in
-    let known = AreLinesOf-view _ lines c.self.inside.keys c.self.inside.values c.self.inside.columns.now c.self.inside.first c.self.inside.delimiter c.self.view_is c.self.invariant in
+    let known = AreLinesOf-view _ lines c.self.inside.keys c.self.inside.lives c.self.inside.changes c.self.inside.births c.self.inside.columns.now c.self.inside.first c.self.inside.delimiter c.self.view_is c.self.invariant in
     let ordinal : ℕ = c.self.inside.first + c.args.index in
-    text-own lines c.self.inside.values c.args.column c.args.index ordinal known.values_are (ap (λ (first : ℕ). first + c.args.index) known.first_is) c.requires.own known.born c.requires.row known.built
-    ∙ field_text-null (layout_of lines.plan).delimiter (value_for c.self.inside.values c.args.column ordinal) (sym c.in-Null.is ∙ c.put.ensures.put)
+    text-own lines c.args.values.now c.args.column c.args.index ordinal c.requires.values (ap (λ (first : ℕ). first + c.args.index) known.first_is) c.requires.own known.born c.requires.row known.table
+    ∙ field_text-null (layout_of lines.plan).delimiter (value_for c.args.values.now c.args.column ordinal) (sym c.in-Null.is ∙ c.put.ensures.put)
 
 pub returns-in-Null-clause-text : goal.returns-in-Null-clause-text
 returns-in-Null-clause-text c =
     let before : List ℕ = c.args.buf.now.text in
     let room : ℕ = c.args.buf.now.room in
-    let value = value_for c.self.inside.values c.args.column (c.self.inside.first + c.args.index) in
+    let value = value_for c.args.values.now c.args.column (c.self.inside.first + c.args.index) in
     c.put_null.ensures
     ∙ ap (λ (page : Page). record { text = page.text ++ codes "\\N"; room = page.room }) c.put.ensures.text
     ∙ ap (λ (text : List ℕ). record { text = (before ++ text) ++ codes "\\N"; room = room })
-    (written-null (layout_of c.self.inside.values.plan).delimiter value (sym c.in-Null.is ∙ c.put.ensures.put))
+    (written-null (layout_of c.args.values.now.plan).delimiter value (sym c.in-Null.is ∙ c.put.ensures.put))
     ∙ ap (λ (text : List ℕ). record { text = text ++ codes "\\N"; room = room }) (append-nil before)
     ∙ ap (λ (text : List ℕ). record { text = before ++ text; room = room }) (sym (text_is_null c))
 
 pub returns-in-Null-clause-size : goal.returns-in-Null-clause-size
 returns-in-Null-clause-size c =
     let lines : LinesOf = c.args.self.now in
-    let known = AreLinesOf-view _ lines c.self.inside.keys c.self.inside.values c.self.inside.columns.now c.self.inside.first c.self.inside.delimiter c.self.view_is c.self.invariant in
+    let known = AreLinesOf-view _ lines c.self.inside.keys c.self.inside.lives c.self.inside.changes c.self.inside.births c.self.inside.columns.now c.self.inside.first c.self.inside.delimiter c.self.view_is c.self.invariant in
     let ordinal : ℕ = c.self.inside.first + c.args.index in
-    let value = value_for c.self.inside.values c.args.column ordinal in
-    let is = text-own lines c.self.inside.values c.args.column c.args.index ordinal known.values_are (ap (λ (first : ℕ). first + c.args.index) known.first_is) c.requires.own known.born c.requires.row known.built in
+    let value = value_for c.args.values.now c.args.column ordinal in
+    let is = text-own lines c.args.values.now c.args.column c.args.index ordinal c.requires.values (ap (λ (first : ℕ). first + c.args.index) known.first_is) c.requires.own known.born c.requires.row known.table in
     let size : length (field_text (layout_of lines.plan).delimiter value) ≤ size_for (record { plan = lines.plan; table = lines.table; unit = lines.born }) c.args.column =
-    subst (λ (of : ValuesOf). length (field_text (layout_of of.plan).delimiter value) ≤ size_for of c.args.column) known.values_are c.put.ensures.size in
+    subst (λ (of : ValuesOf). length (field_text (layout_of of.plan).delimiter value) ≤ size_for of c.args.column) c.requires.values c.put.ensures.size in
     subst (λ (text : List ℕ). length text ≤ size_for (record { plan = lines.plan; table = lines.table; unit = lines.born }) c.args.column) (sym is) size

@@ -8,12 +8,12 @@ use Rattle.row_lines.proofs.cohort_lines.CohortLines.put_template.Goals.{After-i
 
 pub overflow_add-self-inside : goal.overflow_add-self-inside
 overflow_add-self-inside c =
-    let known = AreLinesOf-view _ c.args.self.now c.self.inside.keys c.self.inside.values c.self.inside.columns.now c.self.inside.first c.self.inside.delimiter c.self.view_is c.self.invariant in
-    omega (arith, ordinal-limit c.args.self.now _ _ _ _ _ known c.args.index c.requires.row)
+    let known = AreLinesOf-view _ c.args.self.now c.self.inside.keys c.self.inside.lives c.self.inside.changes c.self.inside.births c.self.inside.columns.now c.self.inside.first c.self.inside.delimiter c.self.view_is c.self.invariant in
+    omega (arith, ordinal-limit c.args.self.now _ _ _ _ _ _ _ known c.args.index c.requires.row)
 
 pub put_parts-requires-clause-parts : goal.put_parts-requires-clause-parts
 put_parts-requires-clause-parts c =
-    let known = AreLinesOf-view _ c.args.self.now c.self.inside.keys c.self.inside.values c.self.inside.columns.now c.self.inside.first c.self.inside.delimiter c.self.view_is c.self.invariant in
+    let known = AreLinesOf-view _ c.args.self.now c.self.inside.keys c.self.inside.lives c.self.inside.changes c.self.inside.births c.self.inside.columns.now c.self.inside.first c.self.inside.delimiter c.self.view_is c.self.invariant in
     parts_citable c.args.self.now c.args.column c.args.parts.now (template_of c.args.self.now c.args.column c.args.parts.now c.requires.template) c.requires.column
     (known.limits.kinds c.args.column c.requires.column)
 
@@ -29,10 +29,10 @@ put_null-requires c =
 text_is : (c : After-is_null) → (null : Bool) → c.is_null.result ≡ null →
     text_in_cohort c.args.self.now c.args.index c.args.column ≡ (if null then codes "\\N" else flat_map (written_part c.args.self.now c.args.index) c.args.parts.now)
 text_is c null is =
-    let known = AreLinesOf-view _ c.args.self.now c.self.inside.keys c.self.inside.values c.self.inside.columns.now c.self.inside.first c.self.inside.delimiter c.self.view_is c.self.invariant in
-    text-template c.args.self.now c.self.inside.values c.args.column c.args.index (c.self.inside.first + c.args.index) c.args.parts.now null
+    let known = AreLinesOf-view _ c.args.self.now c.self.inside.keys c.self.inside.lives c.self.inside.changes c.self.inside.births c.self.inside.columns.now c.self.inside.first c.self.inside.delimiter c.self.view_is c.self.invariant in
+    text-template c.args.self.now c.args.values.now c.args.column c.args.index (c.self.inside.first + c.args.index) c.args.parts.now null
     (template_of c.args.self.now c.args.column c.args.parts.now c.requires.template)
-    known.values_are (ap (λ (first : ℕ). first + c.args.index) known.first_is) known.born c.requires.row (sym c.is_null.ensures ∙ is)
+    c.requires.values (ap (λ (first : ℕ). first + c.args.index) known.first_is) known.born c.requires.row known.table (sym c.is_null.ensures ∙ is)
 
 pub returns-then-is_null-clause-text : goal.returns-then-is_null-clause-text
 returns-then-is_null-clause-text c =

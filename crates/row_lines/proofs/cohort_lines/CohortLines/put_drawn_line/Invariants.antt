@@ -3,7 +3,7 @@ use Rattle.std.specs.List.{join_with_byte, range_with_len}
 use Rattle.schema_check.specs.Layout.{layout_of}
 use Rattle.row_lines.specs.CohortLines.{text_in_cohort}
 use Rattle.row_lines.proofs.CohortLineLemmas.{bytes_before}
-use Rattle.row_lines.proofs.cohort_lines.CohortLines.put_keyed_line.Given as goal
+use Rattle.row_lines.proofs.cohort_lines.CohortLines.put_drawn_line.Given as goal
 
 abbrev pub invariant-loop-column : goal.invariant-loop-column
 invariant-loop-column l = record {
