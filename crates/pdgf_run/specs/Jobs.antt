@@ -6,7 +6,8 @@ use Rattle.schema_check.specs.Dictionaries.{Project}
 use Rattle.schema_check.specs.Layout.{layout_of}
 use Rattle.schema_check.specs.TableFacts.{reach}
 use Rattle.life_intervals.specs.Generator.{last_unit}
-use Rattle.life_intervals.specs.KeyOrders.{key_orders}
+use Rattle.life_intervals.specs.CohortOrders.{table_orders}
+use Rattle.row_lines.specs.ChangeDraws.{change_draws}
 use Rattle.pdgf_run.specs.DueFiles.{file_of, standard_output}
 use Rattle.pdgf_run.specs.declared.job.Job.{Job}
 use Rattle.pdgf_run.specs.declared.job.Job.TheVariants.{Text, Snapshot}
@@ -36,10 +37,11 @@ abbrev pub due_of : Job → List File
 due_of (Text bytes) = record { name = standard_output; bytes = bytes.items } ∷ []
 due_of (Snapshot job) = snapshot_due job
 
--- a table is one of the plan's, with the orders of its keys up to the unit
+-- a table is one of the plan's, with the orders of its cohorts up to the unit, and the draws of its changes
 pub record IsTableOf (plan : Project) (unit : ℕ) (table : JobTable) : Type 0 where
   pub place : table.place < length plan.schema.tables
-  pub orders : table.orders.items ≡ key_orders plan table.place unit
+  pub orders : table.orders.items ≡ table_orders plan table.place unit
+  pub changes : table.changes.items ≡ change_draws plan table.place unit
 
 -- a file's tables are the plan's
 abbrev pub IsFileOf : Project → ℕ → JobFile → Type 0

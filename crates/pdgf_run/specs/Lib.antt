@@ -3,6 +3,7 @@ pub mod Stages
 pub mod DictionaryFiles
 pub mod DueFiles
 pub mod Jobs
+pub mod KnownRows
 pub mod Limits
 pub mod ReadingList
 pub mod Statuses

@@ -2,19 +2,20 @@
 
 ghost use Rattle.std.specs.Prelude.{◌≡◌, ◌<◌, ◌≤◌, ◌∷◌, [], false, true, IsTrue, OnErr, OnOk, length};
 ghost use Rattle.pd_outside.specs.Faults.{Rose};
-ghost use Rattle.schema_check.specs.Cohorts.{cohort_size};
 ghost use Rattle.schema_check.specs.Layout.{layout_of};
 ghost use Rattle.schema_check.specs.TableFacts.{max_line, reach};
 ghost use Rattle.life_intervals.specs.Generator.{generator_of, last_unit};
-ghost use Rattle.life_intervals.specs.Intervals.{is_live};
-ghost use Rattle.row_lines.specs.CohortLines.{key_for, layout_for, line_in_cohort, ordinal_of};
+ghost use Rattle.row_lines.specs.ChangeDraws.{change_draws};
+ghost use Rattle.row_lines.specs.CohortLines.{living_line};
 ghost use Rattle.row_lines.specs.Lines.{cohort_text, table_text};
 ghost use Rattle.pdgf_run.specs.Appends.{Appends, Finishes};
 ghost use Rattle.pdgf_run.specs.DueFiles.{standard_output, texts_at};
+ghost use Rattle.pdgf_run.specs.KnownRows.{IsRowOf};
 ghost use Rattle.pdgf_run.specs.Jobs.{CanFill, CanWrite, IsFileOf, IsTableOf, due_file, due_of, places_in, snapshot_due};
 
 use crate::job::{Job, JobFile, JobTable, SnapshotJob};
-use life_intervals::cohort;
+use draw_values::UnitDraws;
+use life_intervals::{Survival, cohort};
 use pd_outside::{Failed, PageBuf, Shelf, WriteFailed, write_all};
 use row_lines::CohortLines;
 use schema_check::Plan;
@@ -22,36 +23,47 @@ use std::marker::Brand;
 use std::sync::ledger::{Blank, Ledger};
 use step_count::Steps;
 
-/// How many rows' keys are taken before their lines are written. Side by side they take a fraction of the time that each takes
-/// between two lines, since none waits for another.
+/// How many rows' keys, changes and lives are taken before their lines are written. Side by side they take a fraction of the time
+/// that each takes between two lines, since none waits for another.
 const ROWS_AT_ONCE: usize = 256;
 
-/// Writes the line of the row with this index in its cohort, and this key.
-fn write_line<S: Shelf>(
+/// A row of a cohort by its index, with its key, the unit of its last change, and whether it is alive.
+#[derive(Clone, Copy)]
+struct KnownRow {
+    index: u64,
+    key: u64,
+    changed: u64,
+    is_live: bool,
+}
+
+/// Writes the line of a row of a cohort, or nothing where it isn't alive.
+fn write_row<S: Shelf>(
     shelf: &mut S,
     page: &mut PageBuf,
     lines: &CohortLines<'_>,
-    index: u64,
-    key: u64,
+    changes: &[UnitDraws],
+    row: KnownRow,
 ) -> Result<(), WriteFailed>
     requires begun { IsTrue (S.is_begun shelf.old) }
-    requires row { index < cohort_size (layout_for lines.now).births lines.now.born }
-    requires alive { is_live (generator_of lines.now.plan) lines.now.table lines.now.unit (ordinal_of lines.now index) ≡ true }
-    requires key { key ≡ key_for lines.now index }
+    requires row { IsRowOf lines.now row }
+    requires changes { changes.now ≡ change_draws lines.now.plan lines.now.table lines.now.unit }
     requires room { max_line (layout_of lines.now.plan) lines.now.table ≤ page.old.room }
-    ensures line { Appends result (line_in_cohort lines.now index) (S.held shelf.old) (S.held shelf.new) }
+    ensures line { Appends result (living_line lines.now row.index) (S.held shelf.old) (S.held shelf.new) }
     ensures cause { OnErr result (Rose (S.faults shelf.old) (S.faults shelf.new)) }
     ensures no_fault { OnOk result (S.faults shelf.new ≡ S.faults shelf.old) }
     ensures never_falls { S.faults shelf.old ≤ S.faults shelf.new }
     ensures begun { IsTrue (S.is_begun shelf.new) }
     ensures room { page.new.room ≡ page.old.room }
 {
+    if !row.is_live {
+        return Ok(());
+    }
     page.clear();
-    lines.put_keyed_line(index, key, page);
+    lines.put_known_line(row.index, row.key, row.changed, changes, page);
     write_all(shelf, page.text())
 }
 
-/// Writes the lines at a unit of the rows of a table that are born at another.
+/// Writes the lines at a unit of the living among the rows of a table that are born at another.
 fn write_cohort<S: Shelf, B: Ledger>(
     shelf: &mut S,
     page: &mut PageBuf,
@@ -73,17 +85,29 @@ fn write_cohort<S: Shelf, B: Ledger>(
     ensures begun { IsTrue (S.is_begun shelf.new) }
     ensures room { page.new.room ≡ page.old.room }
 {
-    let _built = plan.schema(); // no row of it dies yet
-    let order = &table.orders[born as usize];
-    let lines = CohortLines::new(plan, table.place, born, unit, order);
+    let orders = &table.orders[born as usize];
+    let lines = CohortLines::new(plan, table.place, born, unit, orders);
+    if lines.survival() == Survival::Over {
+        return Ok(());
+    }
     let size = cohort(plan, table.place, born).size;
     let mut keys = [0; ROWS_AT_ONCE];
+    let mut changed = [0; ROWS_AT_ONCE];
+    let mut live = [false; ROWS_AT_ONCE];
     let mut first = 0;
     while first < size {
         let count = (size - first).min(ROWS_AT_ONCE as u64);
         lines.put_keys(first, count, &mut keys, steps);
+        lines.put_changes(first, count, &mut changed, steps);
+        lines.put_lives(first, count, &mut live, steps);
         for index in 0..count {
-            match write_line(shelf, page, &lines, first + index, keys[index as usize]) {
+            let row = KnownRow {
+                index: first + index,
+                key: keys[index as usize],
+                changed: changed[index as usize],
+                is_live: live[index as usize],
+            };
+            match write_row(shelf, page, &lines, &table.changes, row) {
                 Ok(()) => {}
                 Err(WriteFailed) => return Err(WriteFailed),
             }
@@ -93,7 +117,7 @@ fn write_cohort<S: Shelf, B: Ledger>(
     Ok(())
 }
 
-/// Writes the text of a table at a unit: the lines of the rows that are born by then.
+/// Writes the text of a table at a unit: the lines of the rows that are born by then and alive.
 fn write_table<S: Shelf, B: Ledger>(
     shelf: &mut S,
     page: &mut PageBuf,
@@ -114,7 +138,7 @@ fn write_table<S: Shelf, B: Ledger>(
     ensures begun { IsTrue (S.is_begun shelf.new) }
     ensures room { page.new.room ≡ page.old.room }
 {
-    let _built = plan.schema(); // its tables are sound
+    let _sound = plan.schema(); // so the simulation is its closed form
     for born in 0..unit + 1 {
         match write_cohort(shelf, page, plan, table, born, unit, steps) {
             Ok(()) => {}

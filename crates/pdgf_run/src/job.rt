@@ -7,9 +7,10 @@ ghost use Rattle.pdgf_run.specs.DueFiles.{chosen, path_of, snapshot_files, stand
 ghost use Rattle.pdgf_run.specs.Jobs.{due_file, places_in, places_of, snapshot_due, CanWrite, IsFileOf, IsTableOf};
 
 use crate::check::name_of;
-use id_permutation::Order;
-use life_intervals::key_orders;
+use draw_values::UnitDraws;
+use life_intervals::{CohortOrders, table_orders};
 use pd_outside::{Memory, PageBuf};
+use row_lines::change_draws;
 use schema_check::Plan;
 use schema_model::Text as Name;
 use std::alloc::Global;
@@ -39,11 +40,12 @@ pub(crate) struct JobFile {
     pub(crate) tables: Vec<JobTable>,
 }
 
-/// A table by its place, with the orders of its cohorts' keys.
+/// A table by its place, with the orders of its cohorts and the draws of its changes.
 #[derive(Drop)]
 pub(crate) struct JobTable {
     pub(crate) place: u32,
-    pub(crate) orders: Vec<Order>,
+    pub(crate) orders: Vec<CohortOrders>,
+    pub(crate) changes: Vec<UnitDraws>,
 }
 
 /// The places of `count` tables from the one at place `from` on.
@@ -98,10 +100,15 @@ fn job_table(alloc: Global, plan: &Plan, place: u32, unit: u64) -> Result<JobTab
     ensures place { IfOk result (λ table. table.place ≡ place) }
     ensures is { IfOk result (IsTableOf plan.now unit) }
 {
-    match key_orders(alloc, plan, place, unit) {
-        Ok(orders) => Ok(JobTable { place, orders }),
-        Err(_) => Err(Memory),
-    }
+    let Ok(orders) = table_orders(alloc, plan, place, unit) else {
+        return Err(Memory);
+    };
+    let changes = change_draws(alloc, plan, place, unit)?;
+    Ok(JobTable {
+        place,
+        orders,
+        changes,
+    })
 }
 
 /// A file of some tables.

@@ -13,8 +13,8 @@ use Rattle.life_intervals.specs.Sound.{AreSound}
 use Rattle.life_intervals.proofs.CohortLemmas.{LiesIn-birth, birth-only}
 use Rattle.life_intervals.proofs.Ranges.{flat_map-range_with_len_more, flat_map-range_with_len_front}
 use Rattle.life_intervals.proofs.SimulationLemmas.{ordinals_of, range-cohorts, rows_at-rows_of}
-use Rattle.row_lines.specs.Lines.{cohort_text, first_lines, line, line_of, table_text, text_before}
-use Rattle.row_lines.proofs.ListLemmas.{flat_map-filter_flat_map, flat_map-filter_range_front, flat_map-filter_range_more}
+use Rattle.row_lines.specs.Lines.{cohort_text, first_lines, line, line_if_live, line_of, table_text, text_before}
+use Rattle.row_lines.proofs.ListLemmas.{filter-none, flat_map-filter_flat_map, flat_map-filter_range_front, flat_map-filter_range_more}
 
 -- the text of a table is the lines of the living
 pub table_text-living : (units : ℕ) (generator : Generator) (unit place : ℕ) → AreSound units generator.tables → unit ≤ units →
@@ -44,11 +44,6 @@ pub text_before-add_one : (generator : Generator) (unit place born : ℕ) →
 unfolding text_before
 text_before-add_one generator unit place born = flat_map-range_with_len_more (cohort_text generator unit place) born
 
--- the line of an ordinal where it is alive, and nothing where it isn't
-abbrev pub line_if_live : Generator → ℕ → ℕ → ℕ → List ℕ
-line_if_live generator unit place ordinal =
-    if is_live generator place unit ordinal then line_of generator unit place ordinal else []
-
 -- no line of a cohort, one more, and all
 pub first_lines-zero : (generator : Generator) (unit place born : ℕ) → first_lines generator unit place born 0 ≡ []
 unfolding first_lines
@@ -62,16 +57,6 @@ unfolding first_lines
 first_lines-add_one generator unit place born count =
     flat_map-filter_range_more (line_of generator unit place) (is_live generator place unit)
     (first_ordinal (table_at generator.tables place).births born) count
-
-pub first_lines-add_live : (generator : Generator) (unit place born count : ℕ) →
-    is_live generator place unit (first_ordinal (table_at generator.tables place).births born + count) ≡ true →
-    first_lines generator unit place born (count + 1)
-    ≡ first_lines generator unit place born count
-    ++ line_of generator unit place (first_ordinal (table_at generator.tables place).births born + count)
-first_lines-add_live generator unit place born count live =
-    let ordinal : ℕ = first_ordinal (table_at generator.tables place).births born + count in
-    first_lines-add_one generator unit place born count
-    ∙ ap (λ (passes : Bool). first_lines generator unit place born count ++ (if passes then line_of generator unit place ordinal else [])) live
 
 pub first_lines-all : (generator : Generator) (unit place born count : ℕ) → count ≡ cohort_size (table_at generator.tables place).births born →
     first_lines generator unit place born count ≡ cohort_text generator unit place born
@@ -92,17 +77,25 @@ cohort_text-split generator unit place born count within =
     flat_map-filter_range_front (line_of generator unit place) (is_live generator place unit)
     (first_ordinal (table_at generator.tables place).births born) count (cohort_size (table_at generator.tables place).births born) within
 
--- the lines before an index, the index's own, and the rest
+-- the lines before an index, the index's own where it is alive, and the rest
 pub cohort_text-at : (generator : Generator) (unit place born index : ℕ) → index < cohort_size (table_at generator.tables place).births born →
-    is_live generator place unit (first_ordinal (table_at generator.tables place).births born + index) ≡ true →
     cohort_text generator unit place born
     ≡ first_lines generator unit place born index
-    ++ (line_of generator unit place (first_ordinal (table_at generator.tables place).births born + index) ++ lines_after generator unit place born (index + 1))
-cohort_text-at generator unit place born index below live =
-    let own : List ℕ = line_of generator unit place (first_ordinal (table_at generator.tables place).births born + index) in
+    ++ (line_if_live generator unit place (first_ordinal (table_at generator.tables place).births born + index) ++ lines_after generator unit place born (index + 1))
+cohort_text-at generator unit place born index below =
+    let own : List ℕ = line_if_live generator unit place (first_ordinal (table_at generator.tables place).births born + index) in
     cohort_text-split generator unit place born (index + 1) (omega arith)
-    ∙ ap (λ (text : List ℕ). text ++ lines_after generator unit place born (index + 1)) (first_lines-add_live generator unit place born index live)
+    ∙ ap (λ (text : List ℕ). text ++ lines_after generator unit place born (index + 1)) (first_lines-add_one generator unit place born index)
     ∙ append_assoc (first_lines generator unit place born index) own (lines_after generator unit place born (index + 1))
+
+-- a cohort of which no row is alive has no text
+pub cohort_text-over : (generator : Generator) (unit place born : ℕ) →
+    ((index : ℕ) → index < cohort_size (table_at generator.tables place).births born → is_live generator place unit (first_ordinal (table_at generator.tables place).births born + index) ≡ false) →
+    cohort_text generator unit place born ≡ []
+unfolding cohort_text first_lines
+cohort_text-over generator unit place born dead =
+    ap (flat_map (line_of generator unit place))
+    (filter-none (is_live generator place unit) (first_ordinal (table_at generator.tables place).births born) (cohort_size (table_at generator.tables place).births born) dead)
 
 -- the cohorts behind one, up to a unit
 abbrev pub cohorts_after : Generator → ℕ → ℕ → ℕ → List ℕ

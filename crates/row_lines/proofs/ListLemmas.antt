@@ -1,5 +1,5 @@
 -- Lists: pieces of what passes a test, and pieces joined by a byte.
-use Rattle.std.proofs.Common.{◌≡◌, ℕ, ◌+◌, ◌-◌, ◌≤◌, Bool, true, false, List, [], ◌∷◌, ◌++◌, filter, if◌then◌else◌, refl, ap, arith, ◌∙◌}
+use Rattle.std.proofs.Common.{◌≡◌, ℕ, zero, suc, ◌+◌, ◌-◌, ◌<◌, ◌≤◌, Bool, true, false, List, [], ◌∷◌, ◌++◌, filter, if◌then◌else◌, refl, ap, sym, arith, ◌∙◌}
 use Rattle.std.specs.List.{flat_map, range_with_len}
 use Rattle.std.proofs.lemmas.List.{append-nil}
 use Rattle.std.proofs.lemmas.List.Concat.{flat_map-append}
@@ -40,3 +40,13 @@ flat_map-filter_range_front f p a m all within =
     ap (λ (n : ℕ). flat_map f (filter p (range_with_len a n))) whole
     ∙ ap (λ xs. flat_map f (filter p xs)) (range_with_len-add a m (all - m))
     ∙ flat_map-filter_append f p (range_with_len a m) (range_with_len (a + m) (all - m))
+
+-- of a range of which each number fails a test, none is left
+pub filter-none : (p : ℕ → Bool) (a n : ℕ) → ((k : ℕ) → k < n → p (a + k) ≡ false) → filter p (range_with_len a n) ≡ []
+filter-none p a zero fails = refl
+filter-none p a (suc n) fails =
+    let here : a + 0 ≡ a = omega arith in
+    let head : p a ≡ false = ap p (sym here) ∙ fails 0 (omega arith) in
+    let rest : filter p (range_with_len (a + 1) n) ≡ [] =
+    filter-none p (a + 1) n (λ k below. let next : (a + 1) + k ≡ a + (k + 1) = omega arith in ap p next ∙ fails (k + 1) (omega arith)) in
+    rw (head, rest) refl

@@ -15,7 +15,7 @@ use Rattle.life_intervals.specs.CohortLives.{CohortAt}
 use Rattle.life_intervals.specs.Generator.{generator_of, last_unit, table_of}
 use Rattle.life_intervals.specs.Intervals.{change_unit, is_live, row_at}
 use Rattle.life_intervals.specs.Keys.{key_in_cohort}
-use Rattle.row_lines.specs.Lines.{field, line_of}
+use Rattle.row_lines.specs.Lines.{field, line_if_live, line_of}
 
 -- the lines at a unit of the rows that are born at one, in the table at a place
 pub record LinesOf : Type 0 where
@@ -40,6 +40,10 @@ key_for lines index = key_in_cohort (generator_of lines.plan) lines.table lines.
 abbrev pub line_in_cohort : LinesOf → ℕ → List ℕ
 line_in_cohort lines index =
     line_of (generator_of lines.plan) lines.unit lines.table (ordinal_of lines index)
+
+-- its line where it is alive, and nothing where it isn't
+abbrev pub living_line : LinesOf → ℕ → List ℕ
+living_line lines index = line_if_live (generator_of lines.plan) lines.unit lines.table (ordinal_of lines index)
 
 -- what the row with an index in the cohort holds in the column at a place, as it is written
 abbrev pub text_in_cohort : LinesOf → ℕ → ℕ → List ℕ

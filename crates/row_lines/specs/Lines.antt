@@ -1,5 +1,5 @@
 -- The text of a table: a line for each row, in COPY text form (PostgreSQL's manual, "COPY").
-use Rattle.std.specs.Prelude.{ℕ, List, [], ◌++◌, filter, map, flat_map, length, Option, Some, codes, decimal, unwrap_or}
+use Rattle.std.specs.Prelude.{ℕ, List, [], ◌++◌, filter, map, flat_map, length, Option, Some, codes, decimal, if◌then◌else◌, unwrap_or}
 use Rattle.std.specs.List.{join_with_byte, range_with_len}
 use Rattle.row_text.specs.Fields.{field_text}
 use Rattle.schema_check.specs.Cohorts.{cohort_size, first_ordinal}
@@ -69,6 +69,11 @@ line generator unit place row = join_with_byte generator.delimiter (field_texts 
 abbrev pub line_of : Generator → ℕ → ℕ → ℕ → List ℕ
 line_of generator unit place ordinal =
     line generator unit place (row_at generator place unit ordinal)
+
+-- that line where the row is alive, and nothing where it isn't
+abbrev pub line_if_live : Generator → ℕ → ℕ → ℕ → List ℕ
+line_if_live generator unit place ordinal =
+    if is_live generator place unit ordinal then line_of generator unit place ordinal else []
 
 -- the key line of the row with an ordinal that is born by a last unit: its key as it is written, then a line feed
 abbrev pub key_line_of : Generator → ℕ → ℕ → ℕ → List ℕ

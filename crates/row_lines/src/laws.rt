@@ -16,7 +16,7 @@ ghost use Rattle.life_intervals.specs.Intervals.{is_live, living, row_at};
 ghost use Rattle.life_intervals.specs.Keys.{key_of};
 ghost use Rattle.life_intervals.specs.Rows.{Row};
 ghost use Rattle.life_intervals.specs.Sound.{AreSound};
-ghost use Rattle.row_lines.specs.Lines.{cohort_text, draws_of, field, first_lines, key_line_of, line_of, part_text, table_text, text_before};
+ghost use Rattle.row_lines.specs.Lines.{cohort_text, draws_of, field, first_lines, key_line_of, line_if_live, line_of, part_text, table_text, text_before};
 ghost use Rattle.row_lines.specs.Worked.{labels, one, pairs};
 
 /// The text of a table at a unit is the lines of the ordinals that are born by then and alive.
@@ -43,8 +43,7 @@ pub fn cohort_text_grows_by_the_living()
     ensures next { (generator : Generator) (unit place born count : ℕ) →
         first_lines generator unit place born (count + 1)
         ≡ first_lines generator unit place born count
-        ++ (if is_live generator place unit (first_ordinal (table_at generator.tables place).births born + count)
-        then line_of generator unit place (first_ordinal (table_at generator.tables place).births born + count) else []) }
+        ++ line_if_live generator unit place (first_ordinal (table_at generator.tables place).births born + count) }
     ensures all { (generator : Generator) (unit place born : ℕ) →
         first_lines generator unit place born (cohort_size (table_at generator.tables place).births born)
         ≡ cohort_text generator unit place born }
