@@ -107,30 +107,76 @@ kind = "key"
 base = 1
 "#;
 
-// A table whose rows die, which isn't built.
+// A row at each unit that lives for two units.
 const MORTAL: &str = r#"seed = 1
 units = 2
 [[table]]
 name = "t"
 rows = 1
-life = [1, 1]
+insert = 1
+life = [2, 2]
 [[table.column]]
 name = "id"
 kind = "key"
 base = 1
+[[table.column]]
+name = "born"
+kind = "born"
+"#;
+
+// A row at each unit that lives for four, and changes at the ages of one and three units: a cohort of one row has its place first.
+const CHANGING: &str = r#"seed = 1
+units = 4
+[[table]]
+name = "t"
+rows = 1
+insert = 1
+life = [4, 4]
+update = 2
+[[table.column]]
+name = "id"
+kind = "key"
+base = 1
+[[table.column]]
+name = "born"
+kind = "born"
+[[table.column]]
+name = "changed"
+kind = "changed"
+"#;
+
+// A table that shows what another holds, which isn't built.
+const SHOWING: &str = r#"seed = 1
+units = 2
+[[table]]
+name = "t"
+rows = 1
+[[table.column]]
+name = "id"
+kind = "key"
+base = 1
+[[table.column]]
+name = "shown"
+kind = "lookup"
+via = "id"
+column = "id"
 "#;
 
 // Both: what isn't built is told before a broken rule.
-const MORTAL_AND_TOO_MANY_ROWS: &str = r#"seed = 1
+const SHOWING_AND_TOO_MANY_ROWS: &str = r#"seed = 1
 units = 2
 [[table]]
 name = "t"
 rows = 1099511627777
-life = [1, 1]
 [[table.column]]
 name = "id"
 kind = "key"
 base = 1
+[[table.column]]
+name = "shown"
+kind = "lookup"
+via = "id"
+column = "id"
 "#;
 
 // More rows than a table may have, and no unit 2: a broken rule is told before a unit past the last.
@@ -558,8 +604,8 @@ fn other_words_and_schemas_are_refused(rt: HostRuntime) -> Result<(), Fail> {
             "pdgf: schema: top key table: expected list of tables\n",
         ),
         (TOO_MANY_ROWS, 4, "pdgf: rule V6 at table 1\n"),
-        (MORTAL, 11, "pdgf: not built\n"),
-        (MORTAL_AND_TOO_MANY_ROWS, 11, "pdgf: not built\n"),
+        (SHOWING, 11, "pdgf: not built\n"),
+        (SHOWING_AND_TOO_MANY_ROWS, 11, "pdgf: not built\n"),
         (TOO_MANY_ROWS_TO_UNIT_1, 4, "pdgf: rule V6 at table 1\n"),
     ];
     for (schema, status, message) in schemas {
@@ -790,6 +836,126 @@ fn checksum(text: &[u8]) -> u64 {
         sum = sum.wrapping_mul(1_000_003).wrapping_add(u64::from(*byte));
     }
     sum
+}
+
+// By hand: who is alive at each unit, and when they changed last.
+#[test]
+fn lives_and_changes_are_as_worked_out(rt: HostRuntime) -> Result<(), Fail> {
+    let alloc = rt.alloc();
+    let cases: [(&str, &str, &str); 8] = [
+        (MORTAL, "0", "1\t0\n"),
+        (MORTAL, "1", "1\t0\n2\t1\n"),
+        (MORTAL, "2", "2\t1\n3\t2\n"),
+        (CHANGING, "0", "1\t0\t0\n"),
+        (CHANGING, "1", "1\t0\t1\n2\t1\t1\n"),
+        (CHANGING, "2", "1\t0\t1\n2\t1\t2\n3\t2\t2\n"),
+        (CHANGING, "3", "1\t0\t3\n2\t1\t2\n3\t2\t3\n4\t3\t3\n"),
+        (CHANGING, "4", "2\t1\t4\n3\t2\t3\n4\t3\t4\n5\t4\t4\n"),
+    ];
+    for (schema, unit, text) in cases {
+        let shelf = shelf(alloc, ShelfFail::Begin(9), 1000)?;
+        let given = ["pdgf", "snapshot", "s.toml", "--unit", unit];
+        let done = all_done(&[("-", text)]);
+        run_gives(&rt, alloc, schema.as_bytes(), &given, shelf, done)?;
+    }
+    for (schema, line) in [
+        (MORTAL, "t\t3\t2\t2\t27\n"),
+        (CHANGING, "t\t5\t4\t3\t33\n"),
+    ] {
+        let shelf = shelf(alloc, ShelfFail::Begin(9), 1000)?;
+        let done = all_done(&[("-", line)]);
+        let given = ["pdgf", "check", "s.toml"];
+        run_gives(&rt, alloc, schema.as_bytes(), &given, shelf, done)?;
+    }
+    Ok(())
+}
+
+// The checksum of the snapshot of a table at a unit.
+fn snapshot_checksum<R: Threads + Sync + Abort>(
+    rt: &R,
+    alloc: Global,
+    schema: &str,
+    unit: &str,
+) -> Result<u64, Fail> {
+    let mut library = library(alloc, schema.as_bytes())?;
+    let mut shelf = shelf(alloc, ShelfFail::Begin(9), 1000)?;
+    if shelf.begun().is_some() {
+        return Err(Fail::from("begun"));
+    }
+    let given = words(alloc, &["pdgf", "snapshot", "s.toml", "--unit", unit])?;
+    let report = pdgf(rt, alloc, &given, &mut library, &mut shelf, &OpenGate);
+    assert_eq!(rt; report.status, 0);
+    assert!(rt; shelf.finished().len() == 1);
+    Ok(checksum(shelf.finished().bytes(0)))
+}
+
+// A table whose rows live for two to five units, with a column of each sort that changes and of each that doesn't.
+const LIVING: &str = r#"seed = 7
+units = 6
+[[table]]
+name = "t"
+rows = 300
+insert = 20
+life = [2, 5]
+update = 3
+[[table.column]]
+name = "id"
+kind = "key"
+base = 1
+scramble = true
+[[table.column]]
+name = "born"
+kind = "born"
+[[table.column]]
+name = "at"
+kind = "changed"
+null = 100
+[[table.column]]
+name = "amount"
+kind = "int"
+lo = 1
+hi = 1000
+changes = true
+[[table.column]]
+name = "kept"
+kind = "int"
+lo = 1
+hi = 1000
+[[table.column]]
+name = "mood"
+kind = "pick"
+entries = ["a", "b", "c"]
+null = 50
+[[table.column]]
+name = "note"
+kind = "case"
+on = "mood"
+branches = [{ kind = "int", lo = 1, hi = 9 }, { kind = "chars", alphabet = "xyz", lo = 1, hi = 4 }, { kind = "date", lo = "2024-01-01", hi = "2024-12-31" }]
+changes = true
+[[table.column]]
+name = "label"
+kind = "template"
+parts = ["x", { column = "amount" }, "/", { column = "id" }]
+changes = true
+null = 100
+"#;
+
+// The checksums are those of the texts that an independent program wrote, stepping from unit to unit, in Python
+// (docs/SECOND_PROGRAM.md).
+#[test]
+fn snapshots_are_those_of_a_simulation(rt: HostRuntime) -> Result<(), Fail> {
+    for (unit, sum) in [
+        ("0", 7_576_709_940_865_645_735),
+        ("1", 16_042_029_209_962_655_758),
+        ("2", 7_401_556_042_912_636_731),
+        ("3", 14_387_791_184_590_950_304),
+        ("4", 4_037_875_638_905_791_990),
+        ("5", 10_652_435_079_214_470_033),
+        ("6", 2_396_203_592_591_509_865),
+    ] {
+        assert_eq!(rt; snapshot_checksum(&rt, rt.alloc(), LIVING, unit)?, sum);
+    }
+    Ok(())
 }
 
 // The checksum is that of the text that an independent program wrote, in Python (docs/SECOND_PROGRAM.md).
