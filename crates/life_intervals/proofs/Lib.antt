@@ -11,7 +11,8 @@ pub mod KnownLemmas
 pub mod SimulationLemmas
 pub mod StreamLemmas
 pub mod SoundLemmas
-pub mod StillLemmas
+pub mod BuiltLemmas
 pub mod LifeLemmas
 pub mod KeyLemmas
 pub mod OrderLemmas
+pub mod CohortAtLemmas

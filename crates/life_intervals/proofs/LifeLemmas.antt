@@ -73,11 +73,11 @@ change_unit-none generator place unit ordinal none = rw none refl
 -- where they do, it is the last due unit, by the row's birth and the place of its index
 pub change_unit-some : (generator : Generator) (place unit ordinal born index placed period : ℕ) → (table_at generator.tables place).update ≡ Some period →
     born ≡ birth (table_at generator.tables place).births unit ordinal → index ≡ ordinal - first_ordinal (table_at generator.tables place).births born →
-    placed ≡ generator.order place update_column born index →
+    placed % period ≡ generator.order place update_column born index % period →
     last_due born (born + (1 + placed % period)) period unit ≡ change_unit generator place unit ordinal
 change_unit-some generator place unit ordinal born index placed period some born_is index_is placed_is =
     let births : Births = (table_at generator.tables place).births in
-    ap (λ (p : ℕ). last_due born (born + (1 + p % period)) period unit) placed_is
+    ap (λ (rest : ℕ). last_due born (born + (1 + rest)) period unit) placed_is
     ∙ ap (λ (i : ℕ). last_due born (first_due generator.order place born i period) period unit) index_is
     ∙ ap (λ (b : ℕ). last_due b (first_due generator.order place b (ordinal - first_ordinal births b) period) period unit) born_is
     ∙ sym (rw some refl)

@@ -13,7 +13,7 @@ use Rattle.life_intervals.specs.Intervals.{Known, birth, death_by, first_death, 
 use Rattle.life_intervals.specs.References.{Reference, references_of}
 use Rattle.life_intervals.specs.Rows.{Row, State, first_age_by, life_by, new_row, parent_choice}
 use Rattle.life_intervals.specs.Simulation.{hold_parents, is_due, is_over, kept, one_less, waited}
-use Rattle.life_intervals.specs.Sound.{IsLife}
+use Rattle.schema_check.specs.Limits.{IsSpan}
 use Rattle.life_intervals.proofs.ChangeLemmas.{NextChange, NextChange-update, change-born, wait-born}
 use Rattle.life_intervals.proofs.CohortLemmas.{birth-early, birth-first_ordinal}
 use Rattle.life_intervals.proofs.DeathLemmas.{is_after-lesser_from, is_after-lesser_life, is_after-lesser_parts, is_after-suc, is_over-left, one_less-left}
@@ -122,9 +122,9 @@ left-born unit None = refl
 left-born unit (Some life) = ap Some (omega arith)
 
 -- a row lives past its birth
-own_death-born : (unit place : ℕ) (life : Option Span) → IfSome life IsLife → is_after (option_map (λ l. unit + l) (life_by life place)) unit ≡ true
+own_death-born : (unit place : ℕ) (life : Option Span) → IfSome life IsSpan → is_after (option_map (λ l. unit + l) (life_by life place)) unit ≡ true
 own_death-born unit place None is = refl
-own_death-born unit place (Some life) is = lt-ltb unit _ (omega (arith, is.some))
+own_death-born unit place (Some life) is = lt-ltb unit _ (omega (arith, is.some_unit))
 
 index-first_ordinal : (first index : ℕ) → first + index - first ≡ index
 index-first_ordinal first index = omega arith
@@ -157,7 +157,7 @@ row_by-first_ordinal order known last unit index within below =
 
 -- a row as it is born is the row of its ordinal, where it has the same parents and they are alive
 pub new_row-live_row : (order : Order) (earlier : List Known) (table : TableLayout) (unit index : ℕ) (state : State) → length state ≡ length earlier → index < cohort_size table.births unit →
-    IfSome table.life IsLife →
+    IfSome table.life IsSpan →
     map (λ (reference : Reference). parent_choice reference unit (get_or state reference.parent []) (order (length state) reference.column unit index)) (references_of table)
     ≡ parents_by order earlier table unit index →
     is_after (parents_death order earlier table unit index) unit ≡ true →

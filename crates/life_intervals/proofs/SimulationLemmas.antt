@@ -15,7 +15,8 @@ use Rattle.life_intervals.specs.Intervals.{Known, birth, index_at, interval_stat
 use Rattle.life_intervals.specs.References.{references_of}
 use Rattle.life_intervals.specs.Rows.{Row, State, cohort, new_row}
 use Rattle.life_intervals.specs.Simulation.{kept, rows_at, simulation, step, waited, with_changes, with_cohort, with_deletions, with_insertions, with_updates, without_dead}
-use Rattle.life_intervals.specs.Sound.{AreSound, IsLife}
+use Rattle.schema_check.specs.Limits.{IsSpan}
+use Rattle.life_intervals.specs.Sound.{AreSound}
 use Rattle.life_intervals.proofs.CohortLemmas.{birth-le, born_count-by_units, born_count-next, index_at-below}
 use Rattle.life_intervals.proofs.FilterMaps.{filter_map-filter_map, filter_map-range_same, map-filter, map-filter_map, map-filter_map_range}
 use Rattle.life_intervals.proofs.InTurnLemmas.{in_turn-zip_known}
@@ -76,7 +77,7 @@ with_changes-aged order known unit earlier some =
     ∙ ap (λ (u : ℕ). filter_map (live_row order known (suc unit)) (range_with_len 0 (first_ordinal known.table.births u))) (add-one unit)
 
 -- the rows that a unit inserts are those of their ordinals
-pub cohort-live : (units : ℕ) (order : Order) (earlier : List Known) (sure : ℕ → Option ℕ) (table : TableLayout) (unit : ℕ) → unit ≤ units → IfSome table.life IsLife →
+pub cohort-live : (units : ℕ) (order : Order) (earlier : List Known) (sure : ℕ → Option ℕ) (table : TableLayout) (unit : ℕ) → unit ≤ units → IfSome table.life IsSpan →
     AllByRecursion (Refers units earlier sure table.births) (references_of table) →
     cohort order unit (map (λ known. live_rows order known unit) earlier) table ≡ filter_map (live_row order (known_by order earlier table) unit) (ordinals_of table unit)
 cohort-live units order earlier sure table unit within life refers =
@@ -93,7 +94,7 @@ cohort-live units order earlier sure table unit within life refers =
     ∙ ap (λ (a : ℕ). filter_map (live_row order known unit) (range_with_len a (cohort_size table.births unit))) (omega arith)
 
 -- the insertions of a unit
-pub with_cohort-older : (units : ℕ) (order : Order) (earlier : List Known) (sure : ℕ → Option ℕ) (table : TableLayout) (unit : ℕ) → unit ≤ units → IfSome table.life IsLife →
+pub with_cohort-older : (units : ℕ) (order : Order) (earlier : List Known) (sure : ℕ → Option ℕ) (table : TableLayout) (unit : ℕ) → unit ≤ units → IfSome table.life IsSpan →
     AllByRecursion (Refers units earlier sure table.births) (references_of table) →
     with_cohort order unit (map (λ known. live_rows order known unit) earlier) (table, older_rows order (known_by order earlier table) unit) ≡ live_rows order (known_by order earlier table) unit
 with_cohort-older units order earlier sure table unit within life refers =

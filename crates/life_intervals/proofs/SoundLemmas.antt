@@ -1,17 +1,16 @@
--- What sound tables come to: the candidates of each reference, and tables whose rows are still.
-use Rattle.std.proofs.Common.{◌≡◌, ℕ, zero, suc, ◌<◌, ◌≤◌, true, Option, Some, None, List, [], ◌∷◌, length, ap, arith, refl, sym, subst, ◌∙◌}
-use Rattle.std.specs.Prelude.{All, IfSome}
+-- What sound tables come to: the candidates of each reference, and change units.
+use Rattle.std.proofs.Common.{◌≡◌, ℕ, ◌<◌, ◌≤◌, Some, List, length, ap, arith, ◌∙◌}
 use Rattle.std.specs.List.{range_with_len}
 use Rattle.schema_check.specs.Cohorts.{born_count, cohort_size}
-use Rattle.schema_check.specs.Layout.{TableLayout, no_table, table_at}
+use Rattle.schema_check.specs.Layout.{TableLayout, table_at}
 use Rattle.schema_check.specs.Lineage.{sure_life}
 use Rattle.life_intervals.specs.Changes.{IsLastDue, first_due}
 use Rattle.life_intervals.specs.Generator.{Generator}
-use Rattle.life_intervals.specs.Intervals.{Known, birth, change_unit, death, index_at, is_after, is_live, known_of, row_at}
-use Rattle.life_intervals.specs.References.{Reference, count_in_window, first_in_window, references_of}
+use Rattle.life_intervals.specs.Intervals.{Known, birth, change_unit, index_at, known_of}
+use Rattle.life_intervals.specs.References.{Reference, count_in_window, first_in_window}
 use Rattle.life_intervals.specs.Rows.{candidates}
 use Rattle.life_intervals.specs.Simulation.{rows_at}
-use Rattle.life_intervals.specs.Sound.{AreSound, IsLife, IsSoundReference, IsStill}
+use Rattle.life_intervals.specs.Sound.{AreSound, IsSoundReference}
 use Rattle.life_intervals.proofs.ChangeLemmas.{IsLastDue-last_due}
 use Rattle.life_intervals.proofs.KnownLemmas.{IsSure-known_of}
 use Rattle.life_intervals.proofs.ParentLemmas.{candidates-window}
@@ -42,49 +41,3 @@ pub change_unit-last_due : (generator : Generator) (place unit ordinal period : 
 change_unit-last_due generator place unit ordinal period update some =
     let births = (table_at generator.tables place).births in
     rw update (IsLastDue-last_due (birth births unit ordinal) (first_due generator.order place (birth births unit ordinal) (index_at births unit ordinal) period) period unit some)
-
--- ---- tables whose rows are still
-
--- of some tables each is still, and so is what stands past the last one
-pub IsStill-table_at : (tables : List TableLayout) → All IsStill tables → (place : ℕ) → IsStill (table_at tables place)
-IsStill-table_at [] still place = record { no_life = refl; no_update = refl; no_references = refl }
-IsStill-table_at (table ∷ others) still zero = still 0 no_table (omega arith)
-IsStill-table_at (table ∷ others) still (suc place) = IsStill-table_at others (λ k d below. still (suc k) d (omega (arith, below))) place
-
-all-none : {X : Type 0} (P : X → Type 0) (xs : List X) → xs ≡ [] → All P xs
-all-none P xs none = subst (All P) (sym none) (λ k d below. absurd (omega (arith, below)))
-
-if_some-none : {X : Type 0} (o : Option X) (P : X → Type 0) → o ≡ None → IfSome o P
-if_some-none o P none = subst (λ o. IfSome o P) (sym none) tt
-
-pub AreSound-still : (tables : List TableLayout) → All IsStill tables → (units : ℕ) → AreSound units tables
-AreSound-still tables still units place below =
-    let is : IsStill (table_at tables place) = IsStill-table_at tables still place in
-    record {
-      life = if_some-none (table_at tables place).life IsLife is.no_life;
-      period = if_some-none (table_at tables place).update (λ period. 1 ≤ period) is.no_update;
-      references = all-none (IsSoundReference units tables place) (references_of (table_at tables place)) is.no_references;
-    }
-
--- no row of them dies
-pub death-still : (generator : Generator) → All IsStill generator.tables → (place unit ordinal : ℕ) → death generator place unit ordinal ≡ None
-death-still generator still place unit ordinal =
-    let table : TableLayout = table_at generator.tables place in
-    let is : IsStill table = IsStill-table_at generator.tables still place in
-    rw (is.no_life, is.no_references) refl
-
-pub is_live-still : (generator : Generator) → All IsStill generator.tables → (place unit ordinal : ℕ) → is_live generator place unit ordinal ≡ true
-is_live-still generator still place unit ordinal = ap (λ (death : Option ℕ). is_after death unit) (death-still generator still place unit ordinal)
-
--- and none changes
-pub change_unit-still : (generator : Generator) → All IsStill generator.tables → (place unit ordinal : ℕ) →
-    change_unit generator place unit ordinal ≡ birth (table_at generator.tables place).births unit ordinal
-change_unit-still generator still place unit ordinal =
-    let is : IsStill (table_at generator.tables place) = IsStill-table_at generator.tables still place in
-    rw is.no_update refl
-
-pub row_at-still : (generator : Generator) → All IsStill generator.tables → (place unit ordinal : ℕ) →
-    (row_at generator place unit ordinal).changed ≡ birth (table_at generator.tables place).births unit ordinal
-row_at-still generator still place unit ordinal =
-    let is : IsStill (table_at generator.tables place) = IsStill-table_at generator.tables still place in
-    rw is.no_update refl

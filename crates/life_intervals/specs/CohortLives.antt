@@ -1,10 +1,10 @@
 -- Which rows of a cohort are alive at a unit, and when they changed last, as the code keeps it.
-use Rattle.std.specs.Prelude.{◌≡◌, ◌≤◌, ℕ, ◌+◌, Bool, false, nat_lt, if◌then◌else◌, IfSome, Option, Some, None}
+use Rattle.std.specs.Prelude.{◌≡◌, ◌<◌, ◌≤◌, ℕ, ◌+◌, length, Bool, false, nat_lt, if◌then◌else◌, IfSome, Option, Some, None}
 use Rattle.id_permutation.specs.Order.{Arrangement}
 use Rattle.schema_check.specs.declared.layout.Span.{Span}
 use Rattle.schema_check.specs.Cohorts.{cohort_size, first_ordinal}
 use Rattle.schema_check.specs.Dictionaries.{Project}
-use Rattle.schema_check.specs.Limits.{IsLife}
+use Rattle.schema_check.specs.Limits.{IsLife, IsUpdatePeriod}
 use Rattle.schema_check.specs.Unbuilt.{is_unbuilt}
 use Rattle.life_intervals.specs.declared.lives.Survival.{Survival}
 use Rattle.life_intervals.specs.declared.lives.Survival.TheVariants.{Sure, Drawn, Over}
@@ -48,6 +48,7 @@ change_in cohort index = change_unit (generator_of cohort.plan) cohort.table coh
 
 -- a cohort of a plan that is born by the unit
 pub record IsCohortAt (cohort : CohortAt) : Type 0 where
+  pub table : cohort.table < length cohort.plan.schema.tables
   pub born : cohort.born ≤ cohort.unit
   pub unit : cohort.unit ≤ last_unit cohort.plan
   pub last : last_unit cohort.plan ≤ 10000
@@ -64,5 +65,5 @@ pub record AreLivesOf (cohort : CohortAt) (life : Option Span) (placed : Arrange
 pub record AreChangesOf (cohort : CohortAt) (update : Option ℕ) (placed : Arrangement) : Type 0 where
   pub cohort_is : IsCohortAt cohort
   pub update_is : update ≡ (table_of cohort.plan cohort.table).update
-  pub limits : IfSome update (λ period. 1 ≤ period)
+  pub limits : IfSome update IsUpdatePeriod
   pub order : placed ≡ update_order cohort.plan cohort.table cohort.born

@@ -1,5 +1,5 @@
 -- Tables of which the simulation has a closed form.
-use Rattle.std.specs.Prelude.{◌≡◌, ℕ, ◌<◌, ◌≤◌, ⊤, All, IfSome, List, [], length, Option, Some, None}
+use Rattle.std.specs.Prelude.{◌≡◌, ℕ, ◌<◌, ◌≤◌, ⊤, All, IfSome, List, length, Option, Some, None}
 use Rattle.schema_check.specs.Cohorts.{born_count, cohort_size}
 use Rattle.schema_check.specs.Layout.{TableLayout, table_at}
 use Rattle.schema_check.specs.Limits.{IsSpan}

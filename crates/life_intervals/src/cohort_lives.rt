@@ -144,7 +144,12 @@ impl<'a> CohortChanges<'a> {
         match self.update {
             Some(period) if self.born < self.unit => {
                 let place = self.order.place(index, steps);
-                last_due(self.born, self.born + (1 + place % period), period, self.unit)
+                last_due(
+                    self.born,
+                    self.born + (1 + place % period),
+                    period,
+                    self.unit,
+                )
             }
             _ => self.born,
         }

@@ -26,9 +26,7 @@ pub use cohorts::Cohort;
 pub use keys::{CohortKeys, key, row_of_key};
 pub use lives::{Survival, death, last_change, own_death, survival_at};
 pub use memory::Memory;
-pub use orders::{
-    CohortOrders, cohort_orders, key_order, life_order, table_orders, update_order,
-};
+pub use orders::{CohortOrders, cohort_orders, key_order, life_order, table_orders, update_order};
 
 #[cfg(test)]
 mod tests;

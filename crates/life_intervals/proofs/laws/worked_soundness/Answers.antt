@@ -20,9 +20,9 @@ all-one P x here (suc k) d below = absurd (omega (arith, below))
 
 pub returns : goal.returns
 unfolding lineages
-returns c zero below = record { life = record { some = omega arith; ordered = omega arith }; period = omega arith; references = λ k d none. absurd (omega (arith, none)) }
+returns c zero below = record { life = record { some_unit = omega arith; ordered = omega arith }; period = omega arith; references = λ k d none. absurd (omega (arith, none)) }
 returns c (suc zero) below = record {
-  life = record { some = omega arith; ordered = omega arith };
+  life = record { some_unit = omega arith; ordered = omega arith };
   period = tt;
   references = all-one (IsSoundReference 5 sales_in_place.tables 1) _ (record { earlier = omega arith; within_life = omega arith; some_parent = λ unit within some. some_in_window 2 unit });
 }
