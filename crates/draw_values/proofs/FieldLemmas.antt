@@ -1,5 +1,5 @@
 -- What a row holds in a column of units or of drawn values, as it is written, by what a plan keeps of the columns.
-use Rattle.std.proofs.Common.{◌≡◌, ◌<◌, ◌≤◌, ℕ, true, max, List, [], decimal, length, get_or, option_map, Option, None, Some, ap, sym, ◌∙◌, subst, arith}
+use Rattle.std.proofs.Common.{◌≡◌, ◌<◌, ◌≤◌, ℕ, true, max, List, [], length, get_or, option_map, Option, None, Some, ap, sym, ◌∙◌, subst, arith}
 use Rattle.std.specs.Prelude.{All, unwrap_or}
 use Rattle.row_text.specs.Fields.{field_text, piece_text}
 use Rattle.schema_check.specs.declared.ready.ReadyColumn.{ReadyColumn}

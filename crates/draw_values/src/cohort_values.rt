@@ -2,7 +2,6 @@
 //! once.
 
 ghost use Rattle.std.specs.Prelude.{◌≡◌, ◌<◌, ◌≤◌, ℕ, ◌+◌, ◌++◌, true, length};
-ghost use Rattle.philox_seeds.specs.SeedTree.{field_draw};
 ghost use Rattle.row_text.specs.Fields.{field_text};
 ghost use Rattle.schema_check.specs.Layout.{column_at, layout_of};
 ghost use Rattle.draw_values.specs.CohortValues.{is_null_for, layout_for, row_for, size_for, value_for};
@@ -11,8 +10,8 @@ ghost use Rattle.draw_values.specs.UnitDraws.{unit_draws};
 ghost use Rattle.draw_values.specs.Values.{draws_at, is_own, put_of, written};
 
 use crate::Put;
-use crate::fields::{Drawn, Units, chooser_of, is_null, put_field};
 use crate::draws::UnitDraws;
+use crate::fields::{Drawn, Units, chooser_of, is_null, put_field};
 use pd_outside::PageBuf;
 use schema_check::{Plan, ReadyColumn};
 use std::marker::Model;
@@ -106,8 +105,14 @@ impl<'a> CohortValues<'a> {
             changed: self.changes.text(),
         };
         put_field(
-            Drawn { column: own, seed: self.seed(column) },
-            Drawn { column: &columns[chooser], seed: self.seed(chooser) },
+            Drawn {
+                column: own,
+                seed: self.seed(column),
+            },
+            Drawn {
+                column: &columns[chooser],
+                seed: self.seed(chooser),
+            },
             units,
             ordinal,
             buf,

@@ -74,7 +74,8 @@ impl UnitDraws {
         requires { column < self.now.columns }
         ensures { result ≡ unit_seed_of (column_seed_of self.now.seed column) self.now.unit }
     {
-        self.seeds[column]
+        let seeds = &self.seeds;
+        seeds[column]
     }
 
     /// The unit as it is written, of at most 5 bytes.

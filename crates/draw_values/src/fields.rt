@@ -2,7 +2,6 @@
 
 ghost use Rattle.std.specs.Prelude.{◌≡◌, ◌<◌, ◌≤◌, ◌+◌, ◌++◌, [], All, IfSome, length, option_map, unwrap_or};
 ghost use Rattle.philox_seeds.specs.SeedTree.{draw as draw_of};
-ghost use Rattle.pd_outside.specs.Pieces.{piece_text};
 ghost use Rattle.schema_check.specs.FieldBounds.{greatest_by};
 ghost use Rattle.draw_values.specs.ReadyValues.{IsReady, IsReadyKind, IsReadyPick, chooser_of, entry_count, ready_branch, ready_field, ready_held_entry, ready_kind_size, ready_size, ready_text, row_draws};
 ghost use Rattle.draw_values.specs.Values.{is_null, put_of};
@@ -103,9 +102,9 @@ pub(crate) fn put_field(
     requires ready { IsReadyKind chooser.column.now.kind own.column.now.kind }
     requires units { IsWritten units }
     requires room { length buf.old.text + ready_kind_size own.column.now.kind ≤ buf.old.room }
-    ensures put { result ≡ put_of (ready_field (written_units units.old) chooser.old.column.now (row_draws chooser.old.seed ordinal) own.old.column.now (row_draws own.old.seed ordinal)) }
-    ensures text { buf.new ≡ record buf.old { text = buf.old.text ++ unwrap_or (ready_field (written_units units.old) chooser.old.column.now (row_draws chooser.old.seed ordinal) own.old.column.now (row_draws own.old.seed ordinal)) [] } }
-    ensures size { length (unwrap_or (ready_field (written_units units.old) chooser.old.column.now (row_draws chooser.old.seed ordinal) own.old.column.now (row_draws own.old.seed ordinal)) []) ≤ ready_kind_size own.old.column.now.kind }
+    ensures put { result ≡ put_of (ready_field (written_units units.entry) chooser.entry.column.now (row_draws chooser.entry.seed ordinal) own.entry.column.now (row_draws own.entry.seed ordinal)) }
+    ensures text { buf.new ≡ record buf.old { text = buf.old.text ++ unwrap_or (ready_field (written_units units.entry) chooser.entry.column.now (row_draws chooser.entry.seed ordinal) own.entry.column.now (row_draws own.entry.seed ordinal)) [] } }
+    ensures size { length (unwrap_or (ready_field (written_units units.entry) chooser.entry.column.now (row_draws chooser.entry.seed ordinal) own.entry.column.now (row_draws own.entry.seed ordinal)) []) ≤ ready_kind_size own.entry.column.now.kind }
 {
     if is_null(own.column.null, own.seed, ordinal) {
         return Put::Null;

@@ -17,7 +17,6 @@ mod fixed;
 pub mod laws;
 mod leaves;
 mod numbers;
-
 mod values;
 mod weighted;
 mod words;

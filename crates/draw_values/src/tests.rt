@@ -207,16 +207,27 @@ fn name_of(alloc: Global, place: usize) -> Result<Text, Memory> {
     Ok(name)
 }
 
-fn with_nulls(alloc: Global, columns: Columns, kind: Kind, null: i64) -> Result<Columns, Memory> {
+/// These columns and one more.
+fn with(
+    alloc: Global,
+    columns: Columns,
+    kind: Kind,
+    changes: bool,
+    null: i64,
+) -> Result<Columns, Memory> {
     let mut columns = columns;
     let column = Column {
         name: name_of(alloc, columns.len())?,
         kind,
-        changes: false,
+        changes,
         null,
     };
     columns.push(column)?;
     Ok(columns)
+}
+
+fn with_nulls(alloc: Global, columns: Columns, kind: Kind, null: i64) -> Result<Columns, Memory> {
+    with(alloc, columns, kind, false, null)
 }
 
 fn with_column(alloc: Global, columns: Columns, kind: Kind) -> Result<Columns, Memory> {
@@ -323,24 +334,35 @@ fn is_own_column(plan: &Plan, column: usize) -> bool
 {
     match plan.columns(0).get(column) {
         Some(ready) => match &ready.kind {
-            ReadyKind::Born | ReadyKind::Drawn(_) | ReadyKind::Case { .. } => true,
+            ReadyKind::Born | ReadyKind::Changed | ReadyKind::Drawn(_) | ReadyKind::Case { .. } =>
+                true,
             _ => false,
         },
         None => false,
     }
 }
 
-/// The place of the case column.
-const CASE: usize = 16;
+/// Whether the column of this place in the first table is a case.
+fn is_case(plan: &Plan, column: usize) -> bool
+    requires { 0 < length plan.now.schema.tables }
+{
+    match plan.columns(0).get(column) {
+        Some(ready) => matches!(ready.kind, ReadyKind::Case { .. }),
+        None => false,
+    }
+}
 
 /// What a row of the first table holds in the columns behind its key, as both calls put it, each with a semicolon behind. Where
 /// a field is null, and no case, the draw says so.
 fn row_text(rt: &impl Abort, alloc: Global, plan: &Plan, at: RowAt) -> Result<Vec<u8>, Fail>
     requires table { 0 < length plan.now.schema.tables }
     requires born { at.born ≤ (layout_of plan.now).units }
+    requires changed { at.changed ≤ (layout_of plan.now).units }
 {
     let mut text = Vec::new(alloc);
-    let values = CohortValues::new(plan, 0, at.born);
+    let births = UnitDraws::new(plan, 0, at.born);
+    let changes = UnitDraws::new(plan, 0, at.changed);
+    let values = CohortValues::new(plan, 0, &births, &changes);
     let room = plan.max_line(0) as usize;
     for column in 1..plan.columns(0).len() {
         assert!(rt; is_own_column(plan, column));
@@ -350,7 +372,7 @@ fn row_text(rt: &impl Abort, alloc: Global, plan: &Plan, at: RowAt) -> Result<Ve
         assert!(rt; put_value(plan, 0, column as u32, at, &mut alone) == put);
         assert_eq!(rt; page.text(), alone.text());
         let null = put == Put::Null;
-        assert!(rt; values.is_null(column, at.ordinal) == null || column == CASE);
+        assert!(rt; values.is_null(column, at.ordinal) == null || is_case(plan, column));
         text.extend_from_slice(if null { b"\\N" } else { page.text() })?;
         text.push(b';')?;
     }
@@ -413,6 +435,73 @@ fn values_of_some_rows(rt: HostRuntime) -> Result<(), Fail> {
     let text =
         "2;7;-3485567071594094168;6417096489469501226;-31.13;3;-0.000000186;6229-10-20;2000-03-01;a\\\\b\\|c\\td;1;100;a\\|;3;a\\\\b\\|c\\td;10;";
     assert_eq!(rt; row.as_slice(), text.as_bytes());
+    Ok(())
+}
+
+/// Units, numbers, and cases by a pick that stays as it is and by one that changes: some change, and others don't.
+fn columns_that_change(alloc: Global) -> Result<Columns, Memory> {
+    let (lo, hi, step) = (0, 999_999, 1);
+    let key = Kind::Key {
+        base: 1,
+        scramble: false,
+    };
+    let mut columns = with_column(alloc, Columns::new(alloc), key)?;
+    columns = with_column(alloc, columns, Kind::Born)?;
+    columns = with_column(alloc, columns, Kind::Changed)?;
+    for (changes, null) in [(false, 0), (true, 0), (true, 500)] {
+        let number = Leaf::Int { lo, hi, step };
+        columns = with(alloc, columns, Kind::Leaf(number), changes, null)?;
+    }
+    let still = columns.len();
+    columns = with_nulls(alloc, columns, Kind::Leaf(picked(alloc)?), 300)?;
+    for changes in [false, true] {
+        let by_still = case(alloc, name_of(alloc, still)?)?;
+        columns = with(alloc, columns, by_still, changes, 0)?;
+    }
+    let moving = columns.len();
+    columns = with(alloc, columns, Kind::Leaf(picked(alloc)?), true, 300)?;
+    let by_moving = case(alloc, name_of(alloc, moving)?)?;
+    with(alloc, columns, by_moving, true, 100)
+}
+
+// The texts are those of the Python program, with the unit of the last change in place of that of the birth in a column that
+// changes.
+#[test]
+fn values_of_changed_rows(rt: HostRuntime) -> Result<(), Fail> {
+    let alloc = rt.alloc();
+    let columns = columns_that_change(alloc).map_err(|_| Fail::from("out of memory"))?;
+    let schema = schema(alloc, 4, 2, Delimiter::Tab, columns);
+    let plan = plan_of(alloc, schema, Dictionaries::new(alloc))?;
+    assert!(rt; plan.tables() == 1);
+    assert!(rt; plan.units() == 5);
+    for (ordinal, born, changed, text) in [
+        (0, 1, 1, "1;1;767936;566084;378317;last;;éa;last;a|;"),
+        (0, 1, 3, "1;3;767936;314603;64628;last;;aa;\\N;\\N;"),
+        (0, 3, 3, "3;3;515091;314603;64628;last;ébbab;aa;\\N;\\N;"),
+        (1, 0, 2, "0;2;300620;518894;870426;plain;20;25;\\N;\\N;"),
+        (
+            1,
+            0,
+            5,
+            "0;5;300620;14137;286381;plain;20;22;a\\\\b|c\\td;15;",
+        ),
+        (4, 1, 2, "1;2;447397;327457;\\N;;40;43;x|y;\\N;"),
+        (4, 1, 3, "1;3;447397;319022;351648;;40;41;last;bb|;"),
+        (4, 3, 3, "3;3;96738;319022;351648;\\N;\\N;\\N;last;bb|;"),
+    ] {
+        assert!(rt; born <= 5);
+        assert!(rt; changed <= 5);
+        let at = RowAt {
+            ordinal,
+            born,
+            changed,
+        };
+        let row = row_text(&rt, alloc, &plan, at)?;
+        assert_eq!(rt; row.as_slice(), text.as_bytes());
+    }
+    let draws = unit_draws(alloc, &plan, 0, 1, 3).map_err(|_| Fail::from("out of memory"))?;
+    assert_eq!(rt; draws.len(), 3);
+    assert_eq!(rt; draws[2].unit(), 3);
     Ok(())
 }
 

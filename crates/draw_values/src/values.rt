@@ -38,8 +38,15 @@ fn drawn_seed(plan: &Plan, table: u32, place: usize, at: RowAt) -> u64
     ensures { row_draws result at.ordinal ≡ draws_at (layout_of plan.now) table at place }
 {
     let columns = plan.columns(table);
-    let unit = if columns[place].changes { at.changed } else { at.born };
-    unit_seed(column_seed(table_seed(plan.seed(), table), place as u32), unit)
+    let unit = if columns[place].changes {
+        at.changed
+    } else {
+        at.born
+    };
+    unit_seed(
+        column_seed(table_seed(plan.seed(), table), place as u32),
+        unit,
+    )
 }
 
 /// Appends what a row of a table holds in a column of units, of drawn values or of cases, as it is written; nothing where it is
@@ -63,8 +70,14 @@ pub fn put_value(plan: &Plan, table: u32, column: u32, at: RowAt, buf: &mut Page
         changed: &Piece::of_number(at.changed),
     };
     put_field(
-        Drawn { column: own, seed: drawn_seed(plan, table, column as usize, at) },
-        Drawn { column: &columns[chooser], seed: drawn_seed(plan, table, chooser, at) },
+        Drawn {
+            column: own,
+            seed: drawn_seed(plan, table, column as usize, at),
+        },
+        Drawn {
+            column: &columns[chooser],
+            seed: drawn_seed(plan, table, chooser, at),
+        },
         units,
         at.ordinal,
         buf,

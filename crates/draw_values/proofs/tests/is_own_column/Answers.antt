@@ -1,8 +1,6 @@
-use Rattle.std.proofs.Common.{◌≡◌, ◌<◌, ◌≤◌, ℕ, List, true, nat_lt, length, ap, sym, arith}
+use Rattle.std.proofs.Common.{◌<◌, ◌≤◌, length, ap, sym, arith}
 use Rattle.std.proofs.lemmas.Bool.{ltb-true}
-use Rattle.schema_check.specs.declared.ready.ReadyColumn.{ReadyColumn}
 use Rattle.schema_check.specs.Layout.{Layout, layout_of}
-use Rattle.schema_check.specs.Ready.{ready_columns}
 use Rattle.schema_check.specs.TableFacts.{max_line}
 use Rattle.draw_values.specs.Values.{size_at}
 use Rattle.draw_values.proofs.ColumnLemmas.{length-ready_columns}
@@ -24,3 +22,6 @@ returns-in-Born-2-clause-size c = size_fits (goal.at.returns-in-Born-2-clause-si
 
 pub returns-in-Born-3-clause-size : goal.returns-in-Born-3-clause-size
 returns-in-Born-3-clause-size c = size_fits (goal.at.returns-in-Born-3-clause-size c).In-Some
+
+pub returns-in-Born-4-clause-size : goal.returns-in-Born-4-clause-size
+returns-in-Born-4-clause-size c = size_fits (goal.at.returns-in-Born-4-clause-size c).In-Some
