@@ -1,5 +1,5 @@
 -- The line of a row of a cohort, field by field.
-use Rattle.std.proofs.Common.{◌≡◌, ◌<◌, ◌≤◌, ◌^◌, ℕ, zero, suc, ◌+◌, ◌==◌, if◌then◌else◌, false, true, List, [], ◌∷◌, ◌++◌, map, length, min, sum_by, take, codes, decimal, is_some, All, Option, Some, None, get_or, refl, ap, sym, subst, ◌∙◌, arith}
+use Rattle.std.proofs.Common.{◌≡◌, ◌<◌, ◌≤◌, ◌^◌, ℕ, zero, suc, ◌+◌, ◌==◌, if◌then◌else◌, Bool, false, true, List, [], ◌∷◌, ◌++◌, map, length, min, sum_by, take, codes, decimal, is_some, All, Option, Some, None, get_or, refl, ap, sym, subst, ◌∙◌, arith}
 use Rattle.std.specs.List.{join_with_byte, range_with_len}
 use Rattle.std.proofs.lemmas.Bool.Decides.{nat_tests}
 use Rattle.std.proofs.lemmas.List.{get_or-map, length-map}
@@ -22,6 +22,7 @@ use Rattle.draw_values.specs.UnitDraws.{DrawsOf}
 use Rattle.draw_values.specs.Values.{is_own, put_of, written}
 use Rattle.life_intervals.specs.CohortKeys.{CohortOf}
 use Rattle.life_intervals.specs.CohortLives.{CohortAt}
+use Rattle.life_intervals.specs.CohortOrders.{do_updates_differ}
 use Rattle.life_intervals.specs.Generator.{Generator, generator_of, last_unit}
 use Rattle.life_intervals.specs.Intervals.{row_at}
 use Rattle.life_intervals.specs.Rows.{Row}
@@ -29,7 +30,7 @@ use Rattle.life_intervals.proofs.CohortLemmas.{birth-first_ordinal, cohort-withi
 use Rattle.life_intervals.proofs.KeyLemmas.{key_of-first_ordinal}
 use Rattle.life_intervals.proofs.BuiltLemmas.{row_at-changed}
 use Rattle.row_lines.specs.CohortLines.{AreLinesOf, LinesOf, change_for, key_for, layout_for, line_in_cohort, ordinal_of, size_for, text_in_cohort, values_at}
-use Rattle.row_lines.specs.Lines.{draws_of, field, line}
+use Rattle.row_lines.specs.Lines.{field, line}
 use Rattle.row_lines.proofs.FieldLemmas.{field-key, field-own}
 
 -- what the field of a column takes at most: bytes, with the one behind, and permutations
@@ -110,6 +111,15 @@ steps-line_cost lines keys lives changes births ready first byte known =
       sum_by-map (λ (column : ColumnLayout). bounds_of (layout_of lines.plan).delimiter (layout_of lines.plan).tables (layout_for lines) column.kind)
           (layout_for lines).columns (λ bounds. bounds.permutations),
     )
+
+-- a change costs at most the permutation of updates
+pub updates_cost : (update : Option ℕ) → one_if (do_updates_differ update) ≤ one_if (is_some update)
+updates_cost None = omega arith
+updates_cost (Some period) = one_if-le (do_updates_differ (Some period))
+  where
+    one_if-le : (test : Bool) → one_if test ≤ 1
+    one_if-le true = omega arith
+    one_if-le false = omega arith
 
 -- a key is never null
 pub key_never_null : (columns : List ColumnLayout) (place : ℕ) → (column_at columns 0).null ≡ 0 →

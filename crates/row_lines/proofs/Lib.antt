@@ -1,5 +1,7 @@
 pub mod ListLemmas
-pub mod LineLemmas
+pub mod ChangeDrawLemmas
+mod LineLemmas
+mod LiveLemmas
 pub mod FieldLemmas
 pub mod CohortLineLemmas
 pub mod PartLemmas

@@ -139,9 +139,9 @@ impl<'a> CohortLines<'a> {
         ensures length { length changed.new ≡ length changed.old }
         ensures steps { steps.new ≤ steps.old + count * one_if (do_updates_differ (layout_for self.now).update) }
     {
-        let changes = &self.changes;
+        let _limits = self.plan.table(self.place); // a table has at most 2^40 rows
         for index in 0..count {
-            changed[index as usize] = changes.unit(first + index, steps);
+            changed[index as usize] = self.changed(first + index, steps);
         }
     }
 
@@ -161,15 +161,53 @@ impl<'a> CohortLines<'a> {
         ensures length { length live.new ≡ length live.old }
         ensures steps { steps.new ≤ steps.old + count * one_if (do_lives_differ (layout_for self.now).life) }
     {
-        let lives = &self.lives;
-        let survival = lives.survival();
-        for index in 0..count {
-            live[index as usize] = match survival {
-                Survival::Sure => true,
-                Survival::Over => false,
-                Survival::Drawn => lives.is_live(first + index, steps),
-            };
+        match self.survival() {
+            Survival::Sure => put_all(live, count, true),
+            Survival::Over => put_all(live, count, false),
+            Survival::Drawn => self.put_drawn_lives(first, count, live, steps),
         }
+    }
+
+    /// The same by the length of each row's life.
+    fn put_drawn_lives<L: Ledger>(
+        &self,
+        first: u64,
+        count: u64,
+        live: &mut [bool],
+        steps: &mut Steps<L>,
+    )
+        requires rows { first + count ≤ cohort_size (layout_for self.now).births self.now.born }
+        requires room { count ≤ length live.old }
+        ensures live { (i : ℕ) → i < count → get_or live.new i false ≡ is_live_for self.now (first + i) }
+        ensures rest { (i : ℕ) → count ≤ i → get_or live.new i false ≡ get_or live.old i false }
+        ensures length { length live.new ≡ length live.old }
+        ensures steps { steps.new ≡ steps.old + count * one_if (do_lives_differ (layout_for self.now).life) }
+    {
+        let _limits = self.plan.table(self.place); // a table has at most 2^40 rows
+        for index in 0..count {
+            live[index as usize] = self.is_live(first + index, steps);
+        }
+    }
+
+    /// Whether the row with this index in the cohort is alive, by the length of its life.
+    #[inline(always)]
+    fn is_live<L: Ledger>(&self, index: u64, steps: &mut Steps<L>) -> bool
+        requires { index < cohort_size (layout_for self.now).births self.now.born }
+        ensures live { result ≡ is_live_for self.now index }
+        ensures steps { steps.new ≡ steps.old + one_if (do_lives_differ (layout_for self.now).life) }
+    {
+        self.lives.is_live(index, steps)
+    }
+
+    /// The unit of the last change of the row with this index in the cohort.
+    #[inline(always)]
+    fn changed<L: Ledger>(&self, index: u64, steps: &mut Steps<L>) -> u64
+        requires { index < cohort_size (layout_for self.now).births self.now.born }
+        ensures unit { result ≡ change_for self.now index }
+        ensures within { result ≤ self.now.unit }
+        ensures steps { steps.new ≤ steps.old + one_if (do_updates_differ (layout_for self.now).update) }
+    {
+        self.changes.unit(index, steps)
     }
 
     /// Appends the line of the row with this index in the cohort, which is alive at the unit and for which the greatest line
@@ -183,7 +221,7 @@ impl<'a> CohortLines<'a> {
         ensures steps { steps.new ≤ steps.old + line_cost (layout_of self.now.plan) self.now.table }
     {
         let key = self.key(index, steps);
-        let changed = self.changes.unit(index, steps);
+        let changed = self.changed(index, steps);
         let draws = UnitDraws::new(self.plan, self.place, changed);
         self.put_drawn_line(index, key, &draws, buf);
     }
@@ -376,6 +414,18 @@ impl<'a> CohortLines<'a> {
             Put::Text => {}
             Put::Null => put_null(buf),
         }
+    }
+}
+
+/// Puts a value into the list so many times, from its begin on.
+fn put_all(list: &mut [bool], count: u64, value: bool)
+    requires { count ≤ length list.old }
+    ensures values { (i : ℕ) → i < count → get_or list.new i false ≡ value }
+    ensures rest { (i : ℕ) → count ≤ i → get_or list.new i false ≡ get_or list.old i false }
+    ensures length { length list.new ≡ length list.old }
+{
+    for index in 0..count {
+        list[index as usize] = value;
     }
 }
 

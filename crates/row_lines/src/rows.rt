@@ -27,6 +27,7 @@ pub fn live<L: Ledger>(plan: &Plan, table: u32, j: u64, t: u64, steps: &mut Step
     ensures live { j < born_count (table_of plan.now table).births t → result ≡ is_live (generator_of plan.now) table t j }
     ensures steps { steps.new ≤ steps.old + death_cost (layout_of plan.now).tables table }
 {
+    let _sound = plan.schema(); // so the simulation is its closed form
     if j >= born(plan, table, t) {
         return false;
     }

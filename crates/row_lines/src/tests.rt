@@ -5,10 +5,10 @@ ghost use Rattle.std.specs.Prelude.{◌≡◌, ℕ, ◌<◌, ◌≤◌, IfOk, le
 ghost use Rattle.life_intervals.specs.Generator.{last_unit};
 
 use super::*;
-use life_intervals::{born, cohort, key_order};
+use life_intervals::{Survival, born, cohort, cohort_orders};
 use pd_outside::{Memory, PageBuf};
 use schema_check::{Dictionaries, Plan, check, unbuilt};
-use schema_model::{Column, Columns, Delimiter, Kind, Part, Parts, Schema, Table, Tables, Text};
+use schema_model::{Column, Columns, Delimiter, Kind, Life, Part, Parts, Schema, Table, Tables, Text};
 use std::alloc::{AllocError, Global};
 use std::marker::Brand;
 use std::process::Abort;
@@ -68,11 +68,16 @@ fn plan_with(alloc: Global, births: Births, columns: Columns) -> Result<Plan, Fa
         update: None,
         columns,
     };
+    plan_of(alloc, table, births.units)
+}
+
+/// The plan of a table up to a last unit, with seed 7.
+fn plan_of(alloc: Global, table: Table, units: i64) -> Result<Plan, Fail> {
     let mut tables = Tables::new(alloc);
     tables.push(table).map_err(|_| AllocError)?;
     let schema = Schema {
         seed: 7,
-        units: births.units,
+        units,
         delimiter: Delimiter::Tab,
         tables,
     };
@@ -97,10 +102,10 @@ fn assert_lines<L: Ledger>(
     requires some { 0 < blank.parts }
 {
     let mut steps = Steps::<L>::new(blank);
-    let _built = plan.schema(); // no row of it dies yet
     assert!(rt; plan.tables() == 1);
     for (row, line, key_line) in lines {
         assert!(rt; *row < born(plan, 0, plan.units()));
+        assert!(rt; live(plan, 0, *row, plan.units(), &mut steps));
         let room = plan.max_line(0) as usize;
         let mut page = page_of(alloc, room)?;
         put_line(plan, 0, *row, plan.units(), &mut page, &mut steps);
@@ -177,6 +182,50 @@ fn lines_and_keys(rt: HostRuntime) -> Result<(), Fail> {
     assert_lines::<Brand>(&rt, alloc, &long, &lines, Blank::new(1))
 }
 
+/// The plan of a row at each unit, three units long, that lives for two.
+fn mortal(alloc: Global) -> Result<Plan, Fail> {
+    let table = Table {
+        name: Text::of(alloc, "t").map_err(|_| AllocError)?,
+        rows: 1,
+        insert: 1,
+        life: Some(Life { lo: 2, hi: 2 }),
+        update: None,
+        columns: columns(alloc, one(false), 0)?,
+    };
+    plan_of(alloc, table, 2)
+}
+
+fn assert_live<L: Ledger>(rt: &impl Abort, plan: &Plan, blank: Blank)
+    requires name { blank.name ≡ L.name }
+    requires parts { blank.parts ≡ L.parts }
+    requires some { 0 < blank.parts }
+{
+    let mut steps = Steps::<L>::new(blank);
+    assert!(rt; plan.tables() == 1);
+    for (row, unit, is_live) in [
+        (0, 0, true),
+        (0, 1, true),
+        (0, 2, false),
+        (1, 0, false),
+        (1, 1, true),
+        (1, 2, true),
+        (2, 1, false),
+        (2, 2, true),
+    ] {
+        assert!(rt; unit <= plan.units());
+        assert!(rt; row < born(plan, 0, plan.units()));
+        assert_eq!(rt; live(plan, 0, row, unit, &mut steps), is_live);
+    }
+}
+
+// By hand: a row is there from its birth on, for as long as it lives.
+#[test]
+fn rows_that_die(rt: HostRuntime) -> Result<(), Fail> {
+    let plan = mortal(rt.alloc())?;
+    assert_live::<Brand>(&rt, &plan, Blank::new(1));
+    Ok(())
+}
+
 /// A template: an r, the key, a tab, the unit of birth, a mark and the key again.
 fn label(alloc: Global) -> Result<Kind, AllocError> {
     let mut parts = Parts::new(alloc);
@@ -237,9 +286,11 @@ fn cohort_checksum<L: Ledger>(
     requires born { born ≤ last_unit plan.now }
 {
     let mut sum = so_far;
-    let _built = plan.schema(); // no row of it dies yet
-    let order = key_order(plan, 0, born);
-    let lines = CohortLines::new(plan, 0, born, plan.units(), &order);
+    let orders = cohort_orders(plan, 0, born);
+    let lines = CohortLines::new(plan, 0, born, plan.units(), &orders);
+    if lines.survival() != Survival::Sure {
+        return Err(Fail::from("not alive"));
+    }
     let room = plan.max_line(0) as usize;
     for index in 0..cohort(plan, 0, born).size {
         let mut page = page_of(alloc, room)?;

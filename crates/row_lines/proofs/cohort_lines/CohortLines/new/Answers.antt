@@ -7,11 +7,11 @@ use Rattle.row_lines.proofs.cohort_lines.CohortLines.new.Goals as goal
 pub new-requires-clause-order : goal.new-requires-clause-order
 new-requires-clause-order c = ap (λ (orders : CohortOrders). orders.keys) c.requires.orders
 
-pub new-2-requires-clause-order : goal.new-2-requires-clause-order
-new-2-requires-clause-order c = ap (λ (orders : CohortOrders). orders.lives) c.requires.orders
+pub new-requires-2-clause-order : goal.new-requires-2-clause-order
+new-requires-2-clause-order c = ap (λ (orders : CohortOrders). orders.lives) c.requires.orders
 
-pub new-3-requires-clause-order : goal.new-3-requires-clause-order
-new-3-requires-clause-order c = ap (λ (orders : CohortOrders). orders.updates) c.requires.orders
+pub new-requires-3-clause-order : goal.new-requires-3-clause-order
+new-requires-3-clause-order c = ap (λ (orders : CohortOrders). orders.updates) c.requires.orders
 
 pub invariant_of-result : goal.invariant_of-result
 invariant_of-result c = record {

@@ -5,7 +5,7 @@ use Rattle.row_text.specs.Fields.{field_text}
 use Rattle.schema_check.specs.Layout.{layout_of}
 use Rattle.draw_values.specs.CohortValues.{ValuesOf, size_for, value_for}
 use Rattle.draw_values.specs.Values.{written}
-use Rattle.row_lines.specs.CohortLines.{LinesOf, text_in_cohort}
+use Rattle.row_lines.specs.CohortLines.{LinesOf, change_for, text_in_cohort, values_at}
 use Rattle.row_lines.proofs.CohortLineLemmas.{AreLinesOf-view, field_text-null, ordinal-limit, text-own, written-null, written-text}
 use Rattle.row_lines.proofs.cohort_lines.CohortLines.put_own.Goals as goal
 
@@ -40,9 +40,9 @@ returns-in-Text-clause-size c =
     let ordinal : ℕ = c.self.inside.first + c.args.index in
     let value = value_for c.args.values.now c.args.column ordinal in
     let is = text-own lines c.args.values.now c.args.column c.args.index ordinal c.requires.values (ap (λ (first : ℕ). first + c.args.index) known.first_is) c.requires.own known.born c.requires.row known.table in
-    let size : length (field_text (layout_of lines.plan).delimiter value) ≤ size_for (record { plan = lines.plan; table = lines.table; unit = lines.born }) c.args.column =
+    let size : length (field_text (layout_of lines.plan).delimiter value) ≤ size_for (values_at lines (change_for lines c.args.index)) c.args.column =
     subst (λ (of : ValuesOf). length (field_text (layout_of of.plan).delimiter value) ≤ size_for of c.args.column) c.requires.values c.put.ensures.size in
-    subst (λ (text : List ℕ). length text ≤ size_for (record { plan = lines.plan; table = lines.table; unit = lines.born }) c.args.column) (sym is) size
+    subst (λ (text : List ℕ). length text ≤ size_for (values_at lines (change_for lines c.args.index)) c.args.column) (sym is) size
 
 -- a null field is written as such
 text_is_null : (c : goal.After-put_null) → text_in_cohort c.args.self.now c.args.index c.args.column ≡ codes "\\N"
@@ -72,6 +72,6 @@ returns-in-Null-clause-size c =
     let ordinal : ℕ = c.self.inside.first + c.args.index in
     let value = value_for c.args.values.now c.args.column ordinal in
     let is = text-own lines c.args.values.now c.args.column c.args.index ordinal c.requires.values (ap (λ (first : ℕ). first + c.args.index) known.first_is) c.requires.own known.born c.requires.row known.table in
-    let size : length (field_text (layout_of lines.plan).delimiter value) ≤ size_for (record { plan = lines.plan; table = lines.table; unit = lines.born }) c.args.column =
+    let size : length (field_text (layout_of lines.plan).delimiter value) ≤ size_for (values_at lines (change_for lines c.args.index)) c.args.column =
     subst (λ (of : ValuesOf). length (field_text (layout_of of.plan).delimiter value) ≤ size_for of c.args.column) c.requires.values c.put.ensures.size in
-    subst (λ (text : List ℕ). length text ≤ size_for (record { plan = lines.plan; table = lines.table; unit = lines.born }) c.args.column) (sym is) size
+    subst (λ (text : List ℕ). length text ≤ size_for (values_at lines (change_for lines c.args.index)) c.args.column) (sym is) size
