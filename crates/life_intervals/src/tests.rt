@@ -1,15 +1,14 @@
-//! Values from outside: cohorts worked out by hand, and keys that an independent program gave, written in Python from the
-//! rules of seeds, permutations and keys, with no shared code (docs/SECOND_PROGRAM.md).
+//! Values from outside: cohorts and short lives worked out by hand, and keys, lives and changes that an independent program gave,
+//! written in Python from the rules, with no shared code (docs/SECOND_PROGRAM.md).
 
-ghost use Rattle.std.specs.Prelude.{◌≡◌, ◌<◌, length};
+ghost use Rattle.std.specs.Prelude.{◌≡◌, ◌<◌, ◌≤◌, length};
 ghost use Rattle.life_intervals.specs.Generator.{last_unit};
-ghost use Rattle.life_intervals.specs.CohortOrders.{key_orders};
+ghost use Rattle.life_intervals.specs.CohortOrders.{cohort_orders, table_orders};
 
 use super::*;
 use crate::lives::{last_due, lifetime};
-use id_permutation::Order;
 use schema_check::{Dictionaries, Plan, Span, check, unbuilt};
-use schema_model::{Column, Columns, Delimiter, Kind, Schema, Table, Tables, Text};
+use schema_model::{Column, Columns, Delimiter, Kind, Life, Schema, Table, Tables, Text};
 use std::alloc::{AllocError, Global};
 use std::marker::Brand;
 use std::process::Abort;
@@ -17,13 +16,16 @@ use std::sync::ledger::{Blank, Ledger};
 use std::test::Fail;
 use step_count::Steps;
 
-/// A table of one column of keys from 1: how many rows at unit 0 and at each later unit, and the last unit.
+/// A table of one column of keys from 1: how many rows at unit 0 and at each later unit, the last unit, and how long rows live and
+/// how often they change.
 #[derive(Clone, Copy)]
 struct KeyTable {
     rows: i64,
     insert: i64,
     units: i64,
     scramble: bool,
+    life: Option<Life>,
+    update: Option<i64>,
 }
 
 fn key_table(alloc: Global, keys: KeyTable) -> Result<Table, AllocError> {
@@ -42,8 +44,8 @@ fn key_table(alloc: Global, keys: KeyTable) -> Result<Table, AllocError> {
         name: Text::of(alloc, "t").map_err(|_| AllocError)?,
         rows: keys.rows,
         insert: keys.insert,
-        life: None,
-        update: None,
+        life: keys.life,
+        update: keys.update,
         columns,
     })
 }
@@ -75,6 +77,8 @@ const fn thousand(scramble: bool) -> KeyTable {
         insert: 10,
         units: 5,
         scramble,
+        life: None,
+        update: None,
     }
 }
 
@@ -124,6 +128,8 @@ const fn one_large_cohort(scramble: bool) -> KeyTable {
         insert: 0,
         units: 0,
         scramble,
+        life: None,
+        update: None,
     }
 }
 
@@ -134,6 +140,8 @@ const fn many_cohorts(insert: i64, scramble: bool) -> KeyTable {
         insert,
         units: 10_000,
         scramble,
+        life: None,
+        update: None,
     }
 }
 
@@ -160,9 +168,14 @@ fn keys_go_there_and_back(rt: HostRuntime) -> Result<(), Fail> {
 }
 
 /// The keys of a table, one after the other, as one number. The order of its cohort gives each key as well.
-fn key_checksum<L: Ledger>(rt: &impl Abort, plan: &Plan, orders: &Vec<Order>, blank: Blank) -> u64
+fn key_checksum<L: Ledger>(
+    rt: &impl Abort,
+    plan: &Plan,
+    orders: &Vec<CohortOrders>,
+    blank: Blank,
+) -> u64
     requires table { 0 < length plan.now.schema.tables }
-    requires orders { orders.now.items ≡ key_orders plan.now 0 (last_unit plan.now) }
+    requires orders { orders.now.items ≡ table_orders plan.now 0 (last_unit plan.now) }
     requires name { blank.name ≡ L.name }
     requires parts { blank.parts ≡ L.parts }
     requires some { 0 < blank.parts }
@@ -172,7 +185,7 @@ fn key_checksum<L: Ledger>(rt: &impl Abort, plan: &Plan, orders: &Vec<Order>, bl
     for row in 0..born(plan, 0, plan.units()) {
         let key = key(plan, 0, row, &mut steps);
         let unit = birth(plan, 0, row);
-        let keys = CohortKeys::new(plan, 0, unit, &orders[unit as usize]);
+        let keys = CohortKeys::new(plan, 0, unit, &orders[unit as usize].keys);
         let index = row - cohort(plan, 0, unit).first;
         assert_eq!(rt; keys.key(index, &mut steps), key);
         sum = sum.wrapping_mul(1_000_003).wrapping_add(key);
@@ -191,7 +204,7 @@ fn keys_of_a_table(rt: HostRuntime) -> Result<(), Fail> {
     for (scramble, sum) in sums {
         let plan = plan(alloc, thousand(scramble))?;
         assert!(rt; plan.tables() == 1);
-        let orders = key_orders(alloc, &plan, 0, plan.units()).map_err(|_| AllocError)?;
+        let orders = table_orders(alloc, &plan, 0, plan.units()).map_err(|_| AllocError)?;
         assert_eq!(rt;
             key_checksum::<Brand>(&rt, &plan, &orders, Blank::new(1)),
             sum
@@ -243,5 +256,224 @@ fn assert_still<L: Ledger>(rt: &impl Abort, plan: &Plan, blank: Blank)
 fn rows_that_are_still(rt: HostRuntime) -> Result<(), Fail> {
     let plan = plan(rt.alloc(), thousand(false))?;
     assert_still::<Brand>(&rt, &plan, Blank::new(1));
+    Ok(())
+}
+
+/// A table without scrambled keys, whose rows live for `lo` to `hi` units and change every `update` units.
+const fn short_lived(rows: i64, insert: i64, units: i64, life: Life, update: i64) -> KeyTable {
+    KeyTable {
+        rows,
+        insert,
+        units,
+        scramble: false,
+        life: Some(life),
+        update: Some(update),
+    }
+}
+
+/// Rows with the units of their deaths, and rows with a unit and the unit of their last change by it.
+fn assert_rows<L: Ledger>(
+    rt: &impl Abort,
+    plan: &Plan,
+    deaths: &[(u64, u64)],
+    changes: &[(u64, u64, u64)],
+    blank: Blank,
+)
+    requires name { blank.name ≡ L.name }
+    requires parts { blank.parts ≡ L.parts }
+    requires some { 0 < blank.parts }
+{
+    let mut steps = Steps::<L>::new(blank);
+    assert!(rt; plan.tables() == 1);
+    for (row, end) in deaths {
+        assert!(rt; *row < born(plan, 0, plan.units()));
+        assert_eq!(rt; own_death(plan, 0, *row, &mut steps), Some(*end));
+        assert_eq!(rt; death(plan, 0, *row, &mut steps), Some(*end));
+    }
+    for (row, unit, changed) in changes {
+        assert!(rt; *unit <= plan.units());
+        assert!(rt; *row < born(plan, 0, *unit));
+        assert_eq!(rt; last_change(plan, 0, *row, *unit, &mut steps), *changed);
+    }
+}
+
+/// What lives say of the cohort of unit `birth` at `unit`, and for each row whether it is alive and when it changed last.
+fn assert_cohort<L: Ledger>(
+    rt: &impl Abort,
+    plan: &Plan,
+    birth: u64,
+    unit: u64,
+    survival: Survival,
+    rows: &[(bool, u64)],
+    blank: Blank,
+)
+    requires name { blank.name ≡ L.name }
+    requires parts { blank.parts ≡ L.parts }
+    requires some { 0 < blank.parts }
+{
+    let mut steps = Steps::<L>::new(blank);
+    assert!(rt; plan.tables() == 1);
+    assert!(rt; birth <= unit);
+    assert!(rt; unit <= plan.units());
+    let orders = cohort_orders(plan, 0, birth);
+    let lives = CohortLives::new(plan, 0, birth, unit, &orders.lives);
+    let changes = CohortChanges::new(plan, 0, birth, unit, &orders.updates);
+    assert_eq!(rt; lives.survival(), survival);
+    let size = cohort(plan, 0, birth).size;
+    for (index, (live, changed)) in rows.iter().enumerate() {
+        let index = index as u64;
+        assert!(rt; index < size);
+        assert_eq!(rt; lives.is_live(index, &mut steps), *live);
+        assert_eq!(rt; changes.unit(index, &mut steps), *changed);
+    }
+}
+
+// By hand: each row lives for two units. The units of changes are from the Python program.
+#[test]
+fn rows_of_two_units(rt: HostRuntime) -> Result<(), Fail> {
+    let plan = plan(rt.alloc(), short_lived(3, 2, 5, Life { lo: 2, hi: 2 }, 2))?;
+    let deaths = [(0, 2), (2, 2), (3, 3), (4, 3), (6, 4), (12, 7)];
+    let changes = [
+        (0, 0, 0),
+        (0, 1, 0),
+        (0, 2, 2),
+        (0, 3, 2),
+        (0, 5, 4),
+        (1, 1, 1),
+        (1, 4, 3),
+        (1, 5, 5),
+        (3, 1, 1),
+        (3, 2, 1),
+        (3, 4, 3),
+        (4, 2, 2),
+        (7, 4, 4),
+        (8, 4, 3),
+        (12, 5, 5),
+    ];
+    assert_rows::<Brand>(&rt, &plan, &deaths, &changes, Blank::new(1));
+    for (birth, unit, survival) in [
+        (0, 0, Survival::Sure),
+        (0, 1, Survival::Sure),
+        (0, 2, Survival::Over),
+        (3, 4, Survival::Sure),
+        (3, 5, Survival::Over),
+    ] {
+        assert_cohort::<Brand>(&rt, &plan, birth, unit, survival, &[], Blank::new(1));
+    }
+    let rows = [(true, 0), (true, 1), (true, 1)];
+    assert_cohort::<Brand>(&rt, &plan, 0, 1, Survival::Sure, &rows, Blank::new(1));
+    let rows = [(false, 2), (false, 1), (false, 1)];
+    assert_cohort::<Brand>(&rt, &plan, 0, 2, Survival::Over, &rows, Blank::new(1));
+    let rows = [(true, 3), (true, 2)];
+    assert_cohort::<Brand>(&rt, &plan, 2, 3, Survival::Sure, &rows, Blank::new(1));
+    Ok(())
+}
+
+// From the Python program: rows of a cohort of as many as a table may have.
+#[test]
+fn rows_of_a_large_cohort(rt: HostRuntime) -> Result<(), Fail> {
+    let last = 1_099_511_627_775;
+    let middle = 123_456_789_012;
+    let life = Life { lo: 3, hi: 9 };
+    let plan = plan(rt.alloc(), short_lived(1 << 40, 0, 20, life, 4))?;
+    let deaths = [(0, 7), (1, 9), (2, 5), (middle, 3), (last, 4)];
+    let changes = [
+        (0, 2, 0),
+        (0, 3, 3),
+        (0, 20, 19),
+        (1, 0, 0),
+        (1, 1, 1),
+        (1, 8, 5),
+        (middle, 17, 17),
+        (last, 1, 0),
+        (last, 2, 2),
+        (last, 9, 6),
+        (last, 20, 18),
+    ];
+    assert_rows::<Brand>(&rt, &plan, &deaths, &changes, Blank::new(1));
+    Ok(())
+}
+
+/// A number, and behind it for each row of a cohort whether it is alive and when it changed last, as one number.
+fn with_cohort<L: Ledger>(
+    plan: &Plan,
+    birth: u64,
+    unit: u64,
+    orders: &CohortOrders,
+    before: u64,
+    steps: &mut Steps<L>,
+) -> u64
+    requires table { 0 < length plan.now.schema.tables }
+    requires birth { birth ≤ unit }
+    requires unit { unit ≤ last_unit plan.now }
+    requires orders { orders.now ≡ cohort_orders plan.now 0 birth }
+{
+    let lives = CohortLives::new(plan, 0, birth, unit, &orders.lives);
+    let changes = CohortChanges::new(plan, 0, birth, unit, &orders.updates);
+    let mut sum = before;
+    for index in 0..cohort(plan, 0, birth).size {
+        let live = lives.is_live(index, steps);
+        let changed = changes.unit(index, steps);
+        sum = sum
+            .wrapping_mul(1_000_003)
+            .wrapping_add(changed.wrapping_mul(2))
+            .wrapping_add(u64::from(live));
+    }
+    sum
+}
+
+/// The same of all cohorts at a unit.
+fn row_checksum<L: Ledger>(plan: &Plan, unit: u64, orders: &Vec<CohortOrders>, blank: Blank) -> u64
+    requires table { 0 < length plan.now.schema.tables }
+    requires unit { unit ≤ last_unit plan.now }
+    requires orders { orders.now.items ≡ table_orders plan.now 0 unit }
+    requires name { blank.name ≡ L.name }
+    requires parts { blank.parts ≡ L.parts }
+    requires some { 0 < blank.parts }
+{
+    let mut steps = Steps::<L>::new(blank);
+    let _limits = plan.schema(); // there are at most 10,000 units
+    let mut sum = 0u64;
+    for birth in 0..unit + 1 {
+        sum = with_cohort(plan, birth, unit, &orders[birth as usize], sum, &mut steps);
+    }
+    sum
+}
+
+// From the Python program. Tables pay for the 1,000 rows of unit 0 at the units at which some are alive and some aren't.
+#[test]
+fn rows_of_short_lives(rt: HostRuntime) -> Result<(), Fail> {
+    let alloc = rt.alloc();
+    let plan = plan(alloc, short_lived(1000, 10, 5, Life { lo: 1, hi: 4 }, 3))?;
+    assert_rows::<Brand>(&rt, &plan, &[(0, 1), (1, 3), (999, 1)], &[], Blank::new(1));
+    let rows = [
+        (true, 2),
+        (false, 4),
+        (true, 3),
+        (true, 2),
+        (false, 3),
+        (false, 4),
+        (true, 3),
+        (false, 4),
+        (false, 3),
+        (false, 2),
+    ];
+    assert_cohort::<Brand>(&rt, &plan, 2, 4, Survival::Drawn, &rows, Blank::new(1));
+    for (unit, sum) in [
+        (0, 15_875_042_177_868_366_480),
+        (1, 4_209_821_931_422_870_454),
+        (2, 1_475_948_409_998_533_915),
+        (3, 7_076_330_622_691_067_159),
+        (4, 8_145_987_253_550_613_097),
+        (5, 2_468_710_959_954_332_253),
+    ] {
+        assert!(rt; plan.tables() == 1);
+        assert!(rt; unit <= plan.units());
+        let orders = table_orders(alloc, &plan, 0, unit).map_err(|_| AllocError)?;
+        assert_eq!(rt;
+            row_checksum::<Brand>(&plan, unit, &orders, Blank::new(1)),
+            sum
+        );
+    }
     Ok(())
 }
