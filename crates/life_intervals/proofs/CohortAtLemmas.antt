@@ -13,7 +13,7 @@ use Rattle.schema_check.specs.Limits.{IsLife}
 use Rattle.schema_check.specs.Unbuilt.{is_unbuilt}
 use Rattle.life_intervals.specs.declared.lives.Survival.TheVariants.{Sure, Over}
 use Rattle.life_intervals.specs.Changes.{change_by, first_due, last_due}
-use Rattle.life_intervals.specs.CohortLives.{CohortAt, change_in, is_live_in, ordinal_in, size_of, survival_by, survival_of}
+use Rattle.life_intervals.specs.CohortLives.{CohortAt, change_in, death_in, is_live_in, ordinal_in, size_of, survival_by, survival_of}
 use Rattle.life_intervals.specs.CohortOrders.{life_order, update_order}
 use Rattle.life_intervals.specs.Generator.{Generator, generator_of, table_of}
 use Rattle.life_intervals.specs.Intervals.{birth, change_unit, is_after, own_death, own_death_by}
@@ -43,17 +43,23 @@ change_unit-index generator place born unit index within below =
 
 -- ---- lives
 
--- a row is alive by its own life, at its place in the order of lives
+-- a row dies by its own life, at its place in the order of lives
+pub death_in-place : (cohort : CohortAt) (index : ℕ) → is_unbuilt cohort.plan.schema ≡ false → cohort.table < length cohort.plan.schema.tables → cohort.born ≤ cohort.unit →
+    index < size_of cohort →
+    death_in cohort index ≡ option_map (λ l. cohort.born + l) (life_by (table_of cohort.plan cohort.table).life (place_in (life_order cohort.plan cohort.table cohort.born) index))
+death_in-place cohort index built place within below =
+    let generator : Generator = generator_of cohort.plan in
+    death-alone generator cohort.table cohort.unit (ordinal_in cohort index) (omega (arith, place, length-tables cohort.plan)) (references-built cohort.plan built cohort.table)
+    ∙ own_death-index generator cohort.table cohort.born cohort.unit index within below
+    ∙ ap (option_map (λ l. cohort.born + l)) (sym (life_by-life_order cohort.plan cohort.table cohort.born index below))
+
+-- so that it is alive before
 pub is_live_in-place : (cohort : CohortAt) (index : ℕ) → is_unbuilt cohort.plan.schema ≡ false → cohort.table < length cohort.plan.schema.tables → cohort.born ≤ cohort.unit →
     index < size_of cohort →
     is_live_in cohort index
     ≡ is_after (option_map (λ l. cohort.born + l) (life_by (table_of cohort.plan cohort.table).life (place_in (life_order cohort.plan cohort.table cohort.born) index))) cohort.unit
 is_live_in-place cohort index built place within below =
-    let generator : Generator = generator_of cohort.plan in
-    ap (λ (death : Option ℕ). is_after death cohort.unit)
-    (death-alone generator cohort.table cohort.unit (ordinal_in cohort index) (omega (arith, place, length-tables cohort.plan)) (references-built cohort.plan built cohort.table)
-    ∙ own_death-index generator cohort.table cohort.born cohort.unit index within below
-    ∙ ap (option_map (λ l. cohort.born + l)) (sym (life_by-life_order cohort.plan cohort.table cohort.born index below)))
+    ap (λ (death : Option ℕ). is_after death cohort.unit) (death_in-place cohort index built place within below)
 
 -- before the shortest life ends each row is alive
 sure-alive : (life : Option Span) (born unit place : ℕ) → survival_by life born unit ≡ Sure → is_after (option_map (λ l. born + l) (life_by life place)) unit ≡ true

@@ -10,7 +10,7 @@ use Rattle.life_intervals.specs.declared.lives.Survival.{Survival}
 use Rattle.life_intervals.specs.declared.lives.Survival.TheVariants.{Sure, Drawn, Over}
 use Rattle.life_intervals.specs.CohortOrders.{life_order, update_order}
 use Rattle.life_intervals.specs.Generator.{generator_of, last_unit, table_of}
-use Rattle.life_intervals.specs.Intervals.{change_unit, is_live}
+use Rattle.life_intervals.specs.Intervals.{change_unit, death, is_live}
 
 -- the cohort that is born at a unit in the table at a place, as it is at another unit
 pub record CohortAt : Type 0 where
@@ -38,7 +38,11 @@ survival_by (Some life) born unit =
 abbrev pub survival_of : CohortAt → Survival
 survival_of cohort = survival_by (table_of cohort.plan cohort.table).life cohort.born cohort.unit
 
--- whether the row with an index is alive
+-- the unit at which the row with an index dies; None where it never does
+abbrev pub death_in : CohortAt → ℕ → Option ℕ
+death_in cohort index = death (generator_of cohort.plan) cohort.table cohort.unit (ordinal_in cohort index)
+
+-- whether it is alive
 abbrev pub is_live_in : CohortAt → ℕ → Bool
 is_live_in cohort index = is_live (generator_of cohort.plan) cohort.table cohort.unit (ordinal_in cohort index)
 

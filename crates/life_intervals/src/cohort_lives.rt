@@ -2,7 +2,7 @@
 
 ghost use Rattle.std.specs.Prelude.{◌≡◌, ◌+◌, ◌<◌, ◌≤◌, ◌⊎◌, ℕ, IfSome, false, length, min, true};
 ghost use Rattle.schema_check.specs.Lineage.{one_if};
-ghost use Rattle.life_intervals.specs.CohortLives.{change_in, is_live_in, size_of, survival_of};
+ghost use Rattle.life_intervals.specs.CohortLives.{change_in, death_in, is_live_in, size_of, survival_of};
 ghost use Rattle.life_intervals.specs.CohortOrders.{do_lives_differ, do_updates_differ, life_order, update_order};
 ghost use Rattle.life_intervals.specs.Generator.{last_unit, table_of};
 
@@ -69,6 +69,20 @@ impl<'a> CohortLives<'a> {
         survival_at(self.plan, self.table, self.born, self.unit)
     }
 
+    /// The unit at which the row with this index in the cohort dies; None where it never does. It takes one step where lives of the
+    /// table differ, else none.
+    #[inline]
+    pub fn death<L: Ledger>(&self, index: u64, steps: &mut Steps<L>) -> Option<u64>
+        requires { index < size_of self.now }
+        ensures death { result ≡ death_in self.now index }
+        ensures steps { steps.new ≡ steps.old + one_if (do_lives_differ (table_of self.now.plan self.now.table).life) }
+    {
+        match self.life {
+            Some(life) => Some(self.born + lifetime(life, self.order.place(index, steps))),
+            None => None,
+        }
+    }
+
     /// Whether the row with this index in the cohort is alive. It takes one step where lives of the table differ, else none.
     #[inline]
     pub fn is_live<L: Ledger>(&self, index: u64, steps: &mut Steps<L>) -> bool
@@ -76,8 +90,8 @@ impl<'a> CohortLives<'a> {
         ensures live { result ≡ is_live_in self.now index }
         ensures steps { steps.new ≡ steps.old + one_if (do_lives_differ (table_of self.now.plan self.now.table).life) }
     {
-        match self.life {
-            Some(life) => self.unit < self.born + lifetime(life, self.order.place(index, steps)),
+        match self.death(index, steps) {
+            Some(death) => self.unit < death,
             None => true,
         }
     }
