@@ -87,7 +87,7 @@ fn write_cohort<S: Shelf, B: Ledger>(
 {
     let orders = &table.orders[born as usize];
     let lines = CohortLines::new(plan, table.place, born, unit, orders);
-    if lines.survival() == Survival::Over {
+    if let Survival::Over = lines.survival() {
         return Ok(());
     }
     let size = cohort(plan, table.place, born).size;

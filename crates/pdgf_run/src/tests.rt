@@ -858,10 +858,7 @@ fn lives_and_changes_are_as_worked_out(rt: HostRuntime) -> Result<(), Fail> {
         let done = all_done(&[("-", text)]);
         run_gives(&rt, alloc, schema.as_bytes(), &given, shelf, done)?;
     }
-    for (schema, line) in [
-        (MORTAL, "t\t3\t2\t2\t27\n"),
-        (CHANGING, "t\t5\t4\t3\t33\n"),
-    ] {
+    for (schema, line) in [(MORTAL, "t\t3\t2\t2\t27\n"), (CHANGING, "t\t5\t4\t3\t33\n")] {
         let shelf = shelf(alloc, ShelfFail::Begin(9), 1000)?;
         let done = all_done(&[("-", line)]);
         let given = ["pdgf", "check", "s.toml"];

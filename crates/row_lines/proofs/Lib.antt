@@ -1,6 +1,6 @@
 pub mod ListLemmas
-pub mod ChangeDrawLemmas
-mod LineLemmas
+mod ChangeDrawLemmas
+pub mod LineLemmas
 mod LiveLemmas
 pub mod FieldLemmas
 pub mod CohortLineLemmas

@@ -8,7 +8,9 @@ use super::*;
 use life_intervals::{Survival, born, cohort, cohort_orders};
 use pd_outside::{Memory, PageBuf};
 use schema_check::{Dictionaries, Plan, check, unbuilt};
-use schema_model::{Column, Columns, Delimiter, Kind, Life, Part, Parts, Schema, Table, Tables, Text};
+use schema_model::{
+    Column, Columns, Delimiter, Kind, Life, Part, Parts, Schema, Table, Tables, Text,
+};
 use std::alloc::{AllocError, Global};
 use std::marker::Brand;
 use std::process::Abort;

@@ -9,6 +9,8 @@ abbrev pub invariant-loop-first : goal.invariant-loop-first
 invariant-loop-first g l = record {
   within : l.first ≤ l.size;
   keys : length l.keys ≡ 256;
+  changed : length l.changed ≡ 256;
+  live : length l.live ≡ 256;
   lines :
       g.S.Shelf.held l.shelf
       ≡ option_map (append_bytes (first_lines (generator_of l.plan) l.unit l.table.place l.born l.first)) (g.S.Shelf.held l.fn.shelf);

@@ -5,7 +5,7 @@ use Rattle.pd_outside.specs.Shelf.{append_bytes}
 use Rattle.schema_check.proofs.PlannedLemmas.{max_line-reach}
 use Rattle.schema_check.specs.Layout.{layout_of}
 use Rattle.life_intervals.specs.Generator.{generator_of, Generator}
-use Rattle.life_intervals.proofs.StillLemmas.{AreSound-built}
+use Rattle.life_intervals.proofs.BuiltLemmas.{AreSound-built}
 use Rattle.row_lines.proofs.LineLemmas.{table_text-at, table_text-text_before, text_before-add_one, text_before-zero}
 use Rattle.row_lines.specs.Lines.{cohort_text, text_before}
 use Rattle.pdgf_run.proofs.FillLemmas.{appended_then}
@@ -41,7 +41,7 @@ write_cohort-requires-clause-room g c =
 pub returns-in-Err-clause-text : goal.returns-in-Err-clause-text
 returns-in-Err-clause-text g c =
     let within : c.loop-born.born ≤ c.args.unit = omega arith in
-    prefix_after _ _ _ _ _ _ _ (table_text-at c.args.unit (generator_of c.args.plan.now) c.args.unit c.args.table.now.place c.loop-born.born (AreSound-built c.args.plan.now c.schema-built.ensures.built c.args.unit) (omega arith) within)
+    prefix_after _ _ _ _ _ _ _ (table_text-at c.args.unit (generator_of c.args.plan.now) c.args.unit c.args.table.now.place c.loop-born.born (AreSound-built c.args.plan.now c.schema-sound.ensures.limits c.schema-sound.ensures.built c.args.unit) (omega arith) within)
     c.loop-born.invariant.text c.in-Err.ensures.lines
 
 pub returns-clause-text : goal.returns-clause-text
@@ -50,4 +50,4 @@ returns-clause-text g c =
     c.loop-born.invariant.text
     ∙ ap (λ (born : ℕ). option_map (append_bytes (text_before (generator_of c.args.plan.now) c.args.unit c.args.table.now.place born)) (g.S.Shelf.held c.args.shelf.now)) all
     ∙ ap (λ (text : List ℕ). option_map (append_bytes text) (g.S.Shelf.held c.args.shelf.now))
-    (sym (table_text-text_before c.args.unit (generator_of c.args.plan.now) c.args.unit c.args.table.now.place (AreSound-built c.args.plan.now c.schema-built.ensures.built c.args.unit) (omega arith)))
+    (sym (table_text-text_before c.args.unit (generator_of c.args.plan.now) c.args.unit c.args.table.now.place (AreSound-built c.args.plan.now c.schema-sound.ensures.limits c.schema-sound.ensures.built c.args.unit) (omega arith)))
