@@ -290,9 +290,9 @@ fn cohort_checksum<L: Ledger>(
     let mut sum = so_far;
     let orders = cohort_orders(plan, 0, born);
     let lines = CohortLines::new(plan, 0, born, plan.units(), &orders);
-    if lines.survival() != Survival::Sure {
+    let Survival::Sure = lines.survival() else {
         return Err(Fail::from("not alive"));
-    }
+    };
     let room = plan.max_line(0) as usize;
     for index in 0..cohort(plan, 0, born).size {
         let mut page = page_of(alloc, room)?;
