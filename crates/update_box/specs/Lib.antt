@@ -1,0 +1,2 @@
+pub mod UnitLists
+pub mod TableLists

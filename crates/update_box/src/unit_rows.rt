@@ -1,0 +1,84 @@
+//! The rows that a unit changes, table by table.
+
+ghost use Rattle.std.specs.Prelude.{◌≡◌, ◌<◌, ◌≤◌, IfOk, length};
+ghost use Rattle.life_intervals.specs.Generator.{last_unit};
+ghost use Rattle.update_box.specs.TableLists.{table_lists_at};
+ghost use Rattle.update_box.specs.UnitLists.{unit_lists};
+
+use crate::scan::{TableRows, table_rows};
+use life_intervals::Cohort;
+use pd_outside::Memory;
+use schema_check::Plan;
+use std::alloc::Global;
+use std::marker::Model;
+use std::sync::ledger::Ledger;
+use step_count::Steps;
+
+/// The rows that a unit deletes and updates, and the cohort that it inserts, table by table. A contract sees the unit and the lists.
+#[derive(Drop)]
+pub struct UnitRows {
+    unit: u64,
+    tables: Vec<TableRows>,
+}
+
+impl Model for UnitRows {
+    ghost use Rattle.std.specs.Prelude.{map};
+    ghost use Rattle.update_box.specs.UnitLists.{UnitLists};
+    ghost use Rattle.update_box.specs.TableLists.{lists_of};
+
+    ghost Value = { UnitLists };
+
+    ghost view = { λ r. record { unit = r.unit; tables = map lists_of r.tables.items } };
+}
+
+impl UnitRows {
+    /// The unit.
+    pub fn unit(&self) -> u64
+        ensures { result ≡ self.now.unit }
+    {
+        self.unit
+    }
+
+    /// The ordinals of the rows of a table that the unit deletes, in rising order.
+    pub fn dels(&self, table: u32) -> &[u64]
+        requires { table < length self.now.tables }
+        ensures { result.now ≡ (table_lists_at self.now table).deleted }
+    {
+        self.tables[table as usize].deleted.as_slice()
+    }
+
+    /// The ordinals of the rows of a table that the unit updates, in rising order.
+    pub fn upds(&self, table: u32) -> &[u64]
+        requires { table < length self.now.tables }
+        ensures { result.now ≡ (table_lists_at self.now table).updated }
+    {
+        self.tables[table as usize].updated.as_slice()
+    }
+
+    /// The cohort of a table that the unit inserts.
+    pub fn ins(&self, table: u32) -> Cohort
+        requires { table < length self.now.tables }
+        ensures { result ≡ (table_lists_at self.now table).inserted }
+    {
+        self.tables[table as usize].inserted
+    }
+}
+
+/// The rows that the step to unit `t` deletes, updates and inserts, table by table. At `Memory` none are told.
+pub fn unit_rows<L: Ledger>(
+    alloc: Global,
+    plan: &Plan,
+    t: u64,
+    steps: &mut Steps<L>,
+) -> Result<UnitRows, Memory>
+    requires some { 1 ≤ t }
+    requires unit { t ≤ last_unit plan.now }
+    ensures { IfOk result (λ rows. rows ≡ unit_lists plan.now t) }
+{
+    let _limits = plan.schema(); // there are at most 64 tables
+    let mut tables = Vec::new(alloc);
+    for table in 0..plan.tables() {
+        tables.push(table_rows(alloc, plan, table, t, steps)?)?;
+    }
+    Ok(UnitRows { unit: t, tables })
+}
