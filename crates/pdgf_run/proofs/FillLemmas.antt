@@ -11,9 +11,7 @@ use Rattle.pd_outside.specs.Files.{File}
 use Rattle.pd_outside.specs.Shelf.{Held, append_bytes, finish_files, HoldsPrefixOf, IsPrefixOfNext}
 use Rattle.schema_check.specs.Dictionaries.{Project}
 use Rattle.life_intervals.proofs.Ranges.{flat_map-range_with_len_more}
-use Rattle.life_intervals.specs.Generator.{generator_of}
-use Rattle.row_lines.specs.Lines.{table_text}
-use Rattle.pdgf_run.specs.DueFiles.{check_line, check_lines, texts_at}
+use Rattle.pdgf_run.specs.DueFiles.{Part, check_line, check_lines, part_text, texts_of}
 
 -- ---- pieces, one after the other
 
@@ -56,11 +54,11 @@ pub check_lines-add_one : (plan : Project) (count : ℕ) → check_lines plan (c
 unfolding check_lines
 check_lines-add_one plan count = flat_map-range_with_len_more (check_line plan) count
 
--- the texts of the tables at the places of some items
-pub texts_at-map : {A : Type 0} (plan : Project) (unit : ℕ) (place : A → ℕ) (tables : List A) →
-    texts_at plan unit (map place tables) ≡ flat_map (λ table. table_text (generator_of plan) unit (place table)) tables
-unfolding texts_at
-texts_at-map plan unit place tables = flat_map-map (table_text (generator_of plan) unit) place tables
+-- the texts of parts
+pub texts_of-map : {A : Type 0} (plan : Project) (unit : ℕ) (part : A → Part) (items : List A) →
+    texts_of plan unit (map part items) ≡ flat_map (λ item. part_text plan unit (part item)) items
+unfolding texts_of
+texts_of-map plan unit part items = flat_map-map (part_text plan unit) part items
 
 -- ---- files, one after the other
 

@@ -1,5 +1,6 @@
 pub mod FillLemmas
 pub mod JobLemmas
+mod StreamTextLemmas
 pub mod DecideLemmas
 pub mod DictionaryLemmas
 pub mod ReportLemmas

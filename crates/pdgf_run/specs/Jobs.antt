@@ -1,59 +1,94 @@
 -- What a job is due.
-use Rattle.std.specs.Prelude.{◌≡◌, ◌<◌, ◌≤◌, ℕ, List, [], ◌∷◌, length, map, All, ⊤}
+use Rattle.std.specs.Prelude.{◌≡◌, ◌<◌, ◌≤◌, ℕ, if◌then◌else◌, List, [], ◌∷◌, length, map, All, Bool, true, false, Option, Some, None, ⊤}
 use Rattle.std.specs.List.{range_with_len}
 use Rattle.pd_outside.specs.Files.{File}
 use Rattle.schema_check.specs.Dictionaries.{Project}
 use Rattle.schema_check.specs.Layout.{layout_of}
 use Rattle.schema_check.specs.TableFacts.{reach}
-use Rattle.life_intervals.specs.Generator.{last_unit}
-use Rattle.life_intervals.specs.CohortOrders.{table_orders}
+use Rattle.life_intervals.specs.CohortOrders.{cohort_orders, table_orders}
+use Rattle.life_intervals.specs.Generator.{generator_of, last_unit}
+use Rattle.life_intervals.specs.Streams.{deleted, updated}
 use Rattle.row_lines.specs.ChangeDraws.{change_draws}
-use Rattle.pdgf_run.specs.DueFiles.{file_of, standard_output}
+use Rattle.update_box.specs.UnitLists.{ordinals}
+use Rattle.pdgf_run.specs.DueFiles.{Part, ending_of, file_of, name_at, part_file, path_of, standard_output}
+use Rattle.pdgf_run.specs.declared.job.Content.{Content}
+use Rattle.pdgf_run.specs.declared.job.Content.TheVariants as content
 use Rattle.pdgf_run.specs.declared.job.Job.{Job}
-use Rattle.pdgf_run.specs.declared.job.Job.TheVariants.{Text, Snapshot}
-use Rattle.pdgf_run.specs.declared.job.JobFile.{JobFile}
-use Rattle.pdgf_run.specs.declared.job.JobTable.{JobTable}
+use Rattle.pdgf_run.specs.declared.job.Job.TheVariants.{Text, Files}
+use Rattle.pdgf_run.specs.declared.job.JobRows.{JobRows}
+use Rattle.pdgf_run.specs.declared.job.JobRows.TheVariants as rows
+use Rattle.pdgf_run.specs.declared.job.JobPart.{JobPart}
+use Rattle.pdgf_run.specs.declared.job.FilesJob.{FilesJob}
 use Rattle.pdgf_run.specs.declared.job.Places.{Places}
-use Rattle.pdgf_run.specs.declared.job.SnapshotJob.{SnapshotJob}
 
 -- the places, in order
 abbrev pub places_of : Places → List ℕ
 places_of places = range_with_len places.from places.count
 
--- the places of a file's tables
-abbrev pub places_in : JobFile → List ℕ
-places_in file = map (λ (table : JobTable). table.place) file.tables.items
+-- what some rows are of their table
+abbrev pub content_of : JobRows → Content
+content_of (rows.Snapshot orders changes) = content.Snapshot
+content_of (rows.Deleted ordinals) = content.Deleted
+content_of (rows.Updated ordinals) = content.Updated
+content_of (rows.Inserted orders changes) = content.Inserted
 
--- a file of a snapshot
-abbrev pub due_file : Project → ℕ → JobFile → File
-due_file plan unit file = file_of plan unit file.name (places_in file)
+-- what a part holds
+abbrev pub part_of : JobPart → Part
+part_of part = record { place = part.place; content = content_of part.rows }
 
--- the files of a snapshot
-abbrev pub snapshot_due : SnapshotJob → List File
-snapshot_due job = map (due_file job.plan job.unit) job.files.items
+-- the file of a part that has one of its own
+abbrev pub own_file : Project → ℕ → JobPart → File
+own_file plan unit part = file_of plan unit part.name (part_of part ∷ [])
+
+-- the files of a job: one for each part, or one for all
+abbrev pub files_due : FilesJob → List File
+files_due job =
+    if job.apart then map (own_file job.plan job.unit) job.parts.items
+    else file_of job.plan job.unit standard_output (map part_of job.parts.items) ∷ []
 
 -- the files of a job
 abbrev pub due_of : Job → List File
 due_of (Text bytes) = record { name = standard_output; bytes = bytes.items } ∷ []
-due_of (Snapshot job) = snapshot_due job
+due_of (Files job) = files_due job
 
--- a table is one of the plan's, with the orders of its cohorts up to the unit, and the draws of its changes
-pub record IsTableOf (plan : Project) (unit : ℕ) (table : JobTable) : Type 0 where
-  pub place : table.place < length plan.schema.tables
-  pub orders : table.orders.items ≡ table_orders plan table.place unit
-  pub changes : table.changes.items ≡ change_draws plan table.place unit
+-- the rows of a part, with what is made ready for them, are those of the table at a place at a unit
+abbrev pub AreRowsOf : Project → ℕ → ℕ → JobRows → Type 0
+AreRowsOf plan unit place (rows.Snapshot orders changes) =
+    (orders.items ≡ table_orders plan place unit) × (changes.items ≡ change_draws plan place unit)
+AreRowsOf plan unit place (rows.Deleted kept) = (1 ≤ unit) × (kept.items ≡ ordinals (deleted (generator_of plan) place unit))
+AreRowsOf plan unit place (rows.Updated kept) = (1 ≤ unit) × (kept.items ≡ ordinals (updated (generator_of plan) place unit))
+AreRowsOf plan unit place (rows.Inserted orders changes) =
+    (orders ≡ cohort_orders plan place unit) × (changes.items ≡ change_draws plan place unit)
 
--- a file's tables are the plan's
-abbrev pub IsFileOf : Project → ℕ → JobFile → Type 0
-IsFileOf plan unit file = All (IsTableOf plan unit) file.tables.items
+-- a part is one of the plan's tables
+pub record IsPartOf (plan : Project) (unit : ℕ) (part : JobPart) : Type 0 where
+  pub place : part.place < length plan.schema.tables
+  pub rows : AreRowsOf plan unit part.place part.rows
 
--- a snapshot's unit and tables are the plan's, and its buffer holds the greatest line
-pub record CanWrite (job : SnapshotJob) : Type 0 where
+-- a job's unit and parts are the plan's, and its buffer holds the greatest line and each key line
+pub record CanWrite (job : FilesJob) : Type 0 where
   pub unit : job.unit ≤ last_unit job.plan
   pub small : last_unit job.plan ≤ 10000
-  pub files : All (IsFileOf job.plan job.unit) job.files.items
+  pub parts : All (IsPartOf job.plan job.unit) job.parts.items
   pub room : reach (layout_of job.plan) ≤ job.page.room
+  pub key_room : 21 ≤ job.page.room
 
 abbrev pub CanFill : Job → Type 0
 CanFill (Text bytes) = ⊤
-CanFill (Snapshot job) = CanWrite job
+CanFill (Files job) = CanWrite job
+
+-- the name of the file that a part of a table has in a directory; none where it has none
+abbrev pub file_name : Project → ℕ → Option (List ℕ) → Part → List ℕ
+file_name plan unit None part = []
+file_name plan unit (Some directory) part = path_of directory (name_at plan.schema part.place) (ending_of unit part.content)
+
+-- a part with the name of its file
+pub record Named : Type 0 where
+  pub name : List ℕ
+  pub part : Part
+
+abbrev pub named : JobPart → Named
+named part = record { name = part.name; part = part_of part }
+
+abbrev pub with_name : Project → ℕ → Option (List ℕ) → Part → Named
+with_name plan unit out part = record { name = file_name plan unit out part; part = part }

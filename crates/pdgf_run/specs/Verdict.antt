@@ -1,5 +1,5 @@
 -- What words and files come to: the due files, or a refusal.
-use Rattle.std.specs.Prelude.{◌≡◌, ℕ, nat_lt, List, [], length, Option, Some, None, Result, Ok, Err, IfSome, if◌then◌else◌}
+use Rattle.std.specs.Prelude.{◌≡◌, ℕ, ◌==◌, ◌||◌, nat_lt, List, [], length, Option, Some, None, Result, Ok, Err, IfSome, if◌then◌else◌}
 use Rattle.std.specs.Option.{option_map}
 use Rattle.pd_outside.specs.Files.{File, bytes_of}
 use Rattle.pd_outside.specs.Library.{Content, left}
@@ -13,7 +13,7 @@ use Rattle.schema_model.specs.declared.table.Schema.{Schema}
 use Rattle.schema_read.specs.Schema.{schema_of}
 use Rattle.life_intervals.specs.Generator.{last_unit}
 use Rattle.pdgf_run.specs.DictionaryFiles.{with_dictionaries}
-use Rattle.pdgf_run.specs.DueFiles.{check_files, chosen, snapshot_files}
+use Rattle.pdgf_run.specs.DueFiles.{check_files, chosen, table_files}
 use Rattle.pdgf_run.specs.Limits.{schema_limit}
 use Rattle.pdgf_run.specs.Stages.{in_stage, on_ok}
 use Rattle.pdgf_run.specs.Words.{request}
@@ -25,7 +25,7 @@ use Rattle.pdgf_run.specs.declared.refusal.Refusal.{Refusal}
 use Rattle.pdgf_run.specs.declared.refusal.Refusal.TheVariants as refusal
 use Rattle.pdgf_run.specs.declared.refusal.TextFault.{TextFault}
 use Rattle.pdgf_run.specs.declared.refusal.TextFault.TheVariants as text
-use Rattle.pdgf_run.specs.declared.usage.Mode.TheVariants.{Check, Snapshot}
+use Rattle.pdgf_run.specs.declared.usage.Mode.TheVariants.{Check, Snapshot, Unit}
 use Rattle.pdgf_run.specs.declared.usage.Mode.{Mode}
 use Rattle.pdgf_run.specs.declared.usage.OptionName.TheVariants as option
 use Rattle.pdgf_run.specs.declared.usage.Request.{Request}
@@ -53,16 +53,20 @@ planned_with files schema names = on_ok (in_stage plan.Dictionary (with_dictiona
 abbrev pub planned : List File → Schema → Result Project PlanFault
 planned files schema = on_ok (citations_of schema) (planned_with files schema)
 
--- the snapshot of the chosen tables, where the schema has the one that is named
+-- the files of the chosen tables, where the schema has the one that is named
 abbrev pub of_places : Request → Project → Option (List ℕ) → Result (List File) TextFault
 of_places request plan None = Err (text.Range option.Table)
-of_places request plan (Some places) = Ok (snapshot_files plan request.unit places request.out)
+of_places request plan (Some places) = Ok (table_files request.mode plan request.unit places request.out)
 
--- a request over a plan: a unit past the last one is refused first, then a table that isn't there
+-- a request over a plan: a unit past the last one is refused first, and unit 0 where changes are asked for, which are none; then a
+-- table that isn't there
 abbrev pub in_mode : Mode → Request → Project → Result (List File) TextFault
 in_mode Check request plan = Ok (check_files plan)
 in_mode Snapshot request plan =
     if nat_lt (last_unit plan) request.unit then Err (text.Range option.Unit)
+    else of_places request plan (chosen plan.schema request.table)
+in_mode Unit request plan =
+    if request.unit == 0 || nat_lt (last_unit plan) request.unit then Err (text.Range option.Unit)
     else of_places request plan (chosen plan.schema request.table)
 
 -- a request over a schema

@@ -6,7 +6,7 @@ use Rattle.std.specs.Option.{option_copied, option_or, option_and_then, option_m
 use Rattle.std.specs.Str.{bytes_eq}
 use Rattle.std.specs.Str.Parse.{digits_value}
 use Rattle.pdgf_run.specs.declared.usage.Mode.{Mode}
-use Rattle.pdgf_run.specs.declared.usage.Mode.TheVariants.{Check, Snapshot}
+use Rattle.pdgf_run.specs.declared.usage.Mode.TheVariants.{Check, Snapshot, Unit}
 use Rattle.pdgf_run.specs.declared.usage.OptionName.{OptionName}
 use Rattle.pdgf_run.specs.declared.usage.OptionName.TheVariants as option
 use Rattle.pdgf_run.specs.declared.usage.Request.{Request}
@@ -94,7 +94,9 @@ form (program ∷ mode ∷ rest) = if is_option mode then None else behind_mode 
 -- the mode of this name
 abbrev pub mode_named : List ℕ → Option Mode
 mode_named word =
-    if bytes_eq word (codes "check") then Some Check else (if bytes_eq word (codes "snapshot") then Some Snapshot else None)
+    if bytes_eq word (codes "check") then Some Check
+    else (if bytes_eq word (codes "snapshot") then Some Snapshot
+    else (if bytes_eq word (codes "unit") then Some Unit else None))
 
 -- whether these are one to twenty decimal digits that stand for a number of 64 bits
 abbrev pub is_number : List ℕ → Bool
@@ -124,15 +126,20 @@ abbrev pub directory_wrong : OptionName → Option (List ℕ) → Option UsageFa
 directory_wrong name (Some []) = Some (usage.EmptyDirectory name)
 directory_wrong name _ = None
 
--- what is wrong first with what is given for a mode
+-- what is wrong first with what is given for a mode over the tables at a unit
+abbrev pub wrong_at_unit : Given → Option UsageFault
+wrong_at_unit given =
+    option_or (missing option.Schema given.schema)
+    (option_or (number_wrong option.Unit given.unit) (directory_wrong option.Out given.out))
+
+-- and for any mode
 abbrev pub wrong : Mode → Given → Option UsageFault
 wrong Check given =
     option_or (missing option.Schema given.schema)
     (option_or (unwanted option.Unit given.unit)
     (option_or (unwanted option.Table given.table) (unwanted option.Out given.out)))
-wrong Snapshot given =
-    option_or (missing option.Schema given.schema)
-    (option_or (number_wrong option.Unit given.unit) (directory_wrong option.Out given.out))
+wrong Snapshot given = wrong_at_unit given
+wrong Unit given = wrong_at_unit given
 
 -- the request that is given, where nothing is wrong
 abbrev pub request_of : Mode → Given → Request

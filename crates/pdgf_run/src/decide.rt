@@ -1,6 +1,6 @@
 //! From the words to a job: all that is read and all memory that is taken, stage by stage.
 
-ghost use Rattle.std.specs.Prelude.{◌≡◌, ◌≢◌, ◌≤◌, ◌+◌, ◌⊎◌, [], false, map, string_bytes, Err, IfErr, IfOk, IfSome, IsErrAnd, Ok, OnOk};
+ghost use Rattle.std.specs.Prelude.{◌≡◌, ◌≢◌, ◌<◌, ◌≤◌, ◌+◌, ◌⊎◌, [], false, map, string_bytes, Err, IfErr, IfOk, IfSome, IsErrAnd, Ok, OnOk};
 ghost use Rattle.std.specs.Option.{option_map};
 ghost use Rattle.pd_outside.specs.Faults.{Rose};
 ghost use Rattle.pd_outside.specs.Files.{bytes_of};
@@ -17,7 +17,7 @@ ghost use Rattle.pdgf_run.specs.Words.{request};
 
 use crate::check::check_text;
 use crate::dictionary_files::read_dictionaries;
-use crate::job::{Job, choose, snapshot_job};
+use crate::job::{Job, choose, snapshot_job, unit_job};
 use crate::refusal::{JobFault, PlanFault, Refusal, TextFault};
 use crate::usage::{Mode, OptionName, Request};
 use crate::words::read_words;
@@ -26,6 +26,8 @@ use schema_check::{Plan, check, citations, unbuilt};
 use schema_model::Schema;
 use schema_read::read_schema;
 use std::alloc::Global;
+use std::marker::Brand;
+use std::sync::ledger::{Blank, Ledger};
 
 /// The most bytes of a schema's text.
 const SCHEMA_LIMIT: u64 = 1_048_576;
@@ -154,11 +156,13 @@ fn job_of(alloc: Global, plan: Plan, request: &Request) -> Result<Job, TextFault
     match request.mode {
         Mode::Check => Ok(Job::Text(check_text(alloc, &plan)?)),
         Mode::Snapshot => plan_snapshot(alloc, plan, request),
+        Mode::Unit => plan_unit::<Brand>(alloc, plan, request, Blank::new(1)),
     }
 }
 
 /// The job of a snapshot of a plan's tables.
 fn plan_snapshot(alloc: Global, plan: Plan, request: &Request) -> Result<Job, TextFault>
+    requires { request.now.mode ≡ Mode.Snapshot }
     ensures job { Decides text_status due_of result (in_mode Mode.Snapshot request.now plan) }
     ensures nothing_read { IfErr result (λ fault. text_status fault ≢ 5) }
     ensures can { IfOk result CanFill }
@@ -169,5 +173,30 @@ fn plan_snapshot(alloc: Global, plan: Plan, request: &Request) -> Result<Job, Te
     let Some(tables) = choose(&plan, &request.table) else {
         return Err(TextFault::Range(OptionName::Table));
     };
-    Ok(Job::Snapshot(snapshot_job(alloc, plan, request.unit, tables, &request.out)?))
+    Ok(Job::Files(snapshot_job(alloc, plan, request.unit, tables, &request.out)?))
+}
+
+/// The job of what a unit changes in a plan's tables.
+fn plan_unit<B: Ledger>(
+    alloc: Global,
+    plan: Plan,
+    request: &Request,
+    blank: Blank,
+) -> Result<Job, TextFault>
+    requires mode { request.now.mode ≡ Mode.Unit }
+    requires name { blank.name ≡ B.name }
+    requires parts { blank.parts ≡ B.parts }
+    requires some { 0 < blank.parts }
+    ensures job { Decides text_status due_of result (in_mode Mode.Unit request.now plan) }
+    ensures nothing_read { IfErr result (λ fault. text_status fault ≢ 5) }
+    ensures can { IfOk result CanFill }
+{
+    if request.unit == 0 || plan.units() < request.unit {
+        return Err(TextFault::Range(OptionName::Unit));
+    }
+    let Some(tables) = choose(&plan, &request.table) else {
+        return Err(TextFault::Range(OptionName::Table));
+    };
+    let job = unit_job::<B>(alloc, plan, request.unit, tables, &request.out, blank)?;
+    Ok(Job::Files(job))
 }

@@ -1,23 +1,27 @@
 //! The files of a job, line by line onto a shelf.
 
-ghost use Rattle.std.specs.Prelude.{◌≡◌, ◌<◌, ◌≤◌, ◌∷◌, [], false, true, IsTrue, OnErr, OnOk, length};
+ghost use Rattle.std.specs.Prelude.{◌≡◌, ◌<◌, ◌≤◌, ◌∷◌, [], All, false, true, IsTrue, OnErr, OnOk, length, map};
 ghost use Rattle.pd_outside.specs.Faults.{Rose};
+ghost use Rattle.schema_check.specs.Cohorts.{cohort_size};
 ghost use Rattle.schema_check.specs.Layout.{layout_of};
 ghost use Rattle.schema_check.specs.TableFacts.{max_line, reach};
+ghost use Rattle.life_intervals.specs.CohortOrders.{cohort_orders, table_orders};
 ghost use Rattle.life_intervals.specs.Generator.{generator_of, last_unit};
+ghost use Rattle.life_intervals.specs.Streams.{deleted as deleted_rows, updated as updated_rows};
 ghost use Rattle.row_lines.specs.ChangeDraws.{change_draws};
-ghost use Rattle.row_lines.specs.CohortLines.{living_line};
-ghost use Rattle.row_lines.specs.Lines.{cohort_text, table_text};
+ghost use Rattle.row_lines.specs.CohortLines.{layout_for, living_line};
+ghost use Rattle.row_lines.specs.Lines.{cohort_text};
+ghost use Rattle.update_box.specs.UnitLists.{ordinals};
 ghost use Rattle.pdgf_run.specs.Appends.{Appends, Finishes};
-ghost use Rattle.pdgf_run.specs.DueFiles.{standard_output, texts_at};
+ghost use Rattle.pdgf_run.specs.DueFiles.{content_text, file_of, part_text, standard_output, texts_of};
 ghost use Rattle.pdgf_run.specs.KnownRows.{IsRowOf};
-ghost use Rattle.pdgf_run.specs.Jobs.{CanFill, CanWrite, IsFileOf, IsTableOf, due_file, due_of, places_in, snapshot_due};
+ghost use Rattle.pdgf_run.specs.Jobs.{CanFill, CanWrite, IsPartOf, due_of, files_due, own_file, part_of};
 
-use crate::job::{Job, JobFile, JobTable, SnapshotJob};
+use crate::job::{Content, FilesJob, Job, JobPart, JobRows};
 use draw_values::UnitDraws;
-use life_intervals::{Survival, cohort};
+use life_intervals::{CohortOrders, Survival, cohort};
 use pd_outside::{Failed, PageBuf, Shelf, WriteFailed, write_all};
-use row_lines::CohortLines;
+use row_lines::{CohortLines, put_key, put_line};
 use schema_check::Plan;
 use std::marker::Brand;
 use std::sync::ledger::{Blank, Ledger};
@@ -63,34 +67,29 @@ fn write_row<S: Shelf>(
     write_all(shelf, page.text())
 }
 
-/// Writes the lines at a unit of the living among the rows of a table that are born at another.
+/// Writes the lines at a unit of the living of a cohort, which has `size` rows.
 fn write_cohort<S: Shelf, B: Ledger>(
     shelf: &mut S,
     page: &mut PageBuf,
-    plan: &Plan,
-    table: &JobTable,
-    born: u64,
-    unit: u64,
+    lines: &CohortLines<'_>,
+    size: u64,
+    changes: &[UnitDraws],
     steps: &mut Steps<B>,
 ) -> Result<(), WriteFailed>
     requires begun { IsTrue (S.is_begun shelf.old) }
-    requires table { IsTableOf plan.now unit table.now }
-    requires born { born ≤ unit }
-    requires unit { unit ≤ last_unit plan.now }
-    requires room { max_line (layout_of plan.now) table.now.place ≤ page.old.room }
-    ensures lines { Appends result (cohort_text (generator_of plan.now) unit table.now.place born) (S.held shelf.old) (S.held shelf.new) }
+    requires size { size ≡ cohort_size (layout_for lines.now).births lines.now.born }
+    requires changes { changes.now ≡ change_draws lines.now.plan lines.now.table lines.now.unit }
+    requires room { max_line (layout_of lines.now.plan) lines.now.table ≤ page.old.room }
+    ensures lines { Appends result (cohort_text (generator_of lines.now.plan) lines.now.unit lines.now.table lines.now.born) (S.held shelf.old) (S.held shelf.new) }
     ensures cause { OnErr result (Rose (S.faults shelf.old) (S.faults shelf.new)) }
     ensures no_fault { OnOk result (S.faults shelf.new ≡ S.faults shelf.old) }
     ensures never_falls { S.faults shelf.old ≤ S.faults shelf.new }
     ensures begun { IsTrue (S.is_begun shelf.new) }
     ensures room { page.new.room ≡ page.old.room }
 {
-    let orders = &table.orders[born as usize];
-    let lines = CohortLines::new(plan, table.place, born, unit, orders);
     if let Survival::Over = lines.survival() {
         return Ok(());
     }
-    let size = cohort(plan, table.place, born).size;
     let mut keys = [0; ROWS_AT_ONCE];
     let mut changed = [0; ROWS_AT_ONCE];
     let mut live = [false; ROWS_AT_ONCE];
@@ -107,7 +106,7 @@ fn write_cohort<S: Shelf, B: Ledger>(
                 changed: changed[index as usize],
                 is_live: live[index as usize],
             };
-            match write_row(shelf, page, &lines, &table.changes, row) {
+            match write_row(shelf, page, lines, changes, row) {
                 Ok(()) => {}
                 Err(WriteFailed) => return Err(WriteFailed),
             }
@@ -117,30 +116,70 @@ fn write_cohort<S: Shelf, B: Ledger>(
     Ok(())
 }
 
+/// A table by its place, at a unit.
+#[derive(Clone, Copy)]
+struct TableAt<'a> {
+    plan: &'a Plan,
+    place: u32,
+    unit: u64,
+}
+
+/// Writes the lines at a unit of the living among the rows that are born at another.
+fn write_born<S: Shelf, B: Ledger>(
+    shelf: &mut S,
+    page: &mut PageBuf,
+    at: &TableAt<'_>,
+    born: u64,
+    orders: &CohortOrders,
+    changes: &[UnitDraws],
+    steps: &mut Steps<B>,
+) -> Result<(), WriteFailed>
+    requires begun { IsTrue (S.is_begun shelf.old) }
+    requires table { at.now.place < length at.now.plan.now.schema.tables }
+    requires unit { at.now.unit ≤ last_unit at.now.plan.now }
+    requires small { last_unit at.now.plan.now ≤ 10000 }
+    requires room { reach (layout_of at.now.plan.now) ≤ page.old.room }
+    requires born { born ≤ at.now.unit }
+    requires orders { orders.now ≡ cohort_orders at.now.plan.now at.now.place born }
+    requires changes { changes.now ≡ change_draws at.now.plan.now at.now.place at.now.unit }
+    ensures lines { Appends result (cohort_text (generator_of at.now.plan.now) at.now.unit at.now.place born) (S.held shelf.old) (S.held shelf.new) }
+    ensures cause { OnErr result (Rose (S.faults shelf.old) (S.faults shelf.new)) }
+    ensures no_fault { OnOk result (S.faults shelf.new ≡ S.faults shelf.old) }
+    ensures never_falls { S.faults shelf.old ≤ S.faults shelf.new }
+    ensures begun { IsTrue (S.is_begun shelf.new) }
+    ensures room { page.new.room ≡ page.old.room }
+{
+    let lines = CohortLines::new(at.plan, at.place, born, at.unit, orders);
+    let size = cohort(at.plan, at.place, born).size;
+    write_cohort(shelf, page, &lines, size, changes, steps)
+}
+
 /// Writes the text of a table at a unit: the lines of the rows that are born by then and alive.
 fn write_table<S: Shelf, B: Ledger>(
     shelf: &mut S,
     page: &mut PageBuf,
-    plan: &Plan,
-    table: &JobTable,
-    unit: u64,
+    at: &TableAt<'_>,
+    orders: &[CohortOrders],
+    changes: &[UnitDraws],
     steps: &mut Steps<B>,
 ) -> Result<(), WriteFailed>
     requires begun { IsTrue (S.is_begun shelf.old) }
-    requires table { IsTableOf plan.now unit table.now }
-    requires unit { unit ≤ last_unit plan.now }
-    requires small { last_unit plan.now ≤ 10000 }
-    requires room { reach (layout_of plan.now) ≤ page.old.room }
-    ensures text { Appends result (table_text (generator_of plan.now) unit table.now.place) (S.held shelf.old) (S.held shelf.new) }
+    requires table { at.now.place < length at.now.plan.now.schema.tables }
+    requires unit { at.now.unit ≤ last_unit at.now.plan.now }
+    requires small { last_unit at.now.plan.now ≤ 10000 }
+    requires room { reach (layout_of at.now.plan.now) ≤ page.old.room }
+    requires orders { orders.now ≡ table_orders at.now.plan.now at.now.place at.now.unit }
+    requires changes { changes.now ≡ change_draws at.now.plan.now at.now.place at.now.unit }
+    ensures text { Appends result (content_text at.now.plan.now at.now.unit at.now.place Content.Snapshot) (S.held shelf.old) (S.held shelf.new) }
     ensures cause { OnErr result (Rose (S.faults shelf.old) (S.faults shelf.new)) }
     ensures no_fault { OnOk result (S.faults shelf.new ≡ S.faults shelf.old) }
     ensures never_falls { S.faults shelf.old ≤ S.faults shelf.new }
     ensures begun { IsTrue (S.is_begun shelf.new) }
     ensures room { page.new.room ≡ page.old.room }
 {
-    let _sound = plan.schema(); // so the simulation is its closed form
-    for born in 0..unit + 1 {
-        match write_cohort(shelf, page, plan, table, born, unit, steps) {
+    let _sound = at.plan.schema(); // so the simulation is its closed form
+    for born in 0..at.unit + 1 {
+        match write_born(shelf, page, at, born, &orders[born as usize], changes, steps) {
             Ok(()) => {}
             Err(WriteFailed) => return Err(WriteFailed),
         }
@@ -148,29 +187,170 @@ fn write_table<S: Shelf, B: Ledger>(
     Ok(())
 }
 
-/// Writes the texts of a file's tables, one after the other.
-fn write_tables<S: Shelf, B: Ledger>(
+/// Writes the key lines of the rows of a table that a unit deletes, which these ordinals name.
+fn write_deleted<S: Shelf, B: Ledger>(
+    shelf: &mut S,
+    page: &mut PageBuf,
+    at: &TableAt<'_>,
+    deleted: &[u64],
+    steps: &mut Steps<B>,
+) -> Result<(), WriteFailed>
+    requires begun { IsTrue (S.is_begun shelf.old) }
+    requires table { at.now.place < length at.now.plan.now.schema.tables }
+    requires unit { at.now.unit ≤ last_unit at.now.plan.now }
+    requires small { last_unit at.now.plan.now ≤ 10000 }
+    requires room { reach (layout_of at.now.plan.now) ≤ page.old.room }
+    requires key_room { 21 ≤ page.old.room }
+    requires some { 1 ≤ at.now.unit }
+    requires rows { deleted.now ≡ ordinals (deleted_rows (generator_of at.now.plan.now) at.now.place at.now.unit) }
+    ensures text { Appends result (content_text at.now.plan.now at.now.unit at.now.place Content.Deleted) (S.held shelf.old) (S.held shelf.new) }
+    ensures cause { OnErr result (Rose (S.faults shelf.old) (S.faults shelf.new)) }
+    ensures no_fault { OnOk result (S.faults shelf.new ≡ S.faults shelf.old) }
+    ensures never_falls { S.faults shelf.old ≤ S.faults shelf.new }
+    ensures begun { IsTrue (S.is_begun shelf.new) }
+    ensures room { page.new.room ≡ page.old.room }
+{
+    let _sound = at.plan.schema(); // so each of them is born before
+    for ordinal in deleted {
+        page.clear();
+        put_key(at.plan, at.place, *ordinal, page, steps);
+        match write_all(shelf, page.text()) {
+            Ok(()) => {}
+            Err(WriteFailed) => return Err(WriteFailed),
+        }
+    }
+    Ok(())
+}
+
+/// Writes the lines of the rows of a table that a unit updates, which these ordinals name.
+fn write_updated<S: Shelf, B: Ledger>(
+    shelf: &mut S,
+    page: &mut PageBuf,
+    at: &TableAt<'_>,
+    updated: &[u64],
+    steps: &mut Steps<B>,
+) -> Result<(), WriteFailed>
+    requires begun { IsTrue (S.is_begun shelf.old) }
+    requires table { at.now.place < length at.now.plan.now.schema.tables }
+    requires unit { at.now.unit ≤ last_unit at.now.plan.now }
+    requires small { last_unit at.now.plan.now ≤ 10000 }
+    requires room { reach (layout_of at.now.plan.now) ≤ page.old.room }
+    requires some { 1 ≤ at.now.unit }
+    requires rows { updated.now ≡ ordinals (updated_rows (generator_of at.now.plan.now) at.now.place at.now.unit) }
+    ensures text { Appends result (content_text at.now.plan.now at.now.unit at.now.place Content.Updated) (S.held shelf.old) (S.held shelf.new) }
+    ensures cause { OnErr result (Rose (S.faults shelf.old) (S.faults shelf.new)) }
+    ensures no_fault { OnOk result (S.faults shelf.new ≡ S.faults shelf.old) }
+    ensures never_falls { S.faults shelf.old ≤ S.faults shelf.new }
+    ensures begun { IsTrue (S.is_begun shelf.new) }
+    ensures room { page.new.room ≡ page.old.room }
+{
+    let _sound = at.plan.schema(); // so each of them is born before, and alive
+    for ordinal in updated {
+        page.clear();
+        put_line(at.plan, at.place, *ordinal, at.unit, page, steps);
+        match write_all(shelf, page.text()) {
+            Ok(()) => {}
+            Err(WriteFailed) => return Err(WriteFailed),
+        }
+    }
+    Ok(())
+}
+
+/// Writes the lines of the cohort of a table that a unit inserts.
+fn write_inserted<S: Shelf, B: Ledger>(
+    shelf: &mut S,
+    page: &mut PageBuf,
+    at: &TableAt<'_>,
+    orders: &CohortOrders,
+    changes: &[UnitDraws],
+    steps: &mut Steps<B>,
+) -> Result<(), WriteFailed>
+    requires begun { IsTrue (S.is_begun shelf.old) }
+    requires table { at.now.place < length at.now.plan.now.schema.tables }
+    requires unit { at.now.unit ≤ last_unit at.now.plan.now }
+    requires small { last_unit at.now.plan.now ≤ 10000 }
+    requires room { reach (layout_of at.now.plan.now) ≤ page.old.room }
+    requires orders { orders.now ≡ cohort_orders at.now.plan.now at.now.place at.now.unit }
+    requires changes { changes.now ≡ change_draws at.now.plan.now at.now.place at.now.unit }
+    ensures text { Appends result (content_text at.now.plan.now at.now.unit at.now.place Content.Inserted) (S.held shelf.old) (S.held shelf.new) }
+    ensures cause { OnErr result (Rose (S.faults shelf.old) (S.faults shelf.new)) }
+    ensures no_fault { OnOk result (S.faults shelf.new ≡ S.faults shelf.old) }
+    ensures never_falls { S.faults shelf.old ≤ S.faults shelf.new }
+    ensures begun { IsTrue (S.is_begun shelf.new) }
+    ensures room { page.new.room ≡ page.old.room }
+{
+    let _sound = at.plan.schema(); // so each of them is alive
+    write_born(shelf, page, at, at.unit, orders, changes, steps)
+}
+
+/// Writes a part of a table.
+fn write_part<S: Shelf, B: Ledger>(
     shelf: &mut S,
     page: &mut PageBuf,
     plan: &Plan,
     unit: u64,
-    file: &JobFile,
+    part: &JobPart,
     steps: &mut Steps<B>,
 ) -> Result<(), WriteFailed>
     requires begun { IsTrue (S.is_begun shelf.old) }
-    requires file { IsFileOf plan.now unit file.now }
+    requires part { IsPartOf plan.now unit part.now }
     requires unit { unit ≤ last_unit plan.now }
     requires small { last_unit plan.now ≤ 10000 }
     requires room { reach (layout_of plan.now) ≤ page.old.room }
-    ensures text { Appends result (texts_at plan.now unit (places_in file.now)) (S.held shelf.old) (S.held shelf.new) }
+    requires key_room { 21 ≤ page.old.room }
+    ensures text { Appends result (part_text plan.now unit (part_of part.now)) (S.held shelf.old) (S.held shelf.new) }
     ensures cause { OnErr result (Rose (S.faults shelf.old) (S.faults shelf.new)) }
     ensures no_fault { OnOk result (S.faults shelf.new ≡ S.faults shelf.old) }
     ensures never_falls { S.faults shelf.old ≤ S.faults shelf.new }
     ensures begun { IsTrue (S.is_begun shelf.new) }
     ensures room { page.new.room ≡ page.old.room }
 {
-    for table in &file.tables {
-        match write_table(shelf, page, plan, table, unit, steps) {
+    let at = TableAt {
+        plan,
+        place: part.place,
+        unit,
+    };
+    match &part.rows {
+        JobRows::Snapshot(orders, changes) => write_table(
+            shelf,
+            page,
+            &at,
+            orders.as_slice(),
+            changes.as_slice(),
+            steps,
+        ),
+        JobRows::Deleted(deleted) => write_deleted(shelf, page, &at, deleted.as_slice(), steps),
+        JobRows::Updated(updated) => write_updated(shelf, page, &at, updated.as_slice(), steps),
+        JobRows::Inserted(orders, changes) => {
+            write_inserted(shelf, page, &at, orders, changes.as_slice(), steps)
+        }
+    }
+}
+
+/// Writes some parts, one after the other.
+fn write_parts<S: Shelf, B: Ledger>(
+    shelf: &mut S,
+    page: &mut PageBuf,
+    plan: &Plan,
+    unit: u64,
+    parts: &[JobPart],
+    steps: &mut Steps<B>,
+) -> Result<(), WriteFailed>
+    requires begun { IsTrue (S.is_begun shelf.old) }
+    requires parts { All (IsPartOf plan.now unit) parts.now }
+    requires unit { unit ≤ last_unit plan.now }
+    requires small { last_unit plan.now ≤ 10000 }
+    requires room { reach (layout_of plan.now) ≤ page.old.room }
+    requires key_room { 21 ≤ page.old.room }
+    ensures text { Appends result (texts_of plan.now unit (map part_of parts.now)) (S.held shelf.old) (S.held shelf.new) }
+    ensures cause { OnErr result (Rose (S.faults shelf.old) (S.faults shelf.new)) }
+    ensures no_fault { OnOk result (S.faults shelf.new ≡ S.faults shelf.old) }
+    ensures never_falls { S.faults shelf.old ≤ S.faults shelf.new }
+    ensures begun { IsTrue (S.is_begun shelf.new) }
+    ensures room { page.new.room ≡ page.old.room }
+{
+    for part in parts {
+        match write_part(shelf, page, plan, unit, part, steps) {
             Ok(()) => {}
             Err(WriteFailed) => return Err(WriteFailed),
         }
@@ -178,32 +358,34 @@ fn write_tables<S: Shelf, B: Ledger>(
     Ok(())
 }
 
-/// Writes a file of a snapshot, from its begin to its end.
+/// Writes a file of some parts, from its begin to its end.
 fn write_file<S: Shelf, B: Ledger>(
     shelf: &mut S,
     page: &mut PageBuf,
     plan: &Plan,
     unit: u64,
-    file: &JobFile,
+    name: &str,
+    parts: &[JobPart],
     steps: &mut Steps<B>,
 ) -> Result<(), WriteFailed>
     requires none_begun { S.is_begun shelf.old ≡ false }
-    requires file { IsFileOf plan.now unit file.now }
+    requires parts { All (IsPartOf plan.now unit) parts.now }
     requires unit { unit ≤ last_unit plan.now }
     requires small { last_unit plan.now ≤ 10000 }
     requires room { reach (layout_of plan.now) ≤ page.old.room }
-    ensures file { Finishes result (due_file plan.now unit file.now ∷ []) (S.held shelf.old) (S.held shelf.new) }
+    requires key_room { 21 ≤ page.old.room }
+    ensures file { Finishes result (file_of plan.now unit name.now (map part_of parts.now) ∷ []) (S.held shelf.old) (S.held shelf.new) }
     ensures none_begun { OnOk result (S.is_begun shelf.new ≡ false) }
     ensures cause { OnErr result (Rose (S.faults shelf.old) (S.faults shelf.new)) }
     ensures no_fault { OnOk result (S.faults shelf.new ≡ S.faults shelf.old) }
     ensures never_falls { S.faults shelf.old ≤ S.faults shelf.new }
     ensures room { page.new.room ≡ page.old.room }
 {
-    match shelf.begin(file.name.as_str()) {
+    match shelf.begin(name) {
         Ok(()) => {}
         Err(Failed) => return Err(WriteFailed),
     }
-    match write_tables(shelf, page, plan, unit, file, steps) {
+    match write_parts(shelf, page, plan, unit, parts, steps) {
         Ok(()) => {}
         Err(WriteFailed) => return Err(WriteFailed),
     }
@@ -213,10 +395,42 @@ fn write_file<S: Shelf, B: Ledger>(
     }
 }
 
-/// Writes the files of a snapshot, in order. Nothing further is begun after a failure.
-fn write_snapshot<S: Shelf, B: Ledger>(
+/// Writes a file for each of some parts, in order. Nothing further is begun after a failure.
+fn write_apart<S: Shelf, B: Ledger>(
     shelf: &mut S,
-    job: SnapshotJob,
+    page: &mut PageBuf,
+    plan: &Plan,
+    unit: u64,
+    parts: &[JobPart],
+    steps: &mut Steps<B>,
+) -> Result<(), WriteFailed>
+    requires none_begun { S.is_begun shelf.old ≡ false }
+    requires parts { All (IsPartOf plan.now unit) parts.now }
+    requires unit { unit ≤ last_unit plan.now }
+    requires small { last_unit plan.now ≤ 10000 }
+    requires room { reach (layout_of plan.now) ≤ page.old.room }
+    requires key_room { 21 ≤ page.old.room }
+    ensures files { Finishes result (map (own_file plan.now unit) parts.now) (S.held shelf.old) (S.held shelf.new) }
+    ensures none_begun { OnOk result (S.is_begun shelf.new ≡ false) }
+    ensures cause { OnErr result (Rose (S.faults shelf.old) (S.faults shelf.new)) }
+    ensures no_fault { OnOk result (S.faults shelf.new ≡ S.faults shelf.old) }
+    ensures never_falls { S.faults shelf.old ≤ S.faults shelf.new }
+    ensures room { page.new.room ≡ page.old.room }
+{
+    for number in 0..parts.len() {
+        let part = &parts[number..number + 1];
+        match write_file(shelf, page, plan, unit, parts[number].name.as_str(), part, steps) {
+            Ok(()) => {}
+            Err(WriteFailed) => return Err(WriteFailed),
+        }
+    }
+    Ok(())
+}
+
+/// Writes the files of a job: one for each part, or all in one on the standard output.
+fn write_files<S: Shelf, B: Ledger>(
+    shelf: &mut S,
+    job: FilesJob,
     blank: Blank,
 ) -> Result<(), WriteFailed>
     requires name { blank.name ≡ B.name }
@@ -224,26 +438,25 @@ fn write_snapshot<S: Shelf, B: Ledger>(
     requires some { 0 < blank.parts }
     requires none_begun { S.is_begun shelf.old ≡ false }
     requires can { CanWrite job }
-    ensures files { Finishes result (snapshot_due job) (S.held shelf.old) (S.held shelf.new) }
+    ensures files { Finishes result (files_due job) (S.held shelf.old) (S.held shelf.new) }
     ensures none_begun { OnOk result (S.is_begun shelf.new ≡ false) }
     ensures cause { OnErr result (Rose (S.faults shelf.old) (S.faults shelf.new)) }
     ensures no_fault { OnOk result (S.faults shelf.new ≡ S.faults shelf.old) }
     ensures never_falls { S.faults shelf.old ≤ S.faults shelf.new }
 {
-    let SnapshotJob {
+    let FilesJob {
         plan,
         unit,
-        files,
+        apart,
+        parts,
         mut page,
     } = job;
     let mut steps = Steps::<B>::new(blank);
-    for file in &files {
-        match write_file(shelf, &mut page, &plan, unit, file, &mut steps) {
-            Ok(()) => {}
-            Err(WriteFailed) => return Err(WriteFailed),
-        }
+    if apart {
+        write_apart(shelf, &mut page, &plan, unit, parts.as_slice(), &mut steps)
+    } else {
+        write_file(shelf, &mut page, &plan, unit, "-", parts.as_slice(), &mut steps)
     }
-    Ok(())
 }
 
 /// Writes bytes to the standard output.
@@ -281,6 +494,6 @@ pub(crate) fn fill<S: Shelf>(shelf: &mut S, job: Job) -> Result<(), WriteFailed>
 {
     match job {
         Job::Text(bytes) => write_text(shelf, &bytes),
-        Job::Snapshot(job) => write_snapshot::<S, Brand>(shelf, job, Blank::new(1)),
+        Job::Files(job) => write_files::<S, Brand>(shelf, job, Blank::new(1)),
     }
 }

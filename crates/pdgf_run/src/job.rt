@@ -1,19 +1,30 @@
 //! What a request comes to, before anything is written.
 
-ghost use Rattle.std.specs.Prelude.{◌≡◌, ◌<◌, ◌≤◌, ◌+◌, ◌∷◌, ◌++◌, [], All, IfOk, IfSome, OnOk, map, length, None, Some};
+ghost use Rattle.std.specs.Prelude.{◌≡◌, ◌<◌, ◌≤◌, ◌+◌, ◌∷◌, ◌++◌, [], All, IfOk, IfSome, OnOk, length, map};
 ghost use Rattle.std.specs.Option.{option_map};
+ghost use Rattle.schema_check.specs.Layout.{layout_of};
+ghost use Rattle.schema_check.specs.TableFacts.{reach};
 ghost use Rattle.life_intervals.specs.Generator.{last_unit};
-ghost use Rattle.pdgf_run.specs.DueFiles.{chosen, path_of, snapshot_files, standard_output};
-ghost use Rattle.pdgf_run.specs.Jobs.{due_file, places_in, places_of, snapshot_due, CanWrite, IsFileOf, IsTableOf};
+ghost use Rattle.pdgf_run.specs.declared.usage.Mode.TheVariants.{Snapshot, Unit};
+ghost use Rattle.pdgf_run.specs.DueFiles.{chosen, ending_of, parts_at, parts_of, table_files};
+ghost use Rattle.pdgf_run.specs.Jobs.{AreRowsOf, CanWrite, IsPartOf, content_of, file_name, files_due, named, places_of, with_name};
 
 use crate::check::name_of;
+use crate::usage::Mode;
 use draw_values::UnitDraws;
-use life_intervals::{CohortOrders, table_orders};
+use itoa::Buffer;
+use life_intervals::{CohortOrders, cohort_orders, table_orders};
 use pd_outside::{Memory, PageBuf};
 use row_lines::change_draws;
 use schema_check::Plan;
 use schema_model::Text as Name;
 use std::alloc::Global;
+use std::sync::ledger::{Blank, Ledger};
+use step_count::Steps;
+use update_box::{TableRows, table_rows};
+
+/// The size of the longest key line.
+const KEY_LINE: usize = 21;
 
 /// All that is to be written, with all the memory that it takes.
 #[derive(Drop)]
@@ -21,31 +32,48 @@ pub(crate) enum Job {
     /// These bytes, on the standard output.
     Text(Vec<u8>),
     /// The texts of tables at a unit.
-    Snapshot(SnapshotJob),
+    Files(FilesJob),
 }
 
-/// The texts of tables at a unit, with the buffer that their lines are made in.
+/// What is told of tables at a unit, with the buffer that their lines are made in: each part in a file of its own, or all on the
+/// standard output.
 #[derive(Drop)]
-pub(crate) struct SnapshotJob {
+pub(crate) struct FilesJob {
     pub(crate) plan: Plan,
     pub(crate) unit: u64,
-    pub(crate) files: Vec<JobFile>,
+    pub(crate) apart: bool,
+    pub(crate) parts: Vec<JobPart>,
     pub(crate) page: PageBuf,
 }
 
-/// A file: the texts of some tables, one after the other.
-#[derive(Drop)]
-pub(crate) struct JobFile {
-    pub(crate) name: Name,
-    pub(crate) tables: Vec<JobTable>,
+/// What a file holds of a table: the rows at a unit, those that the unit deletes, or updates, or inserts.
+#[derive(Clone, Copy, Debug, PartialEq, Eq)]
+pub(crate) enum Content {
+    Snapshot,
+    Deleted,
+    Updated,
+    Inserted,
 }
 
-/// A table by its place, with the orders of its cohorts and the draws of its changes.
+/// A part of a table by its place, with the name of its file where it has one of its own.
 #[derive(Drop)]
-pub(crate) struct JobTable {
+pub(crate) struct JobPart {
+    pub(crate) name: Name,
     pub(crate) place: u32,
-    pub(crate) orders: Vec<CohortOrders>,
-    pub(crate) changes: Vec<UnitDraws>,
+    pub(crate) rows: JobRows,
+}
+
+/// The rows of a part, with what doesn't change from row to row.
+#[derive(Drop)]
+pub(crate) enum JobRows {
+    /// All at the unit, with the orders of the cohorts up to it and the draws of the changes.
+    Snapshot(Vec<CohortOrders>, Vec<UnitDraws>),
+    /// Those that the unit deletes, by their ordinals.
+    Deleted(Vec<u64>),
+    /// Those that it updates.
+    Updated(Vec<u64>),
+    /// Its cohort, with the orders of this and the draws of the changes.
+    Inserted(CohortOrders, Vec<UnitDraws>),
 }
 
 /// The places of `count` tables from the one at place `from` on.
@@ -72,18 +100,6 @@ pub(crate) fn choose(plan: &Plan, table: &Option<Name>) -> Option<Places>
     }
 }
 
-/// The name of a table's file in a directory.
-fn path(alloc: Global, directory: &str, name: &str) -> Result<Name, Memory>
-    ensures { IfOk result (λ made. made ≡ path_of directory.now name.now) }
-{
-    let mut path = Name::new(alloc);
-    push(&mut path, directory)?;
-    push(&mut path, "/")?;
-    push(&mut path, name)?;
-    push(&mut path, ".tbl")?;
-    Ok(path)
-}
-
 fn push(path: &mut Name, piece: &str) -> Result<(), Memory>
     ensures { OnOk result (path.new ≡ path.old ++ piece.now) }
 {
@@ -93,100 +109,180 @@ fn push(path: &mut Name, piece: &str) -> Result<(), Memory>
     }
 }
 
-/// A table of a job.
-fn job_table(alloc: Global, plan: &Plan, place: u32, unit: u64) -> Result<JobTable, Memory>
+/// How the name of a file ends that holds nothing but this content of a table at a unit.
+fn push_ending(path: &mut Name, unit: u64, content: Content) -> Result<(), Memory>
+    ensures { OnOk result (path.new ≡ path.old ++ ending_of unit content) }
+{
+    let ending = match content {
+        Content::Snapshot => return push(path, ".tbl"),
+        Content::Deleted => ".del",
+        Content::Updated => ".upd",
+        Content::Inserted => ".ins",
+    };
+    let mut digits = Buffer::new();
+    push(path, ".")?;
+    push(path, digits.format(unit))?;
+    push(path, ending)
+}
+
+/// The name of the file of a part in a directory; the empty one where there is none.
+fn part_name(
+    alloc: Global,
+    plan: &Plan,
+    place: u32,
+    unit: u64,
+    content: Content,
+    out: &Option<Name>,
+) -> Result<Name, Memory>
+    requires place { place < length plan.now.schema.tables }
+    ensures { IfOk result (λ name. name ≡ file_name plan.now unit out.now (record { place = place; content = content })) }
+{
+    let mut path = Name::new(alloc);
+    if let Some(directory) = out {
+        push(&mut path, directory.as_str())?;
+        push(&mut path, "/")?;
+        push(&mut path, name_of(plan, place))?;
+        push_ending(&mut path, unit, content)?;
+    }
+    Ok(path)
+}
+
+/// What some rows are of their table.
+fn content_of(rows: &JobRows) -> Content
+    ensures { result ≡ content_of rows.now }
+{
+    match rows {
+        JobRows::Snapshot(..) => Content::Snapshot,
+        JobRows::Deleted(..) => Content::Deleted,
+        JobRows::Updated(..) => Content::Updated,
+        JobRows::Inserted(..) => Content::Inserted,
+    }
+}
+
+/// Puts a part of the table at a place behind others.
+fn push_part(
+    alloc: Global,
+    plan: &Plan,
+    unit: u64,
+    place: u32,
+    rows: JobRows,
+    out: &Option<Name>,
+    parts: &mut Vec<JobPart>,
+) -> Result<(), Memory>
+    requires place { place < length plan.now.schema.tables }
+    requires rows { AreRowsOf plan.now unit place rows }
+    requires are { All (IsPartOf plan.now unit) parts.old.items }
+    ensures named { OnOk result (map named parts.new.items
+        ≡ map named parts.old.items ++ with_name plan.now unit out.now (record { place = place; content = content_of rows }) ∷ []) }
+    ensures are { OnOk result (All (IsPartOf plan.now unit) parts.new.items) }
+{
+    let name = part_name(alloc, plan, place, unit, content_of(&rows), out)?;
+    parts.push(JobPart { name, place, rows })?;
+    Ok(())
+}
+
+/// Puts what a snapshot holds of a table behind others.
+fn push_snapshot(
+    alloc: Global,
+    plan: &Plan,
+    unit: u64,
+    place: u32,
+    out: &Option<Name>,
+    parts: &mut Vec<JobPart>,
+) -> Result<(), Memory>
     requires place { place < length plan.now.schema.tables }
     requires unit { unit ≤ last_unit plan.now }
-    ensures place { IfOk result (λ table. table.place ≡ place) }
-    ensures is { IfOk result (IsTableOf plan.now unit) }
+    requires are { All (IsPartOf plan.now unit) parts.old.items }
+    ensures named { OnOk result (map named parts.new.items
+        ≡ map named parts.old.items ++ map (with_name plan.now unit out.now) (parts_at Snapshot place)) }
+    ensures are { OnOk result (All (IsPartOf plan.now unit) parts.new.items) }
 {
     let Ok(orders) = table_orders(alloc, plan, place, unit) else {
         return Err(Memory);
     };
     let changes = change_draws(alloc, plan, place, unit)?;
-    Ok(JobTable {
-        place,
-        orders,
-        changes,
-    })
+    let rows = JobRows::Snapshot(orders, changes);
+    push_part(alloc, plan, unit, place, rows, out, parts)
 }
 
-/// A file of some tables.
-fn job_file(
+/// Puts what a unit deletes, updates and inserts in a table behind others.
+fn push_changes<B: Ledger>(
     alloc: Global,
     plan: &Plan,
     unit: u64,
-    name: Name,
-    places: Places,
-) -> Result<JobFile, Memory>
+    place: u32,
+    out: &Option<Name>,
+    parts: &mut Vec<JobPart>,
+    steps: &mut Steps<B>,
+) -> Result<(), Memory>
+    requires place { place < length plan.now.schema.tables }
+    requires some { 1 ≤ unit }
     requires unit { unit ≤ last_unit plan.now }
-    requires within { places.from + places.count ≤ length plan.now.schema.tables }
-    ensures name { IfOk result (λ file. file.name ≡ name) }
-    ensures places { IfOk result (λ file. places_in file ≡ places_of places) }
-    ensures is { IfOk result (IsFileOf plan.now unit) }
+    requires are { All (IsPartOf plan.now unit) parts.old.items }
+    ensures named { OnOk result (map named parts.new.items
+        ≡ map named parts.old.items ++ map (with_name plan.now unit out.now) (parts_at Unit place)) }
+    ensures are { OnOk result (All (IsPartOf plan.now unit) parts.new.items) }
 {
-    let _limits = plan.schema(); // there are at most 64 tables
-    let mut tables = Vec::new(alloc);
-    for number in 0..places.count {
-        tables.push(job_table(alloc, plan, places.from + number, unit)?)?;
-    }
-    Ok(JobFile { name, tables })
+    let TableRows {
+        deleted, updated, ..
+    } = table_rows(alloc, plan, place, unit, steps)?;
+    let changes = change_draws(alloc, plan, place, unit)?;
+    let inserted = JobRows::Inserted(cohort_orders(plan, place, unit), changes);
+    push_part(alloc, plan, unit, place, JobRows::Deleted(deleted), out, parts)?;
+    push_part(alloc, plan, unit, place, JobRows::Updated(updated), out, parts)?;
+    push_part(alloc, plan, unit, place, inserted, out, parts)
 }
 
-/// All texts in one file, the standard output.
-fn one_file(alloc: Global, plan: &Plan, unit: u64, places: Places) -> Result<Vec<JobFile>, Memory>
-    requires unit { unit ≤ last_unit plan.now }
-    requires within { places.from + places.count ≤ length plan.now.schema.tables }
-    ensures due { IfOk result (λ files. map (due_file plan.now unit) files.items ≡ snapshot_files plan.now unit (places_of places) None) }
-    ensures are { IfOk result (λ files. All (IsFileOf plan.now unit) files.items) }
-{
-    let mut name = Name::new(alloc);
-    push(&mut name, "-")?;
-    let mut files = Vec::new(alloc);
-    files.push(job_file(alloc, plan, unit, name, places)?)?;
-    Ok(files)
-}
-
-/// A file for each table, in a directory.
-fn files_in(
-    alloc: Global,
-    plan: &Plan,
-    unit: u64,
-    places: Places,
-    directory: &str,
-) -> Result<Vec<JobFile>, Memory>
-    requires unit { unit ≤ last_unit plan.now }
-    requires within { places.from + places.count ≤ length plan.now.schema.tables }
-    ensures due { IfOk result (λ files. map (due_file plan.now unit) files.items ≡ snapshot_files plan.now unit (places_of places) (Some directory.now)) }
-    ensures are { IfOk result (λ files. All (IsFileOf plan.now unit) files.items) }
-{
-    let _limits = plan.schema(); // there are at most 64 tables
-    let mut files = Vec::new(alloc);
-    for number in 0..places.count {
-        let from = places.from + number;
-        let name = path(alloc, directory, name_of(plan, from))?;
-        files.push(job_file(alloc, plan, unit, name, Places { from, count: 1 })?)?;
-    }
-    Ok(files)
-}
-
-/// The files of a snapshot of tables.
-fn job_files(
+/// The parts of a snapshot of some tables.
+fn snapshot_parts(
     alloc: Global,
     plan: &Plan,
     unit: u64,
     places: Places,
     out: &Option<Name>,
-) -> Result<Vec<JobFile>, Memory>
+) -> Result<Vec<JobPart>, Memory>
     requires unit { unit ≤ last_unit plan.now }
     requires within { places.from + places.count ≤ length plan.now.schema.tables }
-    ensures due { IfOk result (λ files. map (due_file plan.now unit) files.items ≡ snapshot_files plan.now unit (places_of places) out.now) }
-    ensures are { IfOk result (λ files. All (IsFileOf plan.now unit) files.items) }
+    ensures named { IfOk result (λ parts. map named parts.items ≡ map (with_name plan.now unit out.now) (parts_of Snapshot (places_of places))) }
+    ensures are { IfOk result (λ parts. All (IsPartOf plan.now unit) parts.items) }
 {
-    match out {
-        None => one_file(alloc, plan, unit, places),
-        Some(directory) => files_in(alloc, plan, unit, places, directory.as_str()),
+    let _limits = plan.schema(); // there are at most 64 tables
+    let mut parts = Vec::new(alloc);
+    for number in 0..places.count {
+        push_snapshot(alloc, plan, unit, places.from + number, out, &mut parts)?;
     }
+    Ok(parts)
+}
+
+/// The parts of what a unit changes in some tables.
+fn unit_parts<B: Ledger>(
+    alloc: Global,
+    plan: &Plan,
+    unit: u64,
+    places: Places,
+    out: &Option<Name>,
+    steps: &mut Steps<B>,
+) -> Result<Vec<JobPart>, Memory>
+    requires some { 1 ≤ unit }
+    requires unit { unit ≤ last_unit plan.now }
+    requires within { places.from + places.count ≤ length plan.now.schema.tables }
+    ensures named { IfOk result (λ parts. map named parts.items ≡ map (with_name plan.now unit out.now) (parts_of Unit (places_of places))) }
+    ensures are { IfOk result (λ parts. All (IsPartOf plan.now unit) parts.items) }
+{
+    let _limits = plan.schema(); // there are at most 64 tables
+    let mut parts = Vec::new(alloc);
+    for number in 0..places.count {
+        push_changes(alloc, plan, unit, places.from + number, out, &mut parts, steps)?;
+    }
+    Ok(parts)
+}
+
+/// A buffer for each line of a plan's tables.
+fn page_for(alloc: Global, plan: &Plan) -> Result<PageBuf, Memory>
+    ensures lines { IfOk result (λ page. reach (layout_of plan.now) ≤ page.room) }
+    ensures key_lines { IfOk result (λ page. 21 ≤ page.room) }
+{
+    PageBuf::with_room(alloc, (plan.reach() as usize).max(KEY_LINE))
 }
 
 /// The snapshot of some tables at a unit.
@@ -196,19 +292,51 @@ pub(crate) fn snapshot_job(
     unit: u64,
     places: Places,
     out: &Option<Name>,
-) -> Result<SnapshotJob, Memory>
+) -> Result<FilesJob, Memory>
     requires unit { unit ≤ last_unit plan }
     requires within { places.from + places.count ≤ length plan.schema.tables }
-    ensures due { IfOk result (λ job. snapshot_due job ≡ snapshot_files plan unit (places_of places) out.now) }
+    ensures due { IfOk result (λ job. files_due job ≡ table_files Snapshot plan unit (places_of places) out.now) }
     ensures can { IfOk result CanWrite }
 {
     let _limits = plan.schema(); // there are at most 10,000 units
-    let files = job_files(alloc, &plan, unit, places, out)?;
-    let page = PageBuf::with_room(alloc, plan.reach() as usize)?;
-    Ok(SnapshotJob {
+    let parts = snapshot_parts(alloc, &plan, unit, places, out)?;
+    let page = page_for(alloc, &plan)?;
+    Ok(FilesJob {
         plan,
         unit,
-        files,
+        apart: out.is_some(),
+        parts,
+        page,
+    })
+}
+
+/// What a unit changes in some tables.
+pub(crate) fn unit_job<B: Ledger>(
+    alloc: Global,
+    plan: Plan,
+    unit: u64,
+    places: Places,
+    out: &Option<Name>,
+    blank: Blank,
+) -> Result<FilesJob, Memory>
+    requires name { blank.name ≡ B.name }
+    requires parts { blank.parts ≡ B.parts }
+    requires some { 0 < blank.parts }
+    requires later { 1 ≤ unit }
+    requires unit { unit ≤ last_unit plan }
+    requires within { places.from + places.count ≤ length plan.schema.tables }
+    ensures due { IfOk result (λ job. files_due job ≡ table_files Unit plan unit (places_of places) out.now) }
+    ensures can { IfOk result CanWrite }
+{
+    let _limits = plan.schema(); // there are at most 10,000 units
+    let mut steps = Steps::<B>::new(blank);
+    let parts = unit_parts(alloc, &plan, unit, places, out, &mut steps)?;
+    let page = page_for(alloc, &plan)?;
+    Ok(FilesJob {
+        plan,
+        unit,
+        apart: out.is_some(),
+        parts,
         page,
     })
 }

@@ -9,6 +9,8 @@ pub enum Mode {
     Check,
     /// Writes the text of each table at a unit.
     Snapshot,
+    /// Writes what a unit deletes, updates and inserts in each table.
+    Unit,
 }
 
 /// A place for a word: the schema's name, or the value of an option.
@@ -31,7 +33,7 @@ pub struct Request {
     pub mode: Mode,
     /// The name of the schema's file.
     pub schema: Text,
-    /// The time unit of a snapshot.
+    /// The time unit of a snapshot or of changes.
     pub unit: u64,
     /// The one table that is wanted, where not all are.
     pub table: Option<Text>,

@@ -149,6 +149,7 @@ fn mode_named(word: &str) -> Option<Mode>
     match word {
         "check" => Some(Mode::Check),
         "snapshot" => Some(Mode::Snapshot),
+        "unit" => Some(Mode::Unit),
         _ => None,
     }
 }
@@ -163,7 +164,7 @@ fn wrong(mode: Mode, given: GivenWords<'_>) -> Option<UsageFault>
             .or(unwanted(OptionName::Unit, given.unit))
             .or(unwanted(OptionName::Table, given.table))
             .or(unwanted(OptionName::Out, given.out)),
-        Mode::Snapshot => no_schema
+        Mode::Snapshot | Mode::Unit => no_schema
             .or(number_wrong(OptionName::Unit, given.unit))
             .or(directory_wrong(OptionName::Out, given.out)),
     }

@@ -13,7 +13,7 @@ invariant-loop-first g l = record {
   live : length l.live ≡ 256;
   lines :
       g.S.Shelf.held l.shelf
-      ≡ option_map (append_bytes (first_lines (generator_of l.plan) l.unit l.table.place l.born l.first)) (g.S.Shelf.held l.fn.shelf);
+      ≡ option_map (append_bytes (first_lines (generator_of l.lines.plan) l.lines.unit l.lines.table l.lines.born l.first)) (g.S.Shelf.held l.fn.shelf);
   begun : g.S.Shelf.is_begun l.shelf ≡ true;
   no_fault : g.S.Shelf.faults l.shelf ≡ g.S.Shelf.faults l.fn.shelf;
   room : l.page.room ≡ l.fn.page.room;
@@ -26,7 +26,7 @@ abbrev pub invariant-loop-index : goal.invariant-loop-index
 invariant-loop-index g l = record {
   lines :
       g.S.Shelf.held l.shelf
-      ≡ option_map (append_bytes (first_lines (generator_of l.plan) l.unit l.table.place l.born (l.first + l.index))) (g.S.Shelf.held l.fn.shelf);
+      ≡ option_map (append_bytes (first_lines (generator_of l.lines.plan) l.lines.unit l.lines.table l.lines.born (l.first + l.index))) (g.S.Shelf.held l.fn.shelf);
   begun : g.S.Shelf.is_begun l.shelf ≡ true;
   no_fault : g.S.Shelf.faults l.shelf ≡ g.S.Shelf.faults l.fn.shelf;
   room : l.page.room ≡ l.fn.page.room;

@@ -16,7 +16,7 @@ loop-born-init g c = record {
   text =
       append_nothing (g.S.Shelf.held c.args.shelf.now)
       ∙ ap (λ (text : List ℕ). option_map (append_bytes text) (g.S.Shelf.held c.args.shelf.now))
-      (sym (text_before-zero (generator_of c.args.plan.now) c.args.unit c.args.table.now.place));
+      (sym (text_before-zero (generator_of c.args.at.now.plan.now) c.args.at.now.unit c.args.at.now.place));
   begun = c.requires.begun;
   no_fault = refl;
   room = refl;
@@ -24,30 +24,37 @@ loop-born-init g c = record {
 
 pub loop-born-preserved : goal.loop-born-preserved
 loop-born-preserved g c =
-    let generator : Generator = generator_of c.args.plan.now in
+    let generator : Generator = generator_of c.args.at.now.plan.now in
     record {
       text =
-          appended_then (text_before generator c.args.unit c.args.table.now.place c.loop-born.born) (cohort_text generator c.args.unit c.args.table.now.place c.loop-born.born) _ _ _ _
-          (text_before-add_one generator c.args.unit c.args.table.now.place c.loop-born.born) c.loop-born.invariant.text c.in-Ok.ensures.lines;
+          appended_then (text_before generator c.args.at.now.unit c.args.at.now.place c.loop-born.born) (cohort_text generator c.args.at.now.unit c.args.at.now.place c.loop-born.born) _ _ _ _
+          (text_before-add_one generator c.args.at.now.unit c.args.at.now.place c.loop-born.born) c.loop-born.invariant.text c.in-Ok.ensures.lines;
       begun = c.in-Ok.ensures.begun;
       no_fault = c.in-Ok.ensures.no_fault ∙ c.loop-born.invariant.no_fault;
       room = c.in-Ok.ensures.room ∙ c.loop-born.invariant.room;
     }
 
-pub write_cohort-requires-clause-room : goal.write_cohort-requires-clause-room
-write_cohort-requires-clause-room g c =
-    omega (arith, max_line-reach (layout_of c.args.plan.now) c.args.table.now.place, c.loop-born.invariant.room, c.requires.room)
+pub index-requires : goal.index-requires
+index-requires g c =
+    let count = ap length c.requires.orders ∙ length-table_orders c.args.at.now.plan.now c.args.at.now.place c.args.at.now.unit in
+    omega (arith, count)
+
+pub write_born-requires-clause-orders : goal.write_born-requires-clause-orders
+write_born-requires-clause-orders g c =
+    c.index.ensures
+    ∙ ap (λ (orders : List CohortOrders). get_or orders c.loop-born.born c.index.result.now) c.requires.orders
+    ∙ table_orders-at c.args.at.now.plan.now c.args.at.now.place c.args.at.now.unit c.loop-born.born c.index.result.now (omega arith)
 
 pub returns-in-Err-clause-text : goal.returns-in-Err-clause-text
 returns-in-Err-clause-text g c =
-    let within : c.loop-born.born ≤ c.args.unit = omega arith in
-    prefix_after _ _ _ _ _ _ _ (table_text-at c.args.unit (generator_of c.args.plan.now) c.args.unit c.args.table.now.place c.loop-born.born (AreSound-built c.args.plan.now c.schema-sound.ensures.limits c.schema-sound.ensures.built c.args.unit) (omega arith) within)
+    let within : c.loop-born.born ≤ c.args.at.now.unit = omega arith in
+    prefix_after _ _ _ _ _ _ _ (table_text-at c.args.at.now.unit (generator_of c.args.at.now.plan.now) c.args.at.now.unit c.args.at.now.place c.loop-born.born (AreSound-built c.args.at.now.plan.now c.schema-sound.ensures.limits c.schema-sound.ensures.built c.args.at.now.unit) (omega arith) within)
     c.loop-born.invariant.text c.in-Err.ensures.lines
 
 pub returns-clause-text : goal.returns-clause-text
 returns-clause-text g c =
-    let all : c.loop-born.born ≡ c.args.unit + 1 = omega arith in
+    let all : c.loop-born.born ≡ c.args.at.now.unit + 1 = omega arith in
     c.loop-born.invariant.text
-    ∙ ap (λ (born : ℕ). option_map (append_bytes (text_before (generator_of c.args.plan.now) c.args.unit c.args.table.now.place born)) (g.S.Shelf.held c.args.shelf.now)) all
+    ∙ ap (λ (born : ℕ). option_map (append_bytes (text_before (generator_of c.args.at.now.plan.now) c.args.at.now.unit c.args.at.now.place born)) (g.S.Shelf.held c.args.shelf.now)) all
     ∙ ap (λ (text : List ℕ). option_map (append_bytes text) (g.S.Shelf.held c.args.shelf.now))
-    (sym (table_text-text_before c.args.unit (generator_of c.args.plan.now) c.args.unit c.args.table.now.place (AreSound-built c.args.plan.now c.schema-sound.ensures.limits c.schema-sound.ensures.built c.args.unit) (omega arith)))
+    (sym (table_text-text_before c.args.at.now.unit (generator_of c.args.at.now.plan.now) c.args.at.now.unit c.args.at.now.place (AreSound-built c.args.at.now.plan.now c.schema-sound.ensures.limits c.schema-sound.ensures.built c.args.at.now.unit) (omega arith)))

@@ -1,0 +1,4 @@
+use Rattle.pdgf_run.proofs.decide.job_of.Given as goal
+
+abbrev pub ghosts-plan_unit : goal.ghosts-plan_unit
+ghosts-plan_unit a = record { name = a.blank.name; parts = a.blank.parts }
