@@ -1,2 +1,3 @@
 pub mod UnitLists
+pub mod Fates
 pub mod TableLists

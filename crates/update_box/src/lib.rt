@@ -4,10 +4,11 @@
 //! from 0. The rules stand in `life_intervals`: the simulation, and what its step to a unit does to the rows.
 #![tactic(auto)]
 
+pub mod laws;
 mod scan;
-mod unit_rows;
+mod units;
 
-pub use unit_rows::{UnitRows, unit_rows};
+pub use units::{UnitRows, unit_rows};
 
 #[cfg(test)]
 mod tests;

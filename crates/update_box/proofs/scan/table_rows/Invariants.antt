@@ -1,0 +1,9 @@
+use Rattle.std.proofs.Common.{◌≡◌}
+use Rattle.schema_check.specs.Cohorts.{first_ordinal}
+use Rattle.life_intervals.specs.Generator.{table_of}
+use Rattle.update_box.specs.Fates.{lists_before}
+use Rattle.update_box.specs.TableLists.{lists_of}
+use Rattle.update_box.proofs.scan.table_rows.Given as goal
+
+abbrev pub invariant-loop-born : goal.invariant-loop-born
+invariant-loop-born g l = lists_of l.rows ≡ lists_before l.plan l.t l.table (first_ordinal (table_of l.plan l.table).births l.born)
