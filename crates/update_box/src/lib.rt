@@ -8,6 +8,7 @@ pub mod laws;
 mod scan;
 mod units;
 
+pub use scan::{TableRows, table_rows};
 pub use units::{UnitRows, unit_rows};
 
 #[cfg(test)]

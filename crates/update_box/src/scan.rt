@@ -20,10 +20,13 @@ use step_count::Steps;
 
 /// The ordinals of the rows of a table that a unit deletes and updates, in rising order, and the cohort that it inserts.
 #[derive(Drop)]
-pub(crate) struct TableRows {
-    pub(crate) deleted: Vec<u64>,
-    pub(crate) updated: Vec<u64>,
-    pub(crate) inserted: Cohort,
+pub struct TableRows {
+    /// The ordinals of those that it deletes.
+    pub deleted: Vec<u64>,
+    /// The ordinals of those that it updates.
+    pub updated: Vec<u64>,
+    /// The cohort that it inserts.
+    pub inserted: Cohort,
 }
 
 /// What a unit does to a row that is born before it.
@@ -121,7 +124,7 @@ fn put_cohort<L: Ledger>(
 }
 
 /// The rows of a table that the step to unit `t` deletes, updates and inserts. At `Memory` none are told.
-pub(crate) fn table_rows<L: Ledger>(
+pub fn table_rows<L: Ledger>(
     alloc: Global,
     plan: &Plan,
     table: u32,
