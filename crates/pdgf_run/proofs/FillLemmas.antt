@@ -1,5 +1,5 @@
 -- Texts of tables one after the other, and files as they are finished one after the other.
-use Rattle.std.proofs.Common.{◌≡◌, ◌<◌, ℕ, ◌+◌, List, [], ◌∷◌, ◌++◌, map, length, get_or, take, drop, Option, None, Some, refl, ap, sym, subst, ◌∙◌, append_assoc, Bool, false}
+use Rattle.std.proofs.Common.{◌≡◌, ◌<◌, ℕ, zero, suc, ◌+◌, ◌-◌, List, [], ◌∷◌, ◌++◌, map, length, get_or, take, drop, Option, None, Some, refl, ap, arith, sym, subst, ◌∙◌, append_assoc, Bool, false}
 use Rattle.std.specs.Prelude.{IfSome, is_some}
 use Rattle.std.specs.List.{flat_map}
 use Rattle.std.specs.Option.{option_map}
@@ -102,6 +102,14 @@ parts_at : {A : Type 0} (f : A → File) (items : List A) (i : ℕ) (item : A) �
 parts_at f items i item below is =
     append_assoc (map f (take i items)) (f item ∷ []) (map f (drop (i + 1) items))
     ∙ sym (ap (map f) (item-at items i item below is) ∙ map-append f (take i items) (item ∷ drop (i + 1) items))
+
+-- one item of a list, as a list
+pub one_at : {A : Type 0} (xs : List A) (i : ℕ) (x : A) → i < length xs → x ≡ get_or xs i x → take (i + 1 - i) (drop i xs) ≡ x ∷ []
+one_at [] i x below is = absurd (omega arith)
+one_at (y ∷ xs) zero x below is = ap (λ (z : _). z ∷ []) (sym is)
+one_at (y ∷ xs) (suc i) x below is =
+    let less : suc i + 1 - suc i ≡ i + 1 - i = omega arith in
+    ap (λ (n : ℕ). take n (drop i xs)) less ∙ one_at xs i x (omega arith) is
 
 -- a prefix of the next file, behind those that are finished, is a prefix of all
 pub next_in_part : {A : Type 0} (f : A → File) (items : List A) (i : ℕ) (item : A) (before mid now : Option Held) → i < length items → item ≡ get_or items i item →

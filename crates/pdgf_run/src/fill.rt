@@ -2,15 +2,16 @@
 
 ghost use Rattle.std.specs.Prelude.{◌≡◌, ◌<◌, ◌≤◌, ◌∷◌, [], All, false, true, IsTrue, OnErr, OnOk, length, map};
 ghost use Rattle.pd_outside.specs.Faults.{Rose};
-ghost use Rattle.schema_check.specs.Cohorts.{cohort_size};
+ghost use Rattle.schema_check.specs.Cohorts.{born_count, cohort_size};
 ghost use Rattle.schema_check.specs.Layout.{layout_of};
 ghost use Rattle.schema_check.specs.TableFacts.{max_line, reach};
 ghost use Rattle.life_intervals.specs.CohortOrders.{cohort_orders, table_orders};
-ghost use Rattle.life_intervals.specs.Generator.{generator_of, last_unit};
+ghost use Rattle.life_intervals.specs.Generator.{generator_of, last_unit, rows_in_all, table_of};
+ghost use Rattle.life_intervals.specs.Intervals.{is_live};
 ghost use Rattle.life_intervals.specs.Streams.{deleted as deleted_rows, updated as updated_rows};
 ghost use Rattle.row_lines.specs.ChangeDraws.{change_draws};
 ghost use Rattle.row_lines.specs.CohortLines.{layout_for, living_line};
-ghost use Rattle.row_lines.specs.Lines.{cohort_text};
+ghost use Rattle.row_lines.specs.Lines.{cohort_text, key_line_of, line_of};
 ghost use Rattle.update_box.specs.UnitLists.{ordinals};
 ghost use Rattle.pdgf_run.specs.Appends.{Appends, Finishes};
 ghost use Rattle.pdgf_run.specs.DueFiles.{content_text, file_of, part_text, standard_output, texts_of};
@@ -187,6 +188,30 @@ fn write_table<S: Shelf, B: Ledger>(
     Ok(())
 }
 
+/// Writes the key line of the row of a table that has this ordinal.
+fn write_key<S: Shelf, B: Ledger>(
+    shelf: &mut S,
+    page: &mut PageBuf,
+    at: &TableAt<'_>,
+    ordinal: u64,
+    steps: &mut Steps<B>,
+) -> Result<(), WriteFailed>
+    requires begun { IsTrue (S.is_begun shelf.old) }
+    requires table { at.now.place < length at.now.plan.now.schema.tables }
+    requires row { ordinal < rows_in_all at.now.plan.now at.now.place }
+    requires room { 21 ≤ page.old.room }
+    ensures line { Appends result (key_line_of (generator_of at.now.plan.now) (last_unit at.now.plan.now) at.now.place ordinal) (S.held shelf.old) (S.held shelf.new) }
+    ensures cause { OnErr result (Rose (S.faults shelf.old) (S.faults shelf.new)) }
+    ensures no_fault { OnOk result (S.faults shelf.new ≡ S.faults shelf.old) }
+    ensures never_falls { S.faults shelf.old ≤ S.faults shelf.new }
+    ensures begun { IsTrue (S.is_begun shelf.new) }
+    ensures room { page.new.room ≡ page.old.room }
+{
+    page.clear();
+    put_key(at.plan, at.place, ordinal, page, steps);
+    write_all(shelf, page.text())
+}
+
 /// Writes the key lines of the rows of a table that a unit deletes, which these ordinals name.
 fn write_deleted<S: Shelf, B: Ledger>(
     shelf: &mut S,
@@ -212,14 +237,38 @@ fn write_deleted<S: Shelf, B: Ledger>(
 {
     let _sound = at.plan.schema(); // so each of them is born before
     for ordinal in deleted {
-        page.clear();
-        put_key(at.plan, at.place, *ordinal, page, steps);
-        match write_all(shelf, page.text()) {
+        match write_key(shelf, page, at, *ordinal, steps) {
             Ok(()) => {}
             Err(WriteFailed) => return Err(WriteFailed),
         }
     }
     Ok(())
+}
+
+/// Writes the line of the row of a table that has this ordinal and is alive.
+fn write_line<S: Shelf, B: Ledger>(
+    shelf: &mut S,
+    page: &mut PageBuf,
+    at: &TableAt<'_>,
+    ordinal: u64,
+    steps: &mut Steps<B>,
+) -> Result<(), WriteFailed>
+    requires begun { IsTrue (S.is_begun shelf.old) }
+    requires table { at.now.place < length at.now.plan.now.schema.tables }
+    requires unit { at.now.unit ≤ last_unit at.now.plan.now }
+    requires born { ordinal < born_count (table_of at.now.plan.now at.now.place).births at.now.unit }
+    requires alive { is_live (generator_of at.now.plan.now) at.now.place at.now.unit ordinal ≡ true }
+    requires room { max_line (layout_of at.now.plan.now) at.now.place ≤ page.old.room }
+    ensures line { Appends result (line_of (generator_of at.now.plan.now) at.now.unit at.now.place ordinal) (S.held shelf.old) (S.held shelf.new) }
+    ensures cause { OnErr result (Rose (S.faults shelf.old) (S.faults shelf.new)) }
+    ensures no_fault { OnOk result (S.faults shelf.new ≡ S.faults shelf.old) }
+    ensures never_falls { S.faults shelf.old ≤ S.faults shelf.new }
+    ensures begun { IsTrue (S.is_begun shelf.new) }
+    ensures room { page.new.room ≡ page.old.room }
+{
+    page.clear();
+    put_line(at.plan, at.place, ordinal, at.unit, page, steps);
+    write_all(shelf, page.text())
 }
 
 /// Writes the lines of the rows of a table that a unit updates, which these ordinals name.
@@ -246,9 +295,7 @@ fn write_updated<S: Shelf, B: Ledger>(
 {
     let _sound = at.plan.schema(); // so each of them is born before, and alive
     for ordinal in updated {
-        page.clear();
-        put_line(at.plan, at.place, *ordinal, at.unit, page, steps);
-        match write_all(shelf, page.text()) {
+        match write_line(shelf, page, at, *ordinal, steps) {
             Ok(()) => {}
             Err(WriteFailed) => return Err(WriteFailed),
         }

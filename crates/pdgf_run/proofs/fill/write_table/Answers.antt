@@ -1,11 +1,11 @@
-use Rattle.std.proofs.Common.{◌≡◌, ◌≤◌, ◌+◌, ℕ, List, refl, ap, sym, ◌∙◌, arith}
+use Rattle.std.proofs.Common.{◌≡◌, ◌≤◌, ◌+◌, ℕ, List, length, get_or, refl, ap, sym, ◌∙◌, arith}
 use Rattle.std.specs.Option.{option_map}
 use Rattle.pd_outside.proofs.Appending.{append_nothing, prefix_after}
 use Rattle.pd_outside.specs.Shelf.{append_bytes}
-use Rattle.schema_check.proofs.PlannedLemmas.{max_line-reach}
-use Rattle.schema_check.specs.Layout.{layout_of}
+use Rattle.life_intervals.specs.declared.orders.CohortOrders.{CohortOrders}
 use Rattle.life_intervals.specs.Generator.{generator_of, Generator}
 use Rattle.life_intervals.proofs.BuiltLemmas.{AreSound-built}
+use Rattle.life_intervals.proofs.OrderLemmas.{length-table_orders, table_orders-at}
 use Rattle.row_lines.proofs.LineLemmas.{table_text-at, table_text-text_before, text_before-add_one, text_before-zero}
 use Rattle.row_lines.specs.Lines.{cohort_text, text_before}
 use Rattle.pdgf_run.proofs.FillLemmas.{appended_then}
@@ -34,16 +34,19 @@ loop-born-preserved g c =
       room = c.in-Ok.ensures.room ∙ c.loop-born.invariant.room;
     }
 
-pub index-requires : goal.index-requires
-index-requires g c =
+pub bounds-orders-born : goal.bounds-orders-born
+bounds-orders-born g c =
     let count = ap length c.requires.orders ∙ length-table_orders c.args.at.now.plan.now c.args.at.now.place c.args.at.now.unit in
     omega (arith, count)
 
 pub write_born-requires-clause-orders : goal.write_born-requires-clause-orders
 write_born-requires-clause-orders g c =
-    c.index.ensures
-    ∙ ap (λ (orders : List CohortOrders). get_or orders c.loop-born.born c.index.result.now) c.requires.orders
-    ∙ table_orders-at c.args.at.now.plan.now c.args.at.now.place c.args.at.now.unit c.loop-born.born c.index.result.now (omega arith)
+    c.index-orders-born.is
+    ∙ ap (λ (orders : List CohortOrders). get_or orders c.loop-born.born c.index-orders-born.result) c.requires.orders
+    ∙ table_orders-at c.args.at.now.plan.now c.args.at.now.place c.args.at.now.unit c.loop-born.born c.index-orders-born.result (omega arith)
+
+pub write_born-requires-clause-room : goal.write_born-requires-clause-room
+write_born-requires-clause-room g c = omega (arith, c.loop-born.invariant.room, c.requires.room)
 
 pub returns-in-Err-clause-text : goal.returns-in-Err-clause-text
 returns-in-Err-clause-text g c =
