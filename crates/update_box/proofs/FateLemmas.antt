@@ -2,7 +2,7 @@
 use Rattle.std.proofs.Common.{◌≡◌, ℕ, ◌+◌, ◌-◌, ◌<◌, ◌≤◌, ◌==◌, Bool, true, false, ◌&&◌, List, [], ◌∷◌, ◌++◌, length, filter, Option, Some, None, ne_eqb, true-eqb, refl, ap, ap₂, arith, sym, ◌∙◌}
 use Rattle.std.specs.Prelude.{IfSome, if◌then◌else◌}
 use Rattle.std.specs.List.{range_with_len}
-use Rattle.std.proofs.lemmas.Bool.{cases_Bool, false≢true, le-ltb, ltb-false}
+use Rattle.std.proofs.lemmas.Bool.{false≢true, le-ltb, ltb-false}
 use Rattle.std.proofs.lemmas.List.{append-nil}
 use Rattle.schema_check.specs.Cohorts.{cohort_size, first_ordinal}
 use Rattle.schema_check.specs.Dictionaries.{Project}
@@ -17,10 +17,8 @@ use Rattle.life_intervals.proofs.CohortAtLemmas.{change_in-none, is_live_in-over
 use Rattle.life_intervals.proofs.CohortLemmas.{cohort-within}
 use Rattle.life_intervals.proofs.DeathLemmas.{is_at-later}
 use Rattle.life_intervals.proofs.LifeLemmas.{death-later}
-use Rattle.update_box.specs.declared.scan.Fate.{Fate}
 use Rattle.update_box.specs.declared.scan.Fate.TheVariants.{Changes, Dies, Rests}
 use Rattle.update_box.specs.Fates.{changes_at, dies_at, fate_of, lists_before, with_row}
-use Rattle.update_box.specs.UnitLists.{TableLists}
 use Rattle.update_box.proofs.RangeLemmas.{filter-range_more, filter-range_rest}
 
 -- ---- one row more
@@ -96,8 +94,7 @@ rested-sure plan unit place born index built within still early sure below =
     let ordinal : ℕ = first_ordinal (table_of plan place).births born + index in
     let at : CohortAt = record { plan = plan; table = place; born = born; unit = unit } in
     let alive : is_live (generator_of plan) place unit ordinal ≡ true = is_live_in-sure at built within (omega (arith, early)) sure index below in
-    let born_is : born ≡ change_unit (generator_of plan) place unit ordinal = change_in-none at index (omega (arith, early)) below still in
-    (
+    let born_is : born ≡ change_unit (generator_of plan) place unit ordinal = change_in-none at index (omega (arith, early)) below still in (
       is_at-later (death (generator_of plan) place unit ordinal) unit alive,
       ap₂ (λ (alive test : Bool). alive && test) alive (ne_eqb (change_unit (generator_of plan) place unit ordinal) unit (λ same. omega (arith, born_is, same, early))),
     )

@@ -1,6 +1,5 @@
 -- What a step to a unit deletes and updates, by ordinals.
-use Rattle.std.proofs.Common.{◌≡◌, ℕ, zero, suc, ◌+◌, ◌-◌, ◌<◌, ◌≤◌, ◌==◌, Bool, true, false, not, ◌&&◌, List, [], ◌∷◌, length, filter, map, Option, Some, None, inl, inr, eq-eqb, ne_eqb, refl, ap, ap₂, arith, sym, ◌∙◌}
-use Rattle.std.specs.Prelude.{if◌then◌else◌}
+use Rattle.std.proofs.Common.{◌≡◌, ℕ, zero, suc, ◌+◌, ◌-◌, ◌<◌, ◌≤◌, ◌==◌, Bool, false, not, ◌&&◌, List, [], ◌∷◌, length, filter, map, Option, Some, None, inl, inr, eq-eqb, ne_eqb, refl, ap, ap₂, arith, sym, ◌∙◌}
 use Rattle.std.specs.List.{list_any, range_with_len}
 use Rattle.std.proofs.lemmas.Bool.{cases_Bool, cases_lt, le-ltb, lt-ltb}
 use Rattle.schema_check.specs.Cohorts.{born_count, first_ordinal}
@@ -8,7 +7,7 @@ use Rattle.schema_check.specs.Dictionaries.{Project}
 use Rattle.schema_check.specs.Layout.{table_at}
 use Rattle.schema_check.specs.Limits.{IsInLimits}
 use Rattle.schema_check.specs.Unbuilt.{is_unbuilt}
-use Rattle.life_intervals.specs.Generator.{Generator, generator_of, last_unit, table_of}
+use Rattle.life_intervals.specs.Generator.{Generator, generator_of, table_of}
 use Rattle.life_intervals.specs.Intervals.{changing, death, dying, is_after, is_at, is_live, living, row_at}
 use Rattle.life_intervals.specs.Rows.{Row}
 use Rattle.life_intervals.specs.Simulation.{holds_row, rows_at}
@@ -20,7 +19,7 @@ use Rattle.life_intervals.proofs.LifeLemmas.{death-later}
 use Rattle.life_intervals.proofs.SimulationLemmas.{rows_at-rows_of}
 use Rattle.life_intervals.proofs.StreamLemmas.{deleted-dying, updated-changing}
 use Rattle.update_box.specs.Fates.{lists_before}
-use Rattle.update_box.specs.UnitLists.{TableLists, ordinals, table_lists}
+use Rattle.update_box.specs.UnitLists.{ordinals, table_lists}
 use Rattle.update_box.proofs.RangeLemmas.{filter-filter, filter-range_same}
 
 -- ---- by the closed form

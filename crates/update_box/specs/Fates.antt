@@ -1,5 +1,5 @@
 -- What a unit does to a row, and the lists of a scan that has come to an ordinal.
-use Rattle.std.specs.Prelude.{ℕ, ◌==◌, Bool, ◌&&◌, if◌then◌else◌, List, [], ◌∷◌, ◌++◌, filter}
+use Rattle.std.specs.Prelude.{ℕ, ◌==◌, Bool, ◌&&◌, if◌then◌else◌, [], ◌∷◌, ◌++◌, filter}
 use Rattle.std.specs.List.{range_with_len}
 use Rattle.schema_check.specs.Dictionaries.{Project}
 use Rattle.life_intervals.specs.Generator.{generator_of}

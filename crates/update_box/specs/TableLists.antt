@@ -1,6 +1,5 @@
 -- The lists of a table, as the code keeps them.
 use Rattle.std.specs.Prelude.{ℕ, [], slice_index_or}
-use Rattle.life_intervals.specs.declared.cohorts.Cohort.{Cohort}
 use Rattle.update_box.specs.declared.scan.TableRows.{TableRows}
 use Rattle.update_box.specs.UnitLists.{TableLists, UnitLists}
 

@@ -4,7 +4,7 @@ use Rattle.std.specs.List.{range_with_len}
 use Rattle.schema_check.specs.Cohorts.{cohort_size, first_ordinal}
 use Rattle.schema_check.specs.Dictionaries.{Project}
 use Rattle.life_intervals.specs.declared.cohorts.Cohort.{Cohort}
-use Rattle.life_intervals.specs.Generator.{Generator, generator_of, table_of}
+use Rattle.life_intervals.specs.Generator.{generator_of, table_of}
 use Rattle.life_intervals.specs.Rows.{Row}
 use Rattle.life_intervals.specs.Streams.{deleted, updated}
 

@@ -1,7 +1,7 @@
 //! The rows of one table that a unit changes, found by a scan of its cohorts.
 
-ghost use Rattle.std.specs.Prelude.{◌≡◌, ◌+◌, ◌<◌, ◌≤◌, ℕ, IfOk, false, length, true};
-ghost use Rattle.schema_check.specs.Cohorts.{cohort_size, first_ordinal};
+ghost use Rattle.std.specs.Prelude.{◌≡◌, ◌+◌, ◌<◌, ◌≤◌, IfOk, length, true};
+ghost use Rattle.schema_check.specs.Cohorts.{first_ordinal};
 ghost use Rattle.life_intervals.specs.CohortLives.{ordinal_in, size_of};
 ghost use Rattle.life_intervals.specs.CohortOrders.{cohort_orders};
 ghost use Rattle.life_intervals.specs.Generator.{last_unit, table_of};
@@ -136,7 +136,7 @@ pub fn table_rows<L: Ledger>(
     requires unit { t ≤ last_unit plan.now }
     ensures { IfOk result (λ rows. lists_of rows ≡ table_lists plan.now t table) }
 {
-    let _limits = plan.schema(); // rows of tables that can be made die by their own lives
+    let _sound = plan.schema(); // of tables that can be made the simulation has a closed form
     let Ok(orders) = table_orders(alloc, plan, table, t - 1) else {
         return Err(Memory);
     };
@@ -146,7 +146,15 @@ pub fn table_rows<L: Ledger>(
         inserted: cohort(plan, table, t),
     };
     for born in 0..t {
-        put_cohort(plan, table, born, t, &orders[born as usize], &mut rows, steps)?;
+        put_cohort(
+            plan,
+            table,
+            born,
+            t,
+            &orders[born as usize],
+            &mut rows,
+            steps,
+        )?;
     }
     Ok(rows)
 }

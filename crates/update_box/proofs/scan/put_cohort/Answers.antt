@@ -1,4 +1,4 @@
-use Rattle.std.proofs.Common.{◌≡◌, ◌+◌, ◌-◌, ℕ, ap, arith, sym, ◌∙◌}
+use Rattle.std.proofs.Common.{◌≡◌, ◌+◌, ℕ, ap, arith, sym, ◌∙◌}
 use Rattle.schema_check.specs.Cohorts.{first_ordinal}
 use Rattle.life_intervals.specs.CohortLives.{CohortAt, ordinal_in}
 use Rattle.life_intervals.specs.Generator.{table_of}

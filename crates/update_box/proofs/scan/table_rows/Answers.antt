@@ -1,4 +1,4 @@
-use Rattle.std.proofs.Common.{◌≡◌, ◌+◌, ◌-◌, ℕ, get_or, length, ap, arith, sym, ◌∙◌}
+use Rattle.std.proofs.Common.{◌≡◌, ◌-◌, ℕ, get_or, length, ap, arith, ◌∙◌}
 use Rattle.schema_check.specs.Cohorts.{first_ordinal}
 use Rattle.life_intervals.specs.Generator.{table_of}
 use Rattle.life_intervals.proofs.OrderLemmas.{length-table_orders, table_orders-at}
@@ -23,4 +23,4 @@ returns g c =
     let end : c.loop-born.born ≡ c.args.t = omega (arith, c.loop-born-test.false, c.loop-born.auto.born-end) in
     c.loop-born.invariant
     ∙ ap (λ (unit : ℕ). lists_before c.args.plan.now c.args.t c.args.table (first_ordinal births unit)) end
-    ∙ lists_before-all c.args.plan.now c.schema-limits.ensures.limits c.schema-limits.ensures.built c.args.table c.requires.table c.args.t
+    ∙ lists_before-all c.args.plan.now c.schema-sound.ensures.limits c.schema-sound.ensures.built c.args.table c.requires.table c.args.t
