@@ -1,15 +1,14 @@
 -- Parts of tables, as a job is put together of them one by one.
-use Rattle.std.proofs.Common.{◌≡◌, ℕ, ◌+◌, List, [], ◌∷◌, ◌++◌, map, Bool, if◌then◌else◌, is_some, Option, Some, None, refl, ap, sym, ◌∙◌}
+use Rattle.std.proofs.Common.{◌≡◌, ℕ, ◌+◌, List, [], ◌∷◌, ◌++◌, map, Bool, is_some, Option, Some, None, refl, ap, sym, ◌∙◌}
 use Rattle.std.specs.List.{flat_map, range_with_len}
 use Rattle.std.proofs.lemmas.List.{append-nil, map-append}
 use Rattle.std.proofs.lemmas.List.Concat.{flat_map-append}
-use Rattle.std.proofs.lemmas.List.Folds.{map-map}
+use Rattle.std.proofs.lemmas.Simd.{map-map}
 use Rattle.pd_outside.specs.Files.{File}
 use Rattle.schema_check.specs.Dictionaries.{Project}
 use Rattle.life_intervals.proofs.Ranges.{range_with_len-add}
 use Rattle.pdgf_run.specs.DueFiles.{Part, file_of, part_file, parts_at, parts_of, standard_output, table_files}
-use Rattle.pdgf_run.specs.Jobs.{Named, files_due, named, own_file, part_of, with_name}
-use Rattle.pdgf_run.specs.declared.job.FilesJob.{FilesJob}
+use Rattle.pdgf_run.specs.Jobs.{Named, files_by, named, own_file, part_of, with_name}
 use Rattle.pdgf_run.specs.declared.job.JobPart.{JobPart}
 use Rattle.pdgf_run.specs.declared.usage.Mode.{Mode}
 
@@ -46,12 +45,11 @@ together-parts plan unit out kept parts are =
     map-id [] = refl
     map-id (part ∷ parts) = ap (λ (rest : List Part). part ∷ rest) (map-id parts)
 
--- a job of them is due what the mode is
-pub files_due-is : (mode : Mode) (job : FilesJob) (places : List ℕ) (out : Option (List ℕ)) → job.apart ≡ is_some out →
-    map named job.parts.items ≡ map (with_name job.plan job.unit out) (parts_of mode places) → files_due job ≡ table_files mode job.plan job.unit places out
-files_due-is mode job places None apart are =
-    ap (λ (a : Bool). if a then map (own_file job.plan job.unit) job.parts.items else file_of job.plan job.unit standard_output (map part_of job.parts.items) ∷ []) apart
-    ∙ ap (λ (parts : List Part). file_of job.plan job.unit standard_output parts ∷ []) (together-parts job.plan job.unit None job.parts.items (parts_of mode places) are)
-files_due-is mode job places (Some directory) apart are =
-    ap (λ (a : Bool). if a then map (own_file job.plan job.unit) job.parts.items else file_of job.plan job.unit standard_output (map part_of job.parts.items) ∷ []) apart
-    ∙ apart-files job.plan job.unit directory job.parts.items (parts_of mode places) are
+-- so what they are due is what the mode is
+pub files_by-is : (mode : Mode) (plan : Project) (unit : ℕ) (apart : Bool) (parts : List JobPart) (places : List ℕ) (out : Option (List ℕ)) → apart ≡ is_some out →
+    map named parts ≡ map (with_name plan unit out) (parts_of mode places) → files_by plan unit apart parts ≡ table_files mode plan unit places out
+files_by-is mode plan unit apart parts places None alone are =
+    ap (λ (a : Bool). files_by plan unit a parts) alone
+    ∙ ap (λ (all : List Part). file_of plan unit standard_output all ∷ []) (together-parts plan unit None parts (parts_of mode places) are)
+files_by-is mode plan unit apart parts places (Some directory) alone are =
+    ap (λ (a : Bool). files_by plan unit a parts) alone ∙ apart-files plan unit directory parts (parts_of mode places) are

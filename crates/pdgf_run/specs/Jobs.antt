@@ -40,11 +40,14 @@ part_of part = record { place = part.place; content = content_of part.rows }
 abbrev pub own_file : Project → ℕ → JobPart → File
 own_file plan unit part = file_of plan unit part.name (part_of part ∷ [])
 
--- the files of a job: one for each part, or one for all
+-- the files of some parts: one for each, or one for all
+abbrev pub files_by : Project → ℕ → Bool → List JobPart → List File
+files_by plan unit apart parts =
+    if apart then map (own_file plan unit) parts else file_of plan unit standard_output (map part_of parts) ∷ []
+
+-- the files of a job over tables
 abbrev pub files_due : FilesJob → List File
-files_due job =
-    if job.apart then map (own_file job.plan job.unit) job.parts.items
-    else file_of job.plan job.unit standard_output (map part_of job.parts.items) ∷ []
+files_due job = files_by job.plan job.unit job.apart job.parts.items
 
 -- the files of a job
 abbrev pub due_of : Job → List File

@@ -180,7 +180,15 @@ fn write_table<S: Shelf, B: Ledger>(
 {
     let _sound = at.plan.schema(); // so the simulation is its closed form
     for born in 0..at.unit + 1 {
-        match write_born(shelf, page, at, born, &orders[born as usize], changes, steps) {
+        match write_born(
+            shelf,
+            page,
+            at,
+            born,
+            &orders[born as usize],
+            changes,
+            steps,
+        ) {
             Ok(()) => {}
             Err(WriteFailed) => return Err(WriteFailed),
         }
@@ -466,7 +474,15 @@ fn write_apart<S: Shelf, B: Ledger>(
 {
     for number in 0..parts.len() {
         let part = &parts[number..number + 1];
-        match write_file(shelf, page, plan, unit, parts[number].name.as_str(), part, steps) {
+        match write_file(
+            shelf,
+            page,
+            plan,
+            unit,
+            parts[number].name.as_str(),
+            part,
+            steps,
+        ) {
             Ok(()) => {}
             Err(WriteFailed) => return Err(WriteFailed),
         }
@@ -502,7 +518,15 @@ fn write_files<S: Shelf, B: Ledger>(
     if apart {
         write_apart(shelf, &mut page, &plan, unit, parts.as_slice(), &mut steps)
     } else {
-        write_file(shelf, &mut page, &plan, unit, "-", parts.as_slice(), &mut steps)
+        write_file(
+            shelf,
+            &mut page,
+            &plan,
+            unit,
+            "-",
+            parts.as_slice(),
+            &mut steps,
+        )
     }
 }
 

@@ -224,12 +224,30 @@ fn push_changes<B: Ledger>(
     ensures are { OnOk result (All (IsPartOf plan.now unit) parts.new.items) }
 {
     let TableRows {
-        deleted, updated, ..
+        deleted,
+        updated,
+        ..
     } = table_rows(alloc, plan, place, unit, steps)?;
     let changes = change_draws(alloc, plan, place, unit)?;
     let inserted = JobRows::Inserted(cohort_orders(plan, place, unit), changes);
-    push_part(alloc, plan, unit, place, JobRows::Deleted(deleted), out, parts)?;
-    push_part(alloc, plan, unit, place, JobRows::Updated(updated), out, parts)?;
+    push_part(
+        alloc,
+        plan,
+        unit,
+        place,
+        JobRows::Deleted(deleted),
+        out,
+        parts,
+    )?;
+    push_part(
+        alloc,
+        plan,
+        unit,
+        place,
+        JobRows::Updated(updated),
+        out,
+        parts,
+    )?;
     push_part(alloc, plan, unit, place, inserted, out, parts)
 }
 
@@ -272,7 +290,15 @@ fn unit_parts<B: Ledger>(
     let _limits = plan.schema(); // there are at most 64 tables
     let mut parts = Vec::new(alloc);
     for number in 0..places.count {
-        push_changes(alloc, plan, unit, places.from + number, out, &mut parts, steps)?;
+        push_changes(
+            alloc,
+            plan,
+            unit,
+            places.from + number,
+            out,
+            &mut parts,
+            steps,
+        )?;
     }
     Ok(parts)
 }

@@ -867,11 +867,78 @@ fn lives_and_changes_are_as_worked_out(rt: HostRuntime) -> Result<(), Fail> {
     Ok(())
 }
 
-// The checksum of the snapshot of a table at a unit.
-fn snapshot_checksum<R: Threads + Sync + Abort>(
+// By hand: what a unit deletes, updates and inserts, in one file and in a file each.
+#[test]
+fn changes_of_a_unit_are_as_worked_out(rt: HostRuntime) -> Result<(), Fail> {
+    let alloc = rt.alloc();
+    for (schema, unit, text) in [
+        (MORTAL, "1", "2\t1\n"),
+        (MORTAL, "2", "1\n3\t2\n"),
+        (CHANGING, "1", "1\t0\t1\n2\t1\t1\n"),
+        (CHANGING, "3", "1\t0\t3\n3\t2\t3\n4\t3\t3\n"),
+        (CHANGING, "4", "1\n2\t1\t4\n4\t3\t4\n5\t4\t4\n"),
+    ] {
+        let shelf = shelf(alloc, ShelfFail::Begin(9), 1000)?;
+        let given = ["pdgf", "unit", "s.toml", "--unit", unit];
+        let done = all_done(&[("-", text)]);
+        run_gives(&rt, alloc, schema.as_bytes(), &given, shelf, done)?;
+    }
+    let apart: [(&str, &[&str], &[(&str, &str)]); 3] = [
+        (
+            CHANGING,
+            &["pdgf", "unit", "s.toml", "--unit", "4", "--out", "d"],
+            &[
+                ("d/t.4.del", "1\n"),
+                ("d/t.4.upd", "2\t1\t4\n4\t3\t4\n"),
+                ("d/t.4.ins", "5\t4\t4\n"),
+            ],
+        ),
+        (
+            THREE,
+            &["pdgf", "unit", "s.toml", "--unit", "1", "--out", "d"],
+            &[
+                ("d/a.1.del", ""),
+                ("d/a.1.upd", ""),
+                ("d/a.1.ins", "3\n"),
+                ("d/b.1.del", ""),
+                ("d/b.1.upd", ""),
+                ("d/b.1.ins", ""),
+                ("d/c.1.del", ""),
+                ("d/c.1.upd", ""),
+                ("d/c.1.ins", "0\t1\n1\t1\n"),
+            ],
+        ),
+        (
+            THREE,
+            &[
+                "pdgf", "unit", "s.toml", "--table", "c", "--unit", "1", "--out", "d",
+            ],
+            &[
+                ("d/c.1.del", ""),
+                ("d/c.1.upd", ""),
+                ("d/c.1.ins", "0\t1\n1\t1\n"),
+            ],
+        ),
+    ];
+    for (schema, given, files) in apart {
+        let shelf = shelf(alloc, ShelfFail::Begin(99), 1000)?;
+        run_gives(&rt, alloc, schema.as_bytes(), given, shelf, all_done(files))?;
+    }
+    for unit in ["0", "3"] {
+        let shelf = shelf(alloc, ShelfFail::Begin(9), 1000)?;
+        let given = ["pdgf", "unit", "s.toml", "--unit", unit];
+        let outcome = refused(8, "pdgf: out of range: --unit\n");
+        run_gives(&rt, alloc, MORTAL.as_bytes(), &given, shelf, outcome)?;
+    }
+    Ok(())
+}
+
+// The checksum of what a mode writes of a table at a unit.
+fn text_checksum<R: Threads + Sync + Abort>(
     rt: &R,
     alloc: Global,
     schema: &str,
+    mode: &str,
     unit: &str,
 ) -> Result<u64, Fail> {
     let mut library = library(alloc, schema.as_bytes())?;
@@ -879,7 +946,7 @@ fn snapshot_checksum<R: Threads + Sync + Abort>(
     if shelf.begun().is_some() {
         return Err(Fail::from("begun"));
     }
-    let given = words(alloc, &["pdgf", "snapshot", "s.toml", "--unit", unit])?;
+    let given = words(alloc, &["pdgf", mode, "s.toml", "--unit", unit])?;
     let report = pdgf(rt, alloc, &given, &mut library, &mut shelf, &OpenGate);
     assert_eq!(rt; report.status, 0);
     assert!(rt; shelf.finished().len() == 1);
@@ -950,7 +1017,26 @@ fn snapshots_are_those_of_a_simulation(rt: HostRuntime) -> Result<(), Fail> {
         ("5", 10_652_435_079_214_470_033),
         ("6", 2_396_203_592_591_509_865),
     ] {
-        assert_eq!(rt; snapshot_checksum(&rt, rt.alloc(), LIVING, unit)?, sum);
+        assert_eq!(rt;
+            text_checksum(&rt, rt.alloc(), LIVING, "snapshot", unit)?,
+            sum
+        );
+    }
+    Ok(())
+}
+
+// The same of what each unit deletes, updates and inserts, one after the other.
+#[test]
+fn changes_are_those_of_a_simulation(rt: HostRuntime) -> Result<(), Fail> {
+    for (unit, sum) in [
+        ("1", 16_943_409_771_641_953_267),
+        ("2", 6_968_347_583_893_396_098),
+        ("3", 12_264_011_208_301_715_426),
+        ("4", 5_280_892_396_722_901_007),
+        ("5", 17_548_975_866_997_169_516),
+        ("6", 10_625_683_309_418_174_204),
+    ] {
+        assert_eq!(rt; text_checksum(&rt, rt.alloc(), LIVING, "unit", unit)?, sum);
     }
     Ok(())
 }
