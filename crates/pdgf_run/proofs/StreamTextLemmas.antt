@@ -1,5 +1,5 @@
 -- The texts of what a unit changes, by the ordinals of the rows.
-use Rattle.std.proofs.Common.{◌≡◌, ℕ, ◌+◌, ◌<◌, ◌≤◌, ◌==◌, true, ◌&&◌, Option, Some, None, List, length, map, filter, All, get_or, false, refl, ap, arith, sym, subst, ◌∙◌}
+use Rattle.std.proofs.Common.{◌≡◌, ℕ, ◌+◌, ◌<◌, ◌≤◌, ◌==◌, true, ◌&&◌, Option, Some, None, List, length, filter, All, false, refl, ap, arith, sym, subst, ◌∙◌}
 use Rattle.std.specs.Prelude.{IfSome}
 use Rattle.std.specs.List.{flat_map, range_with_len}
 use Rattle.std.proofs.lemmas.Bool.{and_parts, lt-ltb}
@@ -16,12 +16,12 @@ use Rattle.schema_check.specs.Layout.{no_table}
 use Rattle.life_intervals.specs.declared.lives.Survival.TheVariants.{Sure}
 use Rattle.life_intervals.specs.CohortLives.{survival_by}
 use Rattle.life_intervals.specs.Generator.{Generator, generator_of, last_unit, rows_in_all, table_of}
-use Rattle.life_intervals.specs.Intervals.{change_unit, changing, death, dying, is_at, is_live, newborn, row_at}
+use Rattle.life_intervals.specs.Intervals.{change_unit, changing, death, is_at, is_live, newborn, row_at}
 use Rattle.life_intervals.specs.Rows.{Row}
-use Rattle.life_intervals.specs.Streams.{deleted, inserted, updated}
+use Rattle.life_intervals.specs.Streams.{deleted, updated}
 use Rattle.life_intervals.proofs.BuiltLemmas.{AreSound-built, length-tables}
 use Rattle.life_intervals.proofs.CohortAtLemmas.{is_live_in-sure}
-use Rattle.life_intervals.proofs.CohortLemmas.{born_count-le, born_count-next, cohort-within}
+use Rattle.life_intervals.proofs.CohortLemmas.{born_count-next, cohort-within}
 use Rattle.life_intervals.proofs.Ranges.{filter-range_with_len_all}
 use Rattle.life_intervals.proofs.StreamLemmas.{inserted-newborn, updated-changing}
 use Rattle.row_lines.specs.Lines.{cohort_text, first_lines, key_line_of, line, line_of}

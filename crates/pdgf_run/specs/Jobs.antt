@@ -1,5 +1,5 @@
 -- What a job is due.
-use Rattle.std.specs.Prelude.{◌≡◌, ◌<◌, ◌≤◌, ℕ, if◌then◌else◌, List, [], ◌∷◌, length, map, All, Bool, true, false, Option, Some, None, ⊤}
+use Rattle.std.specs.Prelude.{◌≡◌, ◌<◌, ◌≤◌, ℕ, if◌then◌else◌, List, [], ◌∷◌, length, map, All, Bool, Option, Some, None, ⊤}
 use Rattle.std.specs.List.{range_with_len}
 use Rattle.pd_outside.specs.Files.{File}
 use Rattle.schema_check.specs.Dictionaries.{Project}
@@ -10,7 +10,7 @@ use Rattle.life_intervals.specs.Generator.{generator_of, last_unit}
 use Rattle.life_intervals.specs.Streams.{deleted, updated}
 use Rattle.row_lines.specs.ChangeDraws.{change_draws}
 use Rattle.update_box.specs.UnitLists.{ordinals}
-use Rattle.pdgf_run.specs.DueFiles.{Part, ending_of, file_of, name_at, part_file, path_of, standard_output}
+use Rattle.pdgf_run.specs.DueFiles.{Part, ending_of, file_of, name_at, path_of, standard_output}
 use Rattle.pdgf_run.specs.declared.job.Content.{Content}
 use Rattle.pdgf_run.specs.declared.job.Content.TheVariants as content
 use Rattle.pdgf_run.specs.declared.job.Job.{Job}

@@ -1,5 +1,4 @@
-use Rattle.std.proofs.Common.{◌+◌, ◌-◌, ◌∷◌, [], List, map, take, drop, ap, subst, sym, ◌∙◌}
-use Rattle.pd_outside.specs.Files.{File}
+use Rattle.std.proofs.Common.{◌∷◌, [], List, map, ap, subst, sym, ◌∙◌}
 use Rattle.pd_outside.specs.Shelf.{HoldsPrefixOf}
 use Rattle.pdgf_run.specs.DueFiles.{file_of}
 use Rattle.pdgf_run.specs.Jobs.{own_file, part_of}

@@ -1,4 +1,4 @@
-use Rattle.std.proofs.Common.{◌≡◌, ℕ, ap, arith, subst, sym, ◌∙◌}
+use Rattle.std.proofs.Common.{ap, arith, subst, sym, ◌∙◌}
 use Rattle.schema_check.proofs.PlannedLemmas.{max_line-reach}
 use Rattle.schema_check.specs.Cohorts.{cohort_size}
 use Rattle.schema_check.specs.Layout.{layout_of}

@@ -1,5 +1,4 @@
-use Rattle.std.proofs.Common.{ap, map, ◌∙◌, List, ℕ}
-use Rattle.std.specs.Option.{option_map}
+use Rattle.std.proofs.Common.{map, ◌∙◌}
 use Rattle.pd_outside.proofs.Appending.{file_as_a_whole, file_in_part}
 use Rattle.pdgf_run.specs.DueFiles.{file_of}
 use Rattle.pdgf_run.specs.Jobs.{part_of}

@@ -1,4 +1,3 @@
-use Rattle.std.proofs.Common.{List, ℕ, ap, is_some}
 use Rattle.pdgf_run.specs.Jobs.{places_of}
 use Rattle.pdgf_run.specs.declared.usage.Mode.TheVariants.{Unit}
 use Rattle.pdgf_run.proofs.JobLemmas.{files_by-is}
