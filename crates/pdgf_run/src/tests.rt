@@ -855,14 +855,28 @@ fn lives_and_changes_are_as_worked_out(rt: HostRuntime) -> Result<(), Fail> {
     for (schema, unit, text) in cases {
         let shelf = shelf(alloc, ShelfFail::Begin(9), 1000)?;
         let given = ["pdgf", "snapshot", "s.toml", "--unit", unit];
-        let done = all_done(&[("-", text)]);
-        run_gives(&rt, alloc, schema.as_bytes(), &given, shelf, done)?;
+        let files = [("-", text)];
+        run_gives(
+            &rt,
+            alloc,
+            schema.as_bytes(),
+            &given,
+            shelf,
+            all_done(&files),
+        )?;
     }
     for (schema, line) in [(MORTAL, "t\t3\t2\t2\t27\n"), (CHANGING, "t\t5\t4\t3\t33\n")] {
         let shelf = shelf(alloc, ShelfFail::Begin(9), 1000)?;
-        let done = all_done(&[("-", line)]);
         let given = ["pdgf", "check", "s.toml"];
-        run_gives(&rt, alloc, schema.as_bytes(), &given, shelf, done)?;
+        let files = [("-", line)];
+        run_gives(
+            &rt,
+            alloc,
+            schema.as_bytes(),
+            &given,
+            shelf,
+            all_done(&files),
+        )?;
     }
     Ok(())
 }
@@ -880,8 +894,15 @@ fn changes_of_a_unit_are_as_worked_out(rt: HostRuntime) -> Result<(), Fail> {
     ] {
         let shelf = shelf(alloc, ShelfFail::Begin(9), 1000)?;
         let given = ["pdgf", "unit", "s.toml", "--unit", unit];
-        let done = all_done(&[("-", text)]);
-        run_gives(&rt, alloc, schema.as_bytes(), &given, shelf, done)?;
+        let files = [("-", text)];
+        run_gives(
+            &rt,
+            alloc,
+            schema.as_bytes(),
+            &given,
+            shelf,
+            all_done(&files),
+        )?;
     }
     let apart: [(&str, &[&str], &[(&str, &str)]); 3] = [
         (
