@@ -3,7 +3,8 @@ use Rattle.std.proofs.Common.{◌≡◌, ℕ, zero, suc, ◌+◌, ◌*◌, arith
 use Rattle.schema_check.specs.declared.layout.Births.{Births}
 use Rattle.schema_check.specs.Cohorts.{first_ordinal, born_count}
 
-first_ordinal-suc : (births : Births) (unit : ℕ) → first_ordinal births (suc unit) ≡ births.rows + unit * births.insert
+-- how many rows are born before a unit that isn't the first
+pub first_ordinal-suc : (births : Births) (unit : ℕ) → first_ordinal births (suc unit) ≡ births.rows + unit * births.insert
 first_ordinal-suc births zero = omega arith
 first_ordinal-suc births (suc unit) = omega (arith, first_ordinal-suc births unit)
 

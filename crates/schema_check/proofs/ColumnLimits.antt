@@ -1,5 +1,5 @@
 -- Columns that pass the tests of the rules are within their limits.
-use Rattle.std.proofs.Common.{◌≡◌, ◌∙◌, ℕ, ℤ, pos, ◌<◌, ◌≤◌, ◌&&◌, ◌||◌, not, zero, suc, ◌∷◌, All, Bool, true, false, List, [], length, map, get_or, nat_le, nat_lt, int_le, refl, sym, ap, subst, arith}
+use Rattle.std.proofs.Common.{◌≡◌, ◌∙◌, ℕ, ℤ, pos, ◌<◌, ◌≤◌, ◌&&◌, ◌||◌, not, zero, suc, ◌∷◌, All, Bool, true, false, List, [], length, map, get_or, nat_le, nat_lt, int_le, Some, refl, sym, ap, subst, arith}
 use Rattle.std.specs.List.{list_all}
 use Rattle.std.specs.Ordering.{int_eq}
 use Rattle.std.proofs.lemmas.Bool.{and_parts, eqb-true, leb-true, ltb-true}
@@ -18,9 +18,11 @@ use Rattle.schema_check.specs.Counts.{count}
 use Rattle.schema_check.specs.Dictionaries.{AreWordLists, Dictionary, Project}
 use Rattle.schema_check.specs.Layout.{ColumnLayout, column_at, column_layout, kind_layout, leaf_layout, no_column, part_layout, place_of_column}
 use Rattle.schema_check.specs.Limits.{AreParts, CitesStill, IsCase, IsKindInLimits, IsLeafInLimits, IsPart, IsPickOf, IsStillPart, can_change, is_change_unit, is_cited, moves}
-use Rattle.schema_check.specs.Rules.{are_supplied, changes_at, cites_still, is_between, is_case, is_change, is_changed, is_citable, is_date_range, is_key_in_range, is_length_range, is_null_share, is_number_range, is_part, is_pick_of, is_skew_range, is_still_kind, is_still_part, is_template, is_weighted, kind_at, may_change, moves_at, null_at}
+use Rattle.schema_check.specs.References.{Reference, reference_of}
+use Rattle.schema_check.specs.Rules.{are_supplied, changes_at, cites_still, is_between, is_case, is_change, is_changed, is_citable, is_date_range, is_key_in_range, is_length_range, is_null_share, is_number_range, is_part, is_pick_of, is_skew_range, is_spread, is_still_kind, is_still_part, is_template, is_weighted, kind_at, may_change, moves_at, null_at}
 use Rattle.schema_check.proofs.FromTests.{limit_from_test, passes_each}
 use Rattle.schema_check.proofs.LeafLimits.{leaf_in_limits, leaves_in_limits}
+use Rattle.schema_check.proofs.ReferenceLimits.{spread_from_test}
 
 -- ---- the layout of a column
 
@@ -93,8 +95,8 @@ case_from_test dictionaries tables columns place within on branches h each =
 
 -- ---- a column by its kind
 
-pub kind_in_limits : (project : Project) → AreWordLists project.dictionaries → (tables : List Table) (columns : List Column) (place : ℕ) → place ≤ length columns → (kind : Kind) → list_all (are_supplied project) (leaves_of kind) ≡ true → list_all is_number_range (leaves_of kind) ≡ true → list_all is_date_range (leaves_of kind) ≡ true → list_all is_weighted (leaves_of kind) ≡ true → list_all is_skew_range (leaves_of kind) ≡ true → list_all is_length_range (leaves_of kind) ≡ true → is_template columns place kind ≡ true → is_case columns place kind ≡ true → IsKindInLimits (columns_layout project.dictionaries tables columns) place (kind_layout project.dictionaries tables columns kind)
-kind_in_limits project lists tables columns place within (kind.Leaf leaf) supplied numbers dates picks skews lengths parts case =
+pub kind_in_limits : (project : Project) → AreWordLists project.dictionaries → (tables : List Table) (columns : List Column) (place : ℕ) → place ≤ length columns → (kind : Kind) → list_all (are_supplied project) (leaves_of kind) ≡ true → list_all is_number_range (leaves_of kind) ≡ true → list_all is_date_range (leaves_of kind) ≡ true → list_all is_weighted (leaves_of kind) ≡ true → list_all is_skew_range (leaves_of kind) ≡ true → list_all is_length_range (leaves_of kind) ≡ true → is_template columns place kind ≡ true → is_case columns place kind ≡ true → is_spread kind ≡ true → IsKindInLimits (columns_layout project.dictionaries tables columns) place (kind_layout project.dictionaries tables columns kind)
+kind_in_limits project lists tables columns place within (kind.Leaf leaf) supplied numbers dates picks skews lengths parts case spread =
     leaf_in_limits project lists leaf
     ((and_parts (are_supplied project leaf) true supplied).0)
     ((and_parts (is_number_range leaf) true numbers).0)
@@ -102,11 +104,12 @@ kind_in_limits project lists tables columns place within (kind.Leaf leaf) suppli
     ((and_parts (is_weighted leaf) true picks).0)
     ((and_parts (is_skew_range leaf) true skews).0)
     ((and_parts (is_length_range leaf) true lengths).0)
-kind_in_limits project lists tables columns place within (kind.Template of) supplied numbers dates picks skews lengths parts case =
+kind_in_limits project lists tables columns place within (kind.Template of) supplied numbers dates picks skews lengths parts case spread =
     template_from_test project.dictionaries tables columns place within of parts
-kind_in_limits project lists tables columns place within (kind.Case on branches) supplied numbers dates picks skews lengths parts case =
+kind_in_limits project lists tables columns place within (kind.Case on branches) supplied numbers dates picks skews lengths parts case spread =
     case_from_test project.dictionaries tables columns place within on branches case (leaves_in_limits project lists branches supplied numbers dates picks skews lengths)
-kind_in_limits project lists tables columns place within _ supplied numbers dates picks skews lengths parts case = tt
+kind_in_limits project lists tables columns place within (kind.Ref table window weights) supplied numbers dates picks skews lengths parts case spread = spread_from_test weights spread
+kind_in_limits project lists tables columns place within _ supplied numbers dates picks skews lengths parts case spread = tt
 
 -- ---- columns that change
 
@@ -182,6 +185,12 @@ never_null null h = ap count ((Decides-int_eq null (pos 0)).0 h)
 pub key_never_null : (kind : Kind) (null : ℤ) → is_key_in_range kind ≡ true → is_null_share kind null ≡ true → count null ≡ 0
 key_never_null (kind.Key base scramble) null is_key h = never_null null h
 key_never_null _ null is_key h = cc
+
+-- nor is a reference
+pub reference_never_null : (dictionaries : List Dictionary) (tables : List Table) (columns : List Column) (place : ℕ) (kind : Kind) (null : ℤ) (reference : Reference) →
+    reference_of place (kind_layout dictionaries tables columns kind) ≡ Some reference → is_null_share kind null ≡ true → count null ≡ 0
+reference_never_null dictionaries tables columns place (kind.Ref table window spread) null reference is h = never_null null h
+reference_never_null dictionaries tables columns place _ null reference is h = absurd (cc)
 
 share_from_test : (null : ℤ) → is_between 0 999 null ≡ true → count null ≤ 999
 share_from_test null h = limit_from_test null 999 ((and_parts (int_le (pos 0) null) (int_le null (pos 999)) h).1)

@@ -93,6 +93,10 @@ none_of_rule project rule h = none_of_map _ (first_break rule project) h
 pub none_for_rule : (project : Project) (rule : Rule) → first_break rule project ≡ None → broken_rule project rule ≡ None
 none_for_rule project rule h = ap (option_map (λ site. record { rule = rule; site = site })) h
 
+-- a rule that is broken at a site, with the site
+pub some_for_rule : (project : Project) (rule : Rule) (site : Site) → first_break rule project ≡ Some site → broken_rule project rule ≡ Some (broken_at rule site)
+some_for_rule project rule site h = ap (option_map (broken_at rule)) h
+
 some_of_rule : (rule : Rule) (o : Option Site) (broken : Broken) → option_map (λ (site : Site). broken_at rule site) o ≡ Some broken → (o ≡ Some broken.site) × (rule ≡ broken.rule)
 some_of_rule rule None broken h = cc
 some_of_rule rule (Some site) broken h =

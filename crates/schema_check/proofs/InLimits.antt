@@ -1,5 +1,5 @@
 -- An accepted schema is within its limits.
-use Rattle.std.proofs.Common.{◌≡◌, ◌≢◌, ℕ, pos, negsuc, suc, ◌<◌, ◌≤◌, ◌^◌, Bool, true, false, not, ◌&&◌, ◌||◌, List, length, slice_get, refl, sym, ap, ◌∙◌, subst, arith, int_le, nat_le, ◌==◌, Option, Some, None, IfSome, ℤ}
+use Rattle.std.proofs.Common.{◌≡◌, ◌≢◌, ℕ, pos, negsuc, suc, ◌<◌, ◌≤◌, ◌^◌, All, Bool, true, false, not, ◌&&◌, ◌||◌, List, length, slice_get, refl, sym, ap, ◌∙◌, subst, arith, int_le, nat_le, ◌==◌, Option, Some, None, IfSome, ℤ}
 use Rattle.std.specs.List.{position_or_len}
 use Rattle.std.specs.Option.{option_map}
 use Rattle.std.proofs.lemmas.Bool.{and_parts, leb-true}
@@ -10,20 +10,23 @@ use Rattle.schema_model.specs.declared.column.Column.{Column}
 use Rattle.schema_model.specs.declared.column.Kind.{Kind}
 use Rattle.schema_model.specs.declared.column.Kind.TheVariants.{Key}
 use Rattle.schema_check.specs.declared.rules.Rule.{Rule}
-use Rattle.schema_check.specs.declared.rules.Rule.TheVariants.{Dictionaries, SeedAndUnits, TableCount, Columns, KeyColumn, RowCount, LifeRange, UpdatePeriod, NumberRange, DateRange, PickEntries, SkewRange, LengthRange, TemplateParts, CaseBranches, StillCitations, RowCost, LineSize, ChangesAndNulls}
+use Rattle.schema_check.specs.declared.rules.Rule.TheVariants.{Dictionaries, SeedAndUnits, TableCount, Columns, KeyColumn, RowCount, LifeRange, UpdatePeriod, NumberRange, DateRange, PickEntries, SkewRange, LengthRange, TemplateParts, CaseBranches, StillCitations, ReferenceTargets, ReferenceWindows, ParentRows, SpreadWeights, RowCost, LineSize, ChangesAndNulls}
 use Rattle.schema_check.specs.declared.site.Site.TheVariants.{Whole, OfTable, OfColumn}
 use Rattle.schema_check.specs.Cohorts.{born_count}
 use Rattle.schema_check.specs.Counts.{count}
 use Rattle.schema_check.specs.Dictionaries.{AreWordLists, Dictionary, Project}
-use Rattle.schema_check.specs.Layout.{births_of, column_at, column_layout, key_kind, keys_of_kind, kind_layout, layout_of, span_of, table_layout}
+use Rattle.schema_check.specs.Layout.{ColumnLayout, TableLayout, births_of, column_at, column_layout, key_kind, keys_of_kind, kind_layout, layout_of, span_of, table_at, table_layout}
 use Rattle.schema_check.specs.Limits.{IsKindInLimits, IsLife, IsTableInLimits, IsInLimits, IsUpdatePeriod}
-use Rattle.schema_check.specs.Rules.{broken_rule, first_broken, number_of, rules, changes_at, cites_still, is_between, is_change, is_key, is_key_in_range, is_key_first, is_life, is_null_share, is_one_to_64, is_update_period, kind_at, null_at, schema_table, IsAccepted, Keeps}
+use Rattle.schema_check.specs.References.{IsReferenceInLimits, reference_of, references_of}
+use Rattle.schema_check.specs.Rules.{broken_rule, first_broken, number_of, rules, changes_at, cites_still, is_between, is_change, is_key, is_key_in_range, is_key_first, is_life, is_null_share, is_one_to_64, is_update_period, kind_at, null_at, references_before, schema_table, IsAccepted, Keeps}
 use Rattle.schema_check.specs.Sites.{columns_at}
 use Rattle.schema_check.specs.TableFacts.{cost, max_line}
-use Rattle.schema_check.proofs.ColumnLimits.{cites_still_columns, columns_layout, key_never_null, kind_at-layout, kind_in_limits, null_at-layout, null_limit, unchanged}
+use Rattle.schema_check.proofs.ColumnLimits.{cites_still_columns, columns_layout, key_never_null, kind_at-layout, kind_in_limits, null_at-layout, null_limit, reference_never_null, unchanged}
+use Rattle.schema_check.proofs.FactsLemmas.{table_at-is}
 use Rattle.schema_check.proofs.FirstBreak.{none_of_rule}
 use Rattle.schema_check.proofs.FromTests.{count_from_test, least_from_test, limit_from_test}
 use Rattle.schema_check.proofs.Kept.{keeps_from_none, none_at}
+use Rattle.schema_check.proofs.ReferenceLimits.{each_reference, reference_from_tests}
 use Rattle.schema_check.proofs.RuleLemmas.{columns_at-is}
 
 -- the place of a rule in the order, by its number
@@ -63,7 +66,8 @@ column_in_limits project lists accepted i j table column tables =
     (keeps project accepted SkewRange refl (OfColumn i j) (table, column))
     (keeps project accepted LengthRange refl (OfColumn i j) (table, column))
     (keeps project accepted TemplateParts refl (OfColumn i j) (table, column))
-    (keeps project accepted CaseBranches refl (OfColumn i j) (table, column)))
+    (keeps project accepted CaseBranches refl (OfColumn i j) (table, column))
+    (keeps project accepted SpreadWeights refl (OfColumn i j) (table, column)))
 
 -- ---- tables
 
@@ -127,8 +131,35 @@ table_in_limits project lists accepted i h =
       still = λ place lt none.
           let within : place < length t.columns = omega (arith, layouts, lt) in
           cites_still_columns project.dictionaries project.schema.tables t.columns place within (v17 place within) none;
+      reference_never_null = λ place reference lt is.
+          let within : place < length t.columns = omega (arith, layouts, lt) in
+          null_at-layout project.dictionaries project.schema.tables t.columns place within
+          ∙ reference_never_null project.dictionaries project.schema.tables t.columns place (kind_at t.columns place) (null_at t.columns place) reference
+          (ap (reference_of place) (sym (kind_at-layout project.dictionaries project.schema.tables t.columns place within)) ∙ is) (v25 place within).0;
       key_never_null = null_at-layout project.dictionaries project.schema.tables t.columns 0 some ∙ key_never_null (kind_at t.columns 0) (null_at t.columns 0) (v5 0 some) (v25 0 some).0;
     }
+
+-- each reference of a table of an accepted schema
+references_in_limits : (project : Project) → IsAccepted project → length project.schema.tables ≤ 64 → (i : ℕ) → i < length project.schema.tables → All (IsReferenceInLimits (count project.schema.units) (layout_of project).tables i) (references_of (table_at (layout_of project).tables i))
+references_in_limits project accepted few i h =
+    let dictionaries = project.dictionaries in
+    let tables = project.schema.tables in
+    let columns = columns_at project.schema i in
+    let t = schema_table project.schema i in
+    let same : columns ≡ t.columns = columns_at-is project.schema i _ h in
+    let at : (table_at (layout_of project).tables i).columns ≡ columns_layout dictionaries tables columns =
+    ap (λ (layout : TableLayout). layout.columns) (table_at-is dictionaries tables i _ h) ∙ ap (columns_layout dictionaries tables) (sym same) in
+    each_reference (IsReferenceInLimits (count project.schema.units) (layout_of project).tables i) (table_at (layout_of project).tables i)
+    (λ j reference within is.
+    let column : j < length columns = omega (arith, within, ap length at, length-map columns (column_layout dictionaries tables columns)) in
+    let kind : reference_of j (kind_layout dictionaries tables columns (kind_at columns j)) ≡ Some reference =
+    ap (reference_of j) (sym (ap (λ (layouts : List ColumnLayout). (column_at layouts j).kind) at ∙ kind_at-layout dictionaries tables columns j column)) ∙ is in
+    reference_from_tests project i j (references_before columns j) columns (kind_at columns j) h few
+    (keeps project accepted ReferenceTargets refl (OfColumn i j) (h, column))
+    (keeps project accepted ReferenceWindows refl (OfColumn i j) (h, column))
+    (keeps project accepted ParentRows refl (OfColumn i j) (h, column))
+    (keeps project accepted SpreadWeights refl (OfColumn i j) (h, column))
+    reference kind)
 
 -- a number of one of the first 64 tables is at most its limit
 within_limit : (place n limit : ℕ) → place < 64 → (nat_le 64 place || nat_le n limit) ≡ true → n ≤ limit
@@ -153,6 +184,7 @@ in_limits project lists accepted =
       tables = λ i d h.
           let within : i < length project.schema.tables = omega (arith, h, length-map project.schema.tables (table_layout project.dictionaries project.schema.tables)) in
           subst (IsTableInLimits (count project.schema.units)) (sym (get_or-map (table_layout project.dictionaries project.schema.tables) project.schema.tables i _ d within)) (table_in_limits project lists accepted i within);
+      references = λ place h. references_in_limits project accepted few place h;
       costs = λ place h. within_limit place (cost (layout_of project) place) 4096 (omega (arith, h, few)) (keeps project accepted RowCost refl (OfTable place) h);
       lines = λ place h. within_limit place (max_line (layout_of project) place) 65536 (omega (arith, h, few)) (keeps project accepted LineSize refl (OfTable place) h);
     }

@@ -10,8 +10,10 @@ pub mod LineageLemmas
 pub mod BoundsLemmas
 pub mod FactsLemmas
 pub mod RuleLemmas
+pub mod ReferenceLemmas
 pub mod LeafLemmas
 pub mod LeafLimits
+pub mod ReferenceLimits
 pub mod ColumnLimits
 pub mod InLimits
 pub mod ReadyLemmas

@@ -53,7 +53,7 @@ pub lineage_at-lineages : (tables : List TableLayout) (place : ℕ) → place < 
 unfolding lineages
 lineage_at-lineages tables place h = get_or-in_turn lineage_of tables place endless no_table h
 
-length-lineages : (tables : List TableLayout) → length (lineages tables) ≡ length tables
+pub length-lineages : (tables : List TableLayout) → length (lineages tables) ≡ length tables
 unfolding lineages
 length-lineages tables = length-in_turn lineage_of [] tables
 

@@ -16,7 +16,7 @@ use Rattle.schema_check.specs.Limits.{IsInLimits}
 use Rattle.schema_check.specs.TableFacts.{facts_at, line_of_table, max_line, reach}
 use Rattle.schema_check.specs.Unbuilt.{is_unbuilt, is_unbuilt_table}
 use Rattle.schema_check.proofs.FromTests.{fails_each}
-use Rattle.schema_check.proofs.Lists.{map-same}
+use Rattle.schema_check.proofs.Lists.{map-map, map-same}
 
 -- no fact of an accepted schema is past the end of 64 bits
 not_capped : (project : Project) → IsInLimits project → (place : ℕ) → place < length project.schema.tables → capped_facts (facts_at (layout_of project) place) ≡ facts_at (layout_of project) place
@@ -69,6 +69,16 @@ length-kept of tables kept is = ap length is ∙ length-map-range_with_len of 0 
 
 pub get_or-kept : {A : Type 0} (of : ℕ → A) (tables : ℕ) (kept : List A) → kept ≡ map of (range_with_len 0 tables) → (place : ℕ) (d : A) → place < tables → get_or kept place d ≡ of place
 get_or-kept of tables kept is place d h = ap (λ all. get_or all place d) is ∙ get_or-map-range_with_len of 0 tables place place d h (omega arith)
+
+-- the births of a unit of the table at a place, to divide by
+abbrev pub divisor_at : Layout → ℕ → ℕ
+divisor_at layout place = max 1 (table_at layout.tables place).births.insert
+
+-- the divisors that are kept of the tables
+pub divisors_are : (project : Project) (kept : List TableFacts) (inserts : List ℕ) → kept ≡ map (facts_at (layout_of project)) (range_with_len 0 (length project.schema.tables)) → inserts ≡ map (λ (fact : TableFacts). max 1 fact.births.insert) kept → inserts ≡ map (divisor_at (layout_of project)) (range_with_len 0 (length project.schema.tables))
+divisors_are project kept inserts facts divisors =
+    let divisor = λ (fact : TableFacts). max 1 fact.births.insert in
+    divisors ∙ ap (map divisor) facts ∙ map-map divisor (facts_at (layout_of project)) (range_with_len 0 (length project.schema.tables))
 
 -- a table of a built schema is built
 pub built_table : (schema : Schema) → is_unbuilt schema ≡ false → (place : ℕ) (table : Table) → slice_get schema.tables place ≡ Some table → is_unbuilt_table table ≡ false

@@ -1,5 +1,5 @@
--- What is kept of columns: it doesn't depend on other tables, and where tables can be made of all of a schema, each column is
--- served.
+-- What is kept of columns: it is made ready of what is within its limits, and where tables can be made of all of a schema, each
+-- column is served.
 use Rattle.std.proofs.Common.{◌≡◌, ℕ, ◌+◌, ◌<◌, true, false, List, [], ◌∷◌, ◌++◌, length, map, get_or, refl, sym, ap, ◌∙◌, subst, arith}
 use Rattle.std.specs.List.{All, range_with_len}
 use Rattle.std.proofs.lemmas.List.{get_or-map, get_or_default, length-map}
@@ -16,14 +16,13 @@ use Rattle.schema_check.specs.Counts.{count}
 use Rattle.schema_check.specs.Delimiters.{delimiter_byte}
 use Rattle.schema_check.specs.Dictionaries.{Dictionary, Project}
 use Rattle.schema_check.specs.Layout.{ColumnLayout, TableLayout, column_at, column_layout, kind_layout, layout_of, leaf_layout, no_column, no_table, table_at, table_layout, table_layouts}
-use Rattle.schema_check.specs.Limits.{IsInLimits, IsKindInLimits, IsLeafInLimits, IsTableInLimits}
+use Rattle.schema_check.specs.Limits.{CanBeReady, IsInLimits, IsKindInLimits, IsLeafInLimits, IsSpreadOf, IsTableInLimits}
 use Rattle.schema_check.specs.Ready.{is_served, is_served_kind, ready_column, ready_columns, ready_kind}
 use Rattle.schema_check.specs.Rules.{schema_table}
 use Rattle.schema_check.specs.Unbuilt.{is_unbuilt, is_unbuilt_kind, is_unbuilt_table}
 use Rattle.schema_check.proofs.FactsLemmas.{table_at-is}
 use Rattle.schema_check.proofs.FromTests.{fails_each}
 use Rattle.schema_check.proofs.Lists.{map-map}
-use std.Path.{fun_ext}
 
 -- ---- limits
 
@@ -36,8 +35,12 @@ leaves_in_limits dictionaries tables columns layouts place (kind.Case on branche
     (h.each i (leaf_layout dictionaries d) (omega (arith, within, length-map branches (leaf_layout dictionaries))))
 leaves_in_limits dictionaries tables columns layouts place _ h = λ i d none. absurd (omega arith)
 
+spread_in_limits : (dictionaries : List Dictionary) (tables : List Table) (columns : List Column) (layouts : List ColumnLayout) (place : ℕ) (kind : Kind) → IsKindInLimits layouts place (kind_layout dictionaries tables columns kind) → IsSpreadOf kind
+spread_in_limits dictionaries tables columns layouts place (kind.Ref table window spread) h = h
+spread_in_limits dictionaries tables columns layouts place _ h = tt
+
 -- the columns of a table of a schema within its limits
-pub columns_in_limits : (project : Project) (place : ℕ) (table : Table) → IsInLimits project → place < length project.schema.tables → table ≡ get_or project.schema.tables place table → All (λ (column : Column). All (λ leaf. IsLeafInLimits (leaf_layout project.dictionaries leaf)) (leaves_of column.kind)) table.columns
+pub columns_in_limits : (project : Project) (place : ℕ) (table : Table) → IsInLimits project → place < length project.schema.tables → table ≡ get_or project.schema.tables place table → All (λ (column : Column). CanBeReady project.dictionaries column.kind) table.columns
 columns_in_limits project place table limits within is = λ i d h.
     let dictionaries = project.dictionaries in
     let tables = project.schema.tables in
@@ -48,61 +51,54 @@ columns_in_limits project place table limits within is = λ i d h.
     let layouts = map layout table.columns in
     let in_columns : i < length layouts = omega (arith, h, length-map table.columns layout) in
     let column : column_at layouts i ≡ layout (get_or table.columns i d) = get_or-map layout table.columns i d no_column h in
-    leaves_in_limits dictionaries tables table.columns layouts i (get_or table.columns i d).kind (subst (λ (c : ColumnLayout). IsKindInLimits layouts i c.kind) column (own.kinds i in_columns))
+    let kind = (get_or table.columns i d).kind in
+    let within_limits = subst (λ (c : ColumnLayout). IsKindInLimits layouts i c.kind) column (own.kinds i in_columns) in
+    record {
+      drawn = leaves_in_limits dictionaries tables table.columns layouts i kind within_limits;
+      spread = spread_in_limits dictionaries tables table.columns layouts i kind within_limits;
+    }
 
--- ---- columns without other tables
-
-ready_kind-alone : (dictionaries : List Dictionary) (tables : List Table) (columns : List Column) (delimiter : ℕ) (kind : Kind) → ready_kind delimiter (kind_layout dictionaries tables columns kind) ≡ ready_kind delimiter (kind_layout dictionaries [] columns kind)
-ready_kind-alone dictionaries tables columns delimiter (kind.Ref table window spread) = refl
-ready_kind-alone dictionaries tables columns delimiter (kind.Lookup via column) = refl
-ready_kind-alone dictionaries tables columns delimiter _ = refl
+-- ---- columns
 
 -- what is kept of one of some columns, as the schema has them
-abbrev pub kept_column : List Dictionary → ℕ → List Column → Column → ReadyColumn
-kept_column dictionaries delimiter columns column = ready_column delimiter (column_layout dictionaries [] columns column)
+abbrev pub kept_column : List Dictionary → ℕ → List Table → List Column → Column → ReadyColumn
+kept_column dictionaries delimiter tables columns column = ready_column delimiter (column_layout dictionaries tables columns column)
 
-pub ready_columns-is : (project : Project) (place : ℕ) (table : Table) → place < length project.schema.tables → table ≡ get_or project.schema.tables place table → ready_columns (layout_of project) place ≡ map (kept_column project.dictionaries (delimiter_byte project.schema.delimiter) table.columns) table.columns
+pub ready_columns-is : (project : Project) (place : ℕ) (table : Table) → place < length project.schema.tables → table ≡ get_or project.schema.tables place table → ready_columns (layout_of project) place ≡ map (kept_column project.dictionaries (delimiter_byte project.schema.delimiter) project.schema.tables table.columns) table.columns
 ready_columns-is project place table within is =
     let dictionaries = project.dictionaries in
     let tables = project.schema.tables in
     let delimiter = delimiter_byte project.schema.delimiter in
     let at : table_at (table_layouts dictionaries tables) place ≡ table_layout dictionaries tables table = table_at-is dictionaries tables place table within ∙ ap (table_layout dictionaries tables) (sym is) in
     let of = ready_column delimiter in
-    let alone : (λ (column : Column). of (column_layout dictionaries tables table.columns column)) ≡ kept_column dictionaries delimiter table.columns =
-    fun_ext (λ (column : Column). ap (λ kind. record { kind = kind; changes = column.changes; null = count column.null }) (ready_kind-alone dictionaries tables table.columns delimiter column.kind)) in
     ap (λ (layout : TableLayout). map of layout.columns) at
     ∙ map-map of (column_layout dictionaries tables table.columns) table.columns
-    ∙ ap (λ (keep : Column → ReadyColumn). map keep table.columns) alone
 
 -- ---- served columns
 
-served_kind : (dictionaries : List Dictionary) (delimiter : ℕ) (columns : List Column) (kind : Kind) → is_unbuilt_kind kind ≡ false → is_served_kind (ready_kind delimiter (kind_layout dictionaries [] columns kind)) ≡ true
-served_kind dictionaries delimiter columns (kind.Key base scramble) h = refl
-served_kind dictionaries delimiter columns kind.Born h = refl
-served_kind dictionaries delimiter columns kind.Changed h = refl
-served_kind dictionaries delimiter columns (kind.Leaf leaf) h = refl
-served_kind dictionaries delimiter columns (kind.Template parts) h = refl
-served_kind dictionaries delimiter columns (kind.Case on branches) h = refl
-served_kind dictionaries delimiter columns _ h = cc
+served_kind : (dictionaries : List Dictionary) (delimiter : ℕ) (tables : List Table) (columns : List Column) (kind : Kind) → is_unbuilt_kind kind ≡ false → is_served_kind (ready_kind delimiter (kind_layout dictionaries tables columns kind)) ≡ true
+served_kind dictionaries delimiter tables columns (kind.Lookup via column) h = cc
+served_kind dictionaries delimiter tables columns _ h = refl
 
-table_served : (dictionaries : List Dictionary) (delimiter : ℕ) (table : Table) → is_unbuilt_table table ≡ false → All (λ column. is_served column ≡ true) (map (kept_column dictionaries delimiter table.columns) table.columns)
-table_served dictionaries delimiter table built =
-    All-map (λ column. is_served column ≡ true) (kept_column dictionaries delimiter table.columns) table.columns
-    (λ i d within. served_kind dictionaries delimiter table.columns (get_or table.columns i d).kind (fails_each (λ (column : Column). is_unbuilt_kind column.kind) table.columns i d within built))
+table_served : (dictionaries : List Dictionary) (delimiter : ℕ) (tables : List Table) (table : Table) → is_unbuilt_table table ≡ false → All (λ column. is_served column ≡ true) (map (kept_column dictionaries delimiter tables table.columns) table.columns)
+table_served dictionaries delimiter tables table built =
+    All-map (λ column. is_served column ≡ true) (kept_column dictionaries delimiter tables table.columns) table.columns
+    (λ i d within. served_kind dictionaries delimiter tables table.columns (get_or table.columns i d).kind (fails_each (λ (column : Column). is_unbuilt_kind column.kind) table.columns i d within built))
 
 -- each column of a table of a built schema
 pub columns_served : (project : Project) (place : ℕ) → is_unbuilt project.schema ≡ false → place < length project.schema.tables → All (λ column. is_served column ≡ true) (ready_columns (layout_of project) place)
 columns_served project place built within =
+    let tables = project.schema.tables in
     let table = schema_table project.schema place in
     let delimiter = delimiter_byte project.schema.delimiter in
-    All-same (λ column. is_served column ≡ true) (ready_columns (layout_of project) place) (map (kept_column project.dictionaries delimiter table.columns) table.columns)
-    (ready_columns-is project place table within (get_or_default project.schema.tables place _ table within))
-    (table_served project.dictionaries delimiter table (fails_each is_unbuilt_table project.schema.tables place _ within built))
+    All-same (λ column. is_served column ≡ true) (ready_columns (layout_of project) place) (map (kept_column project.dictionaries delimiter tables table.columns) table.columns)
+    (ready_columns-is project place table within (get_or_default tables place _ table within))
+    (table_served project.dictionaries delimiter tables table (fails_each is_unbuilt_table tables place _ within built))
 
 -- ---- tables in order
 
 -- the columns of one more table
-pub one_table_more : (project : Project) (place : ℕ) (table : Table) (columns : List ReadyColumn) (kept : List (List ReadyColumn)) → place < length project.schema.tables → table ≡ get_or project.schema.tables place table → columns ≡ map (kept_column project.dictionaries (delimiter_byte project.schema.delimiter) table.columns) table.columns → kept ≡ map (ready_columns (layout_of project)) (range_with_len 0 place) → kept ++ columns ∷ [] ≡ map (ready_columns (layout_of project)) (range_with_len 0 (place + 1))
+pub one_table_more : (project : Project) (place : ℕ) (table : Table) (columns : List ReadyColumn) (kept : List (List ReadyColumn)) → place < length project.schema.tables → table ≡ get_or project.schema.tables place table → columns ≡ map (kept_column project.dictionaries (delimiter_byte project.schema.delimiter) project.schema.tables table.columns) table.columns → kept ≡ map (ready_columns (layout_of project)) (range_with_len 0 place) → kept ++ columns ∷ [] ≡ map (ready_columns (layout_of project)) (range_with_len 0 (place + 1))
 one_table_more project place table columns kept within is columns_are so_far =
     let of = ready_columns (layout_of project) in
     ap (λ front. front ++ columns ∷ []) so_far

@@ -8,6 +8,7 @@ pub mod Layout
 pub mod Cohorts
 pub mod InTurn
 pub mod Lineage
+pub mod References
 pub mod FieldBounds
 pub mod TableFacts
 pub mod Sites

@@ -1,12 +1,16 @@
 -- What the rules give for the numbers of an accepted schema.
-use Rattle.std.specs.Prelude.{◌≡◌, ◌≢◌, Bool, true, false, ◌||◌, ℕ, ℤ, suc, pos, neg_ℤ, ◌-◌, ◌^◌, ◌<◌, ◌≤◌, ◌+ℤ◌, ◌-ℤ◌, ◌<ℤ◌, ◌≤ℤ◌, List, length, sum, All, IfSome, ⊤}
+use Rattle.std.specs.Prelude.{◌≡◌, ◌≢◌, Bool, true, false, ◌||◌, ℕ, ℤ, suc, pos, neg_ℤ, ◌-◌, ◌^◌, ◌<◌, ◌≤◌, ◌+ℤ◌, ◌-ℤ◌, ◌<ℤ◌, ◌≤ℤ◌, List, length, map, sum, All, IfSome, Some, ⊤}
 use Rattle.std.specs.Str.{chars}
 use Rattle.dictionaries.specs.WordList.{IsWordList}
+use Rattle.schema_model.specs.declared.column.Kind.{Kind}
+use Rattle.schema_model.specs.declared.column.Kind.TheVariants as kind
 use Rattle.schema_check.specs.declared.layout.Span.{Span}
+use Rattle.schema_check.specs.Citations.{leaves_of}
 use Rattle.schema_check.specs.Cohorts.{born_count}
 use Rattle.schema_check.specs.Counts.{count}
-use Rattle.schema_check.specs.Dictionaries.{Project}
-use Rattle.schema_check.specs.Layout.{LeafLayout, int_leaf, fixed_leaf, date_leaf, pick_leaf, skew_leaf, dict_leaf, words_leaf, chars_leaf, PartLayout, literal_part, cited_part, KindLayout, key_kind, changed_kind, leaf_kind, template_kind, case_kind, lookup_kind, ColumnLayout, column_at, TableLayout, layout_of}
+use Rattle.schema_check.specs.Dictionaries.{Dictionary, Project}
+use Rattle.schema_check.specs.Layout.{LeafLayout, int_leaf, fixed_leaf, date_leaf, pick_leaf, skew_leaf, dict_leaf, words_leaf, chars_leaf, PartLayout, literal_part, cited_part, KindLayout, key_kind, changed_kind, leaf_kind, template_kind, case_kind, reference_kind, lookup_kind, ColumnLayout, column_at, TableLayout, layout_of, leaf_layout, table_at}
+use Rattle.schema_check.specs.References.{IsReferenceInLimits, IsSpread, Reference, reference_at, references_of}
 use Rattle.schema_check.specs.TableFacts.{cost, max_line}
 
 -- a number that isn't below 0
@@ -68,6 +72,15 @@ is_cited (case_kind on branches) = false
 is_cited (lookup_kind via parent column) = false
 is_cited _ = true
 
+-- what is made ready of a kind: what it draws is within its limits, and so is its spread
+abbrev pub IsSpreadOf : Kind → Type 0
+IsSpreadOf (kind.Ref table window spread) = IsSpread (map count spread)
+IsSpreadOf _ = ⊤
+
+pub record CanBeReady (dictionaries : List Dictionary) (kind : Kind) : Type 0 where
+  pub drawn : All (λ leaf. IsLeafInLimits (leaf_layout dictionaries leaf)) (leaves_of kind)
+  pub spread : IsSpreadOf kind
+
 -- a part of the template at a place: a text, or an earlier column that may be cited
 abbrev pub IsPart : List ColumnLayout → ℕ → PartLayout → Type 0
 IsPart columns place (literal_part bytes) = ⊤
@@ -95,6 +108,7 @@ abbrev pub IsKindInLimits : List ColumnLayout → ℕ → KindLayout → Type 0
 IsKindInLimits columns place (leaf_kind leaf) = IsLeafInLimits leaf
 IsKindInLimits columns place (template_kind parts) = AreParts columns place parts
 IsKindInLimits columns place (case_kind on branches) = IsCase columns place on branches
+IsKindInLimits columns place (reference_kind parent window spread) = IsSpread spread
 IsKindInLimits columns place _ = ⊤
 
 -- a kind whose fields may be drawn anew where a row changes: no key, no unit, and none that other rows tell
@@ -154,6 +168,7 @@ pub record IsTableInLimits (units : ℕ) (table : TableLayout) : Type 0 where
   pub changes : (place : ℕ) → place < length table.columns → can_change (column_at table.columns place).kind ≡ false → (column_at table.columns place).changes ≡ false
   pub still : (place : ℕ) → place < length table.columns → (column_at table.columns place).changes ≡ false → CitesStill table.columns (column_at table.columns place).kind
   pub key_never_null : (column_at table.columns 0).null ≡ 0
+  pub reference_never_null : (place : ℕ) (reference : Reference) → place < length table.columns → reference_at table place ≡ Some reference → (column_at table.columns place).null ≡ 0
 
 -- an accepted schema within its limits, with its dictionaries
 pub record IsInLimits (project : Project) : Type 0 where
@@ -163,5 +178,7 @@ pub record IsInLimits (project : Project) : Type 0 where
   pub some_table : 1 ≤ length project.schema.tables
   pub table_limit : length project.schema.tables ≤ 64
   pub tables : All (IsTableInLimits (count project.schema.units)) (layout_of project).tables
+  pub references : (place : ℕ) → place < length project.schema.tables →
+      All (IsReferenceInLimits (count project.schema.units) (layout_of project).tables place) (references_of (table_at (layout_of project).tables place))
   pub costs : (place : ℕ) → place < length project.schema.tables → cost (layout_of project) place ≤ 4096
   pub lines : (place : ℕ) → place < length project.schema.tables → max_line (layout_of project) place ≤ 65536

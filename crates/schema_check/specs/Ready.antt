@@ -1,5 +1,5 @@
 -- What a plan keeps of the columns, so that nothing that stays the same is worked out for a row.
-use Rattle.std.specs.Prelude.{ℕ, ◌+◌, ◌-◌, ◌^◌, Bool, true, false, List, encode_utf8, length, map, sum}
+use Rattle.std.specs.Prelude.{ℕ, ◌+◌, ◌-◌, ◌^◌, Bool, true, false, List, encode_utf8, length, map, Option, sum}
 use Rattle.std.specs.Str.{chars}
 use Rattle.weight_tables.specs.Harmonic.{harmonic_weights}
 use Rattle.row_text.specs.Fields.{piece_text}
@@ -8,6 +8,7 @@ use Rattle.schema_check.specs.declared.ready.ReadyKind.{ReadyKind}
 use Rattle.schema_check.specs.declared.ready.ReadyKind.TheVariants as kind
 use Rattle.schema_check.specs.declared.ready.ReadyPart.{ReadyPart}
 use Rattle.schema_check.specs.declared.ready.ReadyPart.TheVariants as part
+use Rattle.schema_check.specs.declared.ready.ReadyReference.{ReadyReference}
 use Rattle.schema_check.specs.declared.ready.ReadyLeaf.{ReadyLeaf}
 use Rattle.schema_check.specs.declared.ready.ReadyLeaf.TheVariants as leaf
 use Rattle.schema_check.specs.Choices.{choices}
@@ -32,6 +33,11 @@ abbrev pub ready_part : ℕ → PartLayout → ReadyPart
 ready_part delimiter (literal_part bytes) = part.Literal (piece_text delimiter bytes)
 ready_part delimiter (cited_part column) = part.Cited column
 
+-- a reference: the weights of its spread with their number and their sum
+abbrev pub ready_reference : ℕ → Option ℕ → List ℕ → ReadyReference
+ready_reference parent window spread =
+    record { parent = parent; window = window; spread = spread; groups = length spread; total = sum spread }
+
 -- what a column holds of this kind
 abbrev pub ready_kind : ℕ → KindLayout → ReadyKind
 ready_kind delimiter key_kind = kind.Key
@@ -40,7 +46,7 @@ ready_kind delimiter changed_kind = kind.Changed
 ready_kind delimiter (leaf_kind drawn) = kind.Drawn (ready_leaf delimiter drawn)
 ready_kind delimiter (template_kind parts) = kind.Template (map (ready_part delimiter) parts)
 ready_kind delimiter (case_kind on branches) = kind.Case on (map (ready_leaf delimiter) branches)
-ready_kind delimiter (reference_kind parent window spread) = kind.Unserved
+ready_kind delimiter (reference_kind parent window spread) = kind.Reference (ready_reference parent window spread)
 ready_kind delimiter (lookup_kind via parent name) = kind.Unserved
 
 -- a column

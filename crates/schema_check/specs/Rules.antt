@@ -1,5 +1,5 @@
 -- The rules of a schema, each at the sites where it asks something, and the first that is broken.
-use Rattle.std.specs.Prelude.{◌≡◌, ℕ, zero, suc, ℤ, pos, neg_ℤ, ◌+ℤ◌, ◌-ℤ◌, ◌-◌, ◌^◌, ◌==◌, List, [], ◌∷◌, length, map, sum, take, Bool, true, false, not, ◌&&◌, ◌||◌, nat_le, nat_lt, int_le, Option, Some, None, is_some, slice_index_or, if◌then◌else◌}
+use Rattle.std.specs.Prelude.{◌≡◌, ℕ, zero, suc, ℤ, pos, neg_ℤ, ◌+ℤ◌, ◌-ℤ◌, ◌+◌, ◌-◌, ◌^◌, ◌==◌, List, [], ◌∷◌, length, map, sum, take, Bool, true, false, not, ◌&&◌, ◌||◌, nat_le, nat_lt, int_le, count_by, Option, Some, None, is_none, is_some, slice_index_or, if◌then◌else◌}
 use Rattle.std.specs.List.{list_all, list_any, range_with_len}
 use Rattle.std.specs.Option.{option_or, option_map}
 use Rattle.std.specs.Ordering.{int_eq}
@@ -14,17 +14,22 @@ use Rattle.schema_model.specs.declared.column.Leaf.{Leaf}
 use Rattle.schema_model.specs.declared.column.Leaf.TheVariants as drawn
 use Rattle.schema_model.specs.declared.column.Part.{Part}
 use Rattle.schema_model.specs.declared.column.Part.TheVariants as part
+use Rattle.schema_model.specs.declared.column.Window.{Window}
+use Rattle.schema_model.specs.declared.column.Window.TheVariants as window
 use Rattle.schema_check.specs.declared.broken.Broken.{Broken}
+use Rattle.schema_check.specs.declared.layout.Births.{Births}
 use Rattle.schema_check.specs.declared.rules.Rule.{Rule}
-use Rattle.schema_check.specs.declared.rules.Rule.TheVariants.{Dictionaries, CitedNames, SeedAndUnits, TableCount, TableNames, Columns, KeyColumn, RowCount, LifeRange, UpdatePeriod, NumberRange, DateRange, PickEntries, SkewRange, LengthRange, TemplateParts, CaseBranches, StillCitations, RowCost, LineSize, ChangesAndNulls}
+use Rattle.schema_check.specs.declared.rules.Rule.TheVariants.{Dictionaries, CitedNames, SeedAndUnits, TableCount, TableNames, Columns, KeyColumn, RowCount, LifeRange, UpdatePeriod, NumberRange, DateRange, PickEntries, SkewRange, LengthRange, TemplateParts, CaseBranches, StillCitations, ReferenceTargets, ReferenceWindows, ParentRows, SpreadWeights, RowCost, LineSize, ChangesAndNulls}
 use Rattle.schema_check.specs.declared.site.Site.{Site}
 use Rattle.schema_check.specs.declared.site.Site.TheVariants.{Whole, OfTable, OfColumn}
 use Rattle.schema_check.specs.Citations.{cited_names, leaves_of, may_cite, may_cite_all, names_in_leaf}
-use Rattle.schema_check.specs.Cohorts.{born_count}
+use Rattle.schema_check.specs.Cohorts.{born_count, cohort_size}
 use Rattle.schema_check.specs.Counts.{count}
 use Rattle.schema_check.specs.Dictionaries.{Project, dictionary_named}
-use Rattle.schema_check.specs.Layout.{births_of, layout_of, place_of_column}
+use Rattle.schema_check.specs.Layout.{births_of, layout_of, place_of_column, place_of_table, window_layout}
+use Rattle.schema_check.specs.Lineage.{sure_life}
 use Rattle.schema_check.specs.Names.{same_text, is_name}
+use Rattle.schema_check.specs.References.{first_in_window}
 use Rattle.schema_check.specs.Sites.{columns_at, IsSiteOf, IsBefore}
 use Rattle.schema_check.specs.TableFacts.{cost, max_line}
 
@@ -232,6 +237,56 @@ is_null_share (kind.Key base scramble) null = int_eq null (pos 0)
 is_null_share (kind.Ref table window spread) null = int_eq null (pos 0)
 is_null_share _ null = is_between 0 999 null
 
+-- ---- what rules ask of references
+
+abbrev pub is_reference : Kind → Bool
+is_reference (kind.Ref table window spread) = true
+is_reference _ = false
+
+-- how many of the columns before a place are references
+abbrev pub references_before : List Column → ℕ → ℕ
+references_before columns place = count_by (λ (column : Column). is_reference column.kind) (take place columns)
+
+-- a reference of the table at a place names an earlier table, and is one of at most 8
+abbrev pub is_target : List Table → ℕ → ℕ → Kind → Bool
+is_target tables place earlier (kind.Ref table window spread) = nat_lt (place_of_table tables table) place && nat_lt earlier 8
+is_target tables place earlier _ = true
+
+-- a window in which each row is alive at its end, by how long rows live for sure
+abbrev pub is_within_life : Option ℕ → Window → Bool
+is_within_life sure window.All = is_none sure
+is_within_life None (window.Units units) = int_le (pos 0) units
+is_within_life (Some life) (window.Units units) = int_le (pos 0) units && nat_lt (count units) life
+
+-- a reference has such a window. Of a table past the first 64, where an earlier rule is broken, nothing is asked
+abbrev pub is_window : Project → Kind → Bool
+is_window project (kind.Ref table window spread) =
+    nat_le 64 (place_of_table project.schema.tables table)
+    || is_within_life (sure_life (layout_of project).tables (place_of_table project.schema.tables table)) window
+is_window project _ = true
+
+-- whether there is a row to refer to in a window that ends at a unit, where rows are born at it
+abbrev pub has_parent_row : Births → Births → Option ℕ → ℕ → Bool
+has_parent_row child parent window unit =
+    cohort_size child unit == 0 || nat_lt (first_in_window parent window unit) (born_count parent unit)
+
+-- whether there is one at each unit up to a last one
+abbrev pub has_parent_rows : ℕ → Births → Births → Option ℕ → Bool
+has_parent_rows units child parent window = list_all (has_parent_row child parent window) (range_with_len 0 (units + 1))
+
+-- a reference of the table at a place has parents at each unit
+abbrev pub has_parents : Schema → ℕ → Kind → Bool
+has_parents schema place (kind.Ref table window spread) =
+    has_parent_rows (count schema.units) (births_of (schema_table schema place))
+    (births_of (schema_table schema (place_of_table schema.tables table))) (window_layout window)
+has_parents schema place _ = true
+
+-- a spread has 1 to 64 weights, each from 1 to 1,000
+abbrev pub is_spread : Kind → Bool
+is_spread (kind.Ref table window spread) =
+    nat_le 1 (length spread) && nat_le (length spread) 64 && list_all (is_between 1 1000) spread
+is_spread _ = true
+
 -- ---- the rules
 
 -- whether a rule holds at a site; where a rule asks nothing, it holds
@@ -277,6 +332,17 @@ holds CaseBranches project (OfColumn table column) =
     is_case (columns_at project.schema table) column (kind_at (columns_at project.schema table) column)
 -- V17: a template or a case cites no column that moves, unless it changes itself
 holds StillCitations project (OfColumn table column) = cites_still (columns_at project.schema table) column
+-- V18: a reference names a table before its own, and a table has at most 8 references
+holds ReferenceTargets project (OfColumn table column) =
+    is_target project.schema.tables table (references_before (columns_at project.schema table) column)
+    (kind_at (columns_at project.schema table) column)
+-- V19: a window of units is from 0 on and ends before the sure life of the parent's rows does, and one of all units is of parents
+-- that nothing ends
+holds ReferenceWindows project (OfColumn table column) = is_window project (kind_at (columns_at project.schema table) column)
+-- V20: at each unit at which rows are born, a row of the parent's table is born in the window
+holds ParentRows project (OfColumn table column) = has_parents project.schema table (kind_at (columns_at project.schema table) column)
+-- V21: a spread has 1 to 64 weights, each from 1 to 1,000
+holds SpreadWeights project (OfColumn table column) = is_spread (kind_at (columns_at project.schema table) column)
 -- V23: the cost of a row is at most 4,096. Past 64 tables, where an earlier rule is broken, nothing is asked
 holds RowCost project (OfTable table) = nat_le 64 table || nat_le (cost (layout_of project) table) 4096
 -- V24: a line has at most 65,536 bytes. The same
@@ -307,6 +373,10 @@ number_of LengthRange = 14
 number_of TemplateParts = 15
 number_of CaseBranches = 16
 number_of StillCitations = 17
+number_of ReferenceTargets = 18
+number_of ReferenceWindows = 19
+number_of ParentRows = 20
+number_of SpreadWeights = 21
 number_of RowCost = 23
 number_of LineSize = 24
 number_of ChangesAndNulls = 25
@@ -316,7 +386,7 @@ number_of ChangesAndNulls = 25
 abbrev pub rules : List Rule
 rules = Dictionaries ∷ SeedAndUnits ∷ TableCount ∷ TableNames ∷ Columns ∷ KeyColumn ∷ RowCount
     ∷ LifeRange ∷ UpdatePeriod ∷ NumberRange ∷ DateRange ∷ PickEntries ∷ SkewRange ∷ LengthRange ∷ TemplateParts ∷ CaseBranches
-    ∷ StillCitations ∷ RowCost ∷ LineSize ∷ ChangesAndNulls ∷ []
+    ∷ StillCitations ∷ ReferenceTargets ∷ ReferenceWindows ∷ ParentRows ∷ SpreadWeights ∷ RowCost ∷ LineSize ∷ ChangesAndNulls ∷ []
 
 -- ---- the first broken rule
 

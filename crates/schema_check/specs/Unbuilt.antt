@@ -7,9 +7,8 @@ use Rattle.schema_model.specs.declared.column.Column.{Column}
 use Rattle.schema_model.specs.declared.column.Kind.{Kind}
 use Rattle.schema_model.specs.declared.column.Kind.TheVariants as kind
 
--- what speaks of other rows
+-- what puts the fields of other rows in place
 abbrev pub is_unbuilt_kind : Kind → Bool
-is_unbuilt_kind (kind.Ref table window spread) = true
 is_unbuilt_kind (kind.Lookup via column) = true
 is_unbuilt_kind _ = false
 

@@ -1,257 +1,262 @@
 //! The dictionaries that a schema cites. The places follow from the wording of the rule.
 
 use super::*;
-use dictionaries::read_dictionary;
-use schema_model::{
-    Column, Columns, Delimiter, Kind, Leaf, Leaves, Longs, Schema, Table, Tables, Text, Texts,
+use crate::tests::fixtures::{
+    key, letters, numbered, plan_of, push_column, schema, table, text, told, told_rule, with_table,
 };
-use std::alloc::{AllocError, Global};
+use dictionaries::read_dictionary;
+use schema_model::{Columns, Delimiter, Kind, Leaf, Leaves, Longs, Schema, Text, Texts};
 use std::process::Abort;
-use std::test::Fail;
-
-fn text(alloc: Global, text: &str) -> Result<Text, AllocError> {
-    Text::of(alloc, text).map_err(|_| AllocError)
-}
 
 /// One more column, with a name of its own.
-fn push_column(alloc: Global, columns: &mut Columns, kind: Kind) -> Result<(), AllocError> {
-    let name = format!(in alloc; "c{}", columns.len())?;
-    let column = Column {
-        name: text(alloc, &name)?,
-        kind,
-        changes: false,
-        null: 0,
-    };
-    columns.push(column).map_err(|_| AllocError)
+fn push_kind(rt: &(impl Abort + AllocGlobal), columns: &mut Columns, kind: Kind) {
+    let name = numbered(rt, "c", columns.len());
+    push_column(rt, columns, name, kind);
 }
 
-/// One more table of a key and these columns, with a name of its own.
-fn push_table(alloc: Global, schema: &mut Schema, kinds: Vec<Kind>) -> Result<(), AllocError> {
-    let mut columns = Columns::new(alloc);
-    let key = Kind::Key {
-        base: 1,
-        scramble: false,
-    };
-    push_column(alloc, &mut columns, key)?;
-    for kind in kinds {
-        push_column(alloc, &mut columns, kind)?;
+/// The columns of a table with a key alone.
+fn key_alone(rt: &(impl Abort + AllocGlobal)) -> Columns {
+    let mut columns = Columns::new(rt.alloc());
+    push_kind(rt, &mut columns, key(1));
+    columns
+}
+
+/// The schema with one more table of these columns, with a name of its own.
+fn with_columns(rt: &(impl Abort + AllocGlobal), schema: Schema, columns: Columns) -> Schema {
+    let name = numbered(rt, "t", schema.tables.len());
+    with_table(rt, schema, table(name, (1, 0), columns))
+}
+
+fn dict(file: Text) -> Leaf {
+    Leaf::Dict { file }
+}
+
+/// A schema of one table of these columns.
+fn single(rt: &(impl Abort + AllocGlobal), seed: i64, columns: Columns) -> Schema {
+    with_columns(rt, schema(rt, seed, 0, Delimiter::Bar), columns)
+}
+
+/// One more column, which draws from a dictionary.
+fn push_dict(rt: &(impl Abort + AllocGlobal), columns: &mut Columns, file: Text) {
+    push_kind(rt, columns, Kind::Leaf(dict(file)));
+}
+
+/// A schema of one table with a column behind its key for each dictionary. A comma stands between two names.
+fn citing(rt: &(impl Abort + AllocGlobal), seed: i64, names: &str) -> Schema {
+    let mut columns = key_alone(rt);
+    for name in names.split(',') {
+        push_dict(rt, &mut columns, text(rt, name));
     }
-    let name = format!(in alloc; "t{}", schema.tables.len())?;
-    let table = Table {
-        name: text(alloc, &name)?,
-        rows: 1,
-        insert: 0,
-        life: None,
-        update: None,
-        columns,
-    };
-    schema.tables.push(table).map_err(|_| AllocError)
+    single(rt, seed, columns)
 }
 
-fn empty_schema(alloc: Global, seed: i64) -> Schema {
-    Schema {
-        seed,
-        units: 0,
-        delimiter: Delimiter::Bar,
-        tables: Tables::new(alloc),
+/// Dictionaries of these names, each of these bytes. A comma stands between two names.
+fn dictionaries_of(rt: &(impl Abort + AllocGlobal), names: &str, bytes: &[u8]) -> Dictionaries {
+    let mut all = Dictionaries::new(rt.alloc());
+    for name in names.split(',') {
+        let words = read_dictionary(rt.alloc(), bytes).expect(rt, "no dictionary");
+        all.push(name, words).expect(rt, "memory");
     }
+    all
 }
 
-fn dict(alloc: Global, name: &str) -> Result<Leaf, AllocError> {
-    let file = text(alloc, name)?;
-    Ok(Leaf::Dict { file })
-}
-
-/// A schema of one table with a column behind its key for each dictionary.
-fn citing(alloc: Global, seed: i64, names: &[&str]) -> Result<Schema, AllocError> {
-    let mut kinds = Vec::new(alloc);
+/// Names with a comma behind each.
+fn listed(rt: &(impl Abort + AllocGlobal), names: &[Text]) -> String {
+    let mut told = String::new(rt.alloc());
     for name in names {
-        kinds.push(Kind::Leaf(dict(alloc, name)?))?;
+        told.push_str(name.as_str()).expect(rt, "memory");
+        told.push_str(",").expect(rt, "memory");
     }
-    let mut schema = empty_schema(alloc, seed);
-    push_table(alloc, &mut schema, kinds)?;
-    Ok(schema)
+    told
 }
 
-/// Dictionaries of these names, each of these bytes.
-fn dictionaries_of(alloc: Global, names: &[&str], bytes: &[u8]) -> Result<Dictionaries, Fail> {
-    let mut all = Dictionaries::new(alloc);
-    for name in names {
-        let Ok(words) = read_dictionary(alloc, bytes) else {
-            return Err(Fail::from("no dictionary"));
-        };
-        if all.push(name, words).is_err() {
-            return Err(Fail::from("out of memory"));
-        }
-    }
-    Ok(all)
+/// The place of a rule.
+fn placed(rt: &(impl Abort + AllocGlobal), fault: CheckFault) -> String {
+    let (number, table, column) = told_rule(rt, fault);
+    format!(in rt.alloc(); "V{number} at {table} {column}").expect(rt, "memory")
 }
 
 /// What `citations` tells: the names with a comma behind each, or the place of the rule.
-fn cited(alloc: Global, schema: &Schema) -> Result<String, Fail> {
-    if unbuilt(schema) {
-        return Err(Fail::from("not built"));
+fn cited(rt: &(impl Abort + AllocGlobal), schema: Schema) -> String {
+    assert!(rt; !unbuilt(&schema));
+    match citations(rt.alloc(), &schema) {
+        Ok(names) => listed(rt, names.as_slice()),
+        Err(fault) => placed(rt, fault),
     }
-    let mut told = String::new(alloc);
-    match citations(alloc, schema) {
-        Ok(names) => {
-            for name in names.as_slice() {
-                told.push_str(name.as_str())?;
-                told.push_str(",")?;
-            }
-        }
-        Err(
-            CheckFault::Rule {
-                number,
-                table,
-                column,
-            },
-        ) => told = format!(in alloc; "V{number} at {table} {column}")?,
-        Err(CheckFault::Memory) => return Err(Fail::from("out of memory")),
-    }
-    Ok(told)
+}
+
+fn assert_cited(rt: &(impl Abort + AllocGlobal), schema: Schema, expected: &str) {
+    let told = cited(rt, schema);
+    assert!(rt; told.as_str() == expected, "{told}");
 }
 
 #[test]
-fn names_are_cited_once_in_order(rt: HostRuntime) -> Result<(), Fail> {
-    let alloc = rt.alloc();
-    let longest = "n".repeat(alloc, 255)?;
-    let longer = "n".repeat(alloc, 256)?;
+fn names_are_cited_once_in_order(rt: HostRuntime) {
     for (names, expected) in [
-        (["b", "a", "b"], "b,a,"),
-        (["b", "a", "c"], "b,a,c,"),
-        (["b", "", "c"], "V13 at 1 3"),
-        (["b", longer.as_str(), ""], "V13 at 1 3"),
+        ("b,a,b", "b,a,"),
+        ("b,a,c", "b,a,c,"),
+        ("b,,c", "V13 at 1 3"),
     ] {
-        let schema = citing(alloc, -1, &names)?;
-        assert_eq!(rt; cited(alloc, &schema)?.as_str(), expected);
+        assert_cited(&rt, citing(&rt, -1, names), expected);
     }
-    let schema = citing(alloc, 1, &[longest.as_str()])?;
-    assert_eq!(rt; cited(alloc, &schema)?.len(), 256);
-    Ok(())
+}
+
+/// A schema that cites a name of 256 bytes between two others.
+fn citing_longer(rt: &(impl Abort + AllocGlobal)) -> Schema {
+    let mut columns = key_alone(rt);
+    push_dict(rt, &mut columns, text(rt, "b"));
+    push_dict(rt, &mut columns, letters(rt, "n", 256));
+    push_dict(rt, &mut columns, text(rt, ""));
+    single(rt, -1, columns)
+}
+
+/// A schema that cites a name of 255 bytes.
+fn citing_longest(rt: &(impl Abort + AllocGlobal)) -> Schema {
+    let mut columns = key_alone(rt);
+    push_dict(rt, &mut columns, letters(rt, "n", 255));
+    single(rt, 1, columns)
+}
+
+#[test]
+fn names_have_at_most_255_bytes(rt: HostRuntime) {
+    assert_cited(&rt, citing_longer(&rt), "V13 at 1 3");
+    assert_eq!(rt; cited(&rt, citing_longest(&rt)).len(), 256);
+}
+
+/// The name of a dictionary, which no other two numbers have.
+fn name_of(rt: &(impl Abort + AllocGlobal), from: usize, number: usize) -> Text {
+    let name = format!(in rt.alloc(); "n{from}_{number}").expect(rt, "memory");
+    text(rt, name.as_str())
+}
+
+/// A pick with an entry for each number.
+fn numbered_pick(rt: &(impl Abort + AllocGlobal), from: usize, count: usize) -> Leaf {
+    let mut entries = Texts::new(rt.alloc());
+    let mut weights = Longs::new(rt.alloc());
+    for number in 0..count {
+        entries.push(name_of(rt, from, number)).expect(rt, "memory");
+        weights.push(1).expect(rt, "memory");
+    }
+    Leaf::Pick { entries, weights }
+}
+
+/// A dictionary for each number.
+fn numbered_branches(rt: &(impl Abort + AllocGlobal), from: usize, count: usize) -> Leaves {
+    let mut branches = Leaves::new(rt.alloc());
+    for number in 0..count {
+        let branch = dict(name_of(rt, from, number));
+        branches.push(branch).expect(rt, "memory");
+    }
+    branches
+}
+
+/// A pick, and a case with a dictionary for each of its entries.
+fn branching(rt: &(impl Abort + AllocGlobal), from: usize, count: usize) -> Columns {
+    let mut columns = key_alone(rt);
+    let pick = Kind::Leaf(numbered_pick(rt, from, count));
+    push_kind(rt, &mut columns, pick);
+    let on = text(rt, "c1");
+    let branches = numbered_branches(rt, from, count);
+    push_kind(rt, &mut columns, Kind::Case { on, branches });
+    columns
 }
 
 /// A schema of two tables with a case each behind a pick, and a dictionary for each branch: `first` names, then `second` others.
-fn citing_in_branches(alloc: Global, first: usize, second: usize) -> Result<Schema, AllocError> {
-    let mut schema = empty_schema(alloc, 1);
-    for (from, count) in [(0, first), (first, second)] {
-        let mut entries = Texts::new(alloc);
-        let mut weights = Longs::new(alloc);
-        let mut branches = Leaves::new(alloc);
-        for number in 0..count {
-            let name = format!(in alloc; "n{from}_{number}")?;
-            entries.push(text(alloc, &name)?).map_err(|_| AllocError)?;
-            weights.push(1).map_err(|_| AllocError)?;
-            branches.push(dict(alloc, &name)?).map_err(|_| AllocError)?;
-        }
-        let on = text(alloc, "c1")?;
-        let mut kinds = Vec::new(alloc);
-        kinds.push(Kind::Leaf(Leaf::Pick { entries, weights }))?;
-        kinds.push(Kind::Case { on, branches })?;
-        push_table(alloc, &mut schema, kinds)?;
-    }
-    Ok(schema)
+fn citing_in_branches(rt: &(impl Abort + AllocGlobal), first: usize, second: usize) -> Schema {
+    let schema = single(rt, 1, branching(rt, 0, first));
+    with_columns(rt, schema, branching(rt, first, second))
 }
 
 #[test]
-fn at_most_64_names_are_cited(rt: HostRuntime) -> Result<(), Fail> {
-    let alloc = rt.alloc();
-    for (first, second, expected) in [
-        (63, 1, None),
-        (40, 25, Some("V13 at 2 3")),
-        (65, 1, Some("V13 at 1 3")),
-    ] {
-        let told = cited(alloc, &citing_in_branches(alloc, first, second)?)?;
-        match expected {
-            Some(place) => assert_eq!(rt; told.as_str(), place),
-            None => assert!(rt; told.as_str().ends_with("n0_62,n63_0,")),
-        }
-    }
-    Ok(())
+fn at_most_64_names_are_cited(rt: HostRuntime) {
+    let told = cited(&rt, citing_in_branches(&rt, 63, 1));
+    assert!(rt; told.as_str().ends_with("n0_62,n63_0,"));
+    assert_cited(&rt, citing_in_branches(&rt, 40, 25), "V13 at 2 3");
+    assert_cited(&rt, citing_in_branches(&rt, 65, 1), "V13 at 1 3");
 }
 
-/// The rule that a schema breaks with dictionaries of these names; None where it is accepted.
-fn broken_with(
-    alloc: Global,
-    schema: Schema,
-    names: &[&str],
-) -> Result<Option<(u32, u64, u64)>, Fail> {
-    let dictionaries = dictionaries_of(alloc, names, b"Ann\t3\nBo\n")?;
-    if unbuilt(&schema) {
-        return Err(Fail::from("not built"));
-    }
-    match check(alloc, schema, dictionaries) {
-        Ok(_) => Ok(None),
-        Err(
-            CheckFault::Rule {
-                number,
-                table,
-                column,
-            },
-        ) => Ok(Some((number, table, column))),
-        Err(CheckFault::Memory) => Err(Fail::from("out of memory")),
-    }
+/// What is told of a schema that cites these names, with dictionaries of those names.
+fn told_with(
+    rt: &(impl Abort + AllocGlobal),
+    seed: i64,
+    names: &str,
+    given: &str,
+) -> Option<(u32, u64, u64)> {
+    let given = dictionaries_of(rt, given, b"Ann\t3\nBo\n");
+    told(rt, citing(rt, seed, names), given)
 }
 
 // A dictionary that is wanting comes before a broken seed, and a seed is told where none is wanting.
 #[test]
-fn each_dictionary_is_there(rt: HostRuntime) -> Result<(), Fail> {
-    let alloc = rt.alloc();
-    for (seed, names, given, expected) in [
-        (1, ["a", "b"], ["b", "a"], None),
-        (-1, ["a", "b"], ["c", "a"], Some((13, 1, 3))),
-        (-1, ["b", "a"], ["a", ""], Some((13, 1, 2))),
-        (-1, ["a", "a"], ["a", "a"], Some((1, 0, 0))),
-        (1, ["a", "a"], ["", "a"], None),
-    ] {
-        let schema = citing(alloc, seed, &names)?;
-        assert_eq!(rt; broken_with(alloc, schema, &given)?, expected);
-    }
-    Ok(())
+fn each_dictionary_is_there(rt: HostRuntime) {
+    assert_eq!(rt; told_with(&rt, 1, "a,b", "b,a"), None);
+    assert_eq!(rt; told_with(&rt, -1, "a,b", "c,a"), Some((13, 1, 3)));
+    assert_eq!(rt; told_with(&rt, -1, "b,a", "a,"), Some((13, 1, 2)));
+    assert_eq!(rt; told_with(&rt, -1, "a,a", "a,a"), Some((1, 0, 0)));
+    assert_eq!(rt; told_with(&rt, 1, "a,a", ",a"), None);
 }
 
 /// The words of a drawn column.
-fn words_of(column: &ReadyColumn) -> Result<&ReadyWords, Fail> {
+fn words_of<'a>(rt: &(impl Abort + AllocGlobal), column: &'a ReadyColumn) -> &'a ReadyWords {
     match &column.kind {
-        ReadyKind::Drawn(ReadyLeaf::Dict(words) | ReadyLeaf::Words { words, .. }) => Ok(words),
-        _ => Err(Fail::from("no words")),
+        ReadyKind::Drawn(ReadyLeaf::Dict(words) | ReadyLeaf::Words { words, .. }) => words,
+        _ => panic!(rt; "no words"),
     }
 }
 
-fn assert_words(rt: &impl Abort, words: &ReadyWords) {
+fn assert_entries(rt: &(impl Abort + AllocGlobal), words: &ReadyWords) {
     assert_eq!(rt; words.len(), 2);
-    assert_eq!(rt; words.entry(0), b"A\\|n".as_slice());
-    assert_eq!(rt; words.entry(1), b"Bo".as_slice());
-    for (draw, place) in [(0, 0), (2, 0), (3, 1), (4, 0), (7, 1)] {
-        assert_eq!(rt; words.choose(draw), place);
-    }
+    assert!(rt; words.entry(0) == b"A\\|n".as_slice());
+    assert!(rt; words.entry(1) == b"Bo".as_slice());
+}
+
+fn assert_chosen(rt: &(impl Abort + AllocGlobal), words: &ReadyWords, draw: u64, place: usize) {
+    assert_eq!(rt; words.choose(draw), place);
+}
+
+fn assert_words(rt: &(impl Abort + AllocGlobal), words: &ReadyWords) {
+    assert_entries(rt, words);
+    assert_chosen(rt, words, 0, 0);
+    assert_chosen(rt, words, 2, 0);
+    assert_chosen(rt, words, 3, 1);
+    assert_chosen(rt, words, 4, 0);
+    assert_chosen(rt, words, 7, 1);
+}
+
+/// A schema with a column of an entry, and one of up to three.
+fn drawing_words(rt: &(impl Abort + AllocGlobal)) -> Schema {
+    let mut columns = key_alone(rt);
+    push_dict(rt, &mut columns, text(rt, "n"));
+    let file = text(rt, "n");
+    let (lo, hi) = (1, 3);
+    let words = Leaf::Words { file, lo, hi };
+    push_kind(rt, &mut columns, Kind::Leaf(words));
+    single(rt, 1, columns)
+}
+
+fn plan_with_words(rt: &(impl Abort + AllocGlobal)) -> Plan {
+    let given = dictionaries_of(rt, "m,n", b"A|n\t3\nBo\n");
+    plan_of(rt, drawing_words(rt), given)
+}
+
+fn assert_dictionaries(rt: &(impl Abort + AllocGlobal), plan: &Plan) {
+    assert!(rt; plan.dictionary("n").is_some_and(|words| words.len() == 2));
+    assert!(rt; plan.dictionary("o").is_none());
+}
+
+fn assert_drawing(rt: &(impl Abort + AllocGlobal), columns: &[ReadyColumn]) {
+    assert_eq!(rt; columns.len(), 3);
+    assert_words(rt, words_of(rt, &columns[1]));
+    assert_words(rt, words_of(rt, &columns[2]));
 }
 
 // Entries are kept as they are written between bars. A line has at most 20 bytes for the key, 4 for an entry, and for up to three
 // words three entries and two spaces; each has a byte behind.
 #[test]
-fn words_are_kept_ready_for_rows(rt: HostRuntime) -> Result<(), Fail> {
-    let alloc = rt.alloc();
-    let mut kinds = Vec::new(alloc);
-    kinds.push(Kind::Leaf(dict(alloc, "n")?))?;
-    let file = text(alloc, "n")?;
-    let (lo, hi) = (1, 3);
-    kinds.push(Kind::Leaf(Leaf::Words { file, lo, hi }))?;
-    let mut schema = empty_schema(alloc, 1);
-    push_table(alloc, &mut schema, kinds)?;
-    if unbuilt(&schema) {
-        return Err(Fail::from("not built"));
-    }
-    let given = dictionaries_of(alloc, &["m", "n"], b"A|n\t3\nBo\n")?;
-    let plan = check(alloc, schema, given).map_err(|_| Fail::from("refused"))?;
+fn words_are_kept_ready_for_rows(rt: HostRuntime) {
+    let plan = plan_with_words(&rt);
     assert_eq!(rt; plan.tables(), 1);
     assert_eq!(rt; plan.max_line(0), 20 + 4 + 14 + 3);
-    let [_, one, some] = plan.columns(0) else {
-        return Err(Fail::from("columns"));
-    };
-    assert_words(&rt, words_of(one)?);
-    assert_words(&rt, words_of(some)?);
-    assert!(rt; plan.dictionary("n").is_some_and(|words| words.len() == 2));
-    assert!(rt; plan.dictionary("o").is_none());
-    Ok(())
+    assert_drawing(&rt, plan.columns(0));
+    assert_dictionaries(&rt, &plan);
 }

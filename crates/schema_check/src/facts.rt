@@ -102,7 +102,7 @@ fn line_bounds(
 }
 
 /// The births of a table.
-fn births_of(table: &Table) -> Births
+pub(crate) fn births_of(table: &Table) -> Births
     ensures { result ≡ births_of table.now }
 {
     Births {

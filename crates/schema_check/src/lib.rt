@@ -2,7 +2,7 @@
 //!
 //! A schema may be read whole and still make no sense. `check` tries its rules in their order and gives either the first
 //! one that is broken, at its first site, or a plan: the schema, with what doesn't change from row to row. `unbuilt` says of
-//! which schemas no table can be made yet; not all rules that speak of what isn't built are tried yet.
+//! which schemas no table can be made yet; of these the rule that speaks of what isn't built isn't tried yet.
 #![tactic(auto)]
 
 mod broken;
@@ -27,6 +27,7 @@ mod ready_columns;
 mod ready_leaves;
 mod ready_parts;
 mod ready_words;
+mod reference_rules;
 mod rules;
 mod site;
 mod word_lists;
@@ -36,7 +37,7 @@ pub use layout::{Births, Keys, Span};
 pub use memory::Memory;
 pub use not_built::unbuilt;
 pub use plan::Plan;
-pub use ready::{ReadyColumn, ReadyKind, ReadyLeaf, ReadyPart};
+pub use ready::{ReadyColumn, ReadyKind, ReadyLeaf, ReadyPart, ReadyReference};
 pub use ready_words::ReadyWords;
 pub use word_lists::Dictionaries;
 

@@ -85,7 +85,7 @@ fn with_kind(tables: &[Table], earlier: &[TableFacts], own: Lineage, kind: &Kind
 }
 
 /// The lineage of the table at a place among those before.
-fn lineage_at(earlier: &[TableFacts], place: usize) -> Lineage
+pub(crate) fn lineage_at(earlier: &[TableFacts], place: usize) -> Lineage
     ensures { result ≡ lineage_at (map (λ facts. facts.lineage) earlier.now) place }
 {
     if place < earlier.len() {

@@ -6,7 +6,7 @@ ghost use Rattle.schema_check.specs.Unbuilt.{is_unbuilt, is_unbuilt_kind, is_unb
 
 use schema_model::{Column, Kind, Schema, Table};
 
-/// Whether a schema holds something that isn't built: a column that speaks of other rows.
+/// Whether a schema holds something that isn't built: a column that takes fields of other rows.
 pub fn unbuilt(schema: &Schema) -> bool
     ensures { result ≡ is_unbuilt schema.now }
 {
@@ -34,8 +34,5 @@ fn is_any_column_unbuilt(columns: &[Column]) -> bool
 fn is_unbuilt_kind(kind: &Kind) -> bool
     ensures { result ≡ is_unbuilt_kind kind.now }
 {
-    match kind {
-        Kind::Ref { .. } | Kind::Lookup { .. } => true,
-        _ => false,
-    }
+    matches!(kind, Kind::Lookup { .. })
 }

@@ -1,6 +1,6 @@
 //! The plan of an accepted schema.
 
-ghost use Rattle.std.specs.Prelude.{◌≡◌, ◌<◌, ◌≤◌, false, true, All, Some, length, slice_get, IfOk, IfSome};
+ghost use Rattle.std.specs.Prelude.{◌≡◌, ◌<◌, ◌≤◌, false, true, All, Some, length, map, max, slice_get, IfOk, IfSome};
 ghost use Rattle.std.specs.List.{position};
 ghost use Rattle.std.specs.Option.{option_copied};
 ghost use Rattle.schema_check.specs.Capped.{first_facts};
@@ -24,6 +24,7 @@ use crate::ready::ReadyColumn;
 use crate::ready_columns::ready_tables;
 use crate::word_lists::Dictionaries;
 use dictionaries::Dictionary;
+use fixed_divisors::FixedDivisor;
 use schema_model::{Schema, Sequence, Table};
 use std::alloc::Global;
 use std::marker::Model;
@@ -37,6 +38,7 @@ pub struct Plan {
     dictionaries: Dictionaries,
     facts: Vec<TableFacts>,
     ready: Vec<Sequence<ReadyColumn>>,
+    inserts: Vec<FixedDivisor>,
     reach: u64,
 }
 
@@ -48,7 +50,7 @@ impl Model for Plan {
 
     ghost view = { λ p. project_of p.schema p.dictionaries };
 
-    ghost invariant = { λ p. IsPlan (project_of p.schema p.dictionaries) p.facts.items p.ready.items p.reach };
+    ghost invariant = { λ p. IsPlan (project_of p.schema p.dictionaries) p.facts.items p.ready.items p.inserts.items p.reach };
 }
 
 impl Plan {
@@ -66,6 +68,7 @@ impl Plan {
     {
         let _lists = dictionaries.len(); // each is a word list
         let reach = greatest_line(facts);
+        let inserts = insert_divisors(alloc, facts)?;
         let facts = Vec::from_slice(alloc, facts)?;
         let ready = ready_tables(alloc, &schema, &dictionaries)?;
         Ok(Plan {
@@ -73,6 +76,7 @@ impl Plan {
             dictionaries,
             facts,
             ready,
+            inserts,
             reach,
         })
     }
@@ -156,6 +160,15 @@ impl Plan {
         self.facts_of(table).births
     }
 
+    /// The number of rows that are born at each unit from 1 on, to divide by; 1 where none are born.
+    #[inline]
+    pub fn insert_divisor(&self, table: u32) -> FixedDivisor
+        requires { table < length self.now.schema.tables }
+        ensures { result ≡ max 1 (table_at (layout_of self.now).tables table).births.insert }
+    {
+        self.inserts[table as usize]
+    }
+
     /// The keys of a table.
     pub fn keys(&self, table: u32) -> Keys
         requires { table < length self.now.schema.tables }
@@ -236,6 +249,17 @@ impl Plan {
     {
         &self.facts[table as usize]
     }
+}
+
+/// For each of some tables, how many of its rows are born at a unit from 1 on, to divide by; 1 where none are born.
+fn insert_divisors(alloc: Global, facts: &[TableFacts]) -> Result<Vec<FixedDivisor>, Memory>
+    ensures { IfOk result (λ divisors. divisors.items ≡ map (λ fact. max 1 fact.births.insert) facts.now) }
+{
+    let mut divisors = Vec::with_capacity(alloc, facts.len())?;
+    for fact in facts {
+        divisors.push(FixedDivisor::new(fact.births.insert.max(1)))?;
+    }
+    Ok(divisors)
 }
 
 /// The place of the first of some tables that has a name.

@@ -24,7 +24,7 @@ pub enum ReadyKind {
     Key,
     /// The row's unit of birth.
     Born,
-    /// The unit in which the row last changed. No table can be made of it yet.
+    /// The unit in which the row last changed.
     Changed,
     /// A value that is drawn for the field alone.
     Drawn(ReadyLeaf),
@@ -37,8 +37,25 @@ pub enum ReadyKind {
         on: u64,
         branches: Sequence<ReadyLeaf>,
     },
+    /// The key of the parent.
+    Reference(ReadyReference),
     /// A kind that no table can be made of yet.
     Unserved,
+}
+
+/// By what a row's parent is chosen, ready for rows.
+#[derive(Debug, Drop)]
+pub struct ReadyReference {
+    /// The place of the parent's table in the schema, counted from 0.
+    pub parent: u32,
+    /// By how many units a parent may be older than its child; None where by any.
+    pub window: Option<u64>,
+    /// The weights of the spread.
+    pub spread: Weights,
+    /// How many they are.
+    pub groups: u64,
+    /// Their sum.
+    pub total: FixedDivisor,
 }
 
 /// A part of a template, ready for rows.

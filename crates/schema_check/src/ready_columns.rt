@@ -1,25 +1,27 @@
-//! The columns of tables, made ready for rows. What is kept of one doesn't depend on other tables, so the clauses of single
-//! columns name none.
+//! The columns of tables, made ready for rows.
 
-ghost use Rattle.std.specs.Prelude.{◌≡◌, [], All, IfOk, length, map};
+ghost use Rattle.std.specs.Prelude.{◌≡◌, ◌≤◌, All, IfOk, length, map, sum};
 ghost use Rattle.std.specs.List.{range_with_len};
-ghost use Rattle.schema_check.specs.Citations.{leaves_of};
+ghost use Rattle.schema_check.specs.Counts.{count};
 ghost use Rattle.schema_check.specs.Dictionaries.{project_of};
-ghost use Rattle.schema_check.specs.Layout.{column_layout, kind_layout, layout_of, leaf_layout};
-ghost use Rattle.schema_check.specs.Limits.{IsInLimits, IsLeafInLimits};
-ghost use Rattle.schema_check.specs.Ready.{ready_column, ready_columns, ready_kind, ready_leaf};
+ghost use Rattle.schema_check.specs.Layout.{column_layout, kind_layout, layout_of, leaf_layout, window_layout};
+ghost use Rattle.schema_check.specs.Limits.{CanBeReady, IsInLimits, IsLeafInLimits};
+ghost use Rattle.schema_check.specs.Ready.{ready_column, ready_columns, ready_kind, ready_leaf, ready_reference};
+ghost use Rattle.schema_check.specs.References.{IsSpread};
 
 use crate::counts::count;
 use crate::facts::delimiter_byte;
 use crate::memory::Memory;
-use crate::places::place_of_column;
-use crate::ready::{ReadyColumn, ReadyKind, ReadyLeaf};
-use crate::ready_leaves::ready_leaf;
+use crate::places::{place_of_column, place_of_table};
+use crate::ready::{ReadyColumn, ReadyKind, ReadyLeaf, ReadyReference};
+use crate::ready_leaves::{counts, ready_leaf};
 use crate::ready_parts::ready_parts;
 use crate::ready_words::Lexicon;
 use crate::word_lists::Dictionaries;
-use schema_model::{Column, Kind, Leaf, Schema, Sequence};
+use fixed_divisors::FixedDivisor;
+use schema_model::{Column, Kind, Leaf, Schema, Sequence, Table, Window};
 use std::alloc::Global;
+use weight_tables::Weights;
 
 /// The columns of each table of a schema within its limits, in order.
 pub(crate) fn ready_tables(
@@ -32,41 +34,47 @@ pub(crate) fn ready_tables(
         ≡ map (ready_columns (layout_of (project_of schema.now dictionaries.now))) (range_with_len 0 (length schema.now.tables))) }
 {
     let lexicon = Lexicon::new(alloc, delimiter_byte(schema.delimiter), dictionaries)?;
-    let mut ready = Vec::with_capacity(alloc, schema.tables.len())?;
-    for table in schema.tables.as_slice() {
-        ready.push(ready_columns(alloc, &lexicon, table.columns.as_slice())?)?;
+    let tables = schema.tables.as_slice();
+    let mut ready = Vec::with_capacity(alloc, tables.len())?;
+    for table in tables {
+        let columns = table.columns.as_slice();
+        ready.push(ready_columns(alloc, &lexicon, tables, columns)?)?;
     }
     Ok(ready)
 }
 
-/// The columns of a table, in order. What is drawn for them is within its limits.
+/// The columns of one of some tables, in order. What is made ready of them is within its limits.
 fn ready_columns(
     alloc: Global,
     lexicon: &Lexicon<'_>,
+    tables: &[Table],
     columns: &[Column],
 ) -> Result<Sequence<ReadyColumn>, Memory>
-    requires { All (λ column. All (λ leaf. IsLeafInLimits (leaf_layout lexicon.now.dictionaries leaf)) (leaves_of column.kind)) columns.now }
+    requires tables { length tables.now ≤ 64 }
+    requires columns { All (λ column. CanBeReady lexicon.now.dictionaries column.kind) columns.now }
     ensures { IfOk result (λ ready. ready
-        ≡ map (λ column. ready_column lexicon.now.delimiter (column_layout lexicon.now.dictionaries [] columns.now column)) columns.now) }
+        ≡ map (λ column. ready_column lexicon.now.delimiter (column_layout lexicon.now.dictionaries tables.now columns.now column)) columns.now) }
 {
     let mut ready = Sequence::new(alloc);
     for column in columns {
-        ready.push(ready_column(alloc, lexicon, columns, column)?)?;
+        ready.push(ready_column(alloc, lexicon, tables, columns, column)?)?;
     }
     Ok(ready)
 }
 
-/// One of some columns. What is drawn for it is within its limits.
+/// One of some columns. What is made ready of it is within its limits.
 fn ready_column(
     alloc: Global,
     lexicon: &Lexicon<'_>,
+    tables: &[Table],
     columns: &[Column],
     column: &Column,
 ) -> Result<ReadyColumn, Memory>
-    requires { All (λ leaf. IsLeafInLimits (leaf_layout lexicon.now.dictionaries leaf)) (leaves_of column.now.kind) }
-    ensures { IfOk result (λ ready. ready ≡ ready_column lexicon.now.delimiter (column_layout lexicon.now.dictionaries [] columns.now column.now)) }
+    requires tables { length tables.now ≤ 64 }
+    requires kind { CanBeReady lexicon.now.dictionaries column.now.kind }
+    ensures { IfOk result (λ ready. ready ≡ ready_column lexicon.now.delimiter (column_layout lexicon.now.dictionaries tables.now columns.now column.now)) }
 {
-    let kind = ready_kind(alloc, lexicon, columns, &column.kind)?;
+    let kind = ready_kind(alloc, lexicon, tables, columns, &column.kind)?;
     Ok(ReadyColumn {
         kind,
         changes: column.changes,
@@ -74,15 +82,17 @@ fn ready_column(
     })
 }
 
-/// What one of some columns holds. What is drawn for it is within its limits.
+/// What one of some columns holds. What is made ready of it is within its limits.
 fn ready_kind(
     alloc: Global,
     lexicon: &Lexicon<'_>,
+    tables: &[Table],
     columns: &[Column],
     kind: &Kind,
 ) -> Result<ReadyKind, Memory>
-    requires { All (λ leaf. IsLeafInLimits (leaf_layout lexicon.now.dictionaries leaf)) (leaves_of kind.now) }
-    ensures { IfOk result (λ ready. ready ≡ ready_kind lexicon.now.delimiter (kind_layout lexicon.now.dictionaries [] columns.now kind.now)) }
+    requires tables { length tables.now ≤ 64 }
+    requires kind { CanBeReady lexicon.now.dictionaries kind.now }
+    ensures { IfOk result (λ ready. ready ≡ ready_kind lexicon.now.delimiter (kind_layout lexicon.now.dictionaries tables.now columns.now kind.now)) }
 {
     match kind {
         Kind::Key { .. } => Ok(ReadyKind::Key),
@@ -98,7 +108,47 @@ fn ready_kind(
             let branches = ready_branches(alloc, lexicon, branches.as_slice())?;
             Ok(ReadyKind::Case { on, branches })
         }
-        Kind::Ref { .. } | Kind::Lookup { .. } => Ok(ReadyKind::Unserved),
+        Kind::Ref {
+            table,
+            window,
+            spread,
+        } => {
+            let parent = place_of_table(tables, table) as u32;
+            let reference = ready_reference(alloc, parent, *window, spread.as_slice())?;
+            Ok(ReadyKind::Reference(reference))
+        }
+        Kind::Lookup { .. } => Ok(ReadyKind::Unserved),
+    }
+}
+
+/// A reference to the table at a place.
+fn ready_reference(
+    alloc: Global,
+    parent: u32,
+    window: Window,
+    spread: &[i64],
+) -> Result<ReadyReference, Memory>
+    requires { IsSpread (map count spread.now) }
+    ensures { IfOk result (λ ready. ready ≡ ready_reference parent (window_layout window) (map count spread.now)) }
+{
+    let weights = Weights::new(alloc, &counts(alloc, spread)?)?;
+    let total = FixedDivisor::new(weights.total());
+    Ok(ReadyReference {
+        parent,
+        window: units_of(window),
+        spread: weights,
+        groups: spread.len() as u64,
+        total,
+    })
+}
+
+/// By how many units a parent may be older; None where by any.
+fn units_of(window: Window) -> Option<u64>
+    ensures { result ≡ window_layout window }
+{
+    match window {
+        Window::Units(units) => Some(count(units)),
+        Window::All => None,
     }
 }
 

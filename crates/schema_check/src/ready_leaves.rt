@@ -130,7 +130,7 @@ fn written_entries(alloc: Global, delimiter: u8, entries: &[Text]) -> Result<Wri
 }
 
 /// The counts that some numbers stand for.
-fn counts(alloc: Global, numbers: &[i64]) -> Result<Vec<u64>, Memory>
+pub(crate) fn counts(alloc: Global, numbers: &[i64]) -> Result<Vec<u64>, Memory>
     ensures { IfOk result (λ counts. counts.items ≡ map count numbers.now) }
 {
     let mut counts = Vec::with_capacity(alloc, numbers.len())?;

@@ -1,167 +1,83 @@
 //! What a plan keeps of a schema's columns, worked out by hand.
 
 use super::*;
+use crate::tests::fixtures::{
+    case, column, key_column, pick, plan_of, push_column, reference, schema, table, text,
+    with_table,
+};
 use fixed_divisors::FixedDivisor;
 use row_text::WrittenTexts;
-use schema_model::{
-    Column, Columns, Delimiter, Kind, Leaf, Leaves, Longs, Schema, Table, Tables, Text, Texts,
-};
-use std::alloc::{AllocError, Global};
+use schema_model::{Columns, Delimiter, Kind, Leaf, Life, Schema, Sequence, Table, Window};
 use std::process::Abort;
-use std::test::Fail;
 use weight_tables::Weights;
 
-fn text(alloc: Global, text: &str) -> Result<Text, AllocError> {
-    Text::of(alloc, text).map_err(|_| AllocError)
+fn push_leaf(rt: &(impl Abort + AllocGlobal), columns: &mut Columns, name: &str, leaf: Leaf) {
+    push_column(rt, columns, text(rt, name), Kind::Leaf(leaf));
 }
 
-fn push_column(
-    alloc: Global,
+fn push_ranges(rt: &(impl Abort + AllocGlobal), columns: &mut Columns) {
+    let (lo, hi, step) = (-5, 20, 4);
+    push_leaf(rt, columns, "count", Leaf::Int { lo, hi, step });
+    let (lo, hi, decimals) = (50, 1_049, 2);
+    push_leaf(rt, columns, "price", Leaf::Fixed { lo, hi, decimals });
+    push_leaf(rt, columns, "day", Leaf::Date { lo: -1, hi: 30 });
+}
+
+/// A key, a unit of birth and a column of each drawn value.
+fn drawn_columns(rt: &(impl Abort + AllocGlobal)) -> Columns {
+    let mut columns = key_column(rt, 1);
+    push_column(rt, &mut columns, text(rt, "born"), Kind::Born);
+    push_ranges(rt, &mut columns);
+    let word = pick(rt, &[("plain", 3), ("a|b\\c", 4)]);
+    push_leaf(rt, &mut columns, "word", word);
+    let (lo, size, power) = (10, 4, 2);
+    push_leaf(rt, &mut columns, "rank", Leaf::Skew { lo, size, power });
+    columns
+}
+
+fn push_at_times_null(
+    rt: &(impl Abort + AllocGlobal),
     columns: &mut Columns,
     name: &str,
     kind: Kind,
     null: i64,
-) -> Result<(), AllocError> {
-    let column = Column {
-        name: text(alloc, name)?,
-        kind,
-        changes: false,
-        null,
-    };
-    columns.push(column).map_err(|_| AllocError)
-}
-
-fn pick(alloc: Global, cases: &[(&str, i64)]) -> Result<Leaf, AllocError> {
-    let mut entries = Texts::new(alloc);
-    let mut weights = Longs::new(alloc);
-    for (entry, weight) in cases {
-        entries.push(text(alloc, entry)?).map_err(|_| AllocError)?;
-        weights.push(*weight).map_err(|_| AllocError)?;
-    }
-    Ok(Leaf::Pick { entries, weights })
-}
-
-/// A column of each drawn value.
-fn push_drawn(alloc: Global, columns: &mut Columns) -> Result<(), AllocError> {
-    let leaves = [
-        (
-            "count",
-            Leaf::Int {
-                lo: -5,
-                hi: 20,
-                step: 4,
-            },
-        ),
-        (
-            "price",
-            Leaf::Fixed {
-                lo: 50,
-                hi: 1_049,
-                decimals: 2,
-            },
-        ),
-        ("day", Leaf::Date { lo: -1, hi: 30 }),
-        ("word", pick(alloc, &[("plain", 3), ("a|b\\c", 4)])?),
-        (
-            "rank",
-            Leaf::Skew {
-                lo: 10,
-                size: 4,
-                power: 2,
-            },
-        ),
-    ];
-    for (name, leaf) in leaves {
-        push_column(alloc, columns, name, Kind::Leaf(leaf), 0)?;
-    }
-    Ok(())
-}
-
-/// A key, a unit of birth and a column of each drawn value.
-fn drawn_columns(alloc: Global) -> Result<Columns, AllocError> {
-    let mut columns = Columns::new(alloc);
-    push_key(alloc, &mut columns)?;
-    push_column(alloc, &mut columns, "born", Kind::Born, 0)?;
-    push_drawn(alloc, &mut columns)?;
-    Ok(columns)
-}
-
-fn push_key(alloc: Global, columns: &mut Columns) -> Result<(), AllocError> {
-    let key = Kind::Key {
-        base: 1,
-        scramble: false,
-    };
-    push_column(alloc, columns, "id", key, 0)
+) {
+    let mut column = column(text(rt, name), kind);
+    column.null = null;
+    columns.push(column).expect(rt, "memory");
 }
 
 /// A number where `word` has its first entry, and a date where it has its second.
-fn case(alloc: Global) -> Result<Kind, AllocError> {
-    let mut branches = Leaves::new(alloc);
-    let leaves = [
-        Leaf::Int {
-            lo: 0,
-            hi: 9,
-            step: 3,
-        },
-        Leaf::Date { lo: 5, hi: 9 },
-    ];
-    for leaf in leaves {
-        branches.push(leaf).map_err(|_| AllocError)?;
-    }
-    Ok(Kind::Case {
-        on: text(alloc, "word")?,
-        branches,
-    })
+fn choice(rt: &(impl Abort + AllocGlobal)) -> Kind {
+    let (lo, hi, step) = (0, 9, 3);
+    let number = Leaf::Int { lo, hi, step };
+    case(rt, "word", number, Leaf::Date { lo: 5, hi: 9 })
 }
 
 /// A key, characters that are null at times, a pick and a case.
-fn composed_columns(alloc: Global) -> Result<Columns, AllocError> {
-    let mut columns = Columns::new(alloc);
-    push_key(alloc, &mut columns)?;
-    let code = Leaf::Chars {
-        alphabet: text(alloc, "a|é")?,
-        lo: 2,
-        hi: 5,
-    };
-    push_column(alloc, &mut columns, "code", Kind::Leaf(code), 250)?;
-    let word = pick(alloc, &[("x", 1), ("y", 3)])?;
-    push_column(alloc, &mut columns, "word", Kind::Leaf(word), 0)?;
-    push_column(alloc, &mut columns, "choice", case(alloc)?, 999)?;
-    Ok(columns)
+fn composed_columns(rt: &(impl Abort + AllocGlobal)) -> Columns {
+    let mut columns = key_column(rt, 1);
+    let alphabet = text(rt, "a|é");
+    let (lo, hi) = (2, 5);
+    let code = Kind::Leaf(Leaf::Chars { alphabet, lo, hi });
+    push_at_times_null(rt, &mut columns, "code", code, 250);
+    push_leaf(rt, &mut columns, "word", pick(rt, &[("x", 1), ("y", 3)]));
+    push_at_times_null(rt, &mut columns, "choice", choice(rt), 999);
+    columns
 }
 
-/// A schema with bars between the fields, of one table with these columns.
-fn schema_of(alloc: Global, columns: Columns) -> Result<Schema, AllocError> {
-    let table = Table {
-        name: text(alloc, "t")?,
-        rows: 1,
-        insert: 0,
-        life: None,
-        update: None,
-        columns,
-    };
-    let mut tables = Tables::new(alloc);
-    tables.push(table).map_err(|_| AllocError)?;
-    Ok(Schema {
-        seed: 1,
-        units: 0,
-        delimiter: Delimiter::Bar,
-        tables,
-    })
-}
-
-fn plan_of(alloc: Global, schema: Schema) -> Result<Plan, Fail> {
-    if unbuilt(&schema) {
-        return Err(Fail::from("not built"));
-    }
-    check(alloc, schema, Dictionaries::new(alloc)).map_err(|_| Fail::from("refused"))
+/// The plan of a schema with bars between the fields, of one table with these columns.
+fn plan_with(rt: &(impl Abort + AllocGlobal), columns: Columns) -> Plan {
+    let table = table(text(rt, "t"), (1, 0), columns);
+    let schema = with_table(rt, schema(rt, 1, 0, Delimiter::Bar), table);
+    plan_of(rt, schema, Dictionaries::new(rt.alloc()))
 }
 
 /// What is drawn for a column.
-fn drawn(column: &ReadyColumn) -> Result<&ReadyLeaf, Fail> {
+fn drawn<'a>(rt: &(impl Abort + AllocGlobal), column: &'a ReadyColumn) -> &'a ReadyLeaf {
     match &column.kind {
-        ReadyKind::Drawn(leaf) => Ok(leaf),
-        _ => Err(Fail::from("not drawn")),
+        ReadyKind::Drawn(leaf) => leaf,
+        _ => panic!(rt; "not drawn"),
     }
 }
 
@@ -191,7 +107,7 @@ fn range_of(leaf: &ReadyLeaf) -> Option<(i64, i64, u64, u64, u32)> {
 
 /// The weights have this total, and the first number past the first one's weight selects the second.
 fn assert_weights(
-    rt: &impl Abort,
+    rt: &(impl Abort + AllocGlobal),
     weights: &Weights,
     divisor: &FixedDivisor,
     first: u64,
@@ -204,7 +120,7 @@ fn assert_weights(
     assert_eq!(rt; weights.select(first), 1);
 }
 
-fn assert_texts(rt: &impl Abort, texts: &WrittenTexts, written: &[&[u8]]) {
+fn assert_texts(rt: &(impl Abort + AllocGlobal), texts: &WrittenTexts, written: &[&[u8]]) {
     assert_eq!(rt; texts.len(), written.len());
     for (place, text) in written.iter().enumerate() {
         assert!(rt; place < texts.len());
@@ -213,8 +129,8 @@ fn assert_texts(rt: &impl Abort, texts: &WrittenTexts, written: &[&[u8]]) {
 }
 
 /// The entries with the escapes of bars.
-fn assert_word(rt: &impl Abort, word: &ReadyColumn) -> Result<(), Fail> {
-    match drawn(word)? {
+fn assert_word(rt: &(impl Abort + AllocGlobal), word: &ReadyColumn) {
+    match drawn(rt, word) {
         ReadyLeaf::Pick {
             entries,
             weights,
@@ -222,56 +138,68 @@ fn assert_word(rt: &impl Abort, word: &ReadyColumn) -> Result<(), Fail> {
         } => {
             assert_texts(rt, entries, &[b"plain", b"a\\|b\\\\c"]);
             assert_weights(rt, weights, total, 3, 7);
-            Ok(())
         }
-        _ => Err(Fail::from("word")),
+        _ => panic!(rt; "word"),
     }
 }
 
 /// 10^9 + 10^9 / 4 + 10^9 / 9 + 10^9 / 16 as the total of the harmonic weights.
-fn assert_rank(rt: &impl Abort, rank: &ReadyColumn) -> Result<(), Fail> {
-    match drawn(rank)? {
+fn assert_rank(rt: &(impl Abort + AllocGlobal), rank: &ReadyColumn) {
+    match drawn(rt, rank) {
         ReadyLeaf::Skew { lo, weights, total } => {
             assert_eq!(rt; *lo, 10);
             assert_weights(rt, weights, total, 1_000_000_000, 1_423_611_111);
-            Ok(())
         }
-        _ => Err(Fail::from("rank")),
+        _ => panic!(rt; "rank"),
     }
+}
+
+fn assert_range(
+    rt: &(impl Abort + AllocGlobal),
+    leaf: &ReadyLeaf,
+    numbers: (i64, i64, u64, u64, u32),
+) {
+    assert_eq!(rt; range_of(leaf), Some(numbers));
 }
 
 /// 25 / 4 + 1 numbers in steps of 4, 1,000 hundredths, 32 days.
 fn assert_ranges(
-    rt: &impl Abort,
+    rt: &(impl Abort + AllocGlobal),
     count: &ReadyColumn,
     price: &ReadyColumn,
     day: &ReadyColumn,
-) -> Result<(), Fail> {
-    assert_eq!(rt; range_of(drawn(count)?), Some((-5, 20, 4, 7, 0)));
-    assert_eq!(rt; range_of(drawn(price)?), Some((50, 1_049, 100, 1_000, 2)));
-    assert_eq!(rt; range_of(drawn(day)?), Some((-1, 30, 1, 32, 0)));
-    Ok(())
+) {
+    assert_range(rt, drawn(rt, count), (-5, 20, 4, 7, 0));
+    assert_range(rt, drawn(rt, price), (50, 1_049, 100, 1_000, 2));
+    assert_range(rt, drawn(rt, day), (-1, 30, 1, 32, 0));
+}
+
+/// A key, which is never null, and a unit of birth.
+fn assert_undrawn(rt: &(impl Abort + AllocGlobal), key: &ReadyColumn, born: &ReadyColumn) {
+    assert!(rt; matches!(key.kind, ReadyKind::Key));
+    assert!(rt; matches!(born.kind, ReadyKind::Born));
+    assert_eq!(rt; key.null, 0);
+}
+
+fn assert_drawn(rt: &(impl Abort + AllocGlobal), columns: &[ReadyColumn]) {
+    assert_eq!(rt; columns.len(), 7);
+    assert_undrawn(rt, &columns[0], &columns[1]);
+    assert_ranges(rt, &columns[2], &columns[3], &columns[4]);
+    assert_word(rt, &columns[5]);
+    assert_rank(rt, &columns[6]);
 }
 
 #[test]
-fn columns_are_kept_ready_for_rows(rt: HostRuntime) -> Result<(), Fail> {
-    let alloc = rt.alloc();
-    let plan = plan_of(alloc, schema_of(alloc, drawn_columns(alloc)?)?)?;
+fn columns_are_kept_ready_for_rows(rt: HostRuntime) {
+    let plan = plan_with(&rt, drawn_columns(&rt));
     assert_eq!(rt; plan.tables(), 1);
-    let [key, born, count, price, day, word, rank] = plan.columns(0) else {
-        return Err(Fail::from("columns"));
-    };
-    assert!(rt; matches!(key.kind, ReadyKind::Key) && matches!(born.kind, ReadyKind::Born));
-    assert_eq!(rt; key.null, 0);
-    assert_ranges(&rt, count, price, day)?;
-    assert_word(&rt, word)?;
-    assert_rank(&rt, rank)
+    assert_drawn(&rt, plan.columns(0));
 }
 
 /// 2 to 5 characters, with the escape of the bar.
-fn assert_code(rt: &impl Abort, code: &ReadyColumn) -> Result<(), Fail> {
+fn assert_code(rt: &(impl Abort + AllocGlobal), code: &ReadyColumn) {
     assert_eq!(rt; code.null, 250);
-    match drawn(code)? {
+    match drawn(rt, code) {
         ReadyLeaf::Chars {
             lo,
             lengths,
@@ -280,35 +208,156 @@ fn assert_code(rt: &impl Abort, code: &ReadyColumn) -> Result<(), Fail> {
         } => {
             assert_eq!(rt; (*lo, lengths.number(), count.number()), (2, 4, 3));
             assert_texts(rt, characters, &[b"a", b"\\|", b"\xc3\xa9"]);
-            Ok(())
         }
-        _ => Err(Fail::from("code")),
+        _ => panic!(rt; "code"),
     }
 }
 
-/// 4 numbers in steps of 3, or one of 5 days, by the entry of the column at place 2.
-fn assert_choice(rt: &impl Abort, choice: &ReadyColumn) -> Result<(), Fail> {
+/// 4 numbers in steps of 3, or one of 5 days.
+fn assert_branches(rt: &(impl Abort + AllocGlobal), branches: &Sequence<ReadyLeaf>) {
+    assert_eq!(rt; branches.len(), 2);
+    assert_range(rt, branches.get(0), (0, 9, 3, 4, 0));
+    assert_range(rt, branches.get(1), (5, 9, 1, 5, 0));
+}
+
+/// Branches by the entry of the column at place 2.
+fn assert_choice(rt: &(impl Abort + AllocGlobal), choice: &ReadyColumn) {
     assert_eq!(rt; choice.null, 999);
-    let ReadyKind::Case { on, branches } = &choice.kind else {
-        return Err(Fail::from("choice"));
-    };
-    assert_eq!(rt; *on, 2);
-    let [number, day] = branches.as_slice() else {
-        return Err(Fail::from("branches"));
-    };
-    assert_eq!(rt; range_of(number), Some((0, 9, 3, 4, 0)));
-    assert_eq!(rt; range_of(day), Some((5, 9, 1, 5, 0)));
-    Ok(())
+    match &choice.kind {
+        ReadyKind::Case { on, branches } => {
+            assert_eq!(rt; *on, 2);
+            assert_branches(rt, branches);
+        }
+        _ => panic!(rt; "choice"),
+    }
+}
+
+fn assert_composed(rt: &(impl Abort + AllocGlobal), columns: &[ReadyColumn]) {
+    assert_eq!(rt; columns.len(), 4);
+    assert_code(rt, &columns[1]);
+    assert_choice(rt, &columns[3]);
 }
 
 #[test]
-fn composed_columns_are_kept_ready_for_rows(rt: HostRuntime) -> Result<(), Fail> {
-    let alloc = rt.alloc();
-    let plan = plan_of(alloc, schema_of(alloc, composed_columns(alloc)?)?)?;
+fn composed_columns_are_kept_ready_for_rows(rt: HostRuntime) {
+    let plan = plan_with(&rt, composed_columns(&rt));
     assert_eq!(rt; plan.tables(), 1);
-    let [_, code, _, choice] = plan.columns(0) else {
-        return Err(Fail::from("columns"));
-    };
-    assert_code(&rt, code)?;
-    assert_choice(&rt, choice)
+    assert_composed(&rt, plan.columns(0));
+}
+
+/// Customers live 3 units and change every 2.
+fn customers(rt: &(impl Abort + AllocGlobal)) -> Table {
+    let mut customers = table(text(rt, "customers"), (9, 2), key_column(rt, 1));
+    customers.life = Some(Life { lo: 3, hi: 3 });
+    customers.update = Some(2);
+    customers
+}
+
+/// A table with a reference behind its key, with two weights of 3.
+fn referring(rt: &(impl Abort + AllocGlobal), name: &str, parent: &str, window: Window) -> Table {
+    let mut columns = key_column(rt, 1);
+    let kind = reference(rt, text(rt, parent), window, (2, 3));
+    push_column(rt, &mut columns, text(rt, "ref"), kind);
+    table(text(rt, name), (9, 2), columns)
+}
+
+/// Orders live 9 units at most, and are of a customer who is at most 2 units older.
+fn orders(rt: &(impl Abort + AllocGlobal)) -> Table {
+    let mut orders = referring(rt, "orders", "customers", Window::Units(2));
+    orders.life = Some(Life { lo: 9, hi: 9 });
+    orders
+}
+
+/// Customers, their orders, and the lines of these, which are as old as the order.
+fn shop(rt: &(impl Abort + AllocGlobal)) -> Schema {
+    let schema = with_table(rt, schema(rt, 1, 4, Delimiter::Bar), customers(rt));
+    let schema = with_table(rt, schema, orders(rt));
+    with_table(
+        rt,
+        schema,
+        referring(rt, "lines", "orders", Window::Units(0)),
+    )
+}
+
+fn plan_of_shop(rt: &(impl Abort + AllocGlobal)) -> Plan {
+    plan_of(rt, shop(rt), Dictionaries::new(rt.alloc()))
+}
+
+/// The two weights of a spread.
+fn assert_spread(rt: &(impl Abort + AllocGlobal), made: &ReadyReference) {
+    assert_eq!(rt; made.groups, 2);
+    assert_weights(rt, &made.spread, &made.total, 3, 6);
+}
+
+/// The column refers to the table at a place, in a window.
+fn assert_reference(
+    rt: &(impl Abort + AllocGlobal),
+    column: &ReadyColumn,
+    parent: u32,
+    window: Option<u64>,
+) {
+    match &column.kind {
+        ReadyKind::Reference(made) => {
+            assert_eq!(rt; (made.parent, made.window), (parent, window));
+            assert_spread(rt, made);
+        }
+        _ => panic!(rt; "no reference"),
+    }
+}
+
+/// The second column of a table is such a reference.
+fn assert_referring(
+    rt: &(impl Abort + AllocGlobal),
+    columns: &[ReadyColumn],
+    parent: u32,
+    window: Option<u64>,
+) {
+    assert_eq!(rt; columns.len(), 2);
+    assert_reference(rt, &columns[1], parent, window);
+}
+
+#[test]
+fn references_are_kept_ready_for_rows(rt: HostRuntime) {
+    let plan = plan_of_shop(&rt);
+    assert_eq!(rt; plan.tables(), 3);
+    assert_referring(&rt, plan.columns(1), 0, Some(2));
+    assert_referring(&rt, plan.columns(2), 1, Some(0));
+}
+
+/// Parents who live for ever, and children of any of them.
+fn endless(rt: &(impl Abort + AllocGlobal)) -> Schema {
+    let parents = table(text(rt, "p"), (1, 0), key_column(rt, 1));
+    let schema = with_table(rt, schema(rt, 1, 4, Delimiter::Bar), parents);
+    with_table(rt, schema, referring(rt, "c", "p", Window::All))
+}
+
+#[test]
+fn a_reference_without_a_window_is_kept_so(rt: HostRuntime) {
+    let plan = plan_of(&rt, endless(&rt), Dictionaries::new(rt.alloc()));
+    assert_eq!(rt; plan.tables(), 2);
+    assert_referring(&rt, plan.columns(1), 0, None);
+}
+
+/// For how many units the rows of a table live at least and at most, and what a row costs.
+fn assert_lineage(
+    rt: &(impl Abort + AllocGlobal),
+    plan: &Plan,
+    table: u32,
+    lives: (u64, u64),
+    cost: u64,
+) {
+    assert!(rt; table < plan.tables());
+    assert_eq!(rt; plan.sure_life(table), Some(lives.0));
+    assert_eq!(rt; plan.longest_life(table), Some(lives.1));
+    assert_eq!(rt; plan.cost(table), cost);
+}
+
+// An order lives at least 3 - 2 units, and no row longer than its customer. A row takes 1 permutation, and each reference 1. The
+// death of a customer takes 1 and a change 1, the death of an order 1 + 1 + 1, that of a line 1 + 3.
+#[test]
+fn lives_and_costs_with_parents(rt: HostRuntime) {
+    let plan = plan_of_shop(&rt);
+    assert_lineage(&rt, &plan, 0, (3, 3), 3);
+    assert_lineage(&rt, &plan, 1, (1, 3), 5);
+    assert_lineage(&rt, &plan, 2, (1, 3), 6);
 }

@@ -18,6 +18,7 @@ use crate::leaf_rules::{
     are_date_ranges, are_length_ranges, are_number_ranges, are_skew_ranges, are_weighted, leaves_of,
 };
 use crate::names::is_name;
+use crate::reference_rules::{has_parents, is_spread, is_target, is_window};
 use crate::site::Site;
 use schema_model::{Column, Kind, Life, Schema, Table, Text};
 
@@ -84,6 +85,14 @@ pub(crate) enum Rule {
     CaseBranches,
     /// V17
     StillCitations,
+    /// V18
+    ReferenceTargets,
+    /// V19
+    ReferenceWindows,
+    /// V20
+    ParentRows,
+    /// V21
+    SpreadWeights,
     /// V23
     RowCost,
     /// V24
@@ -93,7 +102,7 @@ pub(crate) enum Rule {
 }
 
 /// The rules in the order in which they are tried.
-const ORDER: [Rule; 20] = [
+const ORDER: [Rule; 24] = [
     Rule::Dictionaries,
     Rule::SeedAndUnits,
     Rule::TableCount,
@@ -111,6 +120,10 @@ const ORDER: [Rule; 20] = [
     Rule::TemplateParts,
     Rule::CaseBranches,
     Rule::StillCitations,
+    Rule::ReferenceTargets,
+    Rule::ReferenceWindows,
+    Rule::ParentRows,
+    Rule::SpreadWeights,
     Rule::RowCost,
     Rule::LineSize,
     Rule::ChangesAndNulls,
@@ -188,6 +201,10 @@ impl Rule {
             Rule::TemplateParts => 15,
             Rule::CaseBranches => 16,
             Rule::StillCitations => 17,
+            Rule::ReferenceTargets => 18,
+            Rule::ReferenceWindows => 19,
+            Rule::ParentRows => 20,
+            Rule::SpreadWeights => 21,
             Rule::RowCost => 23,
             Rule::LineSize => 24,
             Rule::ChangesAndNulls => 25,
@@ -242,7 +259,8 @@ impl Rule {
         requires { IsSiteOf candidate.now.schema (Site.OfColumn table column) }
         ensures { result ≡ holds self candidate.now (Site.OfColumn table column) }
     {
-        let columns = columns_at(candidate.schema(), table);
+        let schema = candidate.schema();
+        let columns = columns_at(schema, table);
         let leaves = leaves_of(&columns[column].kind);
         match self {
             Rule::Dictionaries => are_supplied(candidate, leaves),
@@ -257,6 +275,10 @@ impl Rule {
             Rule::TemplateParts => is_template(columns, column),
             Rule::CaseBranches => is_case(columns, column),
             Rule::StillCitations => cites_still(columns, column),
+            Rule::ReferenceTargets => is_target(schema.tables.as_slice(), table, columns, column),
+            Rule::ReferenceWindows => is_window(candidate, &columns[column].kind),
+            Rule::ParentRows => has_parents(schema, table, &columns[column].kind),
+            Rule::SpreadWeights => is_spread(&columns[column].kind),
             Rule::ChangesAndNulls => is_null_share(&columns[column]) && is_change(&columns[column]),
             _ => true,
         }

@@ -1,4 +1,4 @@
-use Rattle.std.proofs.Common.{[], map, sym, ap, ◌∙◌}
+use Rattle.std.proofs.Common.{map, sym, ap, ◌∙◌}
 use Rattle.schema_model.specs.declared.column.Leaf.{Leaf}
 use Rattle.schema_model.specs.declared.column.Part.{Part}
 use Rattle.schema_check.specs.declared.ready.ReadyKind.TheVariants.{Case, Template}
@@ -16,7 +16,7 @@ returns-in_ok-parts-in-Template c =
     (rw c.delimiter.ensures at c.in_ok-parts-in-Template.ensures
     ∙ ap (map (λ (part : Part). ready_part delimiter (part_layout columns part))) c.as_slice.ensures
     ∙ sym (map-map (ready_part delimiter) (part_layout columns) c.in-Template.parts))
-    ∙ ap (λ kind. ready_kind delimiter (kind_layout dictionaries [] columns kind)) (sym c.in-Template.is)
+    ∙ ap (λ kind. ready_kind delimiter (kind_layout dictionaries c.args.tables.now columns kind)) (sym c.in-Template.is)
 
 pub returns-in_ok-branches-in-Case : goal.returns-in_ok-branches-in-Case
 returns-in_ok-branches-in-Case c =
@@ -28,4 +28,4 @@ returns-in_ok-branches-in-Case c =
     ∙ ap (map (λ (leaf : Leaf). ready_leaf delimiter (leaf_layout dictionaries leaf))) c.as_slice-in-Case.ensures
     ∙ sym (map-map (ready_leaf delimiter) (leaf_layout dictionaries) c.in-Case.branches))
     ∙ ap (λ on. Case on (map (ready_leaf delimiter) (map (leaf_layout dictionaries) c.in-Case.branches))) c.place_of_column-on.ensures.place
-    ∙ ap (λ kind. ready_kind delimiter (kind_layout dictionaries [] columns kind)) (sym c.in-Case.is)
+    ∙ ap (λ kind. ready_kind delimiter (kind_layout dictionaries c.args.tables.now columns kind)) (sym c.in-Case.is)

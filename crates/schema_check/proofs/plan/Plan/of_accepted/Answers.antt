@@ -1,4 +1,5 @@
-use Rattle.std.proofs.Common.{ap, ◌∙◌}
+use Rattle.std.proofs.Common.{map, max, sym, ap, ◌∙◌}
+use Rattle.schema_check.specs.declared.facts.TableFacts.{TableFacts}
 use Rattle.schema_check.specs.Dictionaries.{project_of}
 use Rattle.schema_check.specs.FieldBounds.{greatest_by}
 use Rattle.schema_check.proofs.InLimits.{in_limits}
@@ -19,5 +20,6 @@ invariant_of-result c =
       limits = limits;
       facts = c.in_ok-facts.ensures.items ∙ known;
       columns = c.in_ok-ready.ensures;
+      divisors = c.in_ok-inserts.ensures ∙ ap (map (λ (fact : TableFacts). max 1 fact.births.insert)) (sym c.in_ok-facts.ensures.items);
       reach = c.greatest_line-reach.ensures ∙ ap (greatest_by (λ fact. fact.max_line)) known ∙ reach-is project;
     }
