@@ -9,7 +9,7 @@ use Rattle.schema_check.proofs.Lists.{get_or-in_turn, length-in_turn}
 use Rattle.philox_seeds.specs.SeedTree.{life_column}
 use Rattle.life_intervals.specs.Generator.{Generator}
 use Rattle.life_intervals.specs.Intervals.{Known, is_after, known_at, known_by, known_of, known_tables, nothing_known}
-use Rattle.life_intervals.specs.References.{Reference, first_in_window, references_of}
+use Rattle.schema_check.specs.References.{Reference, first_in_window, references_of}
 use Rattle.life_intervals.specs.Sound.{AreSound, IsSoundReference}
 use Rattle.life_intervals.proofs.DeathLemmas.{is_after-lesser_from}
 use Rattle.life_intervals.proofs.ParentLemmas.{IsSure, Refers, less_window, parents-alive}

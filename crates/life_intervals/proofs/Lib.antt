@@ -11,8 +11,12 @@ pub mod KnownLemmas
 pub mod SimulationLemmas
 pub mod StreamLemmas
 pub mod SoundLemmas
-pub mod BuiltLemmas
+pub mod LiveLemmas
+pub mod AcceptedLemmas
+pub mod ReferenceLemmas
 pub mod LifeLemmas
 pub mod KeyLemmas
 pub mod OrderLemmas
+pub mod LongestLifeLemmas
+pub mod CohortParentLemmas
 pub mod CohortAtLemmas

@@ -1,6 +1,7 @@
 -- Deaths and change units: own deaths and those by parents, and changes as the code computes them.
-use Rattle.std.proofs.Common.{◌≡◌, ℕ, ◌+◌, ◌-◌, ◌%◌, ◌<◌, ◌≤◌, Some, None, List, [], ◌∷◌, length, map, take, refl, ap, ap₂, arith, sym, ◌∙◌}
+use Rattle.std.proofs.Common.{◌≡◌, ℕ, ◌+◌, ◌-◌, ◌%◌, ◌<◌, ◌≤◌, Some, None, List, [], ◌∷◌, length, map, take, refl, ap, ap₂, arith, subst, sym, ◌∙◌}
 use Rattle.std.specs.List.{AllByRecursion}
+use Rattle.std.proofs.lemmas.List.Elements.{All-from_recursion}
 use Rattle.philox_seeds.specs.SeedTree.{update_column}
 use Rattle.schema_check.specs.declared.layout.Births.{Births}
 use Rattle.schema_check.specs.Cohorts.{born_count, first_ordinal}
@@ -9,12 +10,13 @@ use Rattle.schema_check.specs.Lineage.{sure_life}
 use Rattle.life_intervals.specs.Changes.{first_due, last_due}
 use Rattle.life_intervals.specs.Generator.{Generator}
 use Rattle.life_intervals.specs.Intervals.{Known, birth, change_unit, death, death_by, first_death, index_at, known_at, known_of, known_tables, own_death, own_death_by, parent_death_by, parent_of}
-use Rattle.life_intervals.specs.References.{Reference, references_of}
+use Rattle.schema_check.specs.References.{Reference, reference_at, references_of}
 use Rattle.life_intervals.specs.Sound.{AreSound}
 use Rattle.life_intervals.proofs.ChangeLemmas.{change-le}
 use Rattle.life_intervals.proofs.CohortLemmas.{birth-later, birth-le, index_at-below}
 use Rattle.life_intervals.proofs.KnownLemmas.{known_at-before, length-known_before, refers-of}
 use Rattle.life_intervals.proofs.ParentLemmas.{Refers, death_by-later, parent_by-lies}
+use Rattle.life_intervals.proofs.ReferenceLemmas.{at_column, reference_at-within}
 
 -- ---- deaths
 
@@ -62,6 +64,22 @@ death-first units generator sound place below unit ordinal within born =
         (sym (death_by-later (known_at earlier reference.parent) (birth births unit ordinal) unit parent lies.1 early)
         ∙ ap (λ (known : Known). death_by known unit parent) (known_at-before generator place reference.parent below is_earlier))
         (each others refers.1)
+
+-- a parent is born by its child's birth
+pub parent_of-born : (units : ℕ) (generator : Generator) → AreSound units generator.tables → (place : ℕ) → place < length generator.tables → (unit : ℕ) → unit ≤ units → (ordinal : ℕ) →
+    ordinal < born_count (table_at generator.tables place).births unit → (column : ℕ) (reference : Reference) → reference_at (table_at generator.tables place) column ≡ Some reference →
+    parent_of generator place unit ordinal reference < born_count (table_at generator.tables reference.parent).births (birth (table_at generator.tables place).births unit ordinal)
+parent_of-born units generator sound place below unit within ordinal born column reference is =
+    let births : Births = (table_at generator.tables place).births in
+    let earlier : List Known = take place (known_tables generator) in
+    let early : birth births unit ordinal ≤ unit = birth-le births unit ordinal born in
+    let refers = at_column (Refers units earlier (sure_life generator.tables) births) (table_at generator.tables place)
+    (All-from_recursion (Refers units earlier (sure_life generator.tables) births) (references_of (table_at generator.tables place)) (refers-of units generator sound place below))
+    column reference (reference_at-within (table_at generator.tables place) column reference is) is in
+    let is_earlier : reference.parent < place = omega (arith, refers.is_earlier, length-known_before generator place below) in
+    subst (λ (known : Known). parent_of generator place unit ordinal reference < born_count known.table.births (birth births unit ordinal))
+    (known_at-before generator place reference.parent below is_earlier)
+    (parent_by-lies units generator.order earlier (sure_life generator.tables) births (birth births unit ordinal) (index_at births unit ordinal) (omega (arith, early, within)) (index_at-below births unit ordinal born) reference refers).1
 
 -- ---- changes
 

@@ -19,13 +19,13 @@ use Rattle.life_intervals.specs.Generator.{generator_of, table_of}
 use Rattle.life_intervals.specs.Keys.{place_in_cohort}
 use Rattle.life_intervals.specs.Rows.{life_by}
 
-place_by-if : (drawn : Bool) (size seed index : ℕ) → index < size →
+pub place_by-if : (drawn : Bool) (size seed index : ℕ) → index < size →
     place_by size (if drawn && nat_lt 0 size then Some seed else None) index ≡ (if drawn then placement.place size seed index else index)
 place_by-if false size seed index below = refl
 place_by-if true size seed index below =
     ap (λ (some : Bool). place_by size (if some then Some seed else None) index) (lt-ltb 0 size (omega (arith, below)))
 
-steps_by-if : (drawn : Bool) (size seed : ℕ) → 0 < size → steps_by (if drawn && nat_lt 0 size then Some seed else None) ≡ one_if drawn
+pub steps_by-if : (drawn : Bool) (size seed : ℕ) → 0 < size → steps_by (if drawn && nat_lt 0 size then Some seed else None) ≡ one_if drawn
 steps_by-if false size seed some = refl
 steps_by-if true size seed some = ap (λ (test : Bool). steps_by (if test then Some seed else None)) (lt-ltb 0 size some)
 

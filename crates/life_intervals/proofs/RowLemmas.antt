@@ -10,7 +10,7 @@ use Rattle.schema_check.specs.Layout.{TableLayout}
 use Rattle.life_intervals.specs.Changes.{change_by, first_due, wait_by}
 use Rattle.life_intervals.specs.Generator.{Order}
 use Rattle.life_intervals.specs.Intervals.{Known, birth, death_by, first_death, index_at, is_after, known_by, own_death_by, parent_by, parent_death_by, row_by}
-use Rattle.life_intervals.specs.References.{Reference, references_of}
+use Rattle.schema_check.specs.References.{Reference, references_of}
 use Rattle.life_intervals.specs.Rows.{Row, State, first_age_by, life_by, new_row, parent_choice}
 use Rattle.life_intervals.specs.Simulation.{hold_parents, is_due, is_over, kept, one_less, waited}
 use Rattle.schema_check.specs.Limits.{IsSpan}

@@ -12,7 +12,7 @@ use Rattle.schema_check.specs.Layout.{TableLayout, no_table, table_at}
 use Rattle.schema_check.specs.Lineage.{sure_life}
 use Rattle.life_intervals.specs.Generator.{Generator, Order}
 use Rattle.life_intervals.specs.Intervals.{Known, birth, index_at, interval_state, is_live, known_by, known_of, known_tables, nothing_known, row_at, rows_of}
-use Rattle.life_intervals.specs.References.{references_of}
+use Rattle.schema_check.specs.References.{references_of}
 use Rattle.life_intervals.specs.Rows.{Row, State, cohort, new_row}
 use Rattle.life_intervals.specs.Simulation.{kept, rows_at, simulation, step, waited, with_changes, with_cohort, with_deletions, with_insertions, with_updates, without_dead}
 use Rattle.schema_check.specs.Limits.{IsSpan}

@@ -7,7 +7,7 @@ use Rattle.schema_check.specs.Lineage.{sure_life}
 use Rattle.life_intervals.specs.Changes.{IsLastDue, first_due}
 use Rattle.life_intervals.specs.Generator.{Generator}
 use Rattle.life_intervals.specs.Intervals.{Known, birth, change_unit, index_at, known_of}
-use Rattle.life_intervals.specs.References.{Reference, count_in_window, first_in_window}
+use Rattle.schema_check.specs.References.{Reference, count_in_window, first_in_window}
 use Rattle.life_intervals.specs.Rows.{candidates}
 use Rattle.life_intervals.specs.Simulation.{rows_at}
 use Rattle.life_intervals.specs.Sound.{AreSound, IsSoundReference}

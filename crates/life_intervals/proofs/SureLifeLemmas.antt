@@ -8,7 +8,7 @@ use Rattle.schema_check.specs.Layout.{KindLayout, reference_kind, ColumnLayout, 
 use Rattle.schema_check.specs.Lineage.{lineage_at, lineages, own_lineage, sure_life, with_kind}
 use Rattle.schema_check.proofs.LineageLemmas.{lineage_at-lineages}
 use Rattle.life_intervals.specs.Intervals.{is_after}
-use Rattle.life_intervals.specs.References.{Reference, reference_of, references_of}
+use Rattle.schema_check.specs.References.{Reference, reference_of, references_of}
 use Rattle.life_intervals.specs.Rows.{life_by}
 use Rattle.life_intervals.proofs.DeathLemmas.{is_after-lesser_parts}
 use Rattle.life_intervals.proofs.ParentLemmas.{less_window}

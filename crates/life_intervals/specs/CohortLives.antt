@@ -1,16 +1,19 @@
 -- Which rows of a cohort are alive at a unit, and when they changed last, as the code keeps it.
-use Rattle.std.specs.Prelude.{◌≡◌, ◌<◌, ◌≤◌, ℕ, ◌+◌, length, Bool, false, nat_lt, if◌then◌else◌, IfSome, Option, Some, None}
+use Rattle.std.specs.Prelude.{◌≡◌, ◌<◌, ◌≤◌, ℕ, ◌+◌, length, Bool, if◌then◌else◌, IfSome, Option}
+use Rattle.std.specs.Option.{option_map}
 use Rattle.id_permutation.specs.Order.{Arrangement}
 use Rattle.schema_check.specs.declared.layout.Span.{Span}
 use Rattle.schema_check.specs.Cohorts.{cohort_size, first_ordinal}
 use Rattle.schema_check.specs.Dictionaries.{Project}
-use Rattle.schema_check.specs.Limits.{IsLife, IsUpdatePeriod}
-use Rattle.schema_check.specs.Unbuilt.{is_unbuilt}
+use Rattle.schema_check.specs.Limits.{IsInLimits, IsLife, IsUpdatePeriod}
+use Rattle.schema_check.specs.Layout.{layout_of}
+use Rattle.schema_check.specs.Lineage.{longest_life, sure_life}
 use Rattle.life_intervals.specs.declared.lives.Survival.{Survival}
 use Rattle.life_intervals.specs.declared.lives.Survival.TheVariants.{Sure, Drawn, Over}
+use Rattle.life_intervals.specs.CohortKeys.{CohortOf}
 use Rattle.life_intervals.specs.CohortOrders.{life_order, update_order}
 use Rattle.life_intervals.specs.Generator.{generator_of, last_unit, table_of}
-use Rattle.life_intervals.specs.Intervals.{change_unit, death, is_live}
+use Rattle.life_intervals.specs.Intervals.{change_unit, death, is_after, is_live, own_death}
 
 -- the cohort that is born at a unit in the table at a place, as it is at another unit
 pub record CohortAt : Type 0 where
@@ -18,6 +21,10 @@ pub record CohortAt : Type 0 where
   pub table : ℕ
   pub born : ℕ
   pub unit : ℕ
+
+-- the cohort, whatever the other unit
+abbrev pub cohort_of : CohortAt → CohortOf
+cohort_of cohort = record { plan = cohort.plan; table = cohort.table; unit = cohort.born }
 
 -- the ordinal of the row with an index in the cohort
 abbrev pub ordinal_in : CohortAt → ℕ → ℕ
@@ -27,18 +34,27 @@ ordinal_in cohort index = first_ordinal (table_of cohort.plan cohort.table).birt
 abbrev pub size_of : CohortAt → ℕ
 size_of cohort = cohort_size (table_of cohort.plan cohort.table).births cohort.born
 
--- what lives say of the rows that are born at a unit, at another: before the shortest ends each is alive, and none from the end of the
--- longest on
-abbrev pub survival_by : Option Span → ℕ → ℕ → Survival
-survival_by None born unit = Sure
-survival_by (Some life) born unit =
-    if nat_lt unit (born + life.least) then Sure else if nat_lt unit (born + life.most) then Drawn else Over
+-- what lives say of the rows that are born at a unit, at another, by how long they last at least and at most: before the shortest
+-- ends each row is alive, and none from the end of the longest on
+abbrev pub survival_by : Option ℕ → Option ℕ → ℕ → ℕ → Survival
+survival_by sure longest born unit =
+    if is_after (option_map (λ life. born + life) sure) unit then Sure
+    else if is_after (option_map (λ life. born + life) longest) unit then Drawn else Over
+
+-- what those of the rows of the table at a place say
+abbrev pub survival_at : Project → ℕ → ℕ → ℕ → Survival
+survival_at plan table born unit =
+    survival_by (sure_life (layout_of plan).tables table) (longest_life (layout_of plan).tables table) born unit
 
 -- what they say of the cohort
 abbrev pub survival_of : CohortAt → Survival
-survival_of cohort = survival_by (table_of cohort.plan cohort.table).life cohort.born cohort.unit
+survival_of cohort = survival_at cohort.plan cohort.table cohort.born cohort.unit
 
--- the unit at which the row with an index dies; None where it never does
+-- the unit at which the own life of the row with an index ends; None where it has no end of its own
+abbrev pub own_death_in : CohortAt → ℕ → Option ℕ
+own_death_in cohort index = own_death (generator_of cohort.plan) cohort.table cohort.unit (ordinal_in cohort index)
+
+-- the unit at which it dies; None where it never does
 abbrev pub death_in : CohortAt → ℕ → Option ℕ
 death_in cohort index = death (generator_of cohort.plan) cohort.table cohort.unit (ordinal_in cohort index)
 
@@ -58,9 +74,10 @@ pub record IsCohortAt (cohort : CohortAt) : Type 0 where
   pub last : last_unit cohort.plan ≤ 10000
 
 -- what is kept is of the cohort's lives
-pub record AreLivesOf (cohort : CohortAt) (life : Option Span) (placed : Arrangement) : Type 0 where
+pub record AreLivesOf (cohort : CohortAt) (parents : CohortOf) (life : Option Span) (placed : Arrangement) : Type 0 where
   pub cohort_is : IsCohortAt cohort
-  pub built : is_unbuilt cohort.plan.schema ≡ false
+  pub sound : IsInLimits cohort.plan
+  pub parents_are : parents ≡ cohort_of cohort
   pub life_is : life ≡ (table_of cohort.plan cohort.table).life
   pub limits : IfSome life IsLife
   pub order : placed ≡ life_order cohort.plan cohort.table cohort.born

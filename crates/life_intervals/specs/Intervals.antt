@@ -10,7 +10,8 @@ use Rattle.schema_check.specs.Layout.{TableLayout, no_table, table_at}
 use Rattle.schema_check.specs.Lineage.{lesser_life}
 use Rattle.life_intervals.specs.Changes.{change_by, wait_by}
 use Rattle.life_intervals.specs.Generator.{Generator, Order}
-use Rattle.life_intervals.specs.References.{Reference, choice, count_in_window, first_in_window, references_of}
+use Rattle.schema_check.specs.References.{Reference, count_in_window, first_in_window, references_of}
+use Rattle.life_intervals.specs.References.{choice}
 use Rattle.life_intervals.specs.Rows.{Row, State, life_by}
 
 -- ---- births

@@ -8,6 +8,7 @@ pub mod Streams
 pub mod Sound
 pub mod Keys
 pub mod CohortOrders
-pub mod CohortLives
 pub mod CohortKeys
+pub mod CohortParents
+pub mod CohortLives
 pub mod Worked

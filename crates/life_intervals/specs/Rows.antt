@@ -7,7 +7,8 @@ use Rattle.schema_check.specs.declared.layout.Span.{Span}
 use Rattle.schema_check.specs.Cohorts.{cohort_size, first_ordinal}
 use Rattle.schema_check.specs.Layout.{TableLayout}
 use Rattle.life_intervals.specs.Generator.{Order}
-use Rattle.life_intervals.specs.References.{Reference, choice, references_of}
+use Rattle.schema_check.specs.References.{Reference, references_of}
+use Rattle.life_intervals.specs.References.{choice}
 
 -- a row: its place in the order of birth in its table, its birth unit, the unit of its last change, how many units are left to the
 -- end of its own life and to its next update (None: it has none), and for each reference of its table the ordinal of its parent

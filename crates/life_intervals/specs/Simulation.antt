@@ -5,7 +5,7 @@ use Rattle.std.specs.Option.{option_map}
 use Rattle.schema_check.specs.InTurn.{in_turn}
 use Rattle.schema_check.specs.Layout.{TableLayout}
 use Rattle.life_intervals.specs.Generator.{Generator, Order}
-use Rattle.life_intervals.specs.References.{Reference, references_of}
+use Rattle.schema_check.specs.References.{Reference, references_of}
 use Rattle.life_intervals.specs.Rows.{Row, State, cohort}
 
 -- ---- a row in a step

@@ -1,16 +1,10 @@
 -- Tables of which the simulation has a closed form.
-use Rattle.std.specs.Prelude.{◌≡◌, ℕ, ◌<◌, ◌≤◌, ⊤, All, IfSome, List, length, Option, Some, None}
+use Rattle.std.specs.Prelude.{ℕ, ◌<◌, ◌≤◌, All, IfSome, List, length}
 use Rattle.schema_check.specs.Cohorts.{born_count, cohort_size}
 use Rattle.schema_check.specs.Layout.{TableLayout, table_at}
 use Rattle.schema_check.specs.Limits.{IsSpan}
 use Rattle.schema_check.specs.Lineage.{sure_life}
-use Rattle.life_intervals.specs.References.{Reference, first_in_window, references_of}
-
--- each row that is born in a window is alive at its end, by how long rows live for sure
-abbrev pub IsWithinLife : Option ℕ → Option ℕ → Type 0
-IsWithinLife None sure = sure ≡ None
-IsWithinLife (Some units) None = ⊤
-IsWithinLife (Some units) (Some life) = units < life
+use Rattle.schema_check.specs.References.{IsWithinLife, Reference, first_in_window, references_of}
 
 -- a reference of the table at a place: to an earlier table, in a window within the sure life of its rows, and up to a last unit
 -- there is a row to refer to at each unit at which rows are born

@@ -55,6 +55,6 @@ pub fn birth(plan: &Plan, table: u32, j: u64) -> u64
     if j < births.rows {
         0
     } else {
-        (j - births.rows) / births.insert + 1
+        plan.insert_divisor(table).quotient(j - births.rows) + 1
     }
 }

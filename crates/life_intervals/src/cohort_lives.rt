@@ -1,14 +1,19 @@
 //! Which rows of a cohort are alive at a unit, and when they changed last, with what doesn't change from row to row taken once.
 
 ghost use Rattle.std.specs.Prelude.{◌≡◌, ◌+◌, ◌<◌, ◌≤◌, ◌⊎◌, ℕ, IfSome, false, length, min, true};
-ghost use Rattle.schema_check.specs.Lineage.{one_if};
-ghost use Rattle.life_intervals.specs.CohortLives.{change_in, death_in, is_live_in, size_of, survival_of};
+ghost use Rattle.schema_check.specs.Layout.{layout_of};
+ghost use Rattle.schema_check.specs.Lineage.{death_cost, one_if};
+ghost use Rattle.life_intervals.specs.CohortLives.{change_in, cohort_of, death_in, is_live_in, own_death_in, size_of, survival_of};
+ghost use Rattle.schema_check.specs.Cohorts.{born_count};
+ghost use Rattle.life_intervals.specs.CohortParents.{AreCandidates, IsReferenceOf, parent_in, reference_by};
 ghost use Rattle.life_intervals.specs.CohortOrders.{do_lives_differ, do_updates_differ, life_order, update_order};
 ghost use Rattle.life_intervals.specs.Generator.{last_unit, table_of};
 
+use crate::candidates::Candidates;
 use crate::lives::{Survival, last_due, lifetime, survival_at};
+use crate::parents::{CohortParents, earlier};
 use id_permutation::Order;
-use schema_check::{Plan, Span};
+use schema_check::{Plan, ReadyReference, Span};
 use std::marker::Model;
 use std::sync::ledger::Ledger;
 use step_count::Steps;
@@ -22,6 +27,7 @@ pub struct CohortLives<'a> {
     unit: u64,
     life: Option<Span>,
     order: &'a Order,
+    parents: CohortParents<'a>,
 }
 
 impl<'a> Model for CohortLives<'a> {
@@ -31,25 +37,28 @@ impl<'a> Model for CohortLives<'a> {
 
     ghost view = { λ l. record { plan = l.plan.now; table = l.table; born = l.born; unit = l.unit } };
 
-    ghost invariant = { λ l. AreLivesOf (record { plan = l.plan.now; table = l.table; born = l.born; unit = l.unit }) l.life l.order.now };
+    ghost invariant = { λ l. AreLivesOf (record { plan = l.plan.now; table = l.table; born = l.born; unit = l.unit }) l.parents l.life l.order.now };
 }
 
 impl<'a> CohortLives<'a> {
-    /// The lives at `unit` of the rows of a table that are born at unit `born`, by their order.
+    /// The lives at `unit` of the rows of a table that are born at unit `born`, by the order of these and the candidates of their
+    /// parents.
     pub fn new(
         plan: &'a Plan,
         table: u32,
         born: u64,
         unit: u64,
         order: &'a Order,
+        candidates: &'a [Option<Candidates>],
     ) -> CohortLives<'a>
         requires table { table < length plan.now.schema.tables }
         requires born { born ≤ unit }
         requires unit { unit ≤ last_unit plan.now }
         requires order { order.now ≡ life_order plan.now table born }
+        requires candidates { AreCandidates plan.now table born candidates.now }
         ensures { result ≡ record { plan = plan.now; table = table; born = born; unit = unit } }
     {
-        let _built = plan.schema(); // no row has a parent yet, and there are at most 10,000 units
+        let _limits = plan.schema(); // there are at most 10,000 units
         CohortLives {
             plan,
             table,
@@ -57,7 +66,27 @@ impl<'a> CohortLives<'a> {
             unit,
             life: plan.life(table),
             order,
+            parents: CohortParents::new(plan, table, born, candidates),
         }
+    }
+
+    /// The ordinal of the parent that the row with this index in the cohort has by a reference, which is ready in the column at a
+    /// place. It takes one step.
+    #[inline]
+    pub fn parent<L: Ledger>(
+        &self,
+        column: u32,
+        reference: &ReadyReference,
+        index: u64,
+        steps: &mut Steps<L>,
+    ) -> u64
+        requires row { index < size_of self.now }
+        requires reference { IsReferenceOf self.now.plan self.now.table column reference.now }
+        ensures parent { result ≡ parent_in (cohort_of self.now) index (reference_by column reference.now) }
+        ensures born { result < born_count (table_of self.now.plan reference.now.parent).births self.now.born }
+        ensures one_step { steps.new ≡ steps.old + 1 }
+    {
+        self.parents.parent(column, reference, index, steps)
     }
 
     /// What lives say of the whole cohort, so that its rows needn't be asked: all are alive at `Sure`, and none is at `Over`.
@@ -69,12 +98,11 @@ impl<'a> CohortLives<'a> {
         survival_at(self.plan, self.table, self.born, self.unit)
     }
 
-    /// The unit at which the row with this index in the cohort dies; None where it never does. It takes one step where lives of the
-    /// table differ, else none.
+    /// The unit at which the own life of the row with this index in the cohort ends; None where it has no end of its own.
     #[inline]
-    pub fn death<L: Ledger>(&self, index: u64, steps: &mut Steps<L>) -> Option<u64>
+    fn own_death<L: Ledger>(&self, index: u64, steps: &mut Steps<L>) -> Option<u64>
         requires { index < size_of self.now }
-        ensures death { result ≡ death_in self.now index }
+        ensures death { result ≡ own_death_in self.now index }
         ensures steps { steps.new ≡ steps.old + one_if (do_lives_differ (table_of self.now.plan self.now.table).life) }
     {
         match self.life {
@@ -83,12 +111,24 @@ impl<'a> CohortLives<'a> {
         }
     }
 
-    /// Whether the row with this index in the cohort is alive. It takes one step where lives of the table differ, else none.
+    /// The unit at which the row with this index in the cohort dies, by its own life or with the first of its parents; None where it
+    /// never does. It takes at most as many steps as the cost of a death says.
+    #[inline]
+    pub fn death<L: Ledger>(&self, index: u64, steps: &mut Steps<L>) -> Option<u64>
+        requires { index < size_of self.now }
+        ensures death { result ≡ death_in self.now index }
+        ensures steps { steps.new ≤ steps.old + death_cost (layout_of self.now.plan).tables self.now.table }
+    {
+        let own = self.own_death(index, steps);
+        earlier(own, self.parents.first_death(index, steps))
+    }
+
+    /// Whether the row with this index in the cohort is alive. It takes at most as many steps as the cost of a death says.
     #[inline]
     pub fn is_live<L: Ledger>(&self, index: u64, steps: &mut Steps<L>) -> bool
         requires { index < size_of self.now }
         ensures live { result ≡ is_live_in self.now index }
-        ensures steps { steps.new ≡ steps.old + one_if (do_lives_differ (table_of self.now.plan self.now.table).life) }
+        ensures steps { steps.new ≤ steps.old + death_cost (layout_of self.now.plan).tables self.now.table }
     {
         match self.death(index, steps) {
             Some(death) => self.unit < death,

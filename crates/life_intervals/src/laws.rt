@@ -8,14 +8,15 @@ ghost use Rattle.std.specs.List.{range_with_len};
 ghost use Rattle.schema_check.specs.declared.layout.Births.{Births};
 ghost use Rattle.schema_check.specs.Cohorts.{born_count, cohort_size, first_ordinal};
 ghost use Rattle.schema_check.specs.Dictionaries.{Project};
-ghost use Rattle.schema_check.specs.Layout.{TableLayout, table_at};
+ghost use Rattle.schema_check.specs.Layout.{TableLayout, layout_of, table_at};
 ghost use Rattle.schema_check.specs.Limits.{IsInLimits};
-ghost use Rattle.schema_check.specs.Unbuilt.{is_unbuilt};
+ghost use Rattle.schema_check.specs.Lineage.{longest_life, sure_life};
 ghost use Rattle.life_intervals.specs.Changes.{IsLastDue, first_due};
-ghost use Rattle.life_intervals.specs.Generator.{Generator, generator_of};
-ghost use Rattle.life_intervals.specs.Intervals.{LiesIn, birth, change_unit, changing, death, dying, first_death, index_at, interval_state, is_live, newborn, own_death, parent_of, row_at, rows_of};
+ghost use Rattle.life_intervals.specs.Generator.{Generator, generator_of, last_unit, table_of};
+ghost use Rattle.life_intervals.specs.Intervals.{LiesIn, birth, change_unit, changing, death, dying, first_death, index_at, interval_state, is_after, known_of, newborn, own_death, parent_of, row_at, rows_of};
 ghost use Rattle.life_intervals.specs.Keys.{OrdersCohorts, key_in_cohort, key_of};
-ghost use Rattle.life_intervals.specs.References.{count_in_window, first_in_window, references_of};
+ghost use Rattle.schema_check.specs.References.{count_in_window, first_in_window, references_of};
+ghost use Rattle.life_intervals.specs.References.{choice};
 ghost use Rattle.life_intervals.specs.Rows.{candidates, cohort};
 ghost use Rattle.life_intervals.specs.Simulation.{rows_at, simulation};
 ghost use Rattle.life_intervals.specs.Sound.{AreSound};
@@ -143,12 +144,27 @@ pub fn change_unit_is_the_last_due()
         (change_unit generator place unit ordinal) }
 {}
 
-/// The tables of an accepted schema that can be made yet refer to no others, and are sound for any number of units.
-pub fn built_tables_are_sound()
-    ensures alone { (project : Project) → is_unbuilt project.schema ≡ false →
-        (place : ℕ) → references_of (table_at (generator_of project).tables place) ≡ [] }
-    ensures sound { (project : Project) → IsInLimits project → is_unbuilt project.schema ≡ false → (units : ℕ) →
-        AreSound units (generator_of project).tables }
+/// The tables of an accepted schema are sound up to its last unit.
+pub fn accepted_tables_are_sound()
+    ensures { (project : Project) → IsInLimits project → AreSound (last_unit project) (generator_of project).tables }
+{}
+
+/// A cohort's rows are all alive where its sure life lasts, and none is where its longest has ended.
+pub fn lives_last_from_the_sure_to_the_longest()
+    ensures sure { (project : Project) → IsInLimits project → (place : ℕ) → place < length project.schema.tables →
+        (unit index age : ℕ) → unit ≤ last_unit project → index < cohort_size (table_of project place).births unit →
+        is_after (sure_life (layout_of project).tables place) age ≡ true →
+        is_after ((known_of (generator_of project) place).death unit index) (unit + age) ≡ true }
+    ensures longest { (project : Project) → IsInLimits project → (place : ℕ) → place < length project.schema.tables →
+        (unit index age : ℕ) → unit ≤ last_unit project → index < cohort_size (table_of project place).births unit →
+        is_after (longest_life (layout_of project).tables place) age ≡ false →
+        is_after ((known_of (generator_of project) place).death unit index) (unit + age) ≡ false }
+{}
+
+/// Thirteen places choose among four candidates by a spread of one, two and three, worked out by hand.
+pub fn worked_choices()
+    ensures { map (choice (1 ∷ 2 ∷ 3 ∷ []) 4) (range_with_len 0 13)
+        ≡ 0 ∷ 1 ∷ 1 ∷ 2 ∷ 2 ∷ 2 ∷ 3 ∷ 0 ∷ 0 ∷ 1 ∷ 1 ∷ 1 ∷ 2 ∷ [] }
 {}
 
 /// The tables of customers, orders and lines are sound up to the last unit of their schema.

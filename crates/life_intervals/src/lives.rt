@@ -1,14 +1,14 @@
-//! When rows die, which of a cohort's are alive at a unit, and when they changed last.
+//! When the own lives of rows end, what lives say of all rows of a cohort, and when rows changed last.
 
-ghost use Rattle.std.specs.Prelude.{◌≡◌, ◌+◌, ◌<◌, ◌≤◌, IfSome, Some, length};
+ghost use Rattle.std.specs.Prelude.{◌≡◌, ◌+◌, ◌<◌, ◌≤◌, Some, length};
+ghost use Rattle.std.specs.Option.{option_map};
 ghost use Rattle.schema_check.specs.Cohorts.{born_count};
-ghost use Rattle.schema_check.specs.Layout.{layout_of};
-ghost use Rattle.schema_check.specs.Lineage.{death_cost, one_if};
+ghost use Rattle.schema_check.specs.Lineage.{one_if};
 ghost use Rattle.life_intervals.specs.Changes.{last_due};
-ghost use Rattle.life_intervals.specs.CohortLives.{survival_by};
+ghost use Rattle.life_intervals.specs.CohortLives.{survival_at};
 ghost use Rattle.life_intervals.specs.CohortOrders.{do_lives_differ, do_updates_differ};
 ghost use Rattle.life_intervals.specs.Generator.{generator_of, last_unit, rows_in_all, table_of};
-ghost use Rattle.life_intervals.specs.Intervals.{change_unit, death, own_death};
+ghost use Rattle.life_intervals.specs.Intervals.{change_unit, is_after, own_death};
 ghost use Rattle.life_intervals.specs.Rows.{life_by};
 
 use crate::births::{birth, cohort};
@@ -22,7 +22,7 @@ use step_count::Steps;
 pub enum Survival {
     /// Each of them is alive: the shortest life ends later.
     Sure,
-    /// Each is alive or not, by the length of its own life.
+    /// Each is alive or not, by the length of its own life and of its parents'.
     Drawn,
     /// None of them is alive: the longest life has ended.
     Over,
@@ -53,28 +53,30 @@ pub(crate) fn last_due(born: u64, first: u64, period: u64, unit: u64) -> u64
     }
 }
 
-/// What lives say at `unit` of the rows that are born at another unit.
-fn survival_by(life: Option<Span>, born: u64, unit: u64) -> Survival
-    requires small { born ≤ 10000 }
-    requires limit { IfSome life (λ span. span.most ≤ 20000) }
-    requires ordered { IfSome life (λ span. span.least ≤ span.most) }
-    ensures { result ≡ survival_by life born unit }
+/// Whether a row that is born at a unit is alive at another, where it lives for so many units; None is without an end.
+fn is_within(life: Option<u64>, born: u64, unit: u64) -> bool
+    ensures { result ≡ is_after (option_map (λ l. born + l) life) unit }
 {
     match life {
-        Some(life) if unit >= born + life.most => Survival::Over,
-        Some(life) if unit >= born + life.least => Survival::Drawn,
-        _ => Survival::Sure,
+        Some(life) => born.checked_add(life).is_none_or(|end| unit < end),
+        None => true,
     }
 }
 
-/// What lives say at `unit` of the rows of a table that are born at unit `born`.
+/// What lives say at `unit` of the rows of a table that are born at unit `born`: the shortest and the longest that its own life and
+/// those of its parents leave.
 pub fn survival_at(plan: &Plan, table: u32, born: u64, unit: u64) -> Survival
     requires table { table < length plan.now.schema.tables }
     requires born { born ≤ last_unit plan.now }
-    ensures { result ≡ survival_by (table_of plan.now table).life born unit }
+    ensures { result ≡ survival_at plan.now table born unit }
 {
-    let _limits = plan.schema(); // there are at most 10,000 units
-    survival_by(plan.life(table), born, unit)
+    if is_within(plan.sure_life(table), born, unit) {
+        Survival::Sure
+    } else if is_within(plan.longest_life(table), born, unit) {
+        Survival::Drawn
+    } else {
+        Survival::Over
+    }
 }
 
 /// The unit at which the own life of the row of ordinal `j` ends; None where it has no end of its own. It takes one step
@@ -93,18 +95,6 @@ pub fn own_death<L: Ledger>(plan: &Plan, table: u32, j: u64, steps: &mut Steps<L
     let index = j - cohort(plan, table, born).first;
     let place = life_order(plan, table, born).place(index, steps);
     Some(born + lifetime(life, place))
-}
-
-/// The unit at which the row of ordinal `j` dies; None where it never does. It takes at most as many steps as the cost of a death
-/// says.
-pub fn death<L: Ledger>(plan: &Plan, table: u32, j: u64, steps: &mut Steps<L>) -> Option<u64>
-    requires table { table < length plan.now.schema.tables }
-    requires row { j < rows_in_all plan.now table }
-    ensures death { result ≡ death (generator_of plan.now) table (last_unit plan.now) j }
-    ensures steps { steps.new ≤ steps.old + death_cost (layout_of plan.now).tables table }
-{
-    let _built = plan.schema(); // no row has a parent yet
-    own_death(plan, table, j, steps)
 }
 
 /// The unit at which the row of ordinal `j`, which is born by unit `t`, changed last: its birth where it didn't change yet.

@@ -23,3 +23,9 @@ impl From<id_permutation::Memory> for Memory {
         Memory
     }
 }
+
+impl From<schema_model::Memory> for Memory {
+    fn from(_: schema_model::Memory) -> Memory {
+        Memory
+    }
+}

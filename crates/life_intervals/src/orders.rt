@@ -1,20 +1,19 @@
 //! The orders of cohorts: of their keys, their lives and their updates.
 
-ghost use Rattle.std.specs.Prelude.{◌≡◌, ◌<◌, ◌≤◌, IfOk, length};
+ghost use Rattle.std.specs.Prelude.{◌≡◌, ◌<◌, ◌≤◌, IfOk, length, true};
+ghost use Rattle.philox_seeds.specs.SeedTree.{reference_order_seed};
+ghost use Rattle.schema_check.specs.Layout.{layout_of};
 ghost use Rattle.life_intervals.specs.CohortOrders.{cohort_orders, do_lives_differ, do_updates_differ, key_order, life_order, order_by, table_orders, update_order};
 ghost use Rattle.life_intervals.specs.Generator.{last_unit};
 
 use crate::births::cohort;
 use crate::lives::{Survival, survival_at};
 use crate::memory::Memory;
-use crate::wanted::Wanted;
+use crate::wanted::{MOST_ENTRIES, Wanted};
 use id_permutation::Order;
-use philox_seeds::{key_order_seed, life_order_seed, update_order_seed};
+use philox_seeds::{key_order_seed, life_order_seed, reference_order_seed, update_order_seed};
 use schema_check::{Plan, Span};
 use std::alloc::Global;
-
-/// The most entries that the tables of a table's orders have together. Of 4 bytes each, they take at most 4 MiB.
-const MOST_ENTRIES: u64 = 1 << 20;
 
 /// The orders of a cohort's rows. An order is a permutation where what its places decide is drawn, else each row has its own place.
 #[derive(Drop)]
@@ -91,6 +90,16 @@ fn of_updates(plan: &Plan, table: u32, unit: u64) -> Wanted
     let drawn = do_updates_differ(plan.update(table));
     let seed = update_order_seed(plan.seed(), table, unit);
     order_by(plan, table, unit, drawn, seed)
+}
+
+/// The order in which they choose their parents by the reference in the column at a place.
+pub(crate) fn reference_order(plan: &Plan, table: u32, unit: u64, column: u32) -> Wanted
+    requires table { table < length plan.now.schema.tables }
+    requires unit { unit ≤ last_unit plan.now }
+    ensures { result ≡ order_by plan.now table unit true (reference_order_seed (layout_of plan.now).seed table column unit) }
+{
+    let seed = reference_order_seed(plan.seed(), table, column, unit);
+    order_by(plan, table, unit, true, seed)
 }
 
 /// The order of the keys of the rows of a table that are born at a unit, in no memory.

@@ -7,6 +7,9 @@ use id_permutation::Order;
 use std::alloc::Global;
 use std::marker::Model;
 
+/// The most entries that the tables of a table's orders have together. Of 4 bytes each, they take at most 4 MiB.
+pub(crate) const MOST_ENTRIES: u64 = 1 << 20;
+
 /// An order that is to be made: of how many rows, and by which seed, or by none where each row has its own place. A contract sees
 /// the order.
 #[derive(Drop)]

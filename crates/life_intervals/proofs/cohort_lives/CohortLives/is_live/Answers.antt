@@ -1,6 +1,6 @@
-use Rattle.std.proofs.Common.{◌≡◌, ℕ, Option, true, ap, sym, subst, ◌∙◌}
+use Rattle.std.proofs.Common.{ℕ, Option, ap, sym, ◌∙◌}
 use Rattle.std.specs.Prelude.{nat_lt}
-use Rattle.life_intervals.specs.CohortLives.{CohortAt, is_live_in}
+use Rattle.life_intervals.specs.CohortLives.{CohortAt}
 use Rattle.life_intervals.specs.Intervals.{is_after}
 use Rattle.life_intervals.proofs.cohort_lives.CohortLives.is_live.Goals as goal
 

@@ -1,7 +1,4 @@
-use Rattle.std.proofs.Common.{◌≡◌, ◌<◌, ℕ, Option, true, false, sym, subst, ◌∙◌}
-use Rattle.std.specs.Prelude.{IfSome}
-use Rattle.schema_check.specs.declared.layout.Span.{Span}
-use Rattle.schema_check.specs.Limits.{IsLife}
+use Rattle.std.proofs.Common.{◌≡◌, ◌<◌, ℕ, true, false, sym, subst, ◌∙◌}
 use Rattle.life_intervals.specs.CohortLives.{CohortAt, is_live_in, size_of}
 use Rattle.life_intervals.proofs.CohortAtLemmas.{is_live_in-over, is_live_in-sure}
 use Rattle.life_intervals.proofs.cohort_lives.CohortLives.survival.Goals as goal
@@ -11,11 +8,11 @@ returns-clause-sure c = λ sure.
     let cohort : CohortAt = record { plan = c.self.inside.plan.now; table = c.self.inside.table; born = c.self.inside.born; unit = c.self.inside.unit } in
     let is = c.self.invariant in
     subst (λ (at : CohortAt). (index : ℕ) → index < size_of at → is_live_in at index ≡ true) c.self.view_is
-    (is_live_in-sure cohort is.built is.cohort_is.table is.cohort_is.born (sym c.survival_at.ensures ∙ sure))
+    (is_live_in-sure cohort is.sound is.cohort_is.table is.cohort_is.unit is.cohort_is.born (sym c.survival_at.ensures ∙ sure))
 
 pub returns-clause-over : goal.returns-clause-over
 returns-clause-over c = λ over.
     let cohort : CohortAt = record { plan = c.self.inside.plan.now; table = c.self.inside.table; born = c.self.inside.born; unit = c.self.inside.unit } in
     let is = c.self.invariant in
     subst (λ (at : CohortAt). (index : ℕ) → index < size_of at → is_live_in at index ≡ false) c.self.view_is
-    (is_live_in-over cohort is.built is.cohort_is.table is.cohort_is.born (subst (λ (life : Option Span). IfSome life IsLife) is.life_is is.limits) (sym c.survival_at.ensures ∙ over))
+    (is_live_in-over cohort is.sound is.cohort_is.table is.cohort_is.unit is.cohort_is.born (sym c.survival_at.ensures ∙ over))

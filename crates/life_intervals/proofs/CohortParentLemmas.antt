@@ -1,0 +1,320 @@
+-- The parents of a cohort's rows, by what the code keeps of the rows that they are chosen of.
+use Rattle.std.proofs.Common.{◌≡◌, ℕ, suc, ◌+◌, ◌^◌, ◌<◌, ◌≤◌, max, true, false, Bool, List, [], ◌∷◌, length, map, take, get_or, sum_by, is_some, Option, Some, None, option_map, inl, inr, refl, ap, ap₂, arith, sym, subst, ◌∙◌}
+use Rattle.std.specs.Prelude.{All, if◌then◌else◌}
+use Rattle.std.specs.List.{fold, range_with_len}
+use Rattle.std.proofs.lemmas.List.{get_or-map, get_or-take, length-map, take_all}
+use Rattle.std.proofs.lemmas.List.Elements.{All-from_recursion}
+use Rattle.std.proofs.lemmas.List.FromFn.{get_or-map-range_with_len, length-map-range_with_len}
+use Rattle.std.proofs.lemmas.List.Sums.{sum_by-cons, sum_by_push}
+use Rattle.philox_seeds.specs.SeedTree.{reference_order_seed}
+use Rattle.id_permutation.specs.Order.{place_in}
+use Rattle.schema_check.specs.declared.layout.Births.{Births}
+use Rattle.schema_check.specs.declared.layout.Span.{Span}
+use Rattle.schema_check.specs.declared.lineage.Lineage.{Lineage}
+use Rattle.schema_check.specs.declared.ready.ReadyColumn.{ReadyColumn}
+use Rattle.schema_check.specs.declared.ready.ReadyReference.{ReadyReference}
+use Rattle.schema_check.specs.declared.ready.ReadyKind.TheVariants as kind
+use Rattle.schema_check.specs.Cohorts.{born_count, cohort_size}
+use Rattle.schema_check.specs.Dictionaries.{Project}
+use Rattle.schema_check.specs.Layout.{KindLayout, reference_kind, ColumnLayout, TableLayout, column_at, layout_of, no_column, no_table, table_at}
+use Rattle.schema_check.specs.Limits.{IsInLimits}
+use Rattle.schema_check.specs.Lineage.{death_cost, endless, lesser_life, lineage_at, lineages, one_if, own_lineage, sure_life, with_kind}
+use Rattle.schema_check.specs.Ready.{ready_column, ready_columns, ready_kind}
+use Rattle.schema_check.specs.References.{IsReferenceInLimits, Reference, count_in_window, first_in_window, reference_at, references_of}
+use Rattle.schema_check.proofs.LineageLemmas.{lineage_at-lineages}
+use Rattle.life_intervals.specs.declared.candidates.Candidates.{Candidates}
+use Rattle.life_intervals.specs.CohortKeys.{CohortOf}
+use Rattle.life_intervals.specs.CohortOrders.{do_lives_differ}
+use Rattle.life_intervals.specs.CohortParents.{AreCandidates, AreParentsOf, IsReferenceOf, candidates_by, cohort_candidates, has_references, parent_in, parents_death_in, reference_by, references_cost, table_candidates}
+use Rattle.life_intervals.specs.Generator.{Generator, generator_of, last_unit, table_of}
+use Rattle.life_intervals.specs.Intervals.{Known, birth, death, first_death, index_at, known_tables, own_death}
+use Rattle.life_intervals.specs.References.{choice}
+use Rattle.life_intervals.proofs.AcceptedLemmas.{AreSound-accepted, length-tables}
+use Rattle.life_intervals.proofs.CohortLemmas.{born_count-le, cohort-within}
+use Rattle.life_intervals.proofs.KnownLemmas.{known_at-before, length-known_before, refers-of}
+use Rattle.life_intervals.proofs.LifeLemmas.{death-first}
+use Rattle.life_intervals.proofs.OrderLemmas.{place_by-if}
+use Rattle.life_intervals.proofs.ParentLemmas.{Refers, parent_by-lies}
+use Rattle.life_intervals.proofs.ReferenceLemmas.{IsReady, at_column, first_death-more, none_from_ready, reference_from_ready, references_before, references_before-none, references_before-some, references_in}
+
+-- what is kept is of the cohort that a contract sees
+pub AreParentsOf-view : (inside of : CohortOf) (kept : List (Option Candidates)) → inside ≡ of → AreParentsOf inside kept → AreParentsOf of kept
+AreParentsOf-view inside of kept same known = subst (λ (cohort : CohortOf). AreParentsOf cohort kept) same known
+
+-- ---- a reference of the table at a place
+
+-- what is ready of a column is ready for its reference
+pub ready_is : (plan : Project) (table column : ℕ) (ready : ReadyReference) → IsReferenceOf plan table column ready →
+    IsReady column (column_at (table_of plan table).columns column).kind ready
+ready_is plan table column ready of = reference_from_ready (layout_of plan).delimiter column (column_at (table_of plan table).columns column).kind ready of.is
+
+-- which is within its limits
+pub limits_of : (plan : Project) → IsInLimits plan → (table column : ℕ) (ready : ReadyReference) → table < length plan.schema.tables → IsReferenceOf plan table column ready →
+    IsReferenceInLimits (last_unit plan) (layout_of plan).tables table (reference_by column ready)
+limits_of plan limits table column ready below of =
+    at_column (IsReferenceInLimits (last_unit plan) (layout_of plan).tables table) (table_of plan table) (limits.references table below) column (reference_by column ready) of.within
+    (ready_is plan table column ready of).is
+
+-- the parent's table is an earlier one
+pub parent_below : (plan : Project) → IsInLimits plan → (table column : ℕ) (ready : ReadyReference) → table < length plan.schema.tables → IsReferenceOf plan table column ready →
+    ready.parent < length plan.schema.tables
+parent_below plan limits table column ready below of = omega (arith, below, (limits_of plan limits table column ready below of).earlier)
+
+-- the column at a place, as the plan has it ready
+pub ready_columns-at : (plan : Project) (table column : ℕ) (d : ReadyColumn) → column < length (table_of plan table).columns →
+    get_or (ready_columns (layout_of plan) table) column d ≡ ready_column (layout_of plan).delimiter (column_at (table_of plan table).columns column)
+ready_columns-at plan table column d below = get_or-map (ready_column (layout_of plan).delimiter) (table_of plan table).columns column no_column d below
+
+pub length-ready_columns : (plan : Project) (table : ℕ) → length (ready_columns (layout_of plan) table) ≡ length (table_of plan table).columns
+length-ready_columns plan table = length-map (table_of plan table).columns (ready_column (layout_of plan).delimiter)
+
+-- a column of a table whose columns are ready is a reference where it is ready as one
+pub reference_from_columns : (plan : Project) (table column : ℕ) (columns : List ReadyColumn) (held : ReadyColumn) (ready : ReadyReference) → columns ≡ ready_columns (layout_of plan) table →
+    column < length columns → held ≡ get_or columns column held → held.kind ≡ kind.Reference ready → IsReferenceOf plan table column ready
+reference_from_columns plan table column columns held ready are within is kind_is =
+    let below : column < length (table_of plan table).columns = omega (arith, within, ap length are, length-ready_columns plan table) in
+    record {
+      within = below;
+      is = ap (λ (c : ReadyColumn). c.kind) (sym (is ∙ ap (λ (cs : List ReadyColumn). get_or cs column held) are ∙ ready_columns-at plan table column held below)) ∙ kind_is;
+    }
+
+-- and none where it isn't
+pub none_from_columns : (plan : Project) (table column : ℕ) (columns : List ReadyColumn) (held : ReadyColumn) → columns ≡ ready_columns (layout_of plan) table →
+    column < length columns → held ≡ get_or columns column held → ((ready : ReadyReference) → held.kind ≡ kind.Reference ready → ⊥) →
+    (column < length (table_of plan table).columns) × (reference_at (table_of plan table) column ≡ None)
+none_from_columns plan table column columns held are within is other =
+    let below : column < length (table_of plan table).columns = omega (arith, within, ap length are, length-ready_columns plan table) in
+    let same : held.kind ≡ ready_kind (layout_of plan).delimiter (column_at (table_of plan table).columns column).kind =
+    ap (λ (c : ReadyColumn). c.kind) (is ∙ ap (λ (cs : List ReadyColumn). get_or cs column held) are ∙ ready_columns-at plan table column held below) in
+    (below, none_from_ready (layout_of plan).delimiter column (column_at (table_of plan table).columns column).kind (λ ready e. other ready (same ∙ e)))
+
+-- ---- parents
+
+-- a parent is the candidate that the place of its child chooses
+pub parent_in-choice : (plan : Project) → IsInLimits plan → (table column unit index : ℕ) (ready : ReadyReference) → table < length plan.schema.tables → IsReferenceOf plan table column ready →
+    unit ≤ last_unit plan → index < cohort_size (table_of plan table).births unit →
+    (let candidates = candidates_by plan table unit (reference_by column ready) in
+    candidates.first + choice ready.spread candidates.count (place_in candidates.order index)
+    ≡ parent_in (record { plan = plan; table = table; unit = unit }) index (reference_by column ready))
+parent_in-choice plan limits table column unit index ready below of within inside =
+    let generator : Generator = generator_of plan in
+    let reference : Reference = reference_by column ready in
+    let is = limits_of plan limits table column ready below of in
+    let births : Births = (table_of plan ready.parent).births in
+    let earlier : List Known = take table (known_tables generator) in
+    let in_tables : table < length generator.tables = omega (arith, below, length-tables plan) in
+    let some : first_in_window births ready.window unit < born_count births unit = is.some_parent unit within (omega (arith, inside)) in
+    let many : max 1 (count_in_window births ready.window unit) ≡ count_in_window births ready.window unit = omega (arith, some) in
+    let placed : place_in (candidates_by plan table unit reference).order index ≡ generator.order table column unit index =
+    place_by-if true (cohort_size (table_of plan table).births unit) (reference_order_seed (layout_of plan).seed table column unit) index inside in
+    let chosen : ℕ → Births → ℕ = λ place born. first_in_window born ready.window unit + choice ready.spread (count_in_window born ready.window unit) (generator.order place column unit index) in
+    ap₂ (λ (count place : ℕ). first_in_window births ready.window unit + choice ready.spread count place) many placed
+    ∙ ap (λ (place : ℕ). chosen place births) (sym (length-known_before generator table in_tables))
+    ∙ ap (λ (known : Known). chosen (length earlier) known.table.births) (sym (known_at-before generator table ready.parent in_tables is.earlier))
+
+-- it is born by its child's birth
+pub parent_in-born : (plan : Project) → IsInLimits plan → (table column unit index : ℕ) (ready : ReadyReference) → table < length plan.schema.tables → IsReferenceOf plan table column ready →
+    unit ≤ last_unit plan → index < cohort_size (table_of plan table).births unit →
+    parent_in (record { plan = plan; table = table; unit = unit }) index (reference_by column ready) < born_count (table_of plan ready.parent).births unit
+parent_in-born plan limits table column unit index ready below of within inside =
+    let generator : Generator = generator_of plan in
+    let reference : Reference = reference_by column ready in
+    let is = limits_of plan limits table column ready below of in
+    let in_tables : table < length generator.tables = omega (arith, below, length-tables plan) in
+    let refers = at_column (Refers (last_unit plan) (take table (known_tables generator)) (sure_life generator.tables) (table_of plan table).births) (table_of plan table)
+    (All-from_recursion (Refers (last_unit plan) (take table (known_tables generator)) (sure_life generator.tables) (table_of plan table).births) (references_of (table_of plan table))
+    (refers-of (last_unit plan) generator (AreSound-accepted plan limits) table in_tables)) column reference of.within (ready_is plan table column ready of).is in
+    subst (λ (known : Known). parent_in (record { plan = plan; table = table; unit = unit }) index reference < born_count known.table.births unit)
+    (known_at-before generator table ready.parent in_tables is.earlier)
+    (parent_by-lies (last_unit plan) generator.order (take table (known_tables generator)) (sure_life generator.tables) (table_of plan table).births unit index within inside reference refers).1
+
+-- its candidates, and the order of its cohort's rows, are of at most 2^40
+pub record AreLimited (candidates : Candidates) : Type 0 where
+  pub first : candidates.first ≤ 2 ^ 40
+  pub count : candidates.count ≤ 2 ^ 40
+  pub size : candidates.order.size ≤ 2 ^ 40
+
+row_limit : (plan : Project) → IsInLimits plan → (table : ℕ) → table < length plan.schema.tables → born_count (table_of plan table).births (last_unit plan) ≤ 2 ^ 40
+row_limit plan limits table below = (limits.tables table no_table (omega (arith, below, length-tables plan))).row_limit
+
+pub candidates_limited : (plan : Project) → IsInLimits plan → (table column unit index : ℕ) (ready : ReadyReference) → table < length plan.schema.tables → IsReferenceOf plan table column ready →
+    unit ≤ last_unit plan → index < cohort_size (table_of plan table).births unit → AreLimited (candidates_by plan table unit (reference_by column ready))
+candidates_limited plan limits table column unit index ready below of within inside =
+    let is = limits_of plan limits table column ready below of in
+    let parent : Births = (table_of plan ready.parent).births in
+    let some : first_in_window parent ready.window unit < born_count parent unit = is.some_parent unit within (omega (arith, inside)) in
+    let all : born_count parent unit ≤ born_count parent (last_unit plan) = born_count-le parent unit (last_unit plan) within in
+    let limit : born_count parent (last_unit plan) ≤ 2 ^ 40 = row_limit plan limits ready.parent (omega (arith, below, is.earlier)) in
+    record {
+      first = omega (arith, some, all, limit);
+      count = omega (arith, some, all, limit);
+      size = omega (arith, cohort-within (table_of plan table).births unit (last_unit plan) within, row_limit plan limits table below);
+    }
+
+-- what is kept for a column: nothing where it is no reference
+abbrev pub candidates_for : Project → ℕ → ℕ → ℕ → Option Candidates
+candidates_for plan table unit column = option_map (candidates_by plan table unit) (reference_at (table_of plan table) column)
+
+pub candidates_for-some : (plan : Project) (table column unit : ℕ) (ready : ReadyReference) → IsReferenceOf plan table column ready →
+    candidates_for plan table unit column ≡ Some (candidates_by plan table unit (reference_by column ready))
+candidates_for-some plan table column unit ready of = ap (option_map (candidates_by plan table unit)) (ready_is plan table column ready of).is
+
+kept_in : (plan : Project) (table column unit : ℕ) (ready : ReadyReference) (candidates : Candidates) (d : Option Candidates) (some : Bool) → IsReferenceOf plan table column ready →
+    (let kept = if some then map (candidates_for plan table unit) (range_with_len 0 (length (table_of plan table).columns)) else [] in
+    column < length kept → get_or kept column d ≡ Some candidates → candidates ≡ candidates_by plan table unit (reference_by column ready))
+kept_in plan table column unit ready candidates d false of within at = absurd (omega (arith, within))
+kept_in plan table column unit ready candidates d true of within at =
+    let same : Some candidates ≡ Some (candidates_by plan table unit (reference_by column ready)) =
+    sym at
+    ∙ get_or-map-range_with_len (candidates_for plan table unit) 0 (length (table_of plan table).columns) column column d of.within (omega arith)
+    ∙ candidates_for-some plan table column unit ready of in
+    cc
+
+-- what is kept of a column is of its reference
+pub kept_at : (plan : Project) (table column unit : ℕ) (ready : ReadyReference) (kept : List (Option Candidates)) (candidates : Candidates) (d : Option Candidates) → IsReferenceOf plan table column ready →
+    AreCandidates plan table unit kept → column < length kept → get_or kept column d ≡ Some candidates → candidates ≡ candidates_by plan table unit (reference_by column ready)
+kept_at plan table column unit ready kept candidates d of (inl none) within at = absurd (omega (arith, within, ap length none))
+kept_at plan table column unit ready kept candidates d of (inr all) within at =
+    kept_in plan table column unit ready candidates d (has_references plan table) of
+    (subst (λ (xs : List (Option Candidates)). column < length xs) all within) (ap (λ (xs : List (Option Candidates)). get_or xs column d) (sym all) ∙ at)
+
+-- ---- deaths
+
+-- a row dies by its own life or with the first of its parents
+pub death-parents : (plan : Project) → IsInLimits plan → (table unit ordinal index : ℕ) → table < length plan.schema.tables →
+    ordinal < born_count (table_of plan table).births (last_unit plan) →
+    unit ≡ birth (table_of plan table).births (last_unit plan) ordinal → index ≡ index_at (table_of plan table).births (last_unit plan) ordinal →
+    lesser_life (own_death (generator_of plan) table (last_unit plan) ordinal) (parents_death_in (record { plan = plan; table = table; unit = unit }) index)
+    ≡ death (generator_of plan) table (last_unit plan) ordinal
+death-parents plan limits table unit ordinal index below born unit_is index_is =
+    let generator : Generator = generator_of plan in
+    let in_tables : table < length generator.tables = omega (arith, below, length-tables plan) in
+    let own : Option ℕ = own_death generator table (last_unit plan) ordinal in
+    ap₂ (λ (u i : ℕ). lesser_life own (parents_death_in (record { plan = plan; table = table; unit = u }) i)) unit_is index_is
+    ∙ sym (death-first (last_unit plan) generator (AreSound-accepted plan limits) table in_tables (last_unit plan) ordinal (omega arith) born)
+
+-- when the parent by a reference dies
+abbrev pub death_by_reference : CohortOf → ℕ → Reference → Option ℕ
+death_by_reference cohort index reference =
+    death (generator_of cohort.plan) reference.parent (last_unit cohort.plan) (parent_in cohort index reference)
+
+-- what that costs
+abbrev pub cost_of_reference : CohortOf → Reference → ℕ
+cost_of_reference cohort reference = 1 + death_cost (layout_of cohort.plan).tables reference.parent
+
+-- the first death of the parents by the references before a column
+abbrev pub first_before : CohortOf → ℕ → ℕ → Option ℕ
+first_before cohort index column =
+    first_death (map (death_by_reference cohort index) (references_before (table_of cohort.plan cohort.table) column))
+
+-- and what these cost
+abbrev pub cost_before : CohortOf → ℕ → ℕ
+cost_before cohort column = sum_by (cost_of_reference cohort) (references_before (table_of cohort.plan cohort.table) column)
+
+-- a reference more
+pub first_before-some : (cohort : CohortOf) (index column : ℕ) (ready : ReadyReference) → IsReferenceOf cohort.plan cohort.table column ready →
+    first_before cohort index (column + 1)
+    ≡ lesser_life (first_before cohort index column) (death (generator_of cohort.plan) ready.parent (last_unit cohort.plan) (parent_in cohort index (reference_by column ready)))
+first_before-some cohort index column ready of =
+    let d : Reference → Option ℕ = λ reference. death (generator_of cohort.plan) reference.parent (last_unit cohort.plan) (parent_in cohort index reference) in
+    ap (λ (references : List Reference). first_death (map d references))
+    (references_before-some (table_of cohort.plan cohort.table) column (reference_by column ready) of.within (ready_is cohort.plan cohort.table column ready of).is)
+    ∙ first_death-more d (references_before (table_of cohort.plan cohort.table) column) (reference_by column ready)
+
+pub cost_before-some : (cohort : CohortOf) (column : ℕ) (ready : ReadyReference) → IsReferenceOf cohort.plan cohort.table column ready →
+    cost_before cohort (column + 1) ≡ cost_before cohort column + (1 + death_cost (layout_of cohort.plan).tables ready.parent)
+cost_before-some cohort column ready of =
+    let f : Reference → ℕ = λ reference. 1 + death_cost (layout_of cohort.plan).tables reference.parent in
+    ap (sum_by f) (references_before-some (table_of cohort.plan cohort.table) column (reference_by column ready) of.within (ready_is cohort.plan cohort.table column ready of).is)
+    ∙ sum_by_push f (references_before (table_of cohort.plan cohort.table) column) (reference_by column ready)
+
+-- a column more that is no reference
+pub before-none : (cohort : CohortOf) (column : ℕ) → column < length (table_of cohort.plan cohort.table).columns → reference_at (table_of cohort.plan cohort.table) column ≡ None →
+    references_before (table_of cohort.plan cohort.table) (column + 1) ≡ references_before (table_of cohort.plan cohort.table) column
+before-none cohort column within none = references_before-none (table_of cohort.plan cohort.table) column within none
+
+-- all columns
+pub references_before-all : (plan : Project) (table column : ℕ) → length (table_of plan table).columns ≤ column → references_before (table_of plan table) column ≡ references_of (table_of plan table)
+references_before-all plan table column all = ap (references_in 0) (take_all column (table_of plan table).columns all)
+
+-- ---- costs
+
+-- what a table's references add to the cost of a death
+abbrev cost_in : List Lineage → ℕ → List ColumnLayout → ℕ
+cost_in earlier place columns = sum_by (λ (reference : Reference). 1 + (lineage_at earlier reference.parent).death_cost) (references_in place columns)
+
+abbrev Costs : List Lineage → List ColumnLayout → ℕ → Lineage → Type 0
+Costs earlier columns place own =
+    (fold (λ own (column : ColumnLayout). with_kind earlier own column.kind) own columns).death_cost ≡ own.death_cost + cost_in earlier place columns
+
+kind-cost : (earlier : List Lineage) (held : KindLayout) (changes : Bool) (null : ℕ) (others : List ColumnLayout) (place : ℕ) (own : Lineage) →
+    ((after : Lineage) → Costs earlier others (place + 1) after) → Costs earlier (record { kind = held; changes = changes; null = null } ∷ others) place own
+kind-cost earlier (reference_kind parent window spread) changes null others place own next =
+    omega (
+      arith,
+      next (with_kind earlier own (reference_kind parent window spread)),
+      sum_by-cons (λ (reference : Reference). 1 + (lineage_at earlier reference.parent).death_cost)
+          (record { column = place; parent = parent; window = window; spread = spread }) (references_in (place + 1) others),
+    )
+kind-cost earlier _ changes null others place own next = next own
+
+columns-cost : (earlier : List Lineage) (columns : List ColumnLayout) (place : ℕ) (own : Lineage) → Costs earlier columns place own
+columns-cost earlier [] place own = omega arith
+columns-cost earlier (column ∷ others) place own =
+    kind-cost earlier column.kind column.changes column.null others place own (λ after. columns-cost earlier others (place + 1) after)
+
+lives_cost : (life : Option Span) → (own_lineage life).death_cost ≡ one_if (is_some life)
+lives_cost None = refl
+lives_cost (Some life) = refl
+
+differ_cost : (life : Option Span) → one_if (do_lives_differ life) ≤ one_if (is_some life)
+differ_cost None = omega arith
+differ_cost (Some life) = one_if-le (do_lives_differ (Some life))
+  where
+    one_if-le : (test : Bool) → one_if test ≤ 1
+    one_if-le true = omega arith
+    one_if-le false = omega arith
+
+-- those of the tables before are those of all
+sum-before : (tables : List TableLayout) (place : ℕ) (references : List Reference) → All (λ (reference : Reference). reference.parent < place) references →
+    sum_by (λ (reference : Reference). 1 + (lineage_at (take place (lineages tables)) reference.parent).death_cost) references
+    ≡ sum_by (λ (reference : Reference). 1 + death_cost tables reference.parent) references
+sum-before tables place [] earlier = refl
+sum-before tables place (reference ∷ others) earlier =
+    omega (
+      arith,
+      sum_by-cons (λ (r : Reference). 1 + (lineage_at (take place (lineages tables)) r.parent).death_cost) reference others,
+      sum_by-cons (λ (r : Reference). 1 + death_cost tables r.parent) reference others,
+      ap (λ (lineage : Lineage). lineage.death_cost) (get_or-take place (lineages tables) reference.parent endless (earlier 0 reference (omega arith))),
+      sum-before tables place others (λ k d below. earlier (suc k) d (omega (arith, below))),
+    )
+
+-- the cost of a death is that of the own life and of the parents' deaths
+pub death_cost-parts : (plan : Project) → IsInLimits plan → (table : ℕ) → table < length plan.schema.tables →
+    death_cost (layout_of plan).tables table ≡ one_if (is_some (table_of plan table).life) + references_cost (layout_of plan).tables table
+death_cost-parts plan limits table below =
+    let tables : List TableLayout = (layout_of plan).tables in
+    let in_tables : table < length tables = omega (arith, below, length-tables plan) in
+    omega (
+      arith,
+      ap (λ (lineage : Lineage). lineage.death_cost) (lineage_at-lineages tables table in_tables),
+      columns-cost (take table (lineages tables)) (table_at tables table).columns 0 (own_lineage (table_at tables table).life),
+      lives_cost (table_at tables table).life,
+      sum-before tables table (references_of (table_at tables table)) (λ k d inside. (limits.references table below k d inside).earlier),
+    )
+
+-- where lives of a table differ, its death costs at least the permutation of lives
+pub lives_and_parents_cost : (plan : Project) → IsInLimits plan → (table : ℕ) → table < length plan.schema.tables →
+    one_if (do_lives_differ (table_of plan table).life) + references_cost (layout_of plan).tables table ≤ death_cost (layout_of plan).tables table
+lives_and_parents_cost plan limits table below = omega (arith, death_cost-parts plan limits table below, differ_cost (table_of plan table).life)
+
+-- ---- all cohorts
+
+-- the candidates of all cohorts have those of each
+pub table_candidates-at : (project : Project) (table last unit : ℕ) (default : List (Option Candidates)) → unit ≤ last →
+    get_or (table_candidates project table last) unit default ≡ cohort_candidates project table unit
+table_candidates-at project table last unit default within =
+    get_or-map-range_with_len (cohort_candidates project table) 0 (last + 1) unit unit default (omega (arith, within)) (omega arith)
+
+pub length-table_candidates : (project : Project) (table last : ℕ) → length (table_candidates project table last) ≡ last + 1
+length-table_candidates project table last = length-map-range_with_len (cohort_candidates project table) 0 (last + 1)

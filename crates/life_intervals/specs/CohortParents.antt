@@ -1,0 +1,87 @@
+-- The parents of a cohort's rows, and what the code keeps of the rows that they are chosen of.
+use Rattle.std.specs.Prelude.{◌≡◌, ◌<◌, ◌≤◌, ◌⊎◌, ℕ, ◌+◌, max, Bool, true, false, if◌then◌else◌, List, [], length, map, sum_by, Option, take}
+use Rattle.std.specs.List.{list_any, range_with_len}
+use Rattle.std.specs.Option.{option_map}
+use Rattle.philox_seeds.specs.SeedTree.{reference_order_seed}
+use Rattle.schema_check.specs.declared.ready.ReadyColumn.{ReadyColumn}
+use Rattle.schema_check.specs.declared.ready.ReadyReference.{ReadyReference}
+use Rattle.schema_check.specs.declared.ready.ReadyKind.{ReadyKind}
+use Rattle.schema_check.specs.declared.ready.ReadyKind.TheVariants as kind
+use Rattle.schema_check.specs.Dictionaries.{Project}
+use Rattle.schema_check.specs.Layout.{TableLayout, column_at, layout_of, table_at}
+use Rattle.schema_check.specs.Limits.{IsInLimits}
+use Rattle.schema_check.specs.Lineage.{death_cost}
+use Rattle.schema_check.specs.Ready.{ready_columns, ready_kind}
+use Rattle.schema_check.specs.References.{Reference, count_in_window, first_in_window, reference_at, references_of}
+use Rattle.life_intervals.specs.declared.candidates.Candidates.{Candidates}
+use Rattle.life_intervals.specs.CohortKeys.{CohortOf}
+use Rattle.life_intervals.specs.CohortOrders.{order_by}
+use Rattle.life_intervals.specs.Generator.{generator_of, last_unit, table_of}
+use Rattle.life_intervals.specs.Intervals.{death, first_death, known_tables, parent_by}
+
+-- the reference that is ready in the column at a place
+abbrev pub reference_by : ℕ → ReadyReference → Reference
+reference_by column ready = record { column = column; parent = ready.parent; window = ready.window; spread = ready.spread }
+
+-- a reference is ready in the column at a place of the table at a place
+pub record IsReferenceOf (plan : Project) (table column : ℕ) (ready : ReadyReference) : Type 0 where
+  pub within : column < length (table_of plan table).columns
+  pub is : ready_kind (layout_of plan).delimiter (column_at (table_of plan table).columns column).kind ≡ kind.Reference ready
+
+-- the rows of which the parents of a unit's cohort are chosen by a reference of the table at a place, one row where there is none, and
+-- the order in which the cohort's rows choose
+abbrev pub candidates_by : Project → ℕ → ℕ → Reference → Candidates
+candidates_by plan table unit reference = record {
+  first = first_in_window (table_of plan reference.parent).births reference.window unit;
+  count = max 1 (count_in_window (table_of plan reference.parent).births reference.window unit);
+  order = order_by plan table unit true (reference_order_seed (layout_of plan).seed table reference.column unit);
+}
+
+abbrev pub is_reference_kind : ReadyKind → Bool
+is_reference_kind (kind.Reference ready) = true
+is_reference_kind _ = false
+
+-- a column that is ready as a reference
+abbrev pub is_reference : ReadyColumn → Bool
+is_reference column = is_reference_kind column.kind
+
+-- whether the table at a place has one
+abbrev pub has_references : Project → ℕ → Bool
+has_references plan table = list_any is_reference (ready_columns (layout_of plan) table)
+
+-- for each column of the table at a place, None where it is no reference; for no column where the table has none
+abbrev pub cohort_candidates : Project → ℕ → ℕ → List (Option Candidates)
+cohort_candidates plan table unit =
+    if has_references plan table
+    then map (λ column. option_map (candidates_by plan table unit) (reference_at (table_of plan table) column)) (range_with_len 0 (length (table_of plan table).columns))
+    else []
+
+-- those of the cohorts of units 0 to a last one
+abbrev pub table_candidates : Project → ℕ → ℕ → List (List (Option Candidates))
+table_candidates plan table last = map (cohort_candidates plan table) (range_with_len 0 (last + 1))
+
+-- what is kept of a cohort is all of it, or nothing
+abbrev pub AreCandidates : Project → ℕ → ℕ → List (Option Candidates) → Type 0
+AreCandidates plan table unit kept = (kept ≡ []) ⊎ (kept ≡ cohort_candidates plan table unit)
+
+-- the ordinal of the parent that the row with an index in the cohort has by a reference
+abbrev pub parent_in : CohortOf → ℕ → Reference → ℕ
+parent_in cohort index reference =
+    parent_by (generator_of cohort.plan).order (take cohort.table (known_tables (generator_of cohort.plan))) cohort.unit index reference
+
+-- the unit at which the first of its parents dies; None where none ever does
+abbrev pub parents_death_in : CohortOf → ℕ → Option ℕ
+parents_death_in cohort index =
+    first_death (map (λ (reference : Reference). death (generator_of cohort.plan) reference.parent (last_unit cohort.plan) (parent_in cohort index reference))
+    (references_of (table_of cohort.plan cohort.table)))
+
+-- how many permutations the deaths of all parents of a row of the table at a place take at most
+abbrev pub references_cost : List TableLayout → ℕ → ℕ
+references_cost tables table = sum_by (λ (reference : Reference). 1 + death_cost tables reference.parent) (references_of (table_at tables table))
+
+-- what is kept is of a cohort of a plan
+pub record AreParentsOf (cohort : CohortOf) (kept : List (Option Candidates)) : Type 0 where
+  pub sound : IsInLimits cohort.plan
+  pub table : cohort.table < length cohort.plan.schema.tables
+  pub unit : cohort.unit ≤ last_unit cohort.plan
+  pub candidates : AreCandidates cohort.plan cohort.table cohort.unit kept
