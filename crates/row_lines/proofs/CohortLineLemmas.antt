@@ -4,15 +4,16 @@ use Rattle.std.specs.List.{join_with_byte, range_with_len}
 use Rattle.std.proofs.lemmas.Bool.Decides.{nat_tests}
 use Rattle.std.proofs.lemmas.List.{get_or-map, length-map}
 use Rattle.std.proofs.lemmas.List.Folds.{fold-map}
-use Rattle.std.proofs.lemmas.List.Sums.{sum_by_more_le}
+use Rattle.std.proofs.lemmas.List.Sums.{sum_by-cons}
 use Rattle.row_text.specs.Fields.{field_text}
 use Rattle.row_text.proofs.DigitLemmas.{piece_text-decimal}
 use Rattle.schema_check.specs.declared.ready.ReadyColumn.{ReadyColumn}
-use Rattle.schema_check.specs.declared.ready.ReadyKind.TheVariants.{Key, Template}
+use Rattle.schema_check.specs.declared.ready.ReadyKind.TheVariants.{Key, Reference, Template}
 use Rattle.schema_check.specs.declared.ready.ReadyPart.{ReadyPart}
+use Rattle.schema_check.specs.declared.ready.ReadyReference.{ReadyReference}
 use Rattle.schema_check.specs.Cohorts.{cohort_size}
-use Rattle.schema_check.specs.FieldBounds.{bounds_of}
-use Rattle.schema_check.specs.Layout.{ColumnLayout, KindLayout, born_kind, case_kind, changed_kind, column_at, key_kind, layout_of, leaf_kind, no_column, table_layout, template_kind}
+use Rattle.schema_check.specs.FieldBounds.{bounds_alone, bounds_of, bounds_of_part}
+use Rattle.schema_check.specs.Layout.{ColumnLayout, KindLayout, PartLayout, TableLayout, born_kind, case_kind, changed_kind, cited_part, column_at, key_kind, layout_of, leaf_kind, literal_part, lookup_kind, no_column, reference_kind, table_layout, template_kind}
 use Rattle.schema_check.specs.Lineage.{one_if}
 use Rattle.schema_check.specs.Ready.{is_served, is_served_kind, ready_column, ready_kind}
 use Rattle.schema_check.specs.TableFacts.{line_cost, max_line}
@@ -28,8 +29,8 @@ use Rattle.life_intervals.specs.Intervals.{row_at}
 use Rattle.life_intervals.specs.Rows.{Row}
 use Rattle.life_intervals.proofs.CohortLemmas.{birth-first_ordinal, cohort-within}
 use Rattle.life_intervals.proofs.KeyLemmas.{key_of-first_ordinal}
-use Rattle.life_intervals.proofs.BuiltLemmas.{row_at-changed}
-use Rattle.row_lines.specs.CohortLines.{AreLinesOf, LinesOf, change_for, key_for, layout_for, line_in_cohort, ordinal_of, size_for, text_in_cohort, values_at}
+use Rattle.life_intervals.proofs.AcceptedLemmas.{row_at-changed}
+use Rattle.row_lines.specs.CohortLines.{AreLinesOf, LinesOf, asked_alone, asked_by, asked_by_part, asked_for_line, change_for, key_for, layout_for, line_in_cohort, ordinal_of, size_for, text_in_cohort, values_at}
 use Rattle.row_lines.specs.Lines.{field, line}
 use Rattle.row_lines.proofs.FieldLemmas.{field-key, field-own}
 
@@ -45,6 +46,17 @@ permutations_in lines column =
 -- what the fields before a place take at most
 abbrev pub bytes_before : LinesOf → ℕ → ℕ
 bytes_before lines place = sum_by (room_in lines) (take place (layout_for lines).columns)
+
+-- and how many permutations, of a row whose key is known
+abbrev pub asked_in : LinesOf → ColumnLayout → ℕ
+asked_in lines column = asked_by (layout_of lines.plan).tables (layout_for lines) column.kind
+
+abbrev pub asked_before : LinesOf → ℕ → ℕ
+asked_before lines place = sum_by (asked_in lines) (take place (layout_for lines).columns)
+
+pub asked_for_line-is : (lines : LinesOf) → asked_for_line lines ≡ sum_by (asked_in lines) (layout_for lines).columns
+unfolding asked_for_line
+asked_for_line-is lines = refl
 
 sum_by-map : {A B : Type 0} (h : A → B) (xs : List A) (g : B → ℕ) → sum_by g (map h xs) ≡ sum_by (λ x. g (h x)) xs
 sum_by-map h xs g = fold-map (λ all y. all + g y) h 0 xs
@@ -82,32 +94,69 @@ pub served_at : (columns : List ReadyColumn) → All (λ column. is_served colum
     place < length columns → column ≡ get_or columns place column → is_served column ≡ true
 served_at columns served place column within is = ap is_served is ∙ served place column within
 
--- a column that is ready as a key is one, and any other that is served and no template is made of units and of draws
+-- a column that is ready as a key is one, and any other that is served and no template or reference is made of units and of draws
 pub key_from_ready : (delimiter : ℕ) (kind : KindLayout) → ready_kind delimiter kind ≡ Key → kind ≡ key_kind
 key_from_ready delimiter key_kind is = refl
 key_from_ready delimiter _ is = cc
 
 pub own_from_ready : (delimiter : ℕ) (kind : KindLayout) → is_served_kind (ready_kind delimiter kind) ≡ true → (ready_kind delimiter kind ≡ Key → ⊥) →
-    ((parts : List ReadyPart) → ready_kind delimiter kind ≡ Template parts → ⊥) → is_own kind ≡ true
-own_from_ready delimiter key_kind served no_key no_template = absurd (no_key refl)
-own_from_ready delimiter born_kind served no_key no_template = refl
-own_from_ready delimiter changed_kind served no_key no_template = refl
-own_from_ready delimiter (leaf_kind leaf) served no_key no_template = refl
-own_from_ready delimiter (template_kind parts) served no_key no_template = absurd (no_template _ refl)
-own_from_ready delimiter (case_kind on branches) served no_key no_template = refl
-own_from_ready delimiter _ served no_key no_template = cc
+    ((parts : List ReadyPart) → ready_kind delimiter kind ≡ Template parts → ⊥) → ((reference : ReadyReference) → ready_kind delimiter kind ≡ Reference reference → ⊥) → is_own kind ≡ true
+own_from_ready delimiter key_kind served no_key no_template no_reference = absurd (no_key refl)
+own_from_ready delimiter born_kind served no_key no_template no_reference = refl
+own_from_ready delimiter changed_kind served no_key no_template no_reference = refl
+own_from_ready delimiter (leaf_kind leaf) served no_key no_template no_reference = refl
+own_from_ready delimiter (template_kind parts) served no_key no_template no_reference = absurd (no_template _ refl)
+own_from_ready delimiter (case_kind on branches) served no_key no_template no_reference = refl
+own_from_ready delimiter (reference_kind parent window spread) served no_key no_template no_reference = absurd (no_reference _ refl)
+own_from_ready delimiter _ served no_key no_template no_reference = cc
 
--- a line may ask the permutation of its key, which is its first field, and that of its update
+-- a field asks no more permutations than the schema counts for it, and that of the key one less where keys are scrambled
+sum_by-each : {A : Type 0} (f g : A → ℕ) → ((x : A) → f x ≤ g x) → (xs : List A) → sum_by f xs ≤ sum_by g xs
+sum_by-each f g each [] = omega arith
+sum_by-each f g each (x ∷ xs) = omega (arith, each x, sum_by-each f g each xs, sum_by-cons f x xs, sum_by-cons g x xs)
+
+asked_alone-le : (delimiter : ℕ) (tables : List TableLayout) (table : TableLayout) (kind : KindLayout) → asked_alone tables kind ≤ (bounds_alone delimiter tables table kind).permutations
+asked_alone-le delimiter tables table (reference_kind parent window spread) = omega arith
+asked_alone-le delimiter tables table _ = omega arith
+
+key_first : (delimiter : ℕ) (tables : List TableLayout) (table : TableLayout) (kind : KindLayout) → kind ≡ key_kind →
+    one_if table.key.scramble + asked_by tables table kind ≤ (bounds_of delimiter tables table kind).permutations
+key_first delimiter tables table key_kind is = omega arith
+key_first delimiter tables table _ is = absurd (cc)
+
+asked_by_part-le : (delimiter : ℕ) (tables : List TableLayout) (table : TableLayout) (part : PartLayout) →
+    asked_by_part tables table part ≤ (bounds_of_part delimiter tables table part).permutations
+asked_by_part-le delimiter tables table (literal_part bytes) = omega arith
+asked_by_part-le delimiter tables table (cited_part column) = asked_alone-le delimiter tables table (column_at table.columns column).kind
+
+asked_by-le : (delimiter : ℕ) (tables : List TableLayout) (table : TableLayout) (kind : KindLayout) → asked_by tables table kind ≤ (bounds_of delimiter tables table kind).permutations
+asked_by-le delimiter tables table (template_kind parts) = sum_by-each (asked_by_part tables table) (λ part. (bounds_of_part delimiter tables table part).permutations) (asked_by_part-le delimiter tables table) parts
+asked_by-le delimiter tables table (lookup_kind via parent column) = omega arith
+asked_by-le delimiter tables table key_kind = omega arith
+asked_by-le delimiter tables table born_kind = omega arith
+asked_by-le delimiter tables table changed_kind = omega arith
+asked_by-le delimiter tables table (leaf_kind leaf) = omega arith
+asked_by-le delimiter tables table (case_kind on branches) = omega arith
+asked_by-le delimiter tables table (reference_kind parent window spread) = omega arith
+
+-- a line may ask the permutation of its key, which is its first field, that of its update, and those of its other fields
+line_cost-columns : (asked permutations : ColumnLayout → ℕ) (columns : List ColumnLayout) (scramble : ℕ) → ((column : ColumnLayout) → asked column ≤ permutations column) → 1 ≤ length columns →
+    scramble + asked (column_at columns 0) ≤ permutations (column_at columns 0) → scramble + sum_by asked columns ≤ sum_by permutations columns
+line_cost-columns asked permutations [] scramble each some first = absurd (omega (arith, some))
+line_cost-columns asked permutations (column ∷ others) scramble each some first =
+    omega (arith, first, sum_by-cons asked column others, sum_by-cons permutations column others, sum_by-each asked permutations each others)
+
 pub steps-line_cost : (lines : LinesOf) (keys : CohortOf) (lives changes : CohortAt) (births : DrawsOf) (columns : List ReadyColumn) (first byte : ℕ) → AreLinesOf lines keys lives changes births columns first byte →
-    one_if (layout_for lines).key.scramble + one_if (is_some (layout_for lines).update) ≤ line_cost (layout_of lines.plan) lines.table
+    one_if (layout_for lines).key.scramble + one_if (is_some (layout_for lines).update) + asked_for_line lines ≤ line_cost (layout_of lines.plan) lines.table
 unfolding line_cost
 steps-line_cost lines keys lives changes births ready first byte known =
     let columns : List ColumnLayout = (layout_for lines).columns in
     omega (
       arith,
-      ap (λ (kind : KindLayout). (bounds_of (layout_of lines.plan).delimiter (layout_of lines.plan).tables (layout_for lines) kind).permutations)
-          known.limits.key_first,
-      sum_by_more_le (permutations_in lines) columns 0 no_column known.limits.some_column,
+      line_cost-columns (asked_in lines) (permutations_in lines) columns (one_if (layout_for lines).key.scramble)
+          (λ column. asked_by-le (layout_of lines.plan).delimiter (layout_of lines.plan).tables (layout_for lines) column.kind) known.limits.some_column
+          (key_first (layout_of lines.plan).delimiter (layout_of lines.plan).tables (layout_for lines) (column_at columns 0).kind known.limits.key_first),
+      asked_for_line-is lines,
       sum_by-map (λ (column : ColumnLayout). bounds_of (layout_of lines.plan).delimiter (layout_of lines.plan).tables (layout_for lines) column.kind)
           (layout_for lines).columns (λ bounds. bounds.permutations),
     )

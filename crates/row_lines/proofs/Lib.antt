@@ -1,7 +1,7 @@
 pub mod ListLemmas
 mod ChangeDrawLemmas
 pub mod LineLemmas
-mod LiveLemmas
 pub mod FieldLemmas
+pub mod ReferenceFieldLemmas
 pub mod CohortLineLemmas
 pub mod PartLemmas

@@ -7,8 +7,9 @@ use Rattle.std.proofs.lemmas.List.Elements.{All-map}
 use Rattle.std.proofs.lemmas.List.Folds.{flat_map-map, fold-map}
 use Rattle.row_text.specs.Fields.{escaped, field_text, piece_text}
 use Rattle.row_text.proofs.DigitLemmas.{piece_text-decimal}
-use Rattle.schema_check.specs.declared.ready.ReadyKind.TheVariants.{Key, Template}
+use Rattle.schema_check.specs.declared.ready.ReadyKind.TheVariants.{Key, Reference, Template}
 use Rattle.schema_check.specs.declared.ready.ReadyPart.{ReadyPart}
+use Rattle.schema_check.specs.declared.ready.ReadyReference.{ReadyReference}
 use Rattle.schema_check.specs.Cohorts.{cohort_size}
 use Rattle.schema_check.specs.FieldBounds.{bounds_alone, bounds_of, bounds_of_part}
 use Rattle.schema_check.specs.Layout.{KindLayout, PartLayout, TableLayout, born_kind, changed_kind, cited_part, column_at, key_kind, layout_of, leaf_kind, literal_part, reference_kind, template_kind}
@@ -19,22 +20,22 @@ use Rattle.draw_values.specs.Values.{is_null, is_own, written}
 use Rattle.life_intervals.specs.Generator.{Generator, generator_of}
 use Rattle.life_intervals.specs.Intervals.{row_at}
 use Rattle.life_intervals.specs.Rows.{Row}
-use Rattle.row_lines.specs.CohortLines.{LinesOf, change_for, key_for, layout_for, ordinal_of, size_for, text_in_cohort, values_at}
+use Rattle.row_lines.specs.CohortLines.{LinesOf, asked_by, asked_by_part, asked_for, change_for, key_for, layout_for, ordinal_of, size_for, text_in_cohort, values_at}
 use Rattle.row_lines.specs.Lines.{draws_of, part_text}
-use Rattle.row_lines.specs.Parts.{IsCitable, IsPartOf, cited_for, cited_size, cited_text, part_size, written_part}
+use Rattle.row_lines.specs.Parts.{IsCitable, IsPartOf, cited_for, cited_size, cited_text, part_asked, part_size, written_part}
 use Rattle.row_lines.proofs.CohortLineLemmas.{held-key, held-own, held_in_cohort, of_units}
 use Rattle.row_lines.proofs.FieldLemmas.{field-cited, field-template}
 
 -- ---- a column that is cited
 
--- it is a key, or made of units and of draws
-pub own_from_cited : (delimiter : ℕ) (kind : KindLayout) → is_cited kind ≡ true → is_served_kind (ready_kind delimiter kind) ≡ true → (ready_kind delimiter kind ≡ Key → ⊥) → is_own kind ≡ true
-own_from_cited delimiter key_kind cited served no_key = absurd (no_key refl)
-own_from_cited delimiter born_kind cited served no_key = refl
-own_from_cited delimiter (leaf_kind leaf) cited served no_key = refl
-own_from_cited delimiter changed_kind cited served no_key = refl
-own_from_cited delimiter (reference_kind parent window spread) cited served no_key = cc
-own_from_cited delimiter _ cited served no_key = cc
+-- it is a key, a reference, or made of units and of draws
+pub own_from_cited : (delimiter : ℕ) (kind : KindLayout) → is_cited kind ≡ true → is_served_kind (ready_kind delimiter kind) ≡ true → (ready_kind delimiter kind ≡ Key → ⊥) → ((reference : ReadyReference) → ready_kind delimiter kind ≡ Reference reference → ⊥) → is_own kind ≡ true
+own_from_cited delimiter key_kind cited served no_key no_reference = absurd (no_key refl)
+own_from_cited delimiter born_kind cited served no_key no_reference = refl
+own_from_cited delimiter (leaf_kind leaf) cited served no_key no_reference = refl
+own_from_cited delimiter changed_kind cited served no_key no_reference = refl
+own_from_cited delimiter (reference_kind parent window spread) cited served no_key no_reference = absurd (no_reference _ refl)
+own_from_cited delimiter _ cited served no_key no_reference = cc
 
 -- it takes what its own field takes
 bounds_of-cited : (delimiter : ℕ) (tables : List TableLayout) (table : TableLayout) (kind : KindLayout) → is_cited kind ≡ true →
@@ -67,6 +68,13 @@ pub cited_text-key : (lines : LinesOf) (place index key : ℕ) → IsCitable lin
     cited_text lines index place ≡ decimal key
 cited_text-key lines place index key citable is never within below key_is small =
     ap (written (layout_of lines.plan).delimiter) (cited_for-held lines index place citable ∙ held-key lines place index key is never within below key_is)
+    ∙ piece_text-decimal (layout_of lines.plan).delimiter key small
+
+-- a cited column that holds a number
+pub cited_text-field : (lines : LinesOf) (index column key : ℕ) → IsCitable lines column → held_in_cohort lines index column ≡ Some (decimal key) → key < 2 ^ 64 →
+    cited_text lines index column ≡ decimal key
+cited_text-field lines index column key citable held small =
+    ap (written (layout_of lines.plan).delimiter) (cited_for-held lines index column citable ∙ held)
     ∙ piece_text-decimal (layout_of lines.plan).delimiter key small
 
 pub cited_for-own : (lines : LinesOf) (values : ValuesOf) (place index ordinal : ℕ) → IsCitable lines place → values ≡ values_at lines (change_for lines index) →
@@ -172,6 +180,18 @@ pub size-template : (lines : LinesOf) (column : ℕ) (ready : List ReadyPart) �
 size-template lines column ready template =
     ap (λ (kind : KindLayout). (bounds_of (layout_of lines.plan).delimiter (layout_of lines.plan).tables (layout_for lines) kind).size) template.is
     ∙ ap (λ (size : ℕ). max 2 size) (sym (parts-size lines template.parts) ∙ ap (λ (parts : List ReadyPart). sum_by (part_size lines) parts) (sym template.ready_are))
+
+-- and asks
+part-asked : (lines : LinesOf) (part : PartLayout) → part_asked lines (ready_part (layout_of lines.plan).delimiter part) ≡ asked_by_part (layout_of lines.plan).tables (layout_for lines) part
+part-asked lines (literal_part bytes) = refl
+part-asked lines (cited_part column) = refl
+
+pub asked-template : (lines : LinesOf) (column : ℕ) (ready : List ReadyPart) → IsTemplateOf lines column ready → sum_by (part_asked lines) ready ≡ asked_for lines column
+asked-template lines column ready template =
+    ap (sum_by (part_asked lines)) template.ready_are
+    ∙ fold-map (λ all part. all + part_asked lines part) (ready_part (layout_of lines.plan).delimiter) 0 template.parts
+    ∙ ap (λ (asked : PartLayout → ℕ). sum_by asked template.parts) (fun_ext (part-asked lines))
+    ∙ sym (ap (asked_by (layout_of lines.plan).tables (layout_for lines)) template.is)
 
 -- whether it is null, as the values of the cohort have it
 null-template : (lines : LinesOf) (values : ValuesOf) (column index ordinal : ℕ) → values ≡ values_at lines (change_for lines index) →

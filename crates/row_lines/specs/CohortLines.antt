@@ -1,10 +1,11 @@
 -- The lines of one cohort, and what the code keeps of them.
-use Rattle.std.specs.Prelude.{◌≡◌, ◌<◌, ◌≤◌, ℕ, ◌+◌, Bool, List, All, length, true}
+use Rattle.std.specs.Prelude.{◌≡◌, ◌<◌, ◌≤◌, ℕ, ◌+◌, Bool, List, All, length, sum_by, true}
 use Rattle.row_text.specs.Fields.{field_text}
 use Rattle.schema_check.specs.Cohorts.{first_ordinal}
 use Rattle.schema_check.specs.FieldBounds.{bounds_of}
-use Rattle.schema_check.specs.Layout.{layout_of, TableLayout, column_at}
-use Rattle.schema_check.specs.Limits.{IsTableInLimits}
+use Rattle.schema_check.specs.Layout.{PartLayout, literal_part, cited_part, KindLayout, template_kind, reference_kind, ColumnLayout, column_at, layout_of, TableLayout, table_at}
+use Rattle.schema_check.specs.Lineage.{one_if}
+use Rattle.schema_check.specs.Limits.{IsInLimits, IsTableInLimits}
 use Rattle.schema_check.specs.Dictionaries.{Project}
 use Rattle.schema_check.specs.declared.ready.ReadyColumn.{ReadyColumn}
 use Rattle.schema_check.specs.Ready.{ready_columns, is_served}
@@ -14,7 +15,9 @@ use Rattle.life_intervals.specs.CohortKeys.{CohortOf}
 use Rattle.life_intervals.specs.CohortLives.{CohortAt}
 use Rattle.life_intervals.specs.Generator.{generator_of, last_unit, table_of}
 use Rattle.life_intervals.specs.Intervals.{change_unit, is_live, row_at}
-use Rattle.life_intervals.specs.Keys.{key_in_cohort}
+use Rattle.life_intervals.specs.Keys.{key_in_cohort, key_of}
+use Rattle.life_intervals.specs.CohortParents.{parent_in}
+use Rattle.schema_check.specs.References.{Reference}
 use Rattle.row_lines.specs.Lines.{field, line_if_live, line_of}
 
 -- the lines at a unit of the rows that are born at one, in the table at a place
@@ -35,6 +38,12 @@ ordinal_of lines index = first_ordinal (layout_for lines).births lines.born + in
 -- the key of the row with an index in the cohort
 abbrev pub key_for : LinesOf → ℕ → ℕ
 key_for lines index = key_in_cohort (generator_of lines.plan) lines.table lines.born index
+
+-- the key of the parent that it has by a reference
+abbrev pub parent_key_for : LinesOf → ℕ → Reference → ℕ
+parent_key_for lines index reference =
+    key_of (generator_of lines.plan) reference.parent (last_unit lines.plan)
+    (parent_in (record { plan = lines.plan; table = lines.table; unit = lines.born }) index reference)
 
 -- the line of the row with an index in the cohort
 abbrev pub line_in_cohort : LinesOf → ℕ → List ℕ
@@ -72,6 +81,7 @@ pub record AreLinesOf (lines : LinesOf) (keys : CohortOf) (lives changes : Cohor
   pub births_are : births ≡ unit_draws lines.plan lines.table lines.born
   pub columns_are : columns ≡ ready_columns (layout_of lines.plan) lines.table
   pub served : All (λ column. is_served column ≡ true) columns
+  pub sound : IsInLimits lines.plan
   pub limits : IsTableInLimits (last_unit lines.plan) (layout_for lines)
   pub first_is : first ≡ first_ordinal (layout_for lines).births lines.born
   pub delimiter : byte ≡ (layout_of lines.plan).delimiter
@@ -84,3 +94,29 @@ abbrev pub size_for : LinesOf → ℕ → ℕ
 size_for lines column =
     (bounds_of (layout_of lines.plan).delimiter (layout_of lines.plan).tables (layout_for lines)
     (column_at (layout_for lines).columns column).kind).size
+
+-- how many permutations a field takes of a row whose key is known, where it puts no fields together: a reference its own, and that of
+-- its parent's key where this is scrambled
+abbrev pub asked_alone : List TableLayout → KindLayout → ℕ
+asked_alone tables (reference_kind parent window spread) = 1 + one_if (table_at tables parent).key.scramble
+asked_alone tables _ = 0
+
+-- how many a part of a template takes
+abbrev pub asked_by_part : List TableLayout → TableLayout → PartLayout → ℕ
+asked_by_part tables table (literal_part bytes) = 0
+asked_by_part tables table (cited_part column) = asked_alone tables (column_at table.columns column).kind
+
+-- how many a field takes at most
+abbrev pub asked_by : List TableLayout → TableLayout → KindLayout → ℕ
+asked_by tables table (template_kind parts) = sum_by (asked_by_part tables table) parts
+asked_by tables table kind = asked_alone tables kind
+
+-- that of the column at a place
+abbrev pub asked_for : LinesOf → ℕ → ℕ
+asked_for lines column =
+    asked_by (layout_of lines.plan).tables (layout_for lines) (column_at (layout_for lines).columns column).kind
+
+-- those of a line
+unfoldable pub asked_for_line : LinesOf → ℕ
+asked_for_line lines =
+    sum_by (λ (column : ColumnLayout). asked_by (layout_of lines.plan).tables (layout_for lines) column.kind) (layout_for lines).columns

@@ -1,9 +1,11 @@
 -- The text of a table: a line for each row, in COPY text form (PostgreSQL's manual, "COPY").
-use Rattle.std.specs.Prelude.{ℕ, List, [], ◌++◌, filter, map, flat_map, length, Option, Some, codes, decimal, if◌then◌else◌, unwrap_or}
+use Rattle.std.specs.Prelude.{ℕ, ◌==◌, List, [], ◌++◌, filter, find, map, flat_map, length, zip, Option, Some, codes, decimal, if◌then◌else◌, unwrap_or}
 use Rattle.std.specs.List.{join_with_byte, range_with_len}
+use Rattle.std.specs.Option.{option_map_or}
 use Rattle.row_text.specs.Fields.{field_text}
 use Rattle.schema_check.specs.Cohorts.{cohort_size, first_ordinal}
-use Rattle.schema_check.specs.Layout.{PartLayout, literal_part, cited_part, KindLayout, key_kind, template_kind, reference_kind, lookup_kind, table_at, column_at}
+use Rattle.schema_check.specs.Layout.{PartLayout, literal_part, cited_part, KindLayout, key_kind, template_kind, reference_kind, lookup_kind, TableLayout, table_at, column_at}
+use Rattle.schema_check.specs.References.{Reference, references_of}
 use Rattle.draw_values.specs.declared.values.RowAt.{RowAt}
 use Rattle.draw_values.specs.Values.{RowDraws, draw_unit, own_value, not_served, unless_null}
 use Rattle.life_intervals.specs.Generator.{Generator}
@@ -21,11 +23,18 @@ abbrev pub draws_of : Generator → ℕ → Row → RowDraws
 draws_of generator place row column =
     generator.draw place column (draw_unit (column_at (table_at generator.tables place).columns column) (at_row row)) row.ordinal
 
+-- the ordinal of the parent that a row of a table has by the reference in the column at a place
+abbrev pub parent_of_row : TableLayout → Row → ℕ → ℕ
+parent_of_row table row column =
+    option_map_or (λ (at : Reference × ℕ). at.1) (find (λ (at : Reference × ℕ). at.0.column == column) (zip (references_of table) row.parents)) 0
+
 -- what a row of the table at a place holds in the column at a place, which is of this kind and puts no fields together, where that
--- isn't null by its own draw
+-- isn't null by its own draw: in a reference the key of its parent, which is born by the row's birth
 abbrev pub value_alone : Generator → ℕ → Row → ℕ → KindLayout → Option (List ℕ)
 value_alone generator place row column key_kind =
     Some (decimal (key_in_cohort generator place row.born (index_in_cohort (table_at generator.tables place) row)))
+value_alone generator place row column (reference_kind parent window spread) =
+    Some (decimal (key_of generator parent row.born (parent_of_row (table_at generator.tables place) row column)))
 value_alone generator place row column kind =
     own_value (table_at generator.tables place).columns (at_row row) (draws_of generator place row) column kind
 
@@ -44,12 +53,11 @@ part_text generator place row (cited_part column) = unwrap_or (field_alone gener
 -- template its parts, one after the other
 abbrev pub value : Generator → ℕ → Row → ℕ → KindLayout → Option (List ℕ)
 value generator place row column (template_kind parts) = Some (flat_map (part_text generator place row) parts)
-value generator place row column (reference_kind parent window spread) = not_served
 value generator place row column (lookup_kind via parent name) = not_served
 value generator place row column kind = value_alone generator place row column kind
 
 -- what a row of the table at a place holds at a unit in the column at a place, None where it is null. No value that is served speaks of
--- other rows: so the unit isn't asked yet
+-- what changes in other rows: so the unit isn't asked yet
 abbrev pub field : Generator → ℕ → ℕ → Row → ℕ → Option (List ℕ)
 field generator unit place row column =
     unless_null (column_at (table_at generator.tables place).columns column).null (draws_of generator place row column)

@@ -8,7 +8,7 @@ use Rattle.schema_check.specs.Limits.{is_cited}
 use Rattle.draw_values.specs.Values.{written}
 use Rattle.life_intervals.specs.Generator.{generator_of}
 use Rattle.life_intervals.specs.Intervals.{row_at}
-use Rattle.row_lines.specs.CohortLines.{LinesOf, layout_for, ordinal_of}
+use Rattle.row_lines.specs.CohortLines.{LinesOf, asked_alone, layout_for, ordinal_of}
 use Rattle.row_lines.specs.Lines.{field_alone}
 
 -- what the row with an index in the cohort holds in the column at a place, which may be cited
@@ -39,6 +39,14 @@ written_part lines index (part.Cited column) = cited_text lines index column
 abbrev pub part_size : LinesOf → ReadyPart → ℕ
 part_size lines (part.Literal bytes) = length bytes
 part_size lines (part.Cited column) = cited_size lines column
+
+-- how many permutations a cited column and a part take, where the row's key is known
+abbrev pub cited_asked : LinesOf → ℕ → ℕ
+cited_asked lines column = asked_alone (layout_of lines.plan).tables (column_at (layout_for lines).columns column).kind
+
+abbrev pub part_asked : LinesOf → ReadyPart → ℕ
+part_asked lines (part.Literal bytes) = 0
+part_asked lines (part.Cited column) = cited_asked lines column
 
 abbrev pub IsPartOf : LinesOf → ReadyPart → Type 0
 IsPartOf lines (part.Literal bytes) = ⊤

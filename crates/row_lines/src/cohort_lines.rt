@@ -5,22 +5,25 @@ ghost use Rattle.schema_check.specs.declared.ready.ReadyKind.TheVariants.{Templa
 ghost use Rattle.schema_check.specs.Cohorts.{cohort_size};
 ghost use Rattle.schema_check.specs.Delimiters.{delimiter_byte as byte_of};
 ghost use Rattle.schema_check.specs.Layout.{column_at, layout_of};
-ghost use Rattle.schema_check.specs.Lineage.{one_if};
+ghost use Rattle.schema_check.specs.Lineage.{death_cost, one_if};
 ghost use Rattle.schema_check.specs.Ready.{ready_kind};
 ghost use Rattle.schema_check.specs.TableFacts.{line_cost, max_line};
 ghost use Rattle.draw_values.specs.UnitDraws.{unit_draws};
 ghost use Rattle.draw_values.specs.Values.{is_own};
 ghost use Rattle.life_intervals.specs.Generator.{last_unit};
-ghost use Rattle.life_intervals.specs.CohortOrders.{cohort_orders, do_lives_differ, do_updates_differ};
+ghost use Rattle.life_intervals.specs.CohortOrders.{cohort_orders, do_updates_differ};
+ghost use Rattle.life_intervals.specs.CohortParents.{AreCandidates, IsReferenceOf, reference_by};
 ghost use Rattle.row_lines.specs.ChangeDraws.{change_draws};
-ghost use Rattle.row_lines.specs.CohortLines.{change_for, is_live_for, key_for, layout_for, line_in_cohort, size_for, text_in_cohort, values_at};
-ghost use Rattle.row_lines.specs.Parts.{IsCitable, IsPartOf, cited_size, cited_text, part_size, written_part};
+ghost use Rattle.row_lines.specs.CohortLines.{asked_for, asked_for_line, change_for, is_live_for, key_for, layout_for, line_in_cohort, parent_key_for, size_for, text_in_cohort, values_at};
+ghost use Rattle.row_lines.specs.Parts.{IsCitable, IsPartOf, cited_asked, cited_size, cited_text, part_asked, part_size, written_part};
 
 use draw_values::{CohortValues, Put, UnitDraws};
-use life_intervals::{CohortChanges, CohortKeys, CohortLives, CohortOrders, Survival, cohort};
+use life_intervals::{
+    Candidates, CohortChanges, CohortKeys, CohortLives, CohortOrders, Survival, cohort, key,
+};
 use pd_outside::{PageBuf, Piece};
 use row_text::put_null;
-use schema_check::{Plan, ReadyColumn, ReadyKind, ReadyPart};
+use schema_check::{Plan, ReadyColumn, ReadyKind, ReadyPart, ReadyReference};
 use schema_model::Delimiter;
 use std::marker::Model;
 use std::sync::ledger::Ledger;
@@ -53,18 +56,21 @@ impl<'a> Model for CohortLines<'a> {
 }
 
 impl<'a> CohortLines<'a> {
-    /// The lines at `unit` of the rows of a table that are born at unit `born`, with the orders of these.
+    /// The lines at `unit` of the rows of a table that are born at unit `born`, with the orders of these and the candidates of their
+    /// parents, or with none, where these are found anew for each row.
     pub fn new(
         plan: &'a Plan,
         table: u32,
         born: u64,
         unit: u64,
         orders: &'a CohortOrders,
+        candidates: &'a [Option<Candidates>],
     ) -> CohortLines<'a>
         requires table { table < length plan.now.schema.tables }
         requires born { born ≤ unit }
         requires unit { unit ≤ last_unit plan.now }
         requires orders { orders.now ≡ cohort_orders plan.now table born }
+        requires candidates { AreCandidates plan.now table born candidates.now }
         ensures { result ≡ record { plan = plan.now; table = table; born = born; unit = unit } }
     {
         CohortLines {
@@ -74,7 +80,7 @@ impl<'a> CohortLines<'a> {
             unit,
             first: cohort(plan, table, born).first,
             keys: CohortKeys::new(plan, table, born, &orders.keys),
-            lives: CohortLives::new(plan, table, born, unit, &orders.lives),
+            lives: CohortLives::new(plan, table, born, unit, &orders.lives, candidates),
             changes: CohortChanges::new(plan, table, born, unit, &orders.updates),
             births: UnitDraws::new(plan, table, born),
             columns: plan.columns(table),
@@ -145,8 +151,8 @@ impl<'a> CohortLines<'a> {
         }
     }
 
-    /// Puts into the list which of so many rows are alive, the first that with the index `first` in the cohort. Each takes at most
-    /// one step, and none where lives of the table don't differ, or all of the cohort are alive, or none.
+    /// Puts into the list which of so many rows are alive, the first that with the index `first` in the cohort. Each takes at most as
+    /// many steps as the cost of a death says, and none where all of the cohort are alive, or none.
     pub fn put_lives<L: Ledger>(
         &self,
         first: u64,
@@ -159,7 +165,7 @@ impl<'a> CohortLines<'a> {
         ensures live { (i : ℕ) → i < count → get_or live.new i false ≡ is_live_for self.now (first + i) }
         ensures rest { (i : ℕ) → count ≤ i → get_or live.new i false ≡ get_or live.old i false }
         ensures length { length live.new ≡ length live.old }
-        ensures steps { steps.new ≤ steps.old + count * one_if (do_lives_differ (layout_for self.now).life) }
+        ensures steps { steps.new ≤ steps.old + count * death_cost (layout_of self.now.plan).tables self.now.table }
     {
         match self.survival() {
             Survival::Sure => put_all(live, count, true),
@@ -168,7 +174,7 @@ impl<'a> CohortLines<'a> {
         }
     }
 
-    /// The same by the length of each row's life.
+    /// The same by the death of each row.
     fn put_drawn_lives<L: Ledger>(
         &self,
         first: u64,
@@ -181,7 +187,7 @@ impl<'a> CohortLines<'a> {
         ensures live { (i : ℕ) → i < count → get_or live.new i false ≡ is_live_for self.now (first + i) }
         ensures rest { (i : ℕ) → count ≤ i → get_or live.new i false ≡ get_or live.old i false }
         ensures length { length live.new ≡ length live.old }
-        ensures steps { steps.new ≡ steps.old + count * one_if (do_lives_differ (layout_for self.now).life) }
+        ensures steps { steps.new ≤ steps.old + count * death_cost (layout_of self.now.plan).tables self.now.table }
     {
         let _limits = self.plan.table(self.place); // a table has at most 2^40 rows
         for index in 0..count {
@@ -189,12 +195,12 @@ impl<'a> CohortLines<'a> {
         }
     }
 
-    /// Whether the row with this index in the cohort is alive, by the length of its life.
+    /// Whether the row with this index in the cohort is alive, by its death.
     #[inline(always)]
     fn is_live<L: Ledger>(&self, index: u64, steps: &mut Steps<L>) -> bool
         requires { index < cohort_size (layout_for self.now).births self.now.born }
         ensures live { result ≡ is_live_for self.now index }
-        ensures steps { steps.new ≡ steps.old + one_if (do_lives_differ (layout_for self.now).life) }
+        ensures steps { steps.new ≤ steps.old + death_cost (layout_of self.now.plan).tables self.now.table }
     {
         self.lives.is_live(index, steps)
     }
@@ -223,19 +229,20 @@ impl<'a> CohortLines<'a> {
         let key = self.key(index, steps);
         let changed = self.changed(index, steps);
         let draws = UnitDraws::new(self.plan, self.place, changed);
-        self.put_drawn_line(index, key, &draws, buf);
+        self.put_drawn_line(index, key, &draws, buf, steps);
     }
 
     /// The same for a row whose key and whose unit of the last change are known, with the draws of the table's changes, so that its
-    /// line asks no permutation and makes no seed but its own.
+    /// line makes no seed but its own and asks no permutation but those of references.
     #[inline]
-    pub fn put_known_line(
+    pub fn put_known_line<L: Ledger>(
         &self,
         index: u64,
         key: u64,
         changed: u64,
         changes: &[UnitDraws],
         buf: &mut PageBuf,
+        steps: &mut Steps<L>,
     )
         requires row { index < cohort_size (layout_for self.now).births self.now.born }
         requires alive { is_live_for self.now index ≡ true }
@@ -245,42 +252,70 @@ impl<'a> CohortLines<'a> {
         requires room { length buf.old.text + max_line (layout_of self.now.plan) self.now.table ≤ buf.old.room }
         ensures line { buf.new ≡ record buf.old { text = buf.old.text ++ line_in_cohort self.now index } }
         ensures size { length (line_in_cohort self.now index) ≤ max_line (layout_of self.now.plan) self.now.table }
+        ensures steps { steps.new ≤ steps.old + asked_for_line self.now }
     {
         if changed == self.born {
-            self.put_drawn_line(index, key, &self.births, buf);
+            self.put_drawn_line(index, key, &self.births, buf, steps);
         } else {
             let draws = &changes[changes.len() - 1 - (self.unit - changed) as usize];
-            self.put_drawn_line(index, key, draws, buf);
+            self.put_drawn_line(index, key, draws, buf, steps);
         }
     }
 
     /// The same with the draws of the row's last change.
     #[inline]
-    fn put_drawn_line(&self, index: u64, key: u64, draws: &UnitDraws, buf: &mut PageBuf)
+    fn put_drawn_line<L: Ledger>(
+        &self,
+        index: u64,
+        key: u64,
+        draws: &UnitDraws,
+        buf: &mut PageBuf,
+        steps: &mut Steps<L>,
+    )
         requires row { index < cohort_size (layout_for self.now).births self.now.born }
         requires key { key ≡ key_for self.now index }
         requires draws { draws.now ≡ unit_draws self.now.plan self.now.table (change_for self.now index) }
         requires room { length buf.old.text + max_line (layout_of self.now.plan) self.now.table ≤ buf.old.room }
         ensures line { buf.new ≡ record buf.old { text = buf.old.text ++ line_in_cohort self.now index } }
         ensures size { length (line_in_cohort self.now index) ≤ max_line (layout_of self.now.plan) self.now.table }
+        ensures steps { steps.new ≤ steps.old + asked_for_line self.now }
     {
         let values = CohortValues::new(self.plan, self.place, &self.births, draws);
         for column in 0..self.columns.len() {
             put_delimiter(buf, self.delimiter, column);
-            self.put_field(column, index, key, &values, buf);
+            self.put_field(column, index, key, &values, buf, steps);
         }
         buf.put_piece(&Piece::of_byte(b'\n'));
     }
 
+    /// The key of the parent that the row with this index in the cohort has by a reference, which is ready in the column at a place.
+    fn parent_key<L: Ledger>(
+        &self,
+        column: u32,
+        reference: &ReadyReference,
+        index: u64,
+        steps: &mut Steps<L>,
+    ) -> u64
+        requires row { index < cohort_size (layout_for self.now).births self.now.born }
+        requires reference { IsReferenceOf self.now.plan self.now.table column reference.now }
+        ensures key { result ≡ parent_key_for self.now index (reference_by column reference.now) }
+        ensures steps { steps.new ≡ steps.old + cited_asked self.now column }
+    {
+        let _limits = self.plan.schema(); // the parent's table is an earlier one
+        let parent = self.lives.parent(column, reference, index, steps);
+        key(self.plan, reference.parent, parent, steps)
+    }
+
     /// Appends the field of the column at a place.
     #[inline(always)]
-    fn put_field(
+    fn put_field<L: Ledger>(
         &self,
         column: usize,
         index: u64,
         key: u64,
         values: &CohortValues<'_>,
         buf: &mut PageBuf,
+        steps: &mut Steps<L>,
     )
         requires column { column < length (layout_for self.now).columns }
         requires row { index < cohort_size (layout_for self.now).births self.now.born }
@@ -289,19 +324,24 @@ impl<'a> CohortLines<'a> {
         requires room { length buf.old.text + size_for self.now column ≤ buf.old.room }
         ensures text { buf.new ≡ record buf.old { text = buf.old.text ++ text_in_cohort self.now index column } }
         ensures size { length (text_in_cohort self.now index column) ≤ size_for self.now column }
+        ensures steps { steps.new ≤ steps.old + asked_for self.now column }
     {
         let columns = self.columns;
         match &columns[column].kind {
             ReadyKind::Key => buf.put_number(key),
             ReadyKind::Template { parts } => {
-                self.put_template(column, parts.as_slice(), index, key, values, buf)
+                self.put_template(column, parts.as_slice(), index, key, values, buf, steps)
+            }
+            ReadyKind::Reference(reference) => {
+                let parent = self.parent_key(column as u32, reference, index, steps);
+                buf.put_number(parent)
             }
             _ => self.put_own(column, index, values, buf),
         }
     }
 
     /// Appends the field of a template with these parts.
-    fn put_template(
+    fn put_template<L: Ledger>(
         &self,
         column: usize,
         parts: &[ReadyPart],
@@ -309,6 +349,7 @@ impl<'a> CohortLines<'a> {
         key: u64,
         values: &CohortValues<'_>,
         buf: &mut PageBuf,
+        steps: &mut Steps<L>,
     )
         requires column { column < length (layout_for self.now).columns }
         requires template { ready_kind (layout_of self.now.plan).delimiter (column_at (layout_for self.now).columns column).kind ≡ Template parts.now }
@@ -318,22 +359,24 @@ impl<'a> CohortLines<'a> {
         requires room { length buf.old.text + size_for self.now column ≤ buf.old.room }
         ensures text { buf.new ≡ record buf.old { text = buf.old.text ++ text_in_cohort self.now index column } }
         ensures size { length (text_in_cohort self.now index column) ≤ size_for self.now column }
+        ensures steps { steps.new ≤ steps.old + asked_for self.now column }
     {
         if values.is_null(column, self.first + index) {
             put_null(buf);
         } else {
-            self.put_parts(parts, index, key, values, buf);
+            self.put_parts(parts, index, key, values, buf, steps);
         }
     }
 
     /// Appends some parts, one after the other.
-    fn put_parts(
+    fn put_parts<L: Ledger>(
         &self,
         parts: &[ReadyPart],
         index: u64,
         key: u64,
         values: &CohortValues<'_>,
         buf: &mut PageBuf,
+        steps: &mut Steps<L>,
     )
         requires parts { All (IsPartOf self.now) parts.now }
         requires row { index < cohort_size (layout_for self.now).births self.now.born }
@@ -342,21 +385,23 @@ impl<'a> CohortLines<'a> {
         requires room { length buf.old.text + sum_by (part_size self.now) parts.now ≤ buf.old.room }
         ensures text { buf.new ≡ record buf.old { text = buf.old.text ++ flat_map (written_part self.now index) parts.now } }
         ensures size { length (flat_map (written_part self.now index) parts.now) ≤ sum_by (part_size self.now) parts.now }
+        ensures steps { steps.new ≤ steps.old + sum_by (part_asked self.now) parts.now }
     {
         for part in parts {
-            self.put_part(part, index, key, values, buf);
+            self.put_part(part, index, key, values, buf, steps);
         }
     }
 
     /// Appends a part.
     #[inline(always)]
-    fn put_part(
+    fn put_part<L: Ledger>(
         &self,
         part: &ReadyPart,
         index: u64,
         key: u64,
         values: &CohortValues<'_>,
         buf: &mut PageBuf,
+        steps: &mut Steps<L>,
     )
         requires part { IsPartOf self.now part.now }
         requires row { index < cohort_size (layout_for self.now).births self.now.born }
@@ -365,22 +410,26 @@ impl<'a> CohortLines<'a> {
         requires room { length buf.old.text + part_size self.now part.now ≤ buf.old.room }
         ensures text { buf.new ≡ record buf.old { text = buf.old.text ++ written_part self.now index part.now } }
         ensures size { length (written_part self.now index part.now) ≤ part_size self.now part.now }
+        ensures steps { steps.new ≤ steps.old + part_asked self.now part.now }
     {
         match part {
             ReadyPart::Literal(written) => buf.put(written.as_slice()),
-            ReadyPart::Cited(column) => self.put_cited(*column as usize, index, key, values, buf),
+            ReadyPart::Cited(column) => {
+                self.put_cited(*column as usize, index, key, values, buf, steps)
+            }
         }
     }
 
     /// Appends the field of the column at a place, which may be cited; nothing where it is null.
     #[inline(always)]
-    fn put_cited(
+    fn put_cited<L: Ledger>(
         &self,
         column: usize,
         index: u64,
         key: u64,
         values: &CohortValues<'_>,
         buf: &mut PageBuf,
+        steps: &mut Steps<L>,
     )
         requires column { IsCitable self.now column }
         requires row { index < cohort_size (layout_for self.now).births self.now.born }
@@ -389,10 +438,15 @@ impl<'a> CohortLines<'a> {
         requires room { length buf.old.text + cited_size self.now column ≤ buf.old.room }
         ensures text { buf.new ≡ record buf.old { text = buf.old.text ++ cited_text self.now index column } }
         ensures size { length (cited_text self.now index column) ≤ cited_size self.now column }
+        ensures steps { steps.new ≤ steps.old + cited_asked self.now column }
     {
         let columns = self.columns;
         match &columns[column].kind {
             ReadyKind::Key => buf.put_number(key),
+            ReadyKind::Reference(reference) => {
+                let parent = self.parent_key(column as u32, reference, index, steps);
+                buf.put_number(parent)
+            }
             _ => {
                 values.put(column, self.first + index, buf);
             }

@@ -5,14 +5,15 @@
 //! A table is named by its place in the schema from 0. Units and ordinals count from 0, and so do the indices of a
 //! cohort's rows.
 
-ghost use Rattle.std.specs.Prelude.{◌≡◌, ℕ, ◌+◌, ◌<◌, ◌≤◌, ◌++◌, [], List, Some, codes, decimal, flat_map, if◌then◌else◌, false, true, unwrap_or};
+ghost use Rattle.std.specs.Prelude.{◌≡◌, ℕ, ◌+◌, ◌<◌, ◌≤◌, ◌++◌, [], List, Some, codes, decimal, flat_map, if◌then◌else◌, false, length, true, unwrap_or};
 ghost use Rattle.row_text.specs.Fields.{field_text, piece_text};
 ghost use Rattle.schema_check.specs.Cohorts.{born_count, cohort_size, first_ordinal};
 ghost use Rattle.schema_check.specs.Layout.{LeafLayout, PartLayout, born_kind, changed_kind, cited_part, column_at, key_kind, leaf_kind, literal_part, table_at, template_kind};
 ghost use Rattle.schema_check.specs.Limits.{is_cited};
 ghost use Rattle.draw_values.specs.Values.{leaf_value, unless_null};
 ghost use Rattle.life_intervals.specs.Generator.{Generator};
-ghost use Rattle.life_intervals.specs.Intervals.{is_live, living, row_at};
+ghost use Rattle.schema_check.specs.References.{Reference, reference_at};
+ghost use Rattle.life_intervals.specs.Intervals.{is_live, living, parent_of, row_at};
 ghost use Rattle.life_intervals.specs.Keys.{key_of};
 ghost use Rattle.life_intervals.specs.Rows.{Row};
 ghost use Rattle.life_intervals.specs.Sound.{AreSound};
@@ -58,7 +59,8 @@ pub fn text_so_far_begins_the_text()
         ≡ (text_before generator unit place born ++ first_lines generator unit place born count) ++ rest) }
 {}
 
-/// What a row holds at a unit by which it is born: its key in a key column that is never null; in a column of units of birth, of
+/// What a row holds at a unit by which it is born: its key in a key column that is never null, and its parent's in a reference that
+/// is never null; in a column of units of birth, of
 /// units of the last change, of drawn values or of templates the unit, what its draws give, or the template's parts one after the
 /// other, unless draw 0 makes it null. A part is a text, or what the row holds in the column that is cited, and nothing where that is
 /// null. The draws are those at the unit of the row's last change in a column that changes, and those at its birth in any other.
@@ -86,6 +88,13 @@ pub fn fields_of_a_row()
         ≡ unless_null (column_at (table_at generator.tables place).columns column).null
         (draws_of generator place (row_at generator place unit ordinal) column)
         (leaf_value leaf (draws_of generator place (row_at generator place unit ordinal) column)) }
+    ensures reference { (units : ℕ) (generator : Generator) → AreSound units generator.tables →
+        (place : ℕ) → place < length generator.tables → (unit : ℕ) → unit ≤ units →
+        (ordinal : ℕ) → ordinal < born_count (table_at generator.tables place).births unit →
+        (column : ℕ) (reference : Reference) → reference_at (table_at generator.tables place) column ≡ Some reference →
+        (column_at (table_at generator.tables place).columns column).null ≡ 0 →
+        field generator unit place (row_at generator place unit ordinal) column
+        ≡ Some (decimal (key_of generator reference.parent unit (parent_of generator place unit ordinal reference))) }
     ensures template { (generator : Generator) (unit place ordinal column : ℕ) (parts : List PartLayout) →
         (column_at (table_at generator.tables place).columns column).kind ≡ template_kind parts →
         field generator unit place (row_at generator place unit ordinal) column

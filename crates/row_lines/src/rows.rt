@@ -59,7 +59,7 @@ pub fn put_line<L: Ledger>(
     let born = birth(plan, table, j);
     let index = j - cohort(plan, table, born).first;
     let orders = cohort_orders(plan, table, born);
-    CohortLines::new(plan, table, born, t, &orders).put_line(index, buf, steps);
+    CohortLines::new(plan, table, born, t, &orders, &[]).put_line(index, buf, steps);
 }
 
 /// Appends the key line of the row of ordinal `j`: its key and a line feed, for which 21 bytes have to be free. It takes

@@ -1,15 +1,16 @@
 //! Values from outside: small ones worked out by hand, and the checksum of a text that an independent program wrote, in
 //! Python from the rules of cohorts, keys and lines, with no shared code (docs/SECOND_PROGRAM.md).
 
-ghost use Rattle.std.specs.Prelude.{◌≡◌, ℕ, ◌<◌, ◌≤◌, IfOk, length};
-ghost use Rattle.life_intervals.specs.Generator.{last_unit};
+ghost use Rattle.std.specs.Prelude.{◌≡◌, ℕ, ◌<◌, ◌≤◌, IfOk, is_some, length, true};
+ghost use Rattle.schema_check.specs.References.{reference_at};
+ghost use Rattle.life_intervals.specs.Generator.{last_unit, table_of};
 
 use super::*;
-use life_intervals::{Survival, born, cohort, cohort_orders};
+use life_intervals::{Survival, born, cohort, cohort_orders, key, parent};
 use pd_outside::{Memory, PageBuf};
-use schema_check::{Dictionaries, Plan, check, unbuilt};
+use schema_check::{Dictionaries, Plan, ReadyKind, check, unbuilt};
 use schema_model::{
-    Column, Columns, Delimiter, Kind, Life, Part, Parts, Schema, Table, Tables, Text,
+    Column, Columns, Delimiter, Kind, Life, Longs, Part, Parts, Schema, Table, Tables, Text, Window,
 };
 use std::alloc::{AllocError, Global};
 use std::marker::Brand;
@@ -45,14 +46,37 @@ struct Births {
     scramble: bool,
 }
 
-/// Its columns, where so many of a thousand birth units are null.
-fn columns(alloc: Global, births: Births, null: i64) -> Result<Columns, AllocError> {
+/// The column of its keys.
+fn key_column(alloc: Global, births: Births) -> Result<Columns, AllocError> {
     let key = Kind::Key {
         base: 1,
         scramble: births.scramble,
     };
-    let columns = with_column(alloc, Columns::new(alloc), "id", key, 0)?;
-    with_column(alloc, columns, "born", Kind::Born, null)
+    with_column(alloc, Columns::new(alloc), "id", key, 0)
+}
+
+/// Its columns, where so many of a thousand birth units are null.
+fn columns(alloc: Global, births: Births, null: i64) -> Result<Columns, AllocError> {
+    with_column(alloc, key_column(alloc, births)?, "born", Kind::Born, null)
+}
+
+/// Such a table, whose rows live for some units and change every so many.
+fn table(
+    alloc: Global,
+    name: &str,
+    births: Births,
+    life: Option<Life>,
+    update: Option<i64>,
+    columns: Columns,
+) -> Result<Table, AllocError> {
+    Ok(Table {
+        name: Text::of(alloc, name).map_err(|_| AllocError)?,
+        rows: births.rows,
+        insert: births.insert,
+        life,
+        update,
+        columns,
+    })
 }
 
 /// The plan of one such table, with seed 7.
@@ -62,21 +86,23 @@ fn plan(alloc: Global, births: Births) -> Result<Plan, Fail> {
 
 /// The plan of such a table with these columns, with seed 7.
 fn plan_with(alloc: Global, births: Births, columns: Columns) -> Result<Plan, Fail> {
-    let table = Table {
-        name: Text::of(alloc, "t").map_err(|_| AllocError)?,
-        rows: births.rows,
-        insert: births.insert,
-        life: None,
-        update: None,
-        columns,
-    };
+    let table = table(alloc, "t", births, None, None, columns)?;
     plan_of(alloc, table, births.units)
 }
 
 /// The plan of a table up to a last unit, with seed 7.
 fn plan_of(alloc: Global, table: Table, units: i64) -> Result<Plan, Fail> {
-    let mut tables = Tables::new(alloc);
+    plan_of_all(alloc, with_table(Tables::new(alloc), table)?, units)
+}
+
+fn with_table(tables: Tables, table: Table) -> Result<Tables, AllocError> {
+    let mut tables = tables;
     tables.push(table).map_err(|_| AllocError)?;
+    Ok(tables)
+}
+
+/// The plan of some tables up to a last unit, with seed 7.
+fn plan_of_all(alloc: Global, tables: Tables, units: i64) -> Result<Plan, Fail> {
     let schema = Schema {
         seed: 7,
         units,
@@ -186,25 +212,42 @@ fn lines_and_keys(rt: HostRuntime) -> Result<(), Fail> {
 
 /// The plan of a row at each unit, three units long, that lives for two.
 fn mortal(alloc: Global) -> Result<Plan, Fail> {
-    let table = Table {
-        name: Text::of(alloc, "t").map_err(|_| AllocError)?,
-        rows: 1,
-        insert: 1,
-        life: Some(Life { lo: 2, hi: 2 }),
-        update: None,
-        columns: columns(alloc, one(false), 0)?,
-    };
-    plan_of(alloc, table, 2)
+    let births = one(false);
+    let columns = columns(alloc, births, 0)?;
+    let two = Some(Life { lo: 2, hi: 2 });
+    plan_of(
+        alloc,
+        table(alloc, "t", births, two, None, columns)?,
+        births.units,
+    )
 }
 
-fn assert_live<L: Ledger>(rt: &impl Abort, plan: &Plan, blank: Blank)
+/// Whether rows of a table are there, by their ordinals and units.
+fn assert_live<L: Ledger>(
+    rt: &impl Abort,
+    plan: &Plan,
+    table: u32,
+    lives: &[(u64, u64, bool)],
+    blank: Blank,
+)
     requires name { blank.name ≡ L.name }
     requires parts { blank.parts ≡ L.parts }
     requires some { 0 < blank.parts }
 {
     let mut steps = Steps::<L>::new(blank);
-    assert!(rt; plan.tables() == 1);
-    for (row, unit, is_live) in [
+    assert!(rt; table < plan.tables());
+    for (row, unit, is_live) in lives {
+        assert!(rt; *unit <= plan.units());
+        assert!(rt; *row < born(plan, table, plan.units()));
+        assert_eq!(rt; live(plan, table, *row, *unit, &mut steps), *is_live);
+    }
+}
+
+// By hand: a row is there from its birth on, for as long as it lives.
+#[test]
+fn rows_that_die(rt: HostRuntime) -> Result<(), Fail> {
+    let plan = mortal(rt.alloc())?;
+    let lives = [
         (0, 0, true),
         (0, 1, true),
         (0, 2, false),
@@ -213,34 +256,25 @@ fn assert_live<L: Ledger>(rt: &impl Abort, plan: &Plan, blank: Blank)
         (1, 2, true),
         (2, 1, false),
         (2, 2, true),
-    ] {
-        assert!(rt; unit <= plan.units());
-        assert!(rt; row < born(plan, 0, plan.units()));
-        assert_eq!(rt; live(plan, 0, row, unit, &mut steps), is_live);
-    }
-}
-
-// By hand: a row is there from its birth on, for as long as it lives.
-#[test]
-fn rows_that_die(rt: HostRuntime) -> Result<(), Fail> {
-    let plan = mortal(rt.alloc())?;
-    assert_live::<Brand>(&rt, &plan, Blank::new(1));
+    ];
+    assert_live::<Brand>(&rt, &plan, 0, &lives, Blank::new(1));
     Ok(())
 }
 
-/// A template: an r, the key, a tab, the unit of birth, a mark and the key again.
-fn label(alloc: Global) -> Result<Kind, AllocError> {
+/// A template of texts, with the field of a column behind each.
+fn template(alloc: Global, pairs: &[(&str, &str)]) -> Result<Kind, AllocError> {
     let mut parts = Parts::new(alloc);
-    for (text, cited) in [("r", "id"), ("\t", "born"), ("!", "id")] {
-        let text = Text::of(alloc, text).map_err(|_| AllocError)?;
+    for (text, cited) in pairs {
+        let text = Text::of(alloc, *text).map_err(|_| AllocError)?;
         parts.push(Part::Literal(text)).map_err(|_| AllocError)?;
-        let cited = Text::of(alloc, cited).map_err(|_| AllocError)?;
+        let cited = Text::of(alloc, *cited).map_err(|_| AllocError)?;
         parts.push(Part::Cited(cited)).map_err(|_| AllocError)?;
     }
     Ok(Kind::Template { parts })
 }
 
-/// The plan of scrambled keys, units of birth of which half are null, and labels of these of which 300 of a thousand are.
+/// The plan of scrambled keys, units of birth of which half are null, and labels of these of which 300 of a thousand are: an r, the
+/// key, a tab, the unit of birth, a mark and the key again.
 fn labelled(alloc: Global) -> Result<Plan, Fail> {
     let births = Births {
         rows: 4,
@@ -249,7 +283,8 @@ fn labelled(alloc: Global) -> Result<Plan, Fail> {
         scramble: true,
     };
     let columns = columns(alloc, births, 500)?;
-    let columns = with_column(alloc, columns, "label", label(alloc)?, 300)?;
+    let label = template(alloc, &[("r", "id"), ("\t", "born"), ("!", "id")])?;
+    let columns = with_column(alloc, columns, "label", label, 300)?;
     plan_with(alloc, births, columns)
 }
 
@@ -265,6 +300,196 @@ fn lines_of_templates(rt: HostRuntime) -> Result<(), Fail> {
         (5, "5\t\\N\tr5\\t!5\n", "5\n"),
     ];
     assert_lines::<Brand>(&rt, alloc, &plan, &lines, Blank::new(1))
+}
+
+/// A reference to a table, with one group of candidates.
+fn reference(alloc: Global, table: &str, window: Window) -> Result<Kind, AllocError> {
+    let mut spread = Longs::new(alloc);
+    spread.push(1).map_err(|_| AllocError)?;
+    Ok(Kind::Ref {
+        table: Text::of(alloc, table).map_err(|_| AllocError)?,
+        window,
+        spread,
+    })
+}
+
+/// Customers, one at each unit, who live three units and change every two.
+fn customers(alloc: Global, births: Births) -> Result<Table, AllocError> {
+    let columns = columns(alloc, births, 0)?;
+    let columns = with_column(alloc, columns, "changed", Kind::Changed, 0)?;
+    let three = Some(Life { lo: 3, hi: 3 });
+    table(alloc, "customers", births, three, Some(2), columns)
+}
+
+/// Orders, each of the oldest customer of the last three units, that would live nine.
+fn orders(alloc: Global, births: Births) -> Result<Table, AllocError> {
+    let customer = reference(alloc, "customers", Window::Units(2))?;
+    let columns = with_column(alloc, key_column(alloc, births)?, "customer", customer, 0)?;
+    let nine = Some(Life { lo: 9, hi: 9 });
+    table(alloc, "orders", births, nine, None, columns)
+}
+
+/// Their lines, each of the order of its own unit, with a label that has the order's key.
+fn order_lines(alloc: Global, births: Births) -> Result<Table, AllocError> {
+    let order = reference(alloc, "orders", Window::Units(0))?;
+    let columns = with_column(alloc, key_column(alloc, births)?, "order_id", order, 0)?;
+    let label = template(alloc, &[("o", "order_id")])?;
+    let columns = with_column(alloc, columns, "label", label, 0)?;
+    table(alloc, "lines", births, None, None, columns)
+}
+
+/// The plan of these three tables, with a row of each at each unit.
+fn sales(alloc: Global) -> Result<Plan, Fail> {
+    let births = Births {
+        rows: 1,
+        insert: 1,
+        units: 5,
+        scramble: false,
+    };
+    let tables = with_table(Tables::new(alloc), customers(alloc, births)?)?;
+    let tables = with_table(tables, orders(alloc, births)?)?;
+    let tables = with_table(tables, order_lines(alloc, births)?)?;
+    plan_of_all(alloc, tables, births.units)
+}
+
+/// The line of a row of a table at a unit.
+fn assert_line<L: Ledger>(
+    rt: &impl Abort,
+    alloc: Global,
+    plan: &Plan,
+    table: u32,
+    unit: u64,
+    row: u64,
+    line: &str,
+    steps: &mut Steps<L>,
+) -> Result<(), Fail> {
+    assert!(rt; table < plan.tables());
+    assert!(rt; unit <= plan.units());
+    assert!(rt; row < born(plan, table, unit));
+    assert!(rt; row < born(plan, table, plan.units()));
+    assert!(rt; live(plan, table, row, unit, steps));
+    let mut page = page_of(alloc, plan.max_line(table) as usize)?;
+    put_line(plan, table, row, unit, &mut page, steps);
+    assert!(rt; page.text() == line.as_bytes());
+    Ok(())
+}
+
+/// The lines of rows, by the places of their tables, units and ordinals.
+fn assert_family_lines<L: Ledger>(
+    rt: &impl Abort,
+    alloc: Global,
+    plan: &Plan,
+    lines: &[(u32, u64, u64, &str)],
+    blank: Blank,
+) -> Result<(), Fail>
+    requires name { blank.name ≡ L.name }
+    requires parts { blank.parts ≡ L.parts }
+    requires some { 0 < blank.parts }
+{
+    let mut steps = Steps::<L>::new(blank);
+    for (table, unit, row, line) in lines {
+        assert_line(rt, alloc, plan, *table, *unit, *row, line, &mut steps)?;
+    }
+    Ok(())
+}
+
+// By hand: the orders 0 to 2 are of customer 0, and order 3 of customer 1; order 0 dies with its customer at unit 3.
+#[test]
+fn lines_of_references(rt: HostRuntime) -> Result<(), Fail> {
+    let alloc = rt.alloc();
+    let plan = sales(alloc)?;
+    let lines = [
+        (0, 2, 0, "1\t0\t1\n"),
+        (0, 2, 1, "2\t1\t2\n"),
+        (0, 2, 2, "3\t2\t2\n"),
+        (1, 2, 0, "1\t1\n"),
+        (1, 2, 1, "2\t1\n"),
+        (1, 2, 2, "3\t1\n"),
+        (1, 3, 3, "4\t2\n"),
+        (2, 2, 0, "1\t1\to1\n"),
+        (2, 2, 1, "2\t2\to2\n"),
+        (2, 2, 2, "3\t3\to3\n"),
+    ];
+    assert_family_lines::<Brand>(&rt, alloc, &plan, &lines, Blank::new(1))?;
+    let lives = [(0, 2, true), (0, 3, false)];
+    assert_live::<Brand>(&rt, &plan, 1, &lives, Blank::new(1));
+    Ok(())
+}
+
+/// The plan of four parents with scrambled keys, and four children of any of them.
+fn scrambled_parents(alloc: Global) -> Result<Plan, Fail> {
+    let births = Births {
+        rows: 4,
+        insert: 0,
+        units: 0,
+        scramble: true,
+    };
+    let columns = key_column(alloc, births)?;
+    let parents = table(alloc, "parents", births, None, None, columns)?;
+    let tables = with_table(Tables::new(alloc), parents)?;
+    let births = Births {
+        rows: 4,
+        insert: 0,
+        units: 0,
+        scramble: false,
+    };
+    let parent = reference(alloc, "parents", Window::All)?;
+    let columns = with_column(alloc, key_column(alloc, births)?, "parent", parent, 0)?;
+    let children = table(alloc, "children", births, None, None, columns)?;
+    plan_of_all(alloc, with_table(tables, children)?, births.units)
+}
+
+/// Whether the column behind the key is a reference.
+fn has_parents(plan: &Plan, table: u32) -> bool
+    requires { table < length plan.now.schema.tables }
+    ensures { result ≡ true → is_some (reference_at (table_of plan.now table) 1) ≡ true }
+{
+    let columns = plan.columns(table);
+    if columns.len() < 2 {
+        return false;
+    }
+    match &columns[1].kind {
+        ReadyKind::Reference(_) => true,
+        _ => false,
+    }
+}
+
+/// The key of the parent that a row of the table at place 1 has in that at place 0.
+fn key_of_parent<L: Ledger>(rt: &impl Abort, plan: &Plan, row: u64, steps: &mut Steps<L>) -> u64 {
+    assert!(rt; plan.tables() == 2);
+    assert!(rt; has_parents(plan, 1));
+    assert!(rt; row < born(plan, 1, plan.units()));
+    let parent = parent(plan, 1, row, 1, steps);
+    assert!(rt; parent < born(plan, 0, plan.units()));
+    key(plan, 0, parent, steps)
+}
+
+/// Each child has its key, and that of its parent.
+fn assert_children<L: Ledger>(
+    rt: &impl Abort,
+    alloc: Global,
+    plan: &Plan,
+    blank: Blank,
+) -> Result<(), Fail>
+    requires name { blank.name ≡ L.name }
+    requires parts { blank.parts ≡ L.parts }
+    requires some { 0 < blank.parts }
+{
+    let mut steps = Steps::<L>::new(blank);
+    for row in 0..4 {
+        let parent = key_of_parent(rt, plan, row, &mut steps);
+        let line = format!(in alloc; "{}\t{parent}\n", row + 1)?;
+        assert_line(rt, alloc, plan, 1, 0, row, line.as_str(), &mut steps)?;
+    }
+    Ok(())
+}
+
+// By the parents and keys of `life_intervals`.
+#[test]
+fn keys_of_scrambled_parents(rt: HostRuntime) -> Result<(), Fail> {
+    let alloc = rt.alloc();
+    let plan = scrambled_parents(alloc)?;
+    assert_children::<Brand>(&rt, alloc, &plan, Blank::new(1))
 }
 
 /// A checksum of a text, behind one so far.
@@ -289,7 +514,7 @@ fn cohort_checksum<L: Ledger>(
 {
     let mut sum = so_far;
     let orders = cohort_orders(plan, 0, born);
-    let lines = CohortLines::new(plan, 0, born, plan.units(), &orders);
+    let lines = CohortLines::new(plan, 0, born, plan.units(), &orders, &[]);
     let Survival::Sure = lines.survival() else {
         return Err(Fail::from("not alive"));
     };

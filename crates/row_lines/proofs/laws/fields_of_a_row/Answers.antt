@@ -1,5 +1,6 @@
 use Rattle.std.proofs.Common.{refl}
 use Rattle.row_lines.proofs.FieldLemmas.{draws_of-born, draws_of-changed, field-born, field-changed, field-drawn, field-key, field-template, part_text-cited}
+use Rattle.row_lines.proofs.ReferenceFieldLemmas.{field-reference}
 use Rattle.row_lines.proofs.laws.fields_of_a_row.Goals as goal
 
 pub returns : goal.returns
@@ -8,6 +9,7 @@ returns c = record {
   born = field-born;
   changed = field-changed;
   drawn = field-drawn;
+  reference = field-reference;
   template = field-template;
   text = λ generator place row bytes. refl;
   cited = part_text-cited;

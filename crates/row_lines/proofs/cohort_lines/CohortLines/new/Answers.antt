@@ -21,6 +21,7 @@ invariant_of-result c = record {
   births_are = c.new-4.ensures;
   columns_are = c.columns.ensures.columns;
   served = c.columns.ensures.served;
+  sound = c.schema.ensures.limits;
   limits = c.columns.ensures.limits;
   first_is = c.cohort.ensures.first;
   delimiter = c.delimiter_byte.ensures ∙ ap (λ (schema : Schema). delimiter_byte schema.delimiter) c.schema.ensures.value;

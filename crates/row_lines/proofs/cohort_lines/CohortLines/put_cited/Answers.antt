@@ -1,124 +1,180 @@
-use Rattle.std.proofs.Common.{◌≡◌, ◌+◌, ◌++◌, ℕ, List, true, ap, sym, ◌∙◌, arith, decimal, length}
+use Rattle.std.proofs.Common.{◌≡◌, ◌<◌, ◌+◌, ◌^◌, ◌++◌, ℕ, List, Some, true, ap, sym, ◌∙◌, arith, decimal, length}
 use Rattle.schema_check.specs.Layout.{column_at, key_kind, layout_of}
 use Rattle.schema_check.specs.declared.ready.ReadyColumn.{ReadyColumn}
-use Rattle.schema_check.specs.declared.ready.ReadyKind.TheVariants.{Key}
+use Rattle.schema_check.specs.declared.ready.ReadyKind.TheVariants.{Key, Reference}
+use Rattle.schema_check.specs.declared.ready.ReadyReference.{ReadyReference}
 use Rattle.schema_check.specs.Ready.{is_served, ready_column}
+use Rattle.life_intervals.specs.CohortParents.{IsReferenceOf, reference_by}
 use Rattle.draw_values.specs.CohortValues.{ValuesOf, layout_for as layout_of_values, size_for, value_for}
 use Rattle.draw_values.specs.Values.{is_own, written}
-use Rattle.row_lines.specs.CohortLines.{AreLinesOf, LinesOf, layout_for}
+use Rattle.row_lines.specs.CohortLines.{AreLinesOf, LinesOf, layout_for, parent_key_for}
 use Rattle.row_lines.specs.Parts.{cited_for, cited_size, cited_text}
 use Rattle.row_lines.proofs.CohortLineLemmas.{AreLinesOf-view, key_from_ready, key_never_null, length-columns, ordinal-limit, ready_at, served_at}
 use Rattle.row_lines.proofs.FieldLemmas.{length-decimal-le_20}
-use Rattle.row_lines.proofs.PartLemmas.{cited_for-own, cited_size-key, cited_text-key, length-written, own_from_cited, size_for-cited}
+use Rattle.row_lines.proofs.ReferenceFieldLemmas.{held-reference, size-reference}
+use Rattle.row_lines.proofs.PartLemmas.{cited_for-own, cited_size-key, cited_text-field, cited_text-key, length-written, own_from_cited, size_for-cited}
 use Rattle.row_lines.proofs.cohort_lines.CohortLines.put_cited.Goals as goal
 use Rattle.row_lines.proofs.cohort_lines.CohortLines.put_cited.Goals.{After-index-columns-column}
 
-known : (c : After-index-columns-column) → AreLinesOf c.args.self.now c.self.inside.keys c.self.inside.lives c.self.inside.changes c.self.inside.births c.self.inside.columns.now c.self.inside.first c.self.inside.delimiter
-known c = AreLinesOf-view _ c.args.self.now c.self.inside.keys c.self.inside.lives c.self.inside.changes c.self.inside.births c.self.inside.columns.now c.self.inside.first c.self.inside.delimiter c.self.view_is c.self.invariant
+known : (g : _) (c : After-index-columns-column g) → AreLinesOf c.args.self.now c.self.inside.keys c.self.inside.lives c.self.inside.changes c.self.inside.births c.self.inside.columns.now c.self.inside.first c.self.inside.delimiter
+known g c = AreLinesOf-view _ c.args.self.now c.self.inside.keys c.self.inside.lives c.self.inside.changes c.self.inside.births c.self.inside.columns.now c.self.inside.first c.self.inside.delimiter c.self.view_is c.self.invariant
 
-ready : (c : After-index-columns-column) → ready_column (layout_of c.args.self.now.plan).delimiter (column_at (layout_for c.args.self.now).columns c.args.column) ≡ c.index-columns-column.result
-ready c = ready_at c.args.self.now _ _ _ _ _ _ _ (known c) c.args.column c.index-columns-column.result c.requires.column.within c.index-columns-column.is
+ready : (g : _) (c : After-index-columns-column g) → ready_column (layout_of c.args.self.now.plan).delimiter (column_at (layout_for c.args.self.now).columns c.args.column) ≡ c.index-columns-column.result
+ready g c = ready_at c.args.self.now _ _ _ _ _ _ _ (known g c) c.args.column c.index-columns-column.result c.requires.column.within c.index-columns-column.is
 
 -- the column is the key
-is_key : (c : After-index-columns-column) → c.index-columns-column.result.kind ≡ Key → (column_at (layout_for c.args.self.now).columns c.args.column).kind ≡ key_kind
-is_key c key =
-    key_from_ready (layout_of c.args.self.now.plan).delimiter _ (ap (λ (column : ReadyColumn). column.kind) (ready c) ∙ key)
+is_key : (g : _) (c : After-index-columns-column g) → c.index-columns-column.result.kind ≡ Key → (column_at (layout_for c.args.self.now).columns c.args.column).kind ≡ key_kind
+is_key g c key =
+    key_from_ready (layout_of c.args.self.now.plan).delimiter _ (ap (λ (column : ReadyColumn). column.kind) (ready g c) ∙ key)
 
 -- or made of units and of draws
-is_own_column : (c : After-index-columns-column) → (c.index-columns-column.result.kind ≡ Key → ⊥) → is_own (column_at (layout_for c.args.self.now).columns c.args.column).kind ≡ true
-is_own_column c no_key =
+is_own_column : (g : _) (c : After-index-columns-column g) → (c.index-columns-column.result.kind ≡ Key → ⊥) → ((reference : ReadyReference) → c.index-columns-column.result.kind ≡ Reference reference → ⊥) →
+    is_own (column_at (layout_for c.args.self.now).columns c.args.column).kind ≡ true
+is_own_column g c no_key no_reference =
     let lines : LinesOf = c.args.self.now in
-    let served = served_at c.self.inside.columns.now (known c).served c.args.column c.index-columns-column.result
-    (omega (arith, c.requires.column.within, length-columns lines _ _ _ _ _ _ _ (known c))) c.index-columns-column.is in
-    own_from_cited (layout_of lines.plan).delimiter _ c.requires.column.cited (ap is_served (ready c) ∙ served)
-    (λ key. no_key (ap (λ (column : ReadyColumn). column.kind) (sym (ready c)) ∙ key))
+    let served = served_at c.self.inside.columns.now (known g c).served c.args.column c.index-columns-column.result
+    (omega (arith, c.requires.column.within, length-columns lines _ _ _ _ _ _ _ (known g c))) c.index-columns-column.is in
+    own_from_cited (layout_of lines.plan).delimiter _ c.requires.column.cited (ap is_served (ready g c) ∙ served)
+    (λ key. no_key (ap (λ (column : ReadyColumn). column.kind) (sym (ready g c)) ∙ key))
+    (λ reference held. no_reference reference (ap (λ (column : ReadyColumn). column.kind) (sym (ready g c)) ∙ held))
 
 pub put_number-requires : goal.put_number-requires
-put_number-requires c =
-    let here = (goal.at.put_number-requires c).After-index-columns-column in
+put_number-requires g c =
+    let here = (goal.at.put_number-requires g c).After-index-columns-column in
     omega (
       arith,
       length-decimal-le_20 c.args.key (omega (arith, c.ranges.key)),
-      cited_size-key c.args.self.now c.args.column (is_key here (ap (λ (column : ReadyColumn). column.kind) c.index-columns-column.is ∙ c.in-Key.is)),
+      cited_size-key c.args.self.now c.args.column (is_key g here (ap (λ (column : ReadyColumn). column.kind) c.index-columns-column.is ∙ c.in-Key.is)),
       c.requires.room,
     )
 
 -- what is put is the key
-text_is_key : (c : After-index-columns-column) → c.index-columns-column.result.kind ≡ Key → cited_text c.args.self.now c.args.index c.args.column ≡ decimal c.args.key
-text_is_key c key =
+text_is_key : (g : _) (c : After-index-columns-column g) → c.index-columns-column.result.kind ≡ Key → cited_text c.args.self.now c.args.index c.args.column ≡ decimal c.args.key
+text_is_key g c key =
     let lines : LinesOf = c.args.self.now in
-    let never = key_never_null (layout_for lines).columns c.args.column (known c).limits.key_never_null (known c).limits.no_other_key c.requires.column.within (is_key c key) in
-    cited_text-key lines c.args.column c.args.index c.args.key c.requires.column (is_key c key) never (known c).born c.requires.row c.requires.key (omega (arith, c.ranges.key))
+    let never = key_never_null (layout_for lines).columns c.args.column (known g c).limits.key_never_null (known g c).limits.no_other_key c.requires.column.within (is_key g c key) in
+    cited_text-key lines c.args.column c.args.index c.args.key c.requires.column (is_key g c key) never (known g c).born c.requires.row c.requires.key (omega (arith, c.ranges.key))
 
 pub returns-in-Key-clause-text : goal.returns-in-Key-clause-text
-returns-in-Key-clause-text c =
-    let here = (goal.at.returns-in-Key-clause-text c).After-index-columns-column in
+returns-in-Key-clause-text g c =
+    let here = (goal.at.returns-in-Key-clause-text g c).After-index-columns-column in
     c.put_number.ensures
     ∙ ap (λ (text : List ℕ). record { text = c.args.buf.now.text ++ text; room = c.args.buf.now.room })
-    (sym (text_is_key here (ap (λ (column : ReadyColumn). column.kind) c.index-columns-column.is ∙ c.in-Key.is)))
+    (sym (text_is_key g here (ap (λ (column : ReadyColumn). column.kind) c.index-columns-column.is ∙ c.in-Key.is)))
 
 pub returns-in-Key-clause-size : goal.returns-in-Key-clause-size
-returns-in-Key-clause-size c =
-    let here = (goal.at.returns-in-Key-clause-size c).After-index-columns-column in
+returns-in-Key-clause-size g c =
+    let here = (goal.at.returns-in-Key-clause-size g c).After-index-columns-column in
     let key = ap (λ (column : ReadyColumn). column.kind) c.index-columns-column.is ∙ c.in-Key.is in
     omega (
       arith,
       length-decimal-le_20 c.args.key (omega (arith, c.ranges.key)),
-      cited_size-key c.args.self.now c.args.column (is_key here key),
-      ap (λ (text : List ℕ). length text) (text_is_key here key),
+      cited_size-key c.args.self.now c.args.column (is_key g here key),
+      ap (λ (text : List ℕ). length text) (text_is_key g here key),
     )
 
 pub overflow_add-self-inside : goal.overflow_add-self-inside
-overflow_add-self-inside c =
-    omega (arith, ordinal-limit c.args.self.now _ _ _ _ _ _ _ (known (goal.at.overflow_add-self-inside c).After-index-columns-column) c.args.index c.requires.row)
+overflow_add-self-inside g c =
+    omega (arith, ordinal-limit c.args.self.now _ _ _ _ _ _ _ (known g (goal.at.overflow_add-self-inside g c).After-index-columns-column) c.args.index c.requires.row)
 
 pub put-requires-clause-own : goal.put-requires-clause-own
-put-requires-clause-own c =
-    let here = (goal.at.put-requires-clause-own c).After-index-columns-column in
+put-requires-clause-own g c =
+    let here = (goal.at.put-requires-clause-own g c).After-index-columns-column in
     ap (λ (of : ValuesOf). is_own (column_at (layout_of_values of).columns c.args.column).kind) c.requires.values
-    ∙ is_own_column here
-    (λ key. c.in_default.not-Key (ap (λ (column : ReadyColumn). column.kind) (sym c.index-columns-column.is) ∙ key))
+    ∙ is_own_column g here
+    (λ key. c.in_default.not-Key (ap (λ (column : ReadyColumn). column.kind) (sym c.index-columns-column.is) ∙ key)) (λ reference held. c.in_default.not-Reference reference (ap (λ (column : ReadyColumn). column.kind) (sym c.index-columns-column.is) ∙ held))
 
 pub put-requires-clause-room : goal.put-requires-clause-room
-put-requires-clause-room c =
-    let here = known (goal.at.put-requires-clause-room c).After-index-columns-column in
+put-requires-clause-room g c =
+    let here = known g (goal.at.put-requires-clause-room g c).After-index-columns-column in
     let taken : size_for c.args.values.now c.args.column ≡ cited_size c.args.self.now c.args.column =
     ap (λ (of : ValuesOf). size_for of c.args.column) c.requires.values ∙ size_for-cited c.args.self.now c.args.column c.requires.column in
     omega (arith, taken, c.requires.room)
 
 -- what is put is what the column holds
-held_is : (c : After-index-columns-column) → (c.index-columns-column.result.kind ≡ Key → ⊥) →
+held_is : (g : _) (c : After-index-columns-column g) → (c.index-columns-column.result.kind ≡ Key → ⊥) → ((reference : ReadyReference) → c.index-columns-column.result.kind ≡ Reference reference → ⊥) →
     cited_for c.args.self.now c.args.index c.args.column ≡ value_for c.args.values.now c.args.column (c.self.inside.first + c.args.index)
-held_is c no_key =
+held_is g c no_key no_reference =
     cited_for-own c.args.self.now c.args.values.now c.args.column c.args.index (c.self.inside.first + c.args.index) c.requires.column c.requires.values
-    (ap (λ (first : ℕ). first + c.args.index) (known c).first_is) (is_own_column c no_key) (known c).born c.requires.row (known c).table
+    (ap (λ (first : ℕ). first + c.args.index) (known g c).first_is) (is_own_column g c no_key no_reference) (known g c).born c.requires.row (known g c).table
 
-text_is_own : (c : After-index-columns-column) → (c.index-columns-column.result.kind ≡ Key → ⊥) →
+text_is_own : (g : _) (c : After-index-columns-column g) → (c.index-columns-column.result.kind ≡ Key → ⊥) → ((reference : ReadyReference) → c.index-columns-column.result.kind ≡ Reference reference → ⊥) →
     cited_text c.args.self.now c.args.index c.args.column
     ≡ written (layout_of c.args.values.now.plan).delimiter (value_for c.args.values.now c.args.column (c.self.inside.first + c.args.index))
-text_is_own c no_key =
+text_is_own g c no_key no_reference =
     let value = value_for c.args.values.now c.args.column (c.self.inside.first + c.args.index) in
-    ap (written (layout_of c.args.self.now.plan).delimiter) (held_is c no_key)
+    ap (written (layout_of c.args.self.now.plan).delimiter) (held_is g c no_key no_reference)
     ∙ sym (ap (λ (of : ValuesOf). written (layout_of of.plan).delimiter value) c.requires.values)
 
 pub returns-in_default-clause-text : goal.returns-in_default-clause-text
-returns-in_default-clause-text c =
+returns-in_default-clause-text g c =
     c.put.ensures.text
     ∙ ap (λ (text : List ℕ). record { text = c.args.buf.now.text ++ text; room = c.args.buf.now.room })
-    (sym (text_is_own (goal.at.returns-in_default-clause-text c).After-index-columns-column
-    (λ key. c.in_default.not-Key (ap (λ (column : ReadyColumn). column.kind) (sym c.index-columns-column.is) ∙ key))))
+    (sym (text_is_own g (goal.at.returns-in_default-clause-text g c).After-index-columns-column
+    (λ key. c.in_default.not-Key (ap (λ (column : ReadyColumn). column.kind) (sym c.index-columns-column.is) ∙ key)) (λ reference held. c.in_default.not-Reference reference (ap (λ (column : ReadyColumn). column.kind) (sym c.index-columns-column.is) ∙ held))))
 
 pub returns-in_default-clause-size : goal.returns-in_default-clause-size
-returns-in_default-clause-size c =
-    let here = (goal.at.returns-in_default-clause-size c).After-index-columns-column in
+returns-in_default-clause-size g c =
+    let here = (goal.at.returns-in_default-clause-size g c).After-index-columns-column in
     let value = value_for c.args.values.now c.args.column (c.self.inside.first + c.args.index) in
     let taken : size_for c.args.values.now c.args.column ≡ cited_size c.args.self.now c.args.column =
     ap (λ (of : ValuesOf). size_for of c.args.column) c.requires.values ∙ size_for-cited c.args.self.now c.args.column c.requires.column in
-    let is = text_is_own here (λ key. c.in_default.not-Key (ap (λ (column : ReadyColumn). column.kind) (sym c.index-columns-column.is) ∙ key)) in
+    let is = text_is_own g here (λ key. c.in_default.not-Key (ap (λ (column : ReadyColumn). column.kind) (sym c.index-columns-column.is) ∙ key)) (λ reference held. c.in_default.not-Reference reference (ap (λ (column : ReadyColumn). column.kind) (sym c.index-columns-column.is) ∙ held)) in
     omega (
       arith,
       ap (λ (text : List ℕ). length text) is,
       length-written (layout_of c.args.values.now.plan).delimiter value,
       c.put.ensures.size,
       taken,
+    )
+
+-- the column is a reference
+here : (g : _) (c : After-index-columns-column g) (reference : ReadyReference) → c.index-columns-column.result.kind ≡ Reference reference → IsReferenceOf c.args.self.now.plan c.args.self.now.table c.args.column reference
+here g c reference held = record {
+  within = c.requires.column.within;
+  is = ap (λ (column : ReadyColumn). column.kind) (ready g c) ∙ held;
+}
+
+-- whose text is the parent's key
+text_is_parent : (g : _) (c : After-index-columns-column g) (reference : ReadyReference) (key : ℕ) → c.index-columns-column.result.kind ≡ Reference reference →
+    key ≡ parent_key_for c.args.self.now c.args.index (reference_by c.args.column reference) → key < 2 ^ 64 → cited_text c.args.self.now c.args.index c.args.column ≡ decimal key
+text_is_parent g c reference key held is small =
+    let lines : LinesOf = c.args.self.now in
+    let is_known = known g c in
+    cited_text-field lines c.args.index c.args.column key c.requires.column
+    (held-reference lines is_known.sound is_known.limits is_known.table is_known.born is_known.unit c.args.column c.args.index reference (here g c reference held) c.requires.row
+    ∙ ap (λ (k : ℕ). Some (decimal k)) (sym is)) small
+
+pub put_number-requires-in-Reference : goal.put_number-requires-in-Reference
+put_number-requires-in-Reference g c =
+    let at = (goal.at.put_number-requires-in-Reference g c).After-index-columns-column in
+    let held = ap (λ (column : ReadyColumn). column.kind) c.index-columns-column.is ∙ c.in-Reference.is in
+    let lines : LinesOf = c.args.self.now in
+    omega (
+      arith,
+      length-decimal-le_20 c.parent_key-parent.result c.parent_key-parent.type_inv,
+      size-reference lines c.args.column c.in-Reference.reference (here g at c.in-Reference.reference held),
+      size_for-cited lines c.args.column c.requires.column,
+      c.requires.room,
+    )
+
+pub returns-in-Reference-clause-text : goal.returns-in-Reference-clause-text
+returns-in-Reference-clause-text g c =
+    let at = (goal.at.returns-in-Reference-clause-text g c).After-index-columns-column in
+    let held = ap (λ (column : ReadyColumn). column.kind) c.index-columns-column.is ∙ c.in-Reference.is in
+    c.put_number-in-Reference.ensures
+    ∙ ap (λ (text : List ℕ). record { text = c.args.buf.now.text ++ text; room = c.args.buf.now.room })
+    (sym (text_is_parent g at c.in-Reference.reference c.parent_key-parent.result held c.parent_key-parent.ensures.key c.parent_key-parent.type_inv))
+
+pub returns-in-Reference-clause-size : goal.returns-in-Reference-clause-size
+returns-in-Reference-clause-size g c =
+    let at = (goal.at.returns-in-Reference-clause-size g c).After-index-columns-column in
+    let held = ap (λ (column : ReadyColumn). column.kind) c.index-columns-column.is ∙ c.in-Reference.is in
+    let lines : LinesOf = c.args.self.now in
+    omega (
+      arith,
+      length-decimal-le_20 c.parent_key-parent.result c.parent_key-parent.type_inv,
+      size-reference lines c.args.column c.in-Reference.reference (here g at c.in-Reference.reference held),
+      size_for-cited lines c.args.column c.requires.column,
+      ap (λ (text : List ℕ). length text) (text_is_parent g at c.in-Reference.reference c.parent_key-parent.result held c.parent_key-parent.ensures.key c.parent_key-parent.type_inv),
     )

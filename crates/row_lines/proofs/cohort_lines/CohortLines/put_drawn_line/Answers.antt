@@ -5,12 +5,12 @@ use Rattle.std.proofs.lemmas.List.Sums.{sum_by-take-le, sum_by_more, sum_by_more
 use Rattle.schema_check.specs.Layout.{ColumnLayout, layout_of, no_column}
 use Rattle.pd_outside.specs.Pages.{Page}
 use Rattle.row_lines.specs.CohortLines.{LinesOf, layout_for, text_in_cohort}
-use Rattle.row_lines.proofs.CohortLineLemmas.{AreLinesOf-view, length-columns, length-delimiter, line_in_cohort-fields, max_line-columns, room_in}
+use Rattle.row_lines.proofs.CohortLineLemmas.{AreLinesOf-view, asked_for_line-is, asked_in, length-columns, length-delimiter, line_in_cohort-fields, max_line-columns, room_in}
 use Rattle.draw_values.proofs.JoinLemmas.{join_with_byte-range_more}
 use Rattle.row_lines.proofs.cohort_lines.CohortLines.put_drawn_line.Goals as goal
 
 pub put_delimiter-requires : goal.put_delimiter-requires
-put_delimiter-requires c =
+put_delimiter-requires g c =
     let lines : LinesOf = c.args.self.now in
     omega (
       arith,
@@ -22,12 +22,12 @@ put_delimiter-requires c =
     )
 
 pub put_field-requires-clause-column : goal.put_field-requires-clause-column
-put_field-requires-clause-column c =
+put_field-requires-clause-column g c =
     let known = AreLinesOf-view _ c.args.self.now c.self.inside.keys c.self.inside.lives c.self.inside.changes c.self.inside.births c.self.inside.columns.now c.self.inside.first c.self.inside.delimiter c.self.view_is c.self.invariant in
     omega (arith, c.loop-column-test.true, length-columns c.args.self.now _ _ _ _ _ _ _ known)
 
 pub put_field-requires-clause-room : goal.put_field-requires-clause-room
-put_field-requires-clause-room c =
+put_field-requires-clause-room g c =
     let lines : LinesOf = c.args.self.now in
     let n : ℕ = c.loop-column.column in
     omega (
@@ -38,13 +38,13 @@ put_field-requires-clause-room c =
       ap (λ (page : Page). page.room) c.put_delimiter.ensures,
       length-append c.loop-column.buf.text (if n == 0 then [] else c.self.inside.delimiter ∷ []),
       length-delimiter n c.self.inside.delimiter,
-      sum_by_more_le (room_in lines) (layout_for lines).columns n no_column (put_field-requires-clause-column c),
+      sum_by_more_le (room_in lines) (layout_for lines).columns n no_column (put_field-requires-clause-column g c),
       max_line-columns lines,
       c.requires.room,
     )
 
 pub loop-column-preserved : goal.loop-column-preserved
-loop-column-preserved c =
+loop-column-preserved g c =
     let lines : LinesOf = c.args.self.now in
     let known = AreLinesOf-view _ lines c.self.inside.keys c.self.inside.lives c.self.inside.changes c.self.inside.births c.self.inside.columns.now c.self.inside.first c.self.inside.delimiter c.self.view_is c.self.invariant in
     let columns : List ColumnLayout = (layout_for lines).columns in
@@ -57,6 +57,7 @@ loop-column-preserved c =
           ∙ ap (λ (page : Page). page.text ++ own) c.put_delimiter.ensures
           ∙ ap (λ (d : ℕ). (c.loop-column.buf.text ++ (if n == 0 then [] else d ∷ [])) ++ own) known.delimiter
           ∙ join_with_byte-range_more delimiter (text_in_cohort lines c.args.index) n c.args.buf.now.text c.loop-column.buf.text c.loop-column.invariant.text;
+      steps = omega (arith, c.loop-column.invariant.steps, c.put_field.ensures.steps, sum_by_more (asked_in lines) columns n no_column below);
       room = ap (λ (page : Page). page.room) c.put_field.ensures.text ∙ ap (λ (page : Page). page.room) c.put_delimiter.ensures ∙ c.loop-column.invariant.room;
       short = omega (
         arith,
@@ -73,7 +74,7 @@ loop-column-preserved c =
     }
 
 pub put_piece-requires : goal.put_piece-requires
-put_piece-requires c =
+put_piece-requires g c =
     let lines : LinesOf = c.args.self.now in
     let known = AreLinesOf-view _ lines c.self.inside.keys c.self.inside.lives c.self.inside.changes c.self.inside.births c.self.inside.columns.now c.self.inside.first c.self.inside.delimiter c.self.view_is c.self.invariant in
     omega (
@@ -90,7 +91,7 @@ put_piece-requires c =
     )
 
 pub returns-clause-line : goal.returns-clause-line
-returns-clause-line c =
+returns-clause-line g c =
     let lines : LinesOf = c.args.self.now in
     let known = AreLinesOf-view _ lines c.self.inside.keys c.self.inside.lives c.self.inside.changes c.self.inside.births c.self.inside.columns.now c.self.inside.first c.self.inside.delimiter c.self.view_is c.self.invariant in
     let n : ℕ = c.loop-column.column in
@@ -106,7 +107,7 @@ returns-clause-line c =
     ∙ ap (λ (text : List ℕ). c.args.buf.now.text ++ text) (line_in_cohort-fields lines c.args.index n all))
 
 pub returns-clause-size : goal.returns-clause-size
-returns-clause-size c =
+returns-clause-size g c =
     let lines : LinesOf = c.args.self.now in
     let known = AreLinesOf-view _ lines c.self.inside.keys c.self.inside.lives c.self.inside.changes c.self.inside.births c.self.inside.columns.now c.self.inside.first c.self.inside.delimiter c.self.view_is c.self.invariant in
     let n : ℕ = c.loop-column.column in
@@ -125,3 +126,8 @@ returns-clause-size c =
       sum_by-take-le (room_in lines) (layout_for lines).columns n,
       max_line-columns lines,
     )
+
+pub returns-clause-steps : goal.returns-clause-steps
+returns-clause-steps g c =
+    let lines : LinesOf = c.args.self.now in
+    omega (arith, c.loop-column.invariant.steps, sum_by-take-le (asked_in lines) (layout_for lines).columns c.loop-column.column, asked_for_line-is lines)

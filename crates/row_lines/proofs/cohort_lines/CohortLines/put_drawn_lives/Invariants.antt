@@ -1,7 +1,7 @@
 use Rattle.std.proofs.Common.{◌≡◌, ◌<◌, ◌≤◌, ◌+◌, ◌*◌, ℕ, false, length, get_or}
-use Rattle.schema_check.specs.Lineage.{one_if}
-use Rattle.life_intervals.specs.CohortOrders.{do_lives_differ}
-use Rattle.row_lines.specs.CohortLines.{is_live_for, layout_for}
+use Rattle.schema_check.specs.Layout.{layout_of}
+use Rattle.schema_check.specs.Lineage.{death_cost}
+use Rattle.row_lines.specs.CohortLines.{is_live_for}
 use Rattle.row_lines.proofs.cohort_lines.CohortLines.put_drawn_lives.Given as goal
 
 abbrev pub invariant-loop-index : goal.invariant-loop-index
@@ -9,5 +9,5 @@ invariant-loop-index g l = record {
   live : (i : ℕ) → i < l.index → get_or l.live i false ≡ is_live_for l.self (l.first + i);
   rest : (i : ℕ) → l.index ≤ i → get_or l.live i false ≡ get_or l.fn.live i false;
   length : length l.live ≡ length l.fn.live;
-  steps : l.steps ≡ l.fn.steps + l.index * one_if (do_lives_differ (layout_for l.self).life);
+  steps : l.steps ≤ l.fn.steps + l.index * death_cost (layout_of l.self.plan).tables l.self.table;
 }

@@ -17,6 +17,7 @@ returns-clause-steps g c =
       arith,
       c.key-key.ensures.steps,
       c.changed-changed.ensures.steps,
+      c.put_drawn_line.ensures.steps,
       updates_cost (layout_for c.args.self.now).update,
       steps-line_cost c.args.self.now _ _ _ _ _ _ _ known,
     )

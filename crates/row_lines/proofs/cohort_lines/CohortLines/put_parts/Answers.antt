@@ -4,7 +4,7 @@ use Rattle.row_lines.specs.Parts.{part_size, written_part}
 use Rattle.row_lines.proofs.cohort_lines.CohortLines.put_parts.Goals as goal
 
 pub put_part-requires-clause-room : goal.put_part-requires-clause-room
-put_part-requires-clause-room c =
+put_part-requires-clause-room g c =
     let so_far : List ℕ = flat_map (written_part c.args.self.now c.args.index) (take c.loop-part.part-index c.args.parts.now) in
     omega (
       arith,
