@@ -1,17 +1,16 @@
 -- What a unit does to the rows of a scan, row by row and cohort by cohort.
 use Rattle.std.proofs.Common.{◌≡◌, ℕ, ◌+◌, ◌-◌, ◌<◌, ◌≤◌, ◌==◌, Bool, true, false, ◌&&◌, List, [], ◌∷◌, ◌++◌, length, filter, Option, Some, None, ne_eqb, true-eqb, refl, ap, ap₂, arith, sym, ◌∙◌}
-use Rattle.std.specs.Prelude.{IfSome, if◌then◌else◌}
+use Rattle.std.specs.Prelude.{if◌then◌else◌}
 use Rattle.std.specs.List.{range_with_len}
 use Rattle.std.proofs.lemmas.Bool.{false≢true, le-ltb, ltb-false}
 use Rattle.std.proofs.lemmas.List.{append-nil}
 use Rattle.schema_check.specs.Cohorts.{cohort_size, first_ordinal}
 use Rattle.schema_check.specs.Dictionaries.{Project}
-use Rattle.schema_check.specs.Limits.{IsLife}
-use Rattle.schema_check.specs.Unbuilt.{is_unbuilt}
+use Rattle.schema_check.specs.Limits.{IsInLimits}
 use Rattle.life_intervals.specs.declared.cohorts.Cohort.{Cohort}
 use Rattle.life_intervals.specs.declared.lives.Survival.TheVariants.{Over, Sure}
-use Rattle.life_intervals.specs.CohortLives.{CohortAt, survival_by}
-use Rattle.life_intervals.specs.Generator.{generator_of, table_of}
+use Rattle.life_intervals.specs.CohortLives.{CohortAt, survival_at}
+use Rattle.life_intervals.specs.Generator.{generator_of, last_unit, table_of}
 use Rattle.life_intervals.specs.Intervals.{change_unit, death, is_after, is_at, is_live}
 use Rattle.life_intervals.proofs.CohortAtLemmas.{change_in-none, is_live_in-over, is_live_in-sure}
 use Rattle.life_intervals.proofs.CohortLemmas.{cohort-within}
@@ -73,13 +72,13 @@ passed (Some dies) before unit earlier dead =
     (ne_eqb dies unit (λ same. omega (arith, earlier, over, same)), le-ltb unit dies (omega (arith, earlier, over)))
 
 -- where the longest life has ended before, each row is dead
-pub rested-over : (plan : Project) (unit place born index : ℕ) → is_unbuilt plan.schema ≡ false → place < length plan.schema.tables → IfSome (table_of plan place).life IsLife → born < unit →
-    survival_by (table_of plan place).life born (unit - 1) ≡ Over → index < cohort_size (table_of plan place).births born →
+pub rested-over : (plan : Project) (unit place born index : ℕ) → IsInLimits plan → place < length plan.schema.tables → unit ≤ last_unit plan → born < unit →
+    survival_at plan place born (unit - 1) ≡ Over → index < cohort_size (table_of plan place).births born →
     Rested plan unit place (first_ordinal (table_of plan place).births born + index)
-rested-over plan unit place born index built within limits early over below =
+rested-over plan unit place born index limits within last early over below =
     let ordinal : ℕ = first_ordinal (table_of plan place).births born + index in
     let before : CohortAt = record { plan = plan; table = place; born = born; unit = unit - 1 } in
-    let dead : is_live (generator_of plan) place (unit - 1) ordinal ≡ false = is_live_in-over before built within (omega (arith, early)) limits over index below in
+    let dead : is_live (generator_of plan) place (unit - 1) ordinal ≡ false = is_live_in-over before limits within (omega (arith, last)) (omega (arith, early)) over index below in
     let later : death (generator_of plan) place unit ordinal ≡ death (generator_of plan) place (unit - 1) ordinal =
     death-later (generator_of plan) place (unit - 1) unit ordinal
     (omega (arith, below, cohort-within (table_of plan place).births born (unit - 1) (omega (arith, early)))) (omega arith) in
@@ -87,13 +86,13 @@ rested-over plan unit place born index built within limits early over below =
     (both.0, ap (λ (alive : Bool). alive && change_unit (generator_of plan) place unit ordinal == unit) both.1)
 
 -- where the shortest ends later and rows don't change, each lives on as it was
-pub rested-sure : (plan : Project) (unit place born index : ℕ) → is_unbuilt plan.schema ≡ false → place < length plan.schema.tables → (table_of plan place).update ≡ None → born < unit →
-    survival_by (table_of plan place).life born unit ≡ Sure → index < cohort_size (table_of plan place).births born →
+pub rested-sure : (plan : Project) (unit place born index : ℕ) → IsInLimits plan → place < length plan.schema.tables → unit ≤ last_unit plan → (table_of plan place).update ≡ None → born < unit →
+    survival_at plan place born unit ≡ Sure → index < cohort_size (table_of plan place).births born →
     Rested plan unit place (first_ordinal (table_of plan place).births born + index)
-rested-sure plan unit place born index built within still early sure below =
+rested-sure plan unit place born index limits within last still early sure below =
     let ordinal : ℕ = first_ordinal (table_of plan place).births born + index in
     let at : CohortAt = record { plan = plan; table = place; born = born; unit = unit } in
-    let alive : is_live (generator_of plan) place unit ordinal ≡ true = is_live_in-sure at built within (omega (arith, early)) sure index below in
+    let alive : is_live (generator_of plan) place unit ordinal ≡ true = is_live_in-sure at limits within last (omega (arith, early)) sure index below in
     let born_is : born ≡ change_unit (generator_of plan) place unit ordinal = change_in-none at index (omega (arith, early)) below still in (
       is_at-later (death (generator_of plan) place unit ordinal) unit alive,
       ap₂ (λ (alive test : Bool). alive && test) alive (ne_eqb (change_unit (generator_of plan) place unit ordinal) unit (λ same. omega (arith, born_is, same, early))),

@@ -4,13 +4,15 @@ ghost use Rattle.std.specs.Prelude.{◌≡◌, ◌+◌, ◌<◌, ◌≤◌, IfOk
 ghost use Rattle.schema_check.specs.Cohorts.{first_ordinal};
 ghost use Rattle.life_intervals.specs.CohortLives.{ordinal_in, size_of};
 ghost use Rattle.life_intervals.specs.CohortOrders.{cohort_orders};
+ghost use Rattle.life_intervals.specs.CohortParents.{AreCandidates};
 ghost use Rattle.life_intervals.specs.Generator.{last_unit, table_of};
 ghost use Rattle.update_box.specs.Fates.{fate_of, lists_before, with_row};
 ghost use Rattle.update_box.specs.TableLists.{lists_of};
 ghost use Rattle.update_box.specs.UnitLists.{table_lists};
 
 use life_intervals::{
-    Cohort, CohortChanges, CohortLives, CohortOrders, Survival, cohort, survival_at, table_orders,
+    Candidates, Cohort, CohortChanges, CohortLives, CohortOrders, Survival, cohort, survival_at,
+    table_candidates, table_orders,
 };
 use pd_outside::Memory;
 use schema_check::Plan;
@@ -75,15 +77,15 @@ fn put_row(rows: &mut TableRows, ordinal: u64, fate: Fate) -> Result<(), Memory>
     Ok(())
 }
 
-/// Whether lives and updates tell that unit `t` does nothing to any row of the cohort of unit `born`: all died before, or all live
-/// on in a table whose rows don't change.
+/// Whether lives, the parents' among them, and updates tell that unit `t` does nothing to any row of the cohort of unit `born`: all
+/// died before, or all live on in a table whose rows don't change.
 fn is_settled(plan: &Plan, table: u32, born: u64, t: u64) -> bool
     requires table { table < length plan.now.schema.tables }
     requires born { born < t }
     requires unit { t ≤ last_unit plan.now }
     ensures { result ≡ true → lists_before plan.now t table (first_ordinal (table_of plan.now table).births (born + 1)) ≡ lists_before plan.now t table (first_ordinal (table_of plan.now table).births born) }
 {
-    let _built = plan.schema(); // no row has a parent yet
+    let _limits = plan.schema(); // so its tables are sound
     if let Survival::Over = survival_at(plan, table, born, t - 1) {
         return true;
     }
@@ -100,6 +102,7 @@ fn put_cohort<L: Ledger>(
     born: u64,
     t: u64,
     orders: &CohortOrders,
+    candidates: &[Option<Candidates>],
     rows: &mut TableRows,
     steps: &mut Steps<L>,
 ) -> Result<(), Memory>
@@ -107,13 +110,14 @@ fn put_cohort<L: Ledger>(
     requires born { born < t }
     requires unit { t ≤ last_unit plan.now }
     requires orders { orders.now ≡ cohort_orders plan.now table born }
+    requires candidates { AreCandidates plan.now table born candidates.now }
     requires before { lists_of rows.old ≡ lists_before plan.now t table (first_ordinal (table_of plan.now table).births born) }
     ensures { IfOk result (λ _. lists_of rows.new ≡ lists_before plan.now t table (first_ordinal (table_of plan.now table).births (born + 1))) }
 {
     if is_settled(plan, table, born, t) {
         return Ok(());
     }
-    let lives = CohortLives::new(plan, table, born, t, &orders.lives);
+    let lives = CohortLives::new(plan, table, born, t, &orders.lives, candidates);
     let changes = CohortChanges::new(plan, table, born, t, &orders.updates);
     let Cohort { first, size } = cohort(plan, table, born);
     for index in 0..size {
@@ -136,8 +140,11 @@ pub fn table_rows<L: Ledger>(
     requires unit { t ≤ last_unit plan.now }
     ensures { IfOk result (λ rows. lists_of rows ≡ table_lists plan.now t table) }
 {
-    let _sound = plan.schema(); // of tables that can be made the simulation has a closed form
+    let _sound = plan.schema(); // so the simulation has a closed form
     let Ok(orders) = table_orders(alloc, plan, table, t - 1) else {
+        return Err(Memory);
+    };
+    let Ok(candidates) = table_candidates(alloc, plan, table, t - 1) else {
         return Err(Memory);
     };
     let mut rows = TableRows {
@@ -152,6 +159,7 @@ pub fn table_rows<L: Ledger>(
             born,
             t,
             &orders[born as usize],
+            candidates[born as usize].as_slice(),
             &mut rows,
             steps,
         )?;

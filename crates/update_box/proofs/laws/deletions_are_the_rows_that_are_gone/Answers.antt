@@ -2,4 +2,4 @@ use Rattle.update_box.proofs.StepLemmas.{deleted-gone}
 use Rattle.update_box.proofs.laws.deletions_are_the_rows_that_are_gone.Goals as goal
 
 pub returns : goal.returns
-returns c = λ plan limits built place below t some within. deleted-gone plan limits built place below t some
+returns c = λ plan limits place below t some within. deleted-gone plan limits place below t some within

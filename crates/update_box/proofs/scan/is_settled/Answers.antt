@@ -1,11 +1,7 @@
-use Rattle.std.proofs.Common.{◌≡◌, ◌<◌, ℕ, false, not, is_some, Option, Some, None, length, ap, arith, refl, sym, ◌∙◌}
-use Rattle.std.specs.Prelude.{IfSome}
+use Rattle.std.proofs.Common.{◌≡◌, ℕ, false, not, is_some, Option, Some, None, ap, refl, sym, ◌∙◌}
 use Rattle.std.proofs.lemmas.Bool.{false≢true}
 use Rattle.schema_check.specs.Cohorts.{cohort_size, first_ordinal}
-use Rattle.schema_check.specs.Layout.{no_table}
-use Rattle.schema_check.specs.Limits.{IsLife}
-use Rattle.life_intervals.specs.Generator.{generator_of, table_of}
-use Rattle.life_intervals.proofs.BuiltLemmas.{length-tables}
+use Rattle.life_intervals.specs.Generator.{table_of}
 use Rattle.life_intervals.proofs.CohortLemmas.{born_count-next}
 use Rattle.update_box.specs.Fates.{lists_before}
 use Rattle.update_box.proofs.FateLemmas.{lists_before-rested, rested-over, rested-sure}
@@ -19,12 +15,10 @@ none (Some value) is = absurd (false≢true (sym is))
 pub returns-in-Over : goal.returns-in-Over
 returns-in-Over c settled =
     let births = (table_of c.args.plan.now c.args.table).births in
-    let below : c.args.table < length (generator_of c.args.plan.now).tables = omega (arith, c.requires.table, length-tables c.args.plan.now) in
-    let limits : IfSome (table_of c.args.plan.now c.args.table).life IsLife = (c.schema-built.ensures.limits.tables c.args.table no_table below).life in
     ap (lists_before c.args.plan.now c.args.t c.args.table) (born_count-next births c.args.born)
     ∙ lists_before-rested c.args.plan.now c.args.t c.args.table (first_ordinal births c.args.born) (cohort_size births c.args.born)
     (λ index inside.
-    rested-over c.args.plan.now c.args.t c.args.table c.args.born index c.schema-built.ensures.built c.requires.table limits c.requires.born
+    rested-over c.args.plan.now c.args.t c.args.table c.args.born index c.schema-limits.ensures.limits c.requires.table c.requires.unit c.requires.born
     (sym c.survival_at.ensures ∙ c.in-Over.is) inside)
 
 pub returns-in-Sure : goal.returns-in-Sure
@@ -35,5 +29,5 @@ returns-in-Sure c settled =
     ap (lists_before c.args.plan.now c.args.t c.args.table) (born_count-next births c.args.born)
     ∙ lists_before-rested c.args.plan.now c.args.t c.args.table (first_ordinal births c.args.born) (cohort_size births c.args.born)
     (λ index inside.
-    rested-sure c.args.plan.now c.args.t c.args.table c.args.born index c.schema-built.ensures.built c.requires.table still c.requires.born
+    rested-sure c.args.plan.now c.args.t c.args.table c.args.born index c.schema-limits.ensures.limits c.requires.table c.requires.unit still c.requires.born
     (sym c.survival_at-2.ensures ∙ c.in-Sure.is) inside)
