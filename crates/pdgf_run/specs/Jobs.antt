@@ -6,6 +6,7 @@ use Rattle.schema_check.specs.Dictionaries.{Project}
 use Rattle.schema_check.specs.Layout.{layout_of}
 use Rattle.schema_check.specs.TableFacts.{reach}
 use Rattle.life_intervals.specs.CohortOrders.{cohort_orders, table_orders}
+use Rattle.life_intervals.specs.CohortParents.{cohort_candidates, table_candidates}
 use Rattle.life_intervals.specs.Generator.{generator_of, last_unit}
 use Rattle.life_intervals.specs.Streams.{deleted, updated}
 use Rattle.row_lines.specs.ChangeDraws.{change_draws}
@@ -27,10 +28,10 @@ places_of places = range_with_len places.from places.count
 
 -- what some rows are of their table
 abbrev pub content_of : JobRows → Content
-content_of (rows.Snapshot orders changes) = content.Snapshot
+content_of (rows.Snapshot orders candidates changes) = content.Snapshot
 content_of (rows.Deleted ordinals) = content.Deleted
 content_of (rows.Updated ordinals) = content.Updated
-content_of (rows.Inserted orders changes) = content.Inserted
+content_of (rows.Inserted orders candidates changes) = content.Inserted
 
 -- what a part holds
 abbrev pub part_of : JobPart → Part
@@ -56,12 +57,14 @@ due_of (Files job) = files_due job
 
 -- the rows of a part, with what is made ready for them, are those of the table at a place at a unit
 abbrev pub AreRowsOf : Project → ℕ → ℕ → JobRows → Type 0
-AreRowsOf plan unit place (rows.Snapshot orders changes) =
-    (orders.items ≡ table_orders plan place unit) × (changes.items ≡ change_draws plan place unit)
+AreRowsOf plan unit place (rows.Snapshot orders candidates changes) =
+    (orders.items ≡ table_orders plan place unit) × (candidates.items ≡ table_candidates plan place unit)
+    × (changes.items ≡ change_draws plan place unit)
 AreRowsOf plan unit place (rows.Deleted kept) = (1 ≤ unit) × (kept.items ≡ ordinals (deleted (generator_of plan) place unit))
 AreRowsOf plan unit place (rows.Updated kept) = (1 ≤ unit) × (kept.items ≡ ordinals (updated (generator_of plan) place unit))
-AreRowsOf plan unit place (rows.Inserted orders changes) =
-    (orders ≡ cohort_orders plan place unit) × (changes.items ≡ change_draws plan place unit)
+AreRowsOf plan unit place (rows.Inserted orders candidates changes) =
+    (orders ≡ cohort_orders plan place unit) × (candidates ≡ cohort_candidates plan place unit)
+    × (changes.items ≡ change_draws plan place unit)
 
 -- a part is one of the plan's tables
 pub record IsPartOf (plan : Project) (unit : ℕ) (part : JobPart) : Type 0 where

@@ -6,6 +6,7 @@ ghost use Rattle.schema_check.specs.Cohorts.{born_count, cohort_size};
 ghost use Rattle.schema_check.specs.Layout.{layout_of};
 ghost use Rattle.schema_check.specs.TableFacts.{max_line, reach};
 ghost use Rattle.life_intervals.specs.CohortOrders.{cohort_orders, table_orders};
+ghost use Rattle.life_intervals.specs.CohortParents.{cohort_candidates, table_candidates};
 ghost use Rattle.life_intervals.specs.Generator.{generator_of, last_unit, rows_in_all, table_of};
 ghost use Rattle.life_intervals.specs.Intervals.{is_live};
 ghost use Rattle.life_intervals.specs.Streams.{deleted as deleted_rows, updated as updated_rows};
@@ -20,10 +21,11 @@ ghost use Rattle.pdgf_run.specs.Jobs.{CanFill, CanWrite, IsPartOf, due_of, files
 
 use crate::job::{Content, FilesJob, Job, JobPart, JobRows};
 use draw_values::UnitDraws;
-use life_intervals::{CohortOrders, Survival, cohort};
+use life_intervals::{Candidates, CohortOrders, Survival, cohort};
 use pd_outside::{Failed, PageBuf, Shelf, WriteFailed, write_all};
 use row_lines::{CohortLines, put_key, put_line};
 use schema_check::Plan;
+use schema_model::Sequence;
 use std::marker::Brand;
 use std::sync::ledger::{Blank, Ledger};
 use step_count::Steps;
@@ -42,12 +44,13 @@ struct KnownRow {
 }
 
 /// Writes the line of a row of a cohort, or nothing where it isn't alive.
-fn write_row<S: Shelf>(
+fn write_row<S: Shelf, B: Ledger>(
     shelf: &mut S,
     page: &mut PageBuf,
     lines: &CohortLines<'_>,
     changes: &[UnitDraws],
     row: KnownRow,
+    steps: &mut Steps<B>,
 ) -> Result<(), WriteFailed>
     requires begun { IsTrue (S.is_begun shelf.old) }
     requires row { IsRowOf lines.now row }
@@ -64,7 +67,7 @@ fn write_row<S: Shelf>(
         return Ok(());
     }
     page.clear();
-    lines.put_known_line(row.index, row.key, row.changed, changes, page);
+    lines.put_known_line(row.index, row.key, row.changed, changes, page, steps);
     write_all(shelf, page.text())
 }
 
@@ -107,7 +110,7 @@ fn write_cohort<S: Shelf, B: Ledger>(
                 changed: changed[index as usize],
                 is_live: live[index as usize],
             };
-            match write_row(shelf, page, lines, changes, row) {
+            match write_row(shelf, page, lines, changes, row, steps) {
                 Ok(()) => {}
                 Err(WriteFailed) => return Err(WriteFailed),
             }
@@ -132,6 +135,7 @@ fn write_born<S: Shelf, B: Ledger>(
     at: &TableAt<'_>,
     born: u64,
     orders: &CohortOrders,
+    candidates: &[Option<Candidates>],
     changes: &[UnitDraws],
     steps: &mut Steps<B>,
 ) -> Result<(), WriteFailed>
@@ -142,6 +146,7 @@ fn write_born<S: Shelf, B: Ledger>(
     requires room { reach (layout_of at.now.plan.now) ≤ page.old.room }
     requires born { born ≤ at.now.unit }
     requires orders { orders.now ≡ cohort_orders at.now.plan.now at.now.place born }
+    requires candidates { candidates.now ≡ cohort_candidates at.now.plan.now at.now.place born }
     requires changes { changes.now ≡ change_draws at.now.plan.now at.now.place at.now.unit }
     ensures lines { Appends result (cohort_text (generator_of at.now.plan.now) at.now.unit at.now.place born) (S.held shelf.old) (S.held shelf.new) }
     ensures cause { OnErr result (Rose (S.faults shelf.old) (S.faults shelf.new)) }
@@ -150,7 +155,7 @@ fn write_born<S: Shelf, B: Ledger>(
     ensures begun { IsTrue (S.is_begun shelf.new) }
     ensures room { page.new.room ≡ page.old.room }
 {
-    let lines = CohortLines::new(at.plan, at.place, born, at.unit, orders);
+    let lines = CohortLines::new(at.plan, at.place, born, at.unit, orders, candidates);
     let size = cohort(at.plan, at.place, born).size;
     write_cohort(shelf, page, &lines, size, changes, steps)
 }
@@ -161,6 +166,7 @@ fn write_table<S: Shelf, B: Ledger>(
     page: &mut PageBuf,
     at: &TableAt<'_>,
     orders: &[CohortOrders],
+    candidates: &[Sequence<Option<Candidates>>],
     changes: &[UnitDraws],
     steps: &mut Steps<B>,
 ) -> Result<(), WriteFailed>
@@ -170,6 +176,7 @@ fn write_table<S: Shelf, B: Ledger>(
     requires small { last_unit at.now.plan.now ≤ 10000 }
     requires room { reach (layout_of at.now.plan.now) ≤ page.old.room }
     requires orders { orders.now ≡ table_orders at.now.plan.now at.now.place at.now.unit }
+    requires candidates { candidates.now ≡ table_candidates at.now.plan.now at.now.place at.now.unit }
     requires changes { changes.now ≡ change_draws at.now.plan.now at.now.place at.now.unit }
     ensures text { Appends result (content_text at.now.plan.now at.now.unit at.now.place Content.Snapshot) (S.held shelf.old) (S.held shelf.new) }
     ensures cause { OnErr result (Rose (S.faults shelf.old) (S.faults shelf.new)) }
@@ -186,6 +193,7 @@ fn write_table<S: Shelf, B: Ledger>(
             at,
             born,
             &orders[born as usize],
+            candidates[born as usize].as_slice(),
             changes,
             steps,
         ) {
@@ -317,6 +325,7 @@ fn write_inserted<S: Shelf, B: Ledger>(
     page: &mut PageBuf,
     at: &TableAt<'_>,
     orders: &CohortOrders,
+    candidates: &[Option<Candidates>],
     changes: &[UnitDraws],
     steps: &mut Steps<B>,
 ) -> Result<(), WriteFailed>
@@ -326,6 +335,7 @@ fn write_inserted<S: Shelf, B: Ledger>(
     requires small { last_unit at.now.plan.now ≤ 10000 }
     requires room { reach (layout_of at.now.plan.now) ≤ page.old.room }
     requires orders { orders.now ≡ cohort_orders at.now.plan.now at.now.place at.now.unit }
+    requires candidates { candidates.now ≡ cohort_candidates at.now.plan.now at.now.place at.now.unit }
     requires changes { changes.now ≡ change_draws at.now.plan.now at.now.place at.now.unit }
     ensures text { Appends result (content_text at.now.plan.now at.now.unit at.now.place Content.Inserted) (S.held shelf.old) (S.held shelf.new) }
     ensures cause { OnErr result (Rose (S.faults shelf.old) (S.faults shelf.new)) }
@@ -335,7 +345,7 @@ fn write_inserted<S: Shelf, B: Ledger>(
     ensures room { page.new.room ≡ page.old.room }
 {
     let _sound = at.plan.schema(); // so each of them is alive
-    write_born(shelf, page, at, at.unit, orders, changes, steps)
+    write_born(shelf, page, at, at.unit, orders, candidates, changes, steps)
 }
 
 /// Writes a part of a table.
@@ -366,19 +376,26 @@ fn write_part<S: Shelf, B: Ledger>(
         unit,
     };
     match &part.rows {
-        JobRows::Snapshot(orders, changes) => write_table(
+        JobRows::Snapshot(orders, candidates, changes) => write_table(
             shelf,
             page,
             &at,
             orders.as_slice(),
+            candidates.as_slice(),
             changes.as_slice(),
             steps,
         ),
         JobRows::Deleted(deleted) => write_deleted(shelf, page, &at, deleted.as_slice(), steps),
         JobRows::Updated(updated) => write_updated(shelf, page, &at, updated.as_slice(), steps),
-        JobRows::Inserted(orders, changes) => {
-            write_inserted(shelf, page, &at, orders, changes.as_slice(), steps)
-        }
+        JobRows::Inserted(orders, candidates, changes) => write_inserted(
+            shelf,
+            page,
+            &at,
+            orders,
+            candidates.as_slice(),
+            changes.as_slice(),
+            steps,
+        ),
     }
 }
 

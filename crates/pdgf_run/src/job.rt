@@ -13,11 +13,13 @@ use crate::check::name_of;
 use crate::usage::Mode;
 use draw_values::UnitDraws;
 use itoa::Buffer;
-use life_intervals::{CohortOrders, cohort_orders, table_orders};
+use life_intervals::{
+    Candidates, CohortOrders, cohort_candidates, cohort_orders, table_candidates, table_orders,
+};
 use pd_outside::{Memory, PageBuf};
 use row_lines::change_draws;
 use schema_check::Plan;
-use schema_model::Text as Name;
+use schema_model::{Sequence, Text as Name};
 use std::alloc::Global;
 use std::sync::ledger::{Blank, Ledger};
 use step_count::Steps;
@@ -66,14 +68,14 @@ pub(crate) struct JobPart {
 /// The rows of a part, with what doesn't change from row to row.
 #[derive(Drop)]
 pub(crate) enum JobRows {
-    /// All at the unit, with the orders of the cohorts up to it and the draws of the changes.
-    Snapshot(Vec<CohortOrders>, Vec<UnitDraws>),
+    /// All at the unit, with the orders and the candidates of the cohorts up to it, and the draws of the changes.
+    Snapshot(Vec<CohortOrders>, Vec<Sequence<Option<Candidates>>>, Vec<UnitDraws>),
     /// Those that the unit deletes, by their ordinals.
     Deleted(Vec<u64>),
     /// Those that it updates.
     Updated(Vec<u64>),
-    /// Its cohort, with the orders of this and the draws of the changes.
-    Inserted(CohortOrders, Vec<UnitDraws>),
+    /// Its cohort, with the orders and the candidates of this, and the draws of the changes.
+    Inserted(CohortOrders, Sequence<Option<Candidates>>, Vec<UnitDraws>),
 }
 
 /// The places of `count` tables from the one at place `from` on.
@@ -200,8 +202,11 @@ fn push_snapshot(
     let Ok(orders) = table_orders(alloc, plan, place, unit) else {
         return Err(Memory);
     };
+    let Ok(candidates) = table_candidates(alloc, plan, place, unit) else {
+        return Err(Memory);
+    };
     let changes = change_draws(alloc, plan, place, unit)?;
-    let rows = JobRows::Snapshot(orders, changes);
+    let rows = JobRows::Snapshot(orders, candidates, changes);
     push_part(alloc, plan, unit, place, rows, out, parts)
 }
 
@@ -228,8 +233,11 @@ fn push_changes<B: Ledger>(
         updated,
         ..
     } = table_rows(alloc, plan, place, unit, steps)?;
+    let Ok(candidates) = cohort_candidates(alloc, plan, place, unit) else {
+        return Err(Memory);
+    };
     let changes = change_draws(alloc, plan, place, unit)?;
-    let inserted = JobRows::Inserted(cohort_orders(plan, place, unit), changes);
+    let inserted = JobRows::Inserted(cohort_orders(plan, place, unit), candidates, changes);
     push_part(
         alloc,
         plan,

@@ -145,6 +145,106 @@ name = "changed"
 kind = "changed"
 "#;
 
+// Customers live three units and change every two; orders live nine, or as long as their customer, the oldest who was born in the two
+// units before or with them; and a line lives as long as the order that is born with it. A cohort of one row has its place first.
+const SALES: &str = r#"seed = 7
+units = 5
+[[table]]
+name = "customer"
+rows = 1
+insert = 1
+life = [3, 3]
+update = 2
+[[table.column]]
+name = "id"
+kind = "key"
+base = 1
+[[table.column]]
+name = "born"
+kind = "born"
+[[table.column]]
+name = "changed"
+kind = "changed"
+[[table]]
+name = "orders"
+rows = 1
+insert = 1
+life = [9, 9]
+[[table.column]]
+name = "id"
+kind = "key"
+base = 1
+[[table.column]]
+name = "customer"
+kind = "ref"
+table = "customer"
+window = 2
+[[table]]
+name = "lines"
+rows = 1
+insert = 1
+[[table.column]]
+name = "id"
+kind = "key"
+base = 1
+[[table.column]]
+name = "order_id"
+kind = "ref"
+table = "orders"
+window = 0
+"#;
+
+// An order that may be born when its customer is gone: the window is as long as the sure life.
+const WINDOW_TOO_LONG: &str = r#"seed = 7
+units = 5
+[[table]]
+name = "customer"
+rows = 1
+insert = 1
+life = [3, 3]
+[[table.column]]
+name = "id"
+kind = "key"
+base = 1
+[[table]]
+name = "orders"
+rows = 1
+[[table.column]]
+name = "id"
+kind = "key"
+base = 1
+[[table.column]]
+name = "customer"
+kind = "ref"
+table = "customer"
+window = 3
+"#;
+
+// Rows without a parent to refer to at unit 0.
+const NO_PARENT: &str = r#"seed = 1
+units = 1
+[[table]]
+name = "p"
+rows = 0
+insert = 1
+[[table.column]]
+name = "id"
+kind = "key"
+base = 1
+[[table]]
+name = "c"
+rows = 1
+[[table.column]]
+name = "id"
+kind = "key"
+base = 1
+[[table.column]]
+name = "p"
+kind = "ref"
+table = "p"
+window = 1
+"#;
+
 // A table that shows what another holds, which isn't built.
 const SHOWING: &str = r#"seed = 1
 units = 2
@@ -519,6 +619,59 @@ fn requests_come_to_their_files(rt: HostRuntime) -> Result<(), Fail> {
     Ok(())
 }
 
+// A unit of the customers, orders and lines, and what becomes of one table of them.
+const SALES_AT_3: [&str; 7] = ["pdgf", "unit", "s.toml", "--unit", "3", "--table", "lines"];
+
+#[test]
+fn references_come_to_their_files(rt: HostRuntime) -> Result<(), Fail> {
+    let alloc = rt.alloc();
+    let cases: [(&str, &[&str], Outcome<'_>); 5] = [
+        (
+            SALES,
+            &["pdgf", "check", "s.toml"],
+            all_done(&[(
+                "-",
+                "customer\t6\t3\t3\t33\norders\t6\t1\t5\t42\nlines\t6\t1\t6\t42\n",
+            )]),
+        ),
+        (
+            SALES,
+            &["pdgf", "snapshot", "s.toml", "--unit", "2", "--out", "out"],
+            all_done(&[
+                ("out/customer.tbl", "1\t0\t1\n2\t1\t2\n3\t2\t2\n"),
+                ("out/orders.tbl", "1\t1\n2\t1\n3\t1\n"),
+                ("out/lines.tbl", "1\t1\n2\t2\n3\t3\n"),
+            ]),
+        ),
+        (
+            SALES,
+            &["pdgf", "unit", "s.toml", "--unit", "3", "--out", "out"],
+            all_done(&[
+                ("out/customer.3.del", "1\n"),
+                ("out/customer.3.upd", "3\t2\t3\n"),
+                ("out/customer.3.ins", "4\t3\t3\n"),
+                ("out/orders.3.del", "1\n2\n3\n"),
+                ("out/orders.3.upd", ""),
+                ("out/orders.3.ins", "4\t2\n"),
+                ("out/lines.3.del", "1\n2\n3\n"),
+                ("out/lines.3.upd", ""),
+                ("out/lines.3.ins", "4\t4\n"),
+            ]),
+        ),
+        (SALES, &SALES_AT_3, all_done(&[("-", "1\n2\n3\n4\t4\n")])),
+        (
+            SALES,
+            &["pdgf", "snapshot", "s.toml", "--unit", "6"],
+            refused(8, "pdgf: out of range: --unit\n"),
+        ),
+    ];
+    for (schema, given, outcome) in cases {
+        let shelf = shelf(alloc, ShelfFail::Begin(10), 1000)?;
+        run_gives(&rt, alloc, schema.as_bytes(), given, shelf, outcome)?;
+    }
+    Ok(())
+}
+
 #[test]
 fn other_words_and_schemas_are_refused(rt: HostRuntime) -> Result<(), Fail> {
     let alloc = rt.alloc();
@@ -596,7 +749,7 @@ fn other_words_and_schemas_are_refused(rt: HostRuntime) -> Result<(), Fail> {
             refused(status, message),
         )?;
     }
-    let schemas: [(&str, u8, &str); 6] = [
+    let schemas: [(&str, u8, &str); 8] = [
         ("seed = \"ab", 3, "pdgf: schema: not TOML\n"),
         (
             "seed = 1\nunits = 2\n",
@@ -604,6 +757,8 @@ fn other_words_and_schemas_are_refused(rt: HostRuntime) -> Result<(), Fail> {
             "pdgf: schema: top key table: expected list of tables\n",
         ),
         (TOO_MANY_ROWS, 4, "pdgf: rule V6 at table 1\n"),
+        (WINDOW_TOO_LONG, 4, "pdgf: rule V19 at table 2 column 2\n"),
+        (NO_PARENT, 4, "pdgf: rule V20 at table 2 column 2\n"),
         (SHOWING, 11, "pdgf: not built\n"),
         (SHOWING_AND_TOO_MANY_ROWS, 11, "pdgf: not built\n"),
         (TOO_MANY_ROWS_TO_UNIT_1, 4, "pdgf: rule V6 at table 1\n"),
@@ -954,7 +1109,7 @@ fn changes_of_a_unit_are_as_worked_out(rt: HostRuntime) -> Result<(), Fail> {
     Ok(())
 }
 
-// The checksum of what a mode writes of a table at a unit.
+// The checksum of what a mode writes of the tables at a unit.
 fn text_checksum<R: Threads + Sync + Abort>(
     rt: &R,
     alloc: Global,
@@ -1058,6 +1213,138 @@ fn changes_are_those_of_a_simulation(rt: HostRuntime) -> Result<(), Fail> {
         ("6", 10_625_683_309_418_174_204),
     ] {
         assert_eq!(rt; text_checksum(&rt, rt.alloc(), LIVING, "unit", unit)?, sum);
+    }
+    Ok(())
+}
+
+// Lines refer to orders and to products, and orders to customers of regions: rows die with their parents, up to three
+// tables above.
+const FIVE: &str = r#"seed = 11
+units = 5
+
+[[table]]
+name = "region"
+rows = 3
+insert = 1
+life = [4, 6]
+update = 3
+[[table.column]]
+name = "id"
+kind = "key"
+base = 1
+scramble = true
+[[table.column]]
+name = "at"
+kind = "changed"
+
+[[table]]
+name = "customer"
+rows = 5
+insert = 2
+life = [3, 5]
+update = 2
+[[table.column]]
+name = "id"
+kind = "key"
+base = 100
+scramble = true
+[[table.column]]
+name = "region"
+kind = "ref"
+table = "region"
+window = 2
+[[table.column]]
+name = "balance"
+kind = "fixed"
+lo = -999
+hi = 9999
+decimals = 2
+changes = true
+
+[[table]]
+name = "product"
+rows = 4
+insert = 1
+life = [3, 4]
+[[table.column]]
+name = "id"
+kind = "key"
+base = 50
+[[table.column]]
+name = "name"
+kind = "pick"
+entries = ["bolt", "nut", "gear"]
+
+[[table]]
+name = "orders"
+rows = 6
+insert = 4
+life = [2, 9]
+update = 3
+[[table.column]]
+name = "id"
+kind = "key"
+base = 1000
+scramble = true
+[[table.column]]
+name = "customer"
+kind = "ref"
+table = "customer"
+window = 1
+spread = [1, 2, 3]
+[[table.column]]
+name = "at"
+kind = "changed"
+
+[[table]]
+name = "lines"
+rows = 9
+insert = 7
+update = 1
+[[table.column]]
+name = "id"
+kind = "key"
+base = 1
+[[table.column]]
+name = "order_id"
+kind = "ref"
+table = "orders"
+window = 0
+[[table.column]]
+name = "product"
+kind = "ref"
+table = "product"
+window = 1
+spread = [3, 1]
+[[table.column]]
+name = "label"
+kind = "template"
+parts = [{ column = "order_id" }, "/", { column = "product" }]
+[[table.column]]
+name = "amount"
+kind = "int"
+lo = 1
+hi = 20
+changes = true
+"#;
+
+// The same of five tables, one after the other: what they hold at each unit, and what each unit does to them.
+#[test]
+fn referring_tables_are_those_of_a_simulation(rt: HostRuntime) -> Result<(), Fail> {
+    for (mode, unit, sum) in [
+        ("snapshot", "0", 5_931_312_155_241_627_626),
+        ("snapshot", "1", 1_899_732_708_098_795_348),
+        ("snapshot", "2", 16_924_203_404_327_597_879),
+        ("snapshot", "3", 10_522_005_735_433_884_974),
+        ("snapshot", "4", 14_005_412_522_544_792_305),
+        ("snapshot", "5", 6_667_308_038_851_395_604),
+        ("unit", "1", 3_872_165_141_443_083_255),
+        ("unit", "2", 1_260_399_511_238_514_839),
+        ("unit", "3", 11_614_375_202_900_331_708),
+        ("unit", "4", 10_982_361_475_692_699_949),
+        ("unit", "5", 3_532_539_744_551_231_127),
+    ] {
+        assert_eq!(rt; text_checksum(&rt, rt.alloc(), FIVE, mode, unit)?, sum);
     }
     Ok(())
 }

@@ -38,7 +38,7 @@ pub write_key-requires-clause-row : goal.write_key-requires-clause-row
 write_key-requires-clause-row g c =
     let born : All (λ j. j < rows_in_all c.args.at.now.plan.now c.args.at.now.place) c.args.deleted.now =
     subst (λ (js : List ℕ). All (λ j. j < rows_in_all c.args.at.now.plan.now c.args.at.now.place) js) (sym c.requires.rows)
-    (deleted-born c.args.at.now.plan.now c.schema-sound.ensures.limits c.schema-sound.ensures.built c.args.at.now.place c.requires.table c.args.at.now.unit c.requires.unit) in
+    (deleted-born c.args.at.now.plan.now c.schema-sound.ensures.limits c.args.at.now.place c.requires.table c.args.at.now.unit c.requires.unit) in
     born c.loop-ordinal.ordinal-index 0 c.loop-ordinal-test.true
 
 pub write_key-requires-clause-room : goal.write_key-requires-clause-room

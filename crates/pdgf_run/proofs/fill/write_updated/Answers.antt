@@ -26,7 +26,7 @@ pub returns-in-Err-clause-text : goal.returns-in-Err-clause-text
 returns-in-Err-clause-text g c =
     let line : ℕ → List ℕ = line_of (generator_of c.args.at.now.plan.now) c.args.at.now.unit c.args.at.now.place in
     prefix_after _ _ _ _ _ _ _
-    (updated_text-ordinals c.args.at.now.plan.now c.schema-sound.ensures.limits c.schema-sound.ensures.built c.args.at.now.place c.requires.table c.args.at.now.unit ∙ ap (flat_map line) (sym c.requires.rows) ∙ flat_map-at line c.args.updated.now c.loop-ordinal.ordinal-index (slice_index_or c.args.updated.now c.loop-ordinal.ordinal-index 0) c.loop-ordinal-test.true
+    (updated_text-ordinals c.args.at.now.plan.now c.schema-sound.ensures.limits c.args.at.now.place c.requires.table c.args.at.now.unit c.requires.unit ∙ ap (flat_map line) (sym c.requires.rows) ∙ flat_map-at line c.args.updated.now c.loop-ordinal.ordinal-index (slice_index_or c.args.updated.now c.loop-ordinal.ordinal-index 0) c.loop-ordinal-test.true
     (get_or_default c.args.updated.now c.loop-ordinal.ordinal-index 0 (slice_index_or c.args.updated.now c.loop-ordinal.ordinal-index 0) c.loop-ordinal-test.true))
     c.loop-ordinal.invariant.text c.in-Err.ensures.line
 
@@ -36,14 +36,14 @@ returns-clause-text g c =
     c.loop-ordinal.invariant.text
     ∙ ap (λ (js : List ℕ). option_map (append_bytes (flat_map line js)) (g.S.Shelf.held c.args.shelf.now))
     (take_all c.loop-ordinal.ordinal-index c.args.updated.now (omega (arith, c.loop-ordinal-test.false)))
-    ∙ ap (λ (bytes : List ℕ). option_map (append_bytes bytes) (g.S.Shelf.held c.args.shelf.now)) (sym (updated_text-ordinals c.args.at.now.plan.now c.schema-sound.ensures.limits c.schema-sound.ensures.built c.args.at.now.place c.requires.table c.args.at.now.unit ∙ ap (flat_map line) (sym c.requires.rows)))
+    ∙ ap (λ (bytes : List ℕ). option_map (append_bytes bytes) (g.S.Shelf.held c.args.shelf.now)) (sym (updated_text-ordinals c.args.at.now.plan.now c.schema-sound.ensures.limits c.args.at.now.place c.requires.table c.args.at.now.unit c.requires.unit ∙ ap (flat_map line) (sym c.requires.rows)))
 
 pub write_line-requires-clause-born : goal.write_line-requires-clause-born
 write_line-requires-clause-born g c =
     let plan = c.args.at.now.plan.now in
     let born : All (λ j. j < born_count (table_of plan c.args.at.now.place).births c.args.at.now.unit) c.args.updated.now =
     subst (λ (js : List ℕ). All (λ j. j < born_count (table_of plan c.args.at.now.place).births c.args.at.now.unit) js) (sym c.requires.rows)
-    (updated-born plan c.schema-sound.ensures.limits c.schema-sound.ensures.built c.args.at.now.place c.requires.table c.args.at.now.unit) in
+    (updated-born plan c.schema-sound.ensures.limits c.args.at.now.place c.requires.table c.args.at.now.unit c.requires.unit) in
     born c.loop-ordinal.ordinal-index 0 c.loop-ordinal-test.true
 
 pub write_line-requires-clause-alive : goal.write_line-requires-clause-alive
@@ -51,7 +51,7 @@ write_line-requires-clause-alive g c =
     let plan = c.args.at.now.plan.now in
     let live : All (λ j. is_live (generator_of plan) c.args.at.now.place c.args.at.now.unit j ≡ true) c.args.updated.now =
     subst (λ (js : List ℕ). All (λ j. is_live (generator_of plan) c.args.at.now.place c.args.at.now.unit j ≡ true) js) (sym c.requires.rows)
-    (updated-live plan c.schema-sound.ensures.limits c.schema-sound.ensures.built c.args.at.now.place c.requires.table c.args.at.now.unit) in
+    (updated-live plan c.schema-sound.ensures.limits c.args.at.now.place c.requires.table c.args.at.now.unit c.requires.unit) in
     live c.loop-ordinal.ordinal-index 0 c.loop-ordinal-test.true
 
 pub write_line-requires-clause-room : goal.write_line-requires-clause-room
