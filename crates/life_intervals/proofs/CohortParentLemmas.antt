@@ -25,7 +25,7 @@ use Rattle.schema_check.proofs.LineageLemmas.{lineage_at-lineages}
 use Rattle.life_intervals.specs.declared.candidates.Candidates.{Candidates}
 use Rattle.life_intervals.specs.CohortKeys.{CohortOf}
 use Rattle.life_intervals.specs.CohortOrders.{do_lives_differ}
-use Rattle.life_intervals.specs.CohortParents.{AreCandidates, AreParentsOf, IsReferenceOf, candidates_by, cohort_candidates, has_references, parent_in, parents_death_in, reference_by, references_cost, table_candidates}
+use Rattle.life_intervals.specs.CohortParents.{AreCandidates, AreParentsOf, IsReferenceOf, asked_for_death, candidates_by, cohort_candidates, has_references, parent_in, parents_death_in, reference_by, references_cost, table_candidates}
 use Rattle.life_intervals.specs.Generator.{Generator, generator_of, last_unit, table_of}
 use Rattle.life_intervals.specs.Intervals.{Known, birth, death, first_death, index_at, known_tables, own_death}
 use Rattle.life_intervals.specs.References.{choice}
@@ -303,10 +303,10 @@ death_cost-parts plan limits table below =
       sum-before tables table (references_of (table_at tables table)) (λ k d inside. (limits.references table below k d inside).earlier),
     )
 
--- where lives of a table differ, its death costs at least the permutation of lives
-pub lives_and_parents_cost : (plan : Project) → IsInLimits plan → (table : ℕ) → table < length plan.schema.tables →
-    one_if (do_lives_differ (table_of plan table).life) + references_cost (layout_of plan).tables table ≤ death_cost (layout_of plan).tables table
-lives_and_parents_cost plan limits table below = omega (arith, death_cost-parts plan limits table below, differ_cost (table_of plan table).life)
+-- a death asks at most what it costs
+pub asked_for_death-cost : (plan : Project) → IsInLimits plan → (table : ℕ) → table < length plan.schema.tables →
+    asked_for_death plan table ≤ death_cost (layout_of plan).tables table
+asked_for_death-cost plan limits table below = omega (arith, death_cost-parts plan limits table below, differ_cost (table_of plan table).life)
 
 -- ---- all cohorts
 

@@ -10,12 +10,12 @@ use Rattle.schema_check.specs.declared.ready.ReadyKind.TheVariants as kind
 use Rattle.schema_check.specs.Dictionaries.{Project}
 use Rattle.schema_check.specs.Layout.{TableLayout, column_at, layout_of, table_at}
 use Rattle.schema_check.specs.Limits.{IsInLimits}
-use Rattle.schema_check.specs.Lineage.{death_cost}
+use Rattle.schema_check.specs.Lineage.{death_cost, one_if}
 use Rattle.schema_check.specs.Ready.{ready_columns, ready_kind}
 use Rattle.schema_check.specs.References.{Reference, count_in_window, first_in_window, reference_at, references_of}
 use Rattle.life_intervals.specs.declared.candidates.Candidates.{Candidates}
 use Rattle.life_intervals.specs.CohortKeys.{CohortOf}
-use Rattle.life_intervals.specs.CohortOrders.{order_by}
+use Rattle.life_intervals.specs.CohortOrders.{do_lives_differ, order_by}
 use Rattle.life_intervals.specs.Generator.{generator_of, last_unit, table_of}
 use Rattle.life_intervals.specs.Intervals.{death, first_death, known_tables, parent_by}
 
@@ -78,6 +78,11 @@ parents_death_in cohort index =
 -- how many permutations the deaths of all parents of a row of the table at a place take at most
 abbrev pub references_cost : List TableLayout → ℕ → ℕ
 references_cost tables table = sum_by (λ (reference : Reference). 1 + death_cost tables reference.parent) (references_of (table_at tables table))
+
+-- how many permutations the death of a row takes at most, by its cohort: that of its own life where lives of the table differ, and
+-- those of the deaths of all parents
+abbrev pub asked_for_death : Project → ℕ → ℕ
+asked_for_death plan table = one_if (do_lives_differ (table_of plan table).life) + references_cost (layout_of plan).tables table
 
 -- what is kept is of a cohort of a plan
 pub record AreParentsOf (cohort : CohortOf) (kept : List (Option Candidates)) : Type 0 where

@@ -1,11 +1,10 @@
 //! Which rows of a cohort are alive at a unit, and when they changed last, with what doesn't change from row to row taken once.
 
 ghost use Rattle.std.specs.Prelude.{◌≡◌, ◌+◌, ◌<◌, ◌≤◌, ◌⊎◌, ℕ, IfSome, false, length, min, true};
-ghost use Rattle.schema_check.specs.Layout.{layout_of};
-ghost use Rattle.schema_check.specs.Lineage.{death_cost, one_if};
+ghost use Rattle.schema_check.specs.Lineage.{one_if};
 ghost use Rattle.life_intervals.specs.CohortLives.{change_in, cohort_of, death_in, is_live_in, own_death_in, size_of, survival_of};
 ghost use Rattle.schema_check.specs.Cohorts.{born_count};
-ghost use Rattle.life_intervals.specs.CohortParents.{AreCandidates, IsReferenceOf, parent_in, reference_by};
+ghost use Rattle.life_intervals.specs.CohortParents.{AreCandidates, IsReferenceOf, asked_for_death, parent_in, reference_by};
 ghost use Rattle.life_intervals.specs.CohortOrders.{do_lives_differ, do_updates_differ, life_order, update_order};
 ghost use Rattle.life_intervals.specs.Generator.{last_unit, table_of};
 
@@ -112,23 +111,24 @@ impl<'a> CohortLives<'a> {
     }
 
     /// The unit at which the row with this index in the cohort dies, by its own life or with the first of its parents; None where it
-    /// never does. It takes at most as many steps as the cost of a death says.
+    /// never does. It takes one step where lives of the table differ, and for each reference one and at most as many as the cost of
+    /// the parent's death says.
     #[inline]
     pub fn death<L: Ledger>(&self, index: u64, steps: &mut Steps<L>) -> Option<u64>
         requires { index < size_of self.now }
         ensures death { result ≡ death_in self.now index }
-        ensures steps { steps.new ≤ steps.old + death_cost (layout_of self.now.plan).tables self.now.table }
+        ensures steps { steps.new ≤ steps.old + asked_for_death self.now.plan self.now.table }
     {
         let own = self.own_death(index, steps);
         earlier(own, self.parents.first_death(index, steps))
     }
 
-    /// Whether the row with this index in the cohort is alive. It takes at most as many steps as the cost of a death says.
+    /// Whether the row with this index in the cohort is alive. It takes as many steps as its death.
     #[inline]
     pub fn is_live<L: Ledger>(&self, index: u64, steps: &mut Steps<L>) -> bool
         requires { index < size_of self.now }
         ensures live { result ≡ is_live_in self.now index }
-        ensures steps { steps.new ≤ steps.old + death_cost (layout_of self.now.plan).tables self.now.table }
+        ensures steps { steps.new ≤ steps.old + asked_for_death self.now.plan self.now.table }
     {
         match self.death(index, steps) {
             Some(death) => self.unit < death,

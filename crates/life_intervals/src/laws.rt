@@ -10,15 +10,16 @@ ghost use Rattle.schema_check.specs.Cohorts.{born_count, cohort_size, first_ordi
 ghost use Rattle.schema_check.specs.Dictionaries.{Project};
 ghost use Rattle.schema_check.specs.Layout.{TableLayout, layout_of, table_at};
 ghost use Rattle.schema_check.specs.Limits.{IsInLimits};
-ghost use Rattle.schema_check.specs.Lineage.{longest_life, sure_life};
+ghost use Rattle.schema_check.specs.Lineage.{death_cost, longest_life, sure_life};
 ghost use Rattle.life_intervals.specs.Changes.{IsLastDue, first_due};
+ghost use Rattle.life_intervals.specs.CohortParents.{asked_for_death};
 ghost use Rattle.life_intervals.specs.Generator.{Generator, generator_of, last_unit, table_of};
 ghost use Rattle.life_intervals.specs.Intervals.{LiesIn, birth, change_unit, changing, death, dying, first_death, index_at, interval_state, is_after, known_of, newborn, own_death, parent_of, row_at, rows_of};
 ghost use Rattle.life_intervals.specs.Keys.{OrdersCohorts, key_in_cohort, key_of};
 ghost use Rattle.schema_check.specs.References.{count_in_window, first_in_window, references_of};
 ghost use Rattle.life_intervals.specs.References.{choice};
 ghost use Rattle.life_intervals.specs.Rows.{candidates, cohort};
-ghost use Rattle.life_intervals.specs.Simulation.{rows_at, simulation};
+ghost use Rattle.life_intervals.specs.Simulation.{holds_row, rows_at, simulation};
 ghost use Rattle.life_intervals.specs.Sound.{AreSound};
 ghost use Rattle.life_intervals.specs.Streams.{deleted, inserted, updated};
 ghost use Rattle.life_intervals.specs.Worked.{customer_row, line_row, order_row, sales_in_place};
@@ -124,6 +125,21 @@ pub fn death_is_the_first_of_its_own_and_the_parents()
         (references_of (table_at generator.tables place))) }
 {}
 
+/// Where a table holds a row, the tables of its parents hold these at the same unit.
+pub fn parents_are_held()
+    ensures { (units : ℕ) (generator : Generator) → AreSound units generator.tables →
+        (place : ℕ) → place < length generator.tables → (unit ordinal : ℕ) → unit ≤ units →
+        holds_row (rows_at generator place unit) ordinal ≡ true →
+        All (λ reference. holds_row (rows_at generator reference.parent unit) (parent_of generator place unit ordinal reference) ≡ true)
+        (references_of (table_at generator.tables place)) }
+{}
+
+/// A death asks at most as many permutations as it costs.
+pub fn deaths_ask_at_most_their_cost()
+    ensures { (project : Project) → IsInLimits project → (place : ℕ) → place < length project.schema.tables →
+        asked_for_death project place ≤ death_cost (layout_of project).tables place }
+{}
+
 /// A row's death is the same, whatever the unit by which it is born, and so is the end of its own life.
 pub fn death_is_for_good()
     ensures death { (generator : Generator) (place unit last ordinal : ℕ) →
@@ -159,6 +175,13 @@ pub fn lives_last_from_the_sure_to_the_longest()
         (unit index age : ℕ) → unit ≤ last_unit project → index < cohort_size (table_of project place).births unit →
         is_after (longest_life (layout_of project).tables place) age ≡ false →
         is_after ((known_of (generator_of project) place).death unit index) (unit + age) ≡ false }
+{}
+
+/// What follows a unit is no part of its data: schemas that differ in their last unit alone have one generator, and so the same
+/// tables, texts and changes at each unit that both reach.
+pub fn data_do_not_depend_on_the_last_unit()
+    ensures { (project : Project) (last : _) →
+        generator_of (record project { schema = record project.schema { units = last } }) ≡ generator_of project }
 {}
 
 /// Thirteen places choose among four candidates by a spread of one, two and three, worked out by hand.

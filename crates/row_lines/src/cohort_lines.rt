@@ -5,14 +5,14 @@ ghost use Rattle.schema_check.specs.declared.ready.ReadyKind.TheVariants.{Templa
 ghost use Rattle.schema_check.specs.Cohorts.{cohort_size};
 ghost use Rattle.schema_check.specs.Delimiters.{delimiter_byte as byte_of};
 ghost use Rattle.schema_check.specs.Layout.{column_at, layout_of};
-ghost use Rattle.schema_check.specs.Lineage.{death_cost, one_if};
+ghost use Rattle.schema_check.specs.Lineage.{one_if};
 ghost use Rattle.schema_check.specs.Ready.{ready_kind};
 ghost use Rattle.schema_check.specs.TableFacts.{line_cost, max_line};
 ghost use Rattle.draw_values.specs.UnitDraws.{unit_draws};
 ghost use Rattle.draw_values.specs.Values.{is_own};
 ghost use Rattle.life_intervals.specs.Generator.{last_unit};
 ghost use Rattle.life_intervals.specs.CohortOrders.{cohort_orders, do_updates_differ};
-ghost use Rattle.life_intervals.specs.CohortParents.{AreCandidates, IsReferenceOf, reference_by};
+ghost use Rattle.life_intervals.specs.CohortParents.{AreCandidates, IsReferenceOf, asked_for_death, reference_by};
 ghost use Rattle.row_lines.specs.ChangeDraws.{change_draws};
 ghost use Rattle.row_lines.specs.CohortLines.{asked_for, asked_for_line, change_for, is_live_for, key_for, layout_for, line_in_cohort, parent_key_for, size_for, text_in_cohort, values_at};
 ghost use Rattle.row_lines.specs.Parts.{IsCitable, IsPartOf, cited_asked, cited_size, cited_text, part_asked, part_size, written_part};
@@ -151,8 +151,9 @@ impl<'a> CohortLines<'a> {
         }
     }
 
-    /// Puts into the list which of so many rows are alive, the first that with the index `first` in the cohort. Each takes at most as
-    /// many steps as the cost of a death says, and none where all of the cohort are alive, or none.
+    /// Puts into the list which of so many rows are alive, the first that with the index `first` in the cohort. Each takes at most one
+    /// step where lives of the table differ, and for each reference one and as many as the cost of the parent's death says; none does
+    /// where all of the cohort are alive, or none.
     pub fn put_lives<L: Ledger>(
         &self,
         first: u64,
@@ -165,7 +166,7 @@ impl<'a> CohortLines<'a> {
         ensures live { (i : ℕ) → i < count → get_or live.new i false ≡ is_live_for self.now (first + i) }
         ensures rest { (i : ℕ) → count ≤ i → get_or live.new i false ≡ get_or live.old i false }
         ensures length { length live.new ≡ length live.old }
-        ensures steps { steps.new ≤ steps.old + count * death_cost (layout_of self.now.plan).tables self.now.table }
+        ensures steps { steps.new ≤ steps.old + count * asked_for_death self.now.plan self.now.table }
     {
         match self.survival() {
             Survival::Sure => put_all(live, count, true),
@@ -187,7 +188,7 @@ impl<'a> CohortLines<'a> {
         ensures live { (i : ℕ) → i < count → get_or live.new i false ≡ is_live_for self.now (first + i) }
         ensures rest { (i : ℕ) → count ≤ i → get_or live.new i false ≡ get_or live.old i false }
         ensures length { length live.new ≡ length live.old }
-        ensures steps { steps.new ≤ steps.old + count * death_cost (layout_of self.now.plan).tables self.now.table }
+        ensures steps { steps.new ≤ steps.old + count * asked_for_death self.now.plan self.now.table }
     {
         let _limits = self.plan.table(self.place); // a table has at most 2^40 rows
         for index in 0..count {
@@ -200,7 +201,7 @@ impl<'a> CohortLines<'a> {
     fn is_live<L: Ledger>(&self, index: u64, steps: &mut Steps<L>) -> bool
         requires { index < cohort_size (layout_for self.now).births self.now.born }
         ensures live { result ≡ is_live_for self.now index }
-        ensures steps { steps.new ≤ steps.old + death_cost (layout_of self.now.plan).tables self.now.table }
+        ensures steps { steps.new ≤ steps.old + asked_for_death self.now.plan self.now.table }
     {
         self.lives.is_live(index, steps)
     }

@@ -12,7 +12,7 @@ use Rattle.life_intervals.specs.CohortParents.{parents_death_in, references_cost
 use Rattle.life_intervals.specs.Generator.{generator_of, last_unit, rows_in_all, table_of}
 use Rattle.life_intervals.specs.Intervals.{death, first_death}
 use Rattle.life_intervals.proofs.CohortLemmas.{born_count-le}
-use Rattle.life_intervals.proofs.CohortParentLemmas.{AreParentsOf-view, before-none, cost_before-some, cost_of_reference, death-parents, death_by_reference, first_before-some, limits_of, lives_and_parents_cost, none_from_columns, reference_from_columns}
+use Rattle.life_intervals.proofs.CohortParentLemmas.{AreParentsOf-view, before-none, cost_before-some, cost_of_reference, death-parents, death_by_reference, first_before-some, limits_of, asked_for_death-cost, none_from_columns, reference_from_columns}
 use Rattle.life_intervals.proofs.parents.+deaths.Goals as goal
 use Rattle.life_intervals.proofs.parents.+deaths.Goals.{CohortParents::first_death-in-Reference, CohortParents::first_death-in_default}
 
@@ -94,5 +94,5 @@ death-returns-clause-steps g t c =
       c.own_death-own.ensures.steps,
       c.first_death.ensures.steps,
       ap (λ (cohort : CohortOf). references_cost (layout_of cohort.plan).tables cohort.table) c.new-parents.ensures,
-      lives_and_parents_cost plan c.schema-sound.ensures.limits c.args.table c.requires.table,
+      asked_for_death-cost plan c.schema-sound.ensures.limits c.args.table c.requires.table,
     )

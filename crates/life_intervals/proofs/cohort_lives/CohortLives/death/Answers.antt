@@ -5,7 +5,6 @@ use Rattle.life_intervals.specs.CohortKeys.{CohortOf}
 use Rattle.life_intervals.specs.CohortLives.{CohortAt}
 use Rattle.life_intervals.specs.CohortParents.{parents_death_in, references_cost}
 use Rattle.life_intervals.proofs.CohortAtLemmas.{AreLivesOf-view, death_in-parents}
-use Rattle.life_intervals.proofs.CohortParentLemmas.{lives_and_parents_cost}
 use Rattle.life_intervals.proofs.cohort_lives.CohortLives.death.Goals as goal
 
 pub returns-clause-death : goal.returns-clause-death
@@ -25,5 +24,4 @@ returns-clause-steps g c =
       c.own_death-own.ensures.steps,
       c.first_death.ensures.steps,
       ap (λ (cohort : CohortOf). references_cost (layout_of cohort.plan).tables cohort.table) is.parents_are,
-      lives_and_parents_cost at.plan is.sound at.table is.cohort_is.table,
     )

@@ -1,7 +1,6 @@
 use Rattle.std.proofs.Common.{◌<◌, ap, arith, subst, sym, ◌∙◌}
-use Rattle.schema_check.specs.Layout.{layout_of}
-use Rattle.schema_check.specs.Lineage.{death_cost}
 use Rattle.life_intervals.specs.CohortLives.{CohortAt, is_live_in, size_of}
+use Rattle.life_intervals.specs.CohortParents.{asked_for_death}
 use Rattle.row_lines.proofs.CohortLineLemmas.{AreLinesOf-view}
 use Rattle.row_lines.proofs.cohort_lines.CohortLines.is_live.Goals as goal
 
@@ -18,4 +17,4 @@ returns-clause-live g c =
 pub returns-clause-steps : goal.returns-clause-steps
 returns-clause-steps g c =
     let known = AreLinesOf-view _ c.args.self.now c.self.inside.keys c.self.inside.lives c.self.inside.changes c.self.inside.births c.self.inside.columns.now c.self.inside.first c.self.inside.delimiter c.self.view_is c.self.invariant in
-    omega (arith, c.is_live.ensures.steps, ap (λ (at : CohortAt). death_cost (layout_of at.plan).tables at.table) known.lives_are)
+    omega (arith, c.is_live.ensures.steps, ap (λ (at : CohortAt). asked_for_death at.plan at.table) known.lives_are)

@@ -1,6 +1,5 @@
 use Rattle.std.proofs.Common.{◌≡◌, ◌<◌, ◌≤◌, ◌+◌, ◌*◌, ℕ, false, length, get_or}
-use Rattle.schema_check.specs.Layout.{layout_of}
-use Rattle.schema_check.specs.Lineage.{death_cost}
+use Rattle.life_intervals.specs.CohortParents.{asked_for_death}
 use Rattle.row_lines.specs.CohortLines.{is_live_for}
 use Rattle.row_lines.proofs.cohort_lines.CohortLines.put_drawn_lives.Given as goal
 
@@ -9,5 +8,5 @@ invariant-loop-index g l = record {
   live : (i : ℕ) → i < l.index → get_or l.live i false ≡ is_live_for l.self (l.first + i);
   rest : (i : ℕ) → l.index ≤ i → get_or l.live i false ≡ get_or l.fn.live i false;
   length : length l.live ≡ length l.fn.live;
-  steps : l.steps ≤ l.fn.steps + l.index * death_cost (layout_of l.self.plan).tables l.self.table;
+  steps : l.steps ≤ l.fn.steps + l.index * asked_for_death l.self.plan l.self.table;
 }

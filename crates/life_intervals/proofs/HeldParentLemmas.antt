@@ -1,0 +1,73 @@
+-- The parents of the rows that a table holds are held by their own tables.
+use Rattle.std.proofs.Common.{◌≡◌, ℕ, ◌<◌, ◌≤◌, true, Option, List, [], ◌∷◌, length, map, take, inl, inr, ap, arith, subst, sym, ◌∙◌}
+use Rattle.std.specs.Prelude.{All}
+use Rattle.std.specs.List.{AllByRecursion}
+use Rattle.std.proofs.lemmas.Bool.{cases_lt, false≢true}
+use Rattle.std.proofs.lemmas.List.Elements.{All-from_recursion}
+use Rattle.schema_check.specs.declared.layout.Births.{Births}
+use Rattle.schema_check.specs.Cohorts.{born_count}
+use Rattle.schema_check.specs.Layout.{table_at}
+use Rattle.schema_check.specs.Lineage.{sure_life}
+use Rattle.schema_check.specs.References.{Reference, references_of}
+use Rattle.life_intervals.specs.Generator.{Generator}
+use Rattle.life_intervals.specs.Intervals.{Known, birth, death, first_death, index_at, is_after, is_live, known_tables, own_death, parent_of}
+use Rattle.life_intervals.specs.Simulation.{holds_row, rows_at}
+use Rattle.life_intervals.specs.Sound.{AreSound}
+use Rattle.life_intervals.proofs.CohortLemmas.{birth-le, born_count-le, index_at-below}
+use Rattle.life_intervals.proofs.DeathLemmas.{is_after-lesser_parts}
+use Rattle.life_intervals.proofs.KnownLemmas.{known_at-before, length-known_before, refers-of}
+use Rattle.life_intervals.proofs.LifeLemmas.{death-first}
+use Rattle.life_intervals.proofs.LiveLemmas.{holds_row-live, holds_row-unborn}
+use Rattle.life_intervals.proofs.ParentLemmas.{Refers, parent_by-lies}
+
+module _ (units : ℕ) (generator : Generator) (sound : AreSound units generator.tables) (place : ℕ) (below : place < length generator.tables) (unit : ℕ) (within : unit ≤ units) (ordinal : ℕ) (born : ordinal < born_count (table_at generator.tables place).births unit) where
+  abbrev births : Births
+  births = (table_at generator.tables place).births
+
+  abbrev earlier : List Known
+  earlier = take place (known_tables generator)
+
+  abbrev IsParentHeld : Reference → Type 0
+  IsParentHeld reference = holds_row (rows_at generator reference.parent unit) (parent_of generator place unit ordinal reference) ≡ true
+
+  abbrev death_of_parent : Reference → Option ℕ
+  death_of_parent reference = death generator reference.parent unit (parent_of generator place unit ordinal reference)
+
+  -- a parent is born by the unit
+  parent-born : (reference : Reference) → Refers units earlier (sure_life generator.tables) births reference →
+      parent_of generator place unit ordinal reference < born_count (table_at generator.tables reference.parent).births unit
+  parent-born reference refers =
+      let early : birth births unit ordinal ≤ unit = birth-le births unit ordinal born in
+      let is_earlier : reference.parent < place = omega (arith, refers.is_earlier, length-known_before generator place below) in
+      let lies = subst (λ (known : Known). parent_of generator place unit ordinal reference < born_count known.table.births (birth births unit ordinal))
+      (known_at-before generator place reference.parent below is_earlier)
+      (parent_by-lies units generator.order earlier (sure_life generator.tables) births (birth births unit ordinal) (index_at births unit ordinal) (omega (arith, early, within)) (index_at-below births unit ordinal born) reference refers).1 in
+      omega (arith, lies, born_count-le (table_at generator.tables reference.parent).births (birth births unit ordinal) unit early)
+
+  -- where none of the parents' deaths has come, each parent is held
+  each-held : (references : List Reference) → AllByRecursion (Refers units earlier (sure_life generator.tables) births) references →
+      is_after (first_death (map death_of_parent references)) unit ≡ true → AllByRecursion IsParentHeld references
+  each-held [] refers after = _
+  each-held (reference ∷ others) refers after =
+      let parts = is_after-lesser_parts (death_of_parent reference) (first_death (map death_of_parent others)) unit after in (
+        holds_row-live units generator reference.parent unit (parent_of generator place unit ordinal reference) sound within (parent-born reference refers.0) ∙ parts.0,
+        each-held others refers.1 parts.1,
+      )
+
+  all-held : is_live generator place unit ordinal ≡ true → All IsParentHeld (references_of (table_at generator.tables place))
+  all-held alive =
+      All-from_recursion IsParentHeld (references_of (table_at generator.tables place))
+      (each-held (references_of (table_at generator.tables place)) (refers-of units generator sound place below)
+      (is_after-lesser_parts (own_death generator place unit ordinal) (first_death (map death_of_parent (references_of (table_at generator.tables place)))) unit
+      (ap (λ (d : Option ℕ). is_after d unit) (sym (death-first units generator sound place below unit ordinal within born)) ∙ alive)).1)
+
+-- a table holds no row of which a parent isn't held
+pub parents-held : (units : ℕ) (generator : Generator) → AreSound units generator.tables → (place : ℕ) → place < length generator.tables → (unit ordinal : ℕ) → unit ≤ units →
+    holds_row (rows_at generator place unit) ordinal ≡ true →
+    All (λ (reference : Reference). holds_row (rows_at generator reference.parent unit) (parent_of generator place unit ordinal reference) ≡ true) (references_of (table_at generator.tables place))
+parents-held units generator sound place below unit ordinal within held = elim (cases_lt ordinal (born_count (table_at generator.tables place).births unit)) [
+  | inl born ↦
+      all-held units generator sound place below unit within ordinal born
+      (sym (holds_row-live units generator place unit ordinal sound within born) ∙ held)
+  | inr unborn ↦ absurd (false≢true (sym (holds_row-unborn units generator place unit ordinal sound within unborn) ∙ held))
+]
