@@ -1,6 +1,6 @@
 //! The lines of the rows of a cohort, with what doesn't change from row to row taken once.
 
-ghost use Rattle.std.specs.Prelude.{◌≡◌, ◌<◌, ◌≤◌, ℕ, ◌+◌, ◌*◌, ◌==◌, get_or, [], ◌∷◌, ◌++◌, if◌then◌else◌, false, true, All, flat_map, length, min, sum_by};
+ghost use Rattle.std.specs.Prelude.{◌≡◌, ◌≢◌, ◌<◌, ◌≤◌, ℕ, ◌+◌, ◌*◌, ◌==◌, get_or, [], ◌∷◌, ◌++◌, if◌then◌else◌, false, true, All, flat_map, length, min, sum_by};
 ghost use Rattle.schema_check.specs.declared.ready.ReadyKind.TheVariants.{Template};
 ghost use Rattle.schema_check.specs.Cohorts.{cohort_size};
 ghost use Rattle.schema_check.specs.Delimiters.{delimiter_byte as byte_of};
@@ -11,6 +11,7 @@ ghost use Rattle.schema_check.specs.TableFacts.{line_cost, max_line};
 ghost use Rattle.draw_values.specs.UnitDraws.{unit_draws};
 ghost use Rattle.draw_values.specs.Values.{is_own};
 ghost use Rattle.life_intervals.specs.Generator.{last_unit};
+ghost use Rattle.life_intervals.specs.CohortLives.{survival_at};
 ghost use Rattle.life_intervals.specs.CohortOrders.{cohort_orders, do_updates_differ};
 ghost use Rattle.life_intervals.specs.CohortParents.{AreCandidates, IsReferenceOf, asked_for_death, reference_by};
 ghost use Rattle.row_lines.specs.ChangeDraws.{change_draws};
@@ -90,6 +91,7 @@ impl<'a> CohortLines<'a> {
 
     /// What lives say of the whole cohort, so that its rows needn't be asked: all are alive at `Sure`, and none is at `Over`.
     pub fn survival(&self) -> Survival
+        ensures exact { result ≡ survival_at self.now.plan self.now.table self.now.born self.now.unit }
         ensures sure { result ≡ Survival.Sure → (index : ℕ) → index < cohort_size (layout_for self.now).births self.now.born → is_live_for self.now index ≡ true }
         ensures over { result ≡ Survival.Over → (index : ℕ) → index < cohort_size (layout_for self.now).births self.now.born → is_live_for self.now index ≡ false }
     {
@@ -167,6 +169,7 @@ impl<'a> CohortLines<'a> {
         ensures rest { (i : ℕ) → count ≤ i → get_or live.new i false ≡ get_or live.old i false }
         ensures length { length live.new ≡ length live.old }
         ensures steps { steps.new ≤ steps.old + count * asked_for_death self.now.plan self.now.table }
+        ensures settled { survival_at self.now.plan self.now.table self.now.born self.now.unit ≢ Survival.Drawn → steps.new ≡ steps.old }
     {
         match self.survival() {
             Survival::Sure => put_all(live, count, true),

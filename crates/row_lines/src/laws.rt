@@ -60,10 +60,10 @@ pub fn text_so_far_begins_the_text()
 {}
 
 /// What a row holds at a unit by which it is born: its key in a key column that is never null, and its parent's in a reference that
-/// is never null; in a column of units of birth, of
-/// units of the last change, of drawn values or of templates the unit, what its draws give, or the template's parts one after the
-/// other, unless draw 0 makes it null. A part is a text, or what the row holds in the column that is cited, and nothing where that is
-/// null. The draws are those at the unit of the row's last change in a column that changes, and those at its birth in any other.
+/// is never null; in a column of units of birth, of units of the last change, of drawn values or of templates the unit, what its draws
+/// give, or the template's parts one after the other, unless draw 0 makes it null. A part is a text, or what the row holds in the column
+/// that is cited, and nothing where that is null. The draws are those at the unit of the row's last change in a column that changes, and
+/// those at its birth in any other.
 pub fn fields_of_a_row()
     ensures key { (generator : Generator) (unit place ordinal column : ℕ) →
         (column_at (table_at generator.tables place).columns column).kind ≡ key_kind →

@@ -8,3 +8,6 @@ returns-in-Sure-clause-live g c = λ i below.
 pub returns-in-Over-clause-live : goal.returns-in-Over-clause-live
 returns-in-Over-clause-live g c = λ i below.
     c.put_all-in-Over.ensures.values i below ∙ sym (c.survival.ensures.over c.in-Over.is (c.args.first + i) (omega (arith, below, c.requires.rows)))
+
+pub returns-in-Drawn-clause-settled : goal.returns-in-Drawn-clause-settled
+returns-in-Drawn-clause-settled g c = λ apart. absurd (apart (sym c.survival.ensures.exact ∙ c.in-Drawn.is))
