@@ -2,4 +2,5 @@ pub mod Lines
 pub mod ChangeDraws
 pub mod CohortLines
 pub mod Parts
+pub mod Reports
 pub mod Worked

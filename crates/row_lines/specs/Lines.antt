@@ -14,6 +14,10 @@ use Rattle.life_intervals.specs.Keys.{key_in_cohort, key_of}
 use Rattle.life_intervals.specs.Rows.{Row, index_in_cohort}
 use Rattle.life_intervals.specs.Simulation.{rows_at}
 
+-- the row of an ordinal that the table at a place holds at a unit; None where it holds none
+abbrev pub held_row : Generator → ℕ → ℕ → ℕ → Option Row
+held_row generator place unit ordinal = find (λ (row : Row). row.ordinal == ordinal) (rows_at generator place unit)
+
 -- a row, as its own values see it
 abbrev pub at_row : Row → RowAt
 at_row row = record { ordinal = row.ordinal; born = row.born; changed = row.changed }

@@ -9,10 +9,12 @@
 mod changes;
 mod cohort_lines;
 pub mod laws;
+mod reports;
 mod rows;
 
 pub use changes::change_draws;
 pub use cohort_lines::CohortLines;
+pub use reports::row_report;
 pub use rows::{live, put_key, put_line};
 
 #[cfg(test)]
