@@ -12,7 +12,7 @@ use Rattle.schema_check.specs.declared.ready.ReadyLeaf.{ReadyLeaf}
 use Rattle.schema_check.specs.FieldBounds.{bounds_of, leaf_size}
 use Rattle.schema_check.specs.Layout.{LeafLayout, int_leaf, fixed_leaf, date_leaf, pick_leaf, skew_leaf, dict_leaf, words_leaf, chars_leaf, KindLayout, key_kind, born_kind, changed_kind, leaf_kind, template_kind, case_kind, reference_kind, lookup_kind, ColumnLayout, Layout, TableLayout, column_at, no_column, table_at}
 use Rattle.schema_check.specs.Limits.{IsCase, IsKindInLimits, IsLeafInLimits, IsPickOf}
-use Rattle.schema_check.specs.Ready.{is_served_kind, ready_column, ready_columns, ready_kind, ready_leaf}
+use Rattle.schema_check.specs.Ready.{ready_column, ready_columns, ready_kind, ready_leaf}
 use Rattle.draw_values.specs.declared.values.RowAt.{RowAt}
 use Rattle.draw_values.specs.ReadyValues.{IsReady, IsReadyKind, chooser_of, ready_branch, ready_entry, ready_field, ready_held_entry, ready_kind_size, ready_size, ready_text, ready_value}
 use Rattle.draw_values.specs.Values.{Draws, RowDraws, branch_at, chosen_group, entry_of, held_entry, is_null, is_own, leaf_value, own_field, own_value, unless_null}
@@ -98,11 +98,10 @@ entry_within null count draw entries weights many some =
 
 -- ---- columns of units and of drawn values
 
--- a column of this kind is one of them, within its limits, and tables can be made of it
+-- a column of this kind is one of them, within its limits
 pub record IsOwn (delimiter : ℕ) (columns : List ColumnLayout) (place : ℕ) (kind : KindLayout) : Type 0 where
   pub own : is_own kind ≡ true
   pub limits : IsKindInLimits columns place kind
-  pub served : is_served_kind (ready_kind delimiter kind) ≡ true
 
 -- the columns that a field is chosen by are those of the limits
 abbrev pub IsAllInLimits : List ColumnLayout → Type 0

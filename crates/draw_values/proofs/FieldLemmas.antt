@@ -1,12 +1,12 @@
 -- What a row holds in a column of units or of drawn values, as it is written, by what a plan keeps of the columns.
 use Rattle.std.proofs.Common.{◌≡◌, ◌<◌, ◌≤◌, ℕ, true, max, List, [], length, get_or, option_map, Option, None, Some, ap, sym, ◌∙◌, subst, arith}
-use Rattle.std.specs.Prelude.{All, unwrap_or}
+use Rattle.std.specs.Prelude.{unwrap_or}
 use Rattle.row_text.specs.Fields.{field_text, piece_text}
 use Rattle.schema_check.specs.declared.ready.ReadyColumn.{ReadyColumn}
 use Rattle.schema_check.specs.declared.ready.ReadyKind.{ReadyKind}
 use Rattle.schema_check.specs.Layout.{ColumnLayout, Layout, column_at, table_at}
 use Rattle.schema_check.specs.Limits.{IsTableInLimits}
-use Rattle.schema_check.specs.Ready.{is_served, ready_column, ready_columns, ready_kind}
+use Rattle.schema_check.specs.Ready.{ready_column, ready_columns, ready_kind}
 use Rattle.draw_values.specs.declared.values.RowAt.{RowAt}
 use Rattle.draw_values.specs.ReadyValues.{IsReadyKind, chooser_of, ready_field, ready_kind_size}
 use Rattle.draw_values.specs.Values.{Draws, draws_at, is_own, put_of, size_at, value_at, written}
@@ -39,10 +39,10 @@ pub record IsKeptField (layout : Layout) (table place by : ℕ) (column chooser 
   pub chooser_is : chooser ≡ ready_column layout.delimiter (column_at (table_at layout.tables table).columns by)
   pub by_is : by ≡ chooser_of place (ready_kind layout.delimiter (column_at (table_at layout.tables table).columns place).kind)
 
-pub kept_field : (layout : Layout) (table place by units : ℕ) (kept : List ReadyColumn) (column chooser : ReadyColumn) → kept ≡ ready_columns layout table → All (λ column. is_served column ≡ true) kept →
+pub kept_field : (layout : Layout) (table place by units : ℕ) (kept : List ReadyColumn) (column chooser : ReadyColumn) → kept ≡ ready_columns layout table →
     IsTableInLimits units (table_at layout.tables table) → place < length (table_at layout.tables table).columns → is_own (column_at (table_at layout.tables table).columns place).kind ≡ true →
     column ≡ get_or kept place column → by ≡ chooser_of place column.kind → chooser ≡ get_or kept by chooser → IsKeptField layout table place by column chooser
-kept_field layout table place by units kept column chooser kept_is served limits within own at by_at chooser_at =
+kept_field layout table place by units kept column chooser kept_is limits within own at by_at chooser_at =
     let columns : List ColumnLayout = (table_at layout.tables table).columns in
     let many : length kept ≡ length columns = ap length kept_is ∙ length-ready_columns layout table in
     let column_is : column ≡ ready_column layout.delimiter (column_at columns place) = ready_column-at layout.delimiter columns kept place column kept_is within at in
@@ -50,7 +50,6 @@ kept_field layout table place by units kept column chooser kept_is served limits
     let is : IsOwn layout.delimiter columns place (column_at columns place).kind = record {
       own = own;
       limits = limits.kinds place within;
-      served = ap is_served (sym column_is) ∙ ap is_served at ∙ served place column (omega arith);
     } in
     let by_within : by < length columns = omega (arith, by_is, chooser_of-within layout.delimiter columns place (column_at columns place).kind is within) in
     record {

@@ -1,10 +1,10 @@
 -- The values of the rows of a table that are born at one unit and changed last at another, and what the code keeps of them.
-use Rattle.std.specs.Prelude.{◌≡◌, ℕ, List, Bool, Option, All, true}
+use Rattle.std.specs.Prelude.{◌≡◌, ℕ, List, Bool, Option}
 use Rattle.schema_check.specs.declared.ready.ReadyColumn.{ReadyColumn}
 use Rattle.schema_check.specs.Layout.{column_at, layout_of, table_at, TableLayout}
 use Rattle.schema_check.specs.Limits.{IsTableInLimits}
 use Rattle.schema_check.specs.Dictionaries.{Project}
-use Rattle.schema_check.specs.Ready.{ready_columns, is_served}
+use Rattle.schema_check.specs.Ready.{ready_columns}
 use Rattle.draw_values.specs.declared.values.RowAt.{RowAt}
 use Rattle.draw_values.specs.UnitDraws.{DrawsOf, unit_draws}
 use Rattle.draw_values.specs.Values.{draws_at, is_null, size_at, value_at}
@@ -41,7 +41,6 @@ size_for values column = size_at (layout_of values.plan) values.table column
 -- what is kept is of the table's columns, with the draws at the two units
 pub record AreValuesOf (values : ValuesOf) (ready : List ReadyColumn) (births changes : DrawsOf) : Type 0 where
   pub columns : ready ≡ ready_columns (layout_of values.plan) values.table
-  pub served : All (λ column. is_served column ≡ true) ready
   pub limits : IsTableInLimits (layout_of values.plan).units (layout_for values)
   pub births_are : births ≡ unit_draws values.plan values.table values.born
   pub changes_are : changes ≡ unit_draws values.plan values.table values.changed

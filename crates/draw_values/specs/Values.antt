@@ -22,10 +22,9 @@ use Rattle.draw_values.specs.Digits.{signed_pointed}
 abbrev pub Draws : Type 0
 Draws = ℕ → ℕ
 
--- what a field holds of a kind that no table can be made of yet: schemas with such a column are refused as unbuilt, so no promise
--- speaks of it
-abbrev pub not_served : Option (List ℕ)
-not_served = None
+-- what stands for the value of a kind that takes from other columns or rows. No promise of this crate speaks of it
+abbrev pub not_own : Option (List ℕ)
+not_own = None
 
 -- of the numbers from lo to hi in steps, the one that a draw chooses
 abbrev pub chosen : ℤ → ℤ → ℕ → ℕ → ℤ
@@ -93,16 +92,16 @@ is_own _ = false
 -- what a row holds in a column of such a kind, where it isn't null. A case draws its branch's value from its own draws, and is null where
 -- the field of its pick column is
 abbrev pub own_value : List ColumnLayout → RowAt → RowDraws → ℕ → KindLayout → Option (List ℕ)
-own_value columns at draws column key_kind = not_served
+own_value columns at draws column key_kind = not_own
 own_value columns at draws column born_kind = Some (decimal at.born)
 own_value columns at draws column changed_kind = Some (decimal at.changed)
 own_value columns at draws column (leaf_kind leaf) = leaf_value leaf (draws column)
-own_value columns at draws column (template_kind parts) = not_served
+own_value columns at draws column (template_kind parts) = not_own
 own_value columns at draws column (case_kind on branches) =
     option_and_then (λ entry. leaf_value (branch_at branches entry) (draws column))
     (held_entry (column_at columns on) (draws on))
-own_value columns at draws column (reference_kind parent window spread) = not_served
-own_value columns at draws column (lookup_kind via parent name) = not_served
+own_value columns at draws column (reference_kind parent window spread) = not_own
+own_value columns at draws column (lookup_kind via parent name) = not_own
 
 -- the field of a row in the column at a place, which is of such a kind
 abbrev pub own_field : List ColumnLayout → RowAt → RowDraws → ℕ → Option (List ℕ)

@@ -14,7 +14,7 @@ use crate::numbers::{chosen, put_whole};
 use dictionaries::read_dictionary;
 use fixed_divisors::FixedDivisor;
 use pd_outside::PageBuf;
-use schema_check::{Dictionaries, Plan, ReadyKind, check, unbuilt};
+use schema_check::{Dictionaries, Plan, ReadyKind, check};
 use schema_model::{
     Column, Columns, Delimiter, Kind, Leaf, Leaves, Longs, Memory, Schema, Table, Tables, Text,
     Texts,
@@ -316,9 +316,6 @@ fn plan_of(
     dictionaries: Dictionaries,
 ) -> Result<Plan, Fail> {
     let schema = schema.map_err(|_| Fail::from("out of memory"))?;
-    if unbuilt(&schema) {
-        return Err(Fail::from("not built"));
-    }
     match check(alloc, schema, dictionaries) {
         Ok(plan) => Ok(plan),
         Err(fault) => Err(Fail::from(fault)),

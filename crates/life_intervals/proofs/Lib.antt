@@ -15,7 +15,7 @@ pub mod LiveLemmas
 pub mod AcceptedLemmas
 pub mod ReferenceLemmas
 pub mod LifeLemmas
-mod HeldParentLemmas
+pub mod HeldParentLemmas
 pub mod KeyLemmas
 pub mod OrderLemmas
 pub mod LongestLifeLemmas

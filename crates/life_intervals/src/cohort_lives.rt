@@ -123,7 +123,7 @@ impl<'a> CohortLives<'a> {
         earlier(own, self.parents.first_death(index, steps))
     }
 
-    /// Whether the row with this index in the cohort is alive. It takes as many steps as its death.
+    /// Whether the row with this index in the cohort is alive. It takes at most as many steps as its death.
     #[inline]
     pub fn is_live<L: Ledger>(&self, index: u64, steps: &mut Steps<L>) -> bool
         requires { index < size_of self.now }

@@ -10,7 +10,7 @@ ghost use Rattle.life_intervals.specs.CohortParents.{AreCandidates, table_candid
 
 use super::*;
 use crate::lives::{last_due, lifetime};
-use schema_check::{Dictionaries, Plan, ReadyKind, Span, check, unbuilt};
+use schema_check::{Dictionaries, Plan, ReadyKind, Span, check};
 use schema_model::{
     Column, Columns, Delimiter, Kind, Life, Longs, Schema, Sequence, Table, Tables, Text, Window,
 };
@@ -109,9 +109,6 @@ fn plan_of(
         delimiter: Delimiter::Tab,
         tables,
     };
-    if unbuilt(&schema) {
-        return Err(Fail::from("not built"));
-    }
     match check(alloc, schema, Dictionaries::new(alloc)) {
         Ok(plan) => Ok(plan),
         Err(fault) => Err(Fail::from(fault)),

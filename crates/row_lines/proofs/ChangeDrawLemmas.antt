@@ -34,9 +34,9 @@ recent_or_born (Some period) born unit first limits later = elim (IsLastDue-last
   | inr due ↦ inr (record { within = due.2; recent = omega (arith, due.1, due.2, due.3, later period) })
 ]
 
-pub change_for-recent : (lines : LinesOf) (keys : CohortOf) (lives changes : CohortAt) (births : DrawsOf) (columns : List ReadyColumn) (first byte : ℕ) → AreLinesOf lines keys lives changes births columns first byte →
+pub change_for-recent : (lines : LinesOf) (keys : CohortOf) (lives changes : CohortAt) (births : DrawsOf) (columns : List ReadyColumn) (fields : LinesOf) (byte : ℕ) → AreLinesOf lines keys lives changes births columns fields byte →
     (index changed : ℕ) → index < cohort_size (layout_for lines).births lines.born → changed ≡ change_for lines index → (changed ≡ lines.born → ⊥) → IsRecent (layout_for lines).update lines.unit changed
-change_for-recent lines keys lives changes births columns first byte known index changed below is apart =
+change_for-recent lines keys lives changes births columns fields byte known index changed below is apart =
     let all : Births = (layout_for lines).births in
     let born : ℕ = birth all lines.unit (ordinal_of lines index) in
     let born_is : born ≡ lines.born = birth-first_ordinal all lines.unit lines.born index known.born below in

@@ -15,7 +15,6 @@ use Rattle.schema_check.specs.Cohorts.{cohort_size}
 use Rattle.schema_check.specs.FieldBounds.{bounds_alone, bounds_of, bounds_of_part}
 use Rattle.schema_check.specs.Layout.{ColumnLayout, KindLayout, PartLayout, TableLayout, born_kind, case_kind, changed_kind, cited_part, column_at, key_kind, layout_of, leaf_kind, literal_part, lookup_kind, no_column, reference_kind, table_layout, template_kind}
 use Rattle.schema_check.specs.Lineage.{one_if}
-use Rattle.schema_check.specs.Ready.{is_served, is_served_kind, ready_column, ready_kind}
 use Rattle.schema_check.specs.TableFacts.{line_cost, max_line}
 use Rattle.draw_values.specs.CohortValues.{ValuesOf, value_for}
 use Rattle.draw_values.specs.declared.values.Put.TheVariants.{Text, Null}
@@ -32,7 +31,6 @@ use Rattle.life_intervals.proofs.KeyLemmas.{key_of-first_ordinal}
 use Rattle.life_intervals.proofs.AcceptedLemmas.{row_at-changed}
 use Rattle.row_lines.specs.CohortLines.{AreLinesOf, LinesOf, asked_alone, asked_by, asked_by_part, asked_for_line, change_for, key_for, layout_for, line_in_cohort, ordinal_of, size_for, text_in_cohort, values_at}
 use Rattle.row_lines.specs.Lines.{field, line}
-use Rattle.row_lines.proofs.FieldLemmas.{field-key, field-own}
 
 -- what the field of a column takes at most: bytes, with the one behind, and permutations
 abbrev pub room_in : LinesOf → ColumnLayout → ℕ
@@ -49,7 +47,7 @@ bytes_before lines place = sum_by (room_in lines) (take place (layout_for lines)
 
 -- and how many permutations, of a row whose key is known
 abbrev pub asked_in : LinesOf → ColumnLayout → ℕ
-asked_in lines column = asked_by (layout_of lines.plan).tables (layout_for lines) column.kind
+asked_in lines column = asked_by true (layout_of lines.plan).delimiter (layout_of lines.plan).tables (layout_for lines) column.kind
 
 abbrev pub asked_before : LinesOf → ℕ → ℕ
 asked_before lines place = sum_by (asked_in lines) (take place (layout_for lines).columns)
@@ -69,75 +67,39 @@ max_line-columns lines =
     (layout_for lines).columns (λ bounds. bounds.size + 1)
 
 -- what is kept is of the lines that a contract sees
-pub AreLinesOf-view : (kept lines : LinesOf) (keys : CohortOf) (lives changes : CohortAt) (births : DrawsOf) (columns : List ReadyColumn) (first byte : ℕ) → kept ≡ lines → AreLinesOf kept keys lives changes births columns first byte →
-    AreLinesOf lines keys lives changes births columns first byte
-AreLinesOf-view kept lines keys lives changes births columns first byte same known = subst (λ (of : LinesOf). AreLinesOf of keys lives changes births columns first byte) same known
-
--- as many columns as the schema has
-pub length-columns : (lines : LinesOf) (keys : CohortOf) (lives changes : CohortAt) (births : DrawsOf) (columns : List ReadyColumn) (first byte : ℕ) → AreLinesOf lines keys lives changes births columns first byte →
-    length (layout_for lines).columns ≡ length columns
-length-columns lines keys lives changes births columns first byte known =
-    sym (ap (λ (ready : List ReadyColumn). length ready) known.columns_are
-    ∙ length-map (layout_for lines).columns (ready_column (layout_of lines.plan).delimiter))
-
--- the column at a place is ready for what the layout has there
-pub ready_at : (lines : LinesOf) (keys : CohortOf) (lives changes : CohortAt) (births : DrawsOf) (columns : List ReadyColumn) (first byte : ℕ) → AreLinesOf lines keys lives changes births columns first byte →
-    (place : ℕ) (column : ReadyColumn) → place < length (layout_for lines).columns → column ≡ get_or columns place column →
-    ready_column (layout_of lines.plan).delimiter (column_at (layout_for lines).columns place) ≡ column
-ready_at lines keys lives changes births columns first byte known place column within is =
-    sym (is
-    ∙ ap (λ (ready : List ReadyColumn). get_or ready place column) known.columns_are
-    ∙ get_or-map (ready_column (layout_of lines.plan).delimiter) (layout_for lines).columns place no_column column within)
-
--- and it is served
-pub served_at : (columns : List ReadyColumn) → All (λ column. is_served column ≡ true) columns → (place : ℕ) (column : ReadyColumn) →
-    place < length columns → column ≡ get_or columns place column → is_served column ≡ true
-served_at columns served place column within is = ap is_served is ∙ served place column within
-
--- a column that is ready as a key is one, and any other that is served and no template or reference is made of units and of draws
-pub key_from_ready : (delimiter : ℕ) (kind : KindLayout) → ready_kind delimiter kind ≡ Key → kind ≡ key_kind
-key_from_ready delimiter key_kind is = refl
-key_from_ready delimiter _ is = cc
-
-pub own_from_ready : (delimiter : ℕ) (kind : KindLayout) → is_served_kind (ready_kind delimiter kind) ≡ true → (ready_kind delimiter kind ≡ Key → ⊥) →
-    ((parts : List ReadyPart) → ready_kind delimiter kind ≡ Template parts → ⊥) → ((reference : ReadyReference) → ready_kind delimiter kind ≡ Reference reference → ⊥) → is_own kind ≡ true
-own_from_ready delimiter key_kind served no_key no_template no_reference = absurd (no_key refl)
-own_from_ready delimiter born_kind served no_key no_template no_reference = refl
-own_from_ready delimiter changed_kind served no_key no_template no_reference = refl
-own_from_ready delimiter (leaf_kind leaf) served no_key no_template no_reference = refl
-own_from_ready delimiter (template_kind parts) served no_key no_template no_reference = absurd (no_template _ refl)
-own_from_ready delimiter (case_kind on branches) served no_key no_template no_reference = refl
-own_from_ready delimiter (reference_kind parent window spread) served no_key no_template no_reference = absurd (no_reference _ refl)
-own_from_ready delimiter _ served no_key no_template no_reference = cc
+pub AreLinesOf-view : (kept lines : LinesOf) (keys : CohortOf) (lives changes : CohortAt) (births : DrawsOf) (columns : List ReadyColumn) (fields : LinesOf) (byte : ℕ) → kept ≡ lines → AreLinesOf kept keys lives changes births columns fields byte →
+    AreLinesOf lines keys lives changes births columns fields byte
+AreLinesOf-view kept lines keys lives changes births columns fields byte same known = subst (λ (of : LinesOf). AreLinesOf of keys lives changes births columns fields byte) same known
 
 -- a field asks no more permutations than the schema counts for it, and that of the key one less where keys are scrambled
 sum_by-each : {A : Type 0} (f g : A → ℕ) → ((x : A) → f x ≤ g x) → (xs : List A) → sum_by f xs ≤ sum_by g xs
 sum_by-each f g each [] = omega arith
 sum_by-each f g each (x ∷ xs) = omega (arith, each x, sum_by-each f g each xs, sum_by-cons f x xs, sum_by-cons g x xs)
 
-asked_alone-le : (delimiter : ℕ) (tables : List TableLayout) (table : TableLayout) (kind : KindLayout) → asked_alone tables kind ≤ (bounds_alone delimiter tables table kind).permutations
-asked_alone-le delimiter tables table (reference_kind parent window spread) = omega arith
-asked_alone-le delimiter tables table _ = omega arith
+asked_alone-le : (known : Bool) (delimiter : ℕ) (tables : List TableLayout) (table : TableLayout) (kind : KindLayout) → asked_alone known delimiter tables table kind ≤ (bounds_alone delimiter tables table kind).permutations
+asked_alone-le true delimiter tables table key_kind = omega arith
+asked_alone-le false delimiter tables table key_kind = omega arith
+asked_alone-le known delimiter tables table _ = omega arith
 
 key_first : (delimiter : ℕ) (tables : List TableLayout) (table : TableLayout) (kind : KindLayout) → kind ≡ key_kind →
-    one_if table.key.scramble + asked_by tables table kind ≤ (bounds_of delimiter tables table kind).permutations
+    one_if table.key.scramble + asked_by true delimiter tables table kind ≤ (bounds_of delimiter tables table kind).permutations
 key_first delimiter tables table key_kind is = omega arith
 key_first delimiter tables table _ is = absurd (cc)
 
-asked_by_part-le : (delimiter : ℕ) (tables : List TableLayout) (table : TableLayout) (part : PartLayout) →
-    asked_by_part tables table part ≤ (bounds_of_part delimiter tables table part).permutations
-asked_by_part-le delimiter tables table (literal_part bytes) = omega arith
-asked_by_part-le delimiter tables table (cited_part column) = asked_alone-le delimiter tables table (column_at table.columns column).kind
+asked_by_part-le : (known : Bool) (delimiter : ℕ) (tables : List TableLayout) (table : TableLayout) (part : PartLayout) →
+    asked_by_part known delimiter tables table part ≤ (bounds_of_part delimiter tables table part).permutations
+asked_by_part-le known delimiter tables table (literal_part bytes) = omega arith
+asked_by_part-le known delimiter tables table (cited_part column) = asked_alone-le known delimiter tables table (column_at table.columns column).kind
 
-asked_by-le : (delimiter : ℕ) (tables : List TableLayout) (table : TableLayout) (kind : KindLayout) → asked_by tables table kind ≤ (bounds_of delimiter tables table kind).permutations
-asked_by-le delimiter tables table (template_kind parts) = sum_by-each (asked_by_part tables table) (λ part. (bounds_of_part delimiter tables table part).permutations) (asked_by_part-le delimiter tables table) parts
-asked_by-le delimiter tables table (lookup_kind via parent column) = omega arith
-asked_by-le delimiter tables table key_kind = omega arith
-asked_by-le delimiter tables table born_kind = omega arith
-asked_by-le delimiter tables table changed_kind = omega arith
-asked_by-le delimiter tables table (leaf_kind leaf) = omega arith
-asked_by-le delimiter tables table (case_kind on branches) = omega arith
-asked_by-le delimiter tables table (reference_kind parent window spread) = omega arith
+pub asked_by-le : (known : Bool) (delimiter : ℕ) (tables : List TableLayout) (table : TableLayout) (kind : KindLayout) → asked_by known delimiter tables table kind ≤ (bounds_of delimiter tables table kind).permutations
+asked_by-le known delimiter tables table (template_kind parts) = sum_by-each (asked_by_part known delimiter tables table) (λ part. (bounds_of_part delimiter tables table part).permutations) (asked_by_part-le known delimiter tables table) parts
+asked_by-le known delimiter tables table (lookup_kind via parent column) = omega arith
+asked_by-le known delimiter tables table key_kind = asked_alone-le known delimiter tables table key_kind
+asked_by-le known delimiter tables table born_kind = omega arith
+asked_by-le known delimiter tables table changed_kind = omega arith
+asked_by-le known delimiter tables table (leaf_kind leaf) = omega arith
+asked_by-le known delimiter tables table (case_kind on branches) = omega arith
+asked_by-le known delimiter tables table (reference_kind parent window spread) = omega arith
 
 -- a line may ask the permutation of its key, which is its first field, that of its update, and those of its other fields
 line_cost-columns : (asked permutations : ColumnLayout → ℕ) (columns : List ColumnLayout) (scramble : ℕ) → ((column : ColumnLayout) → asked column ≤ permutations column) → 1 ≤ length columns →
@@ -146,15 +108,15 @@ line_cost-columns asked permutations [] scramble each some first = absurd (omega
 line_cost-columns asked permutations (column ∷ others) scramble each some first =
     omega (arith, first, sum_by-cons asked column others, sum_by-cons permutations column others, sum_by-each asked permutations each others)
 
-pub steps-line_cost : (lines : LinesOf) (keys : CohortOf) (lives changes : CohortAt) (births : DrawsOf) (columns : List ReadyColumn) (first byte : ℕ) → AreLinesOf lines keys lives changes births columns first byte →
+pub steps-line_cost : (lines : LinesOf) (keys : CohortOf) (lives changes : CohortAt) (births : DrawsOf) (columns : List ReadyColumn) (fields : LinesOf) (byte : ℕ) → AreLinesOf lines keys lives changes births columns fields byte →
     one_if (layout_for lines).key.scramble + one_if (is_some (layout_for lines).update) + asked_for_line lines ≤ line_cost (layout_of lines.plan) lines.table
 unfolding line_cost
-steps-line_cost lines keys lives changes births ready first byte known =
+steps-line_cost lines keys lives changes births ready fields byte known =
     let columns : List ColumnLayout = (layout_for lines).columns in
     omega (
       arith,
       line_cost-columns (asked_in lines) (permutations_in lines) columns (one_if (layout_for lines).key.scramble)
-          (λ column. asked_by-le (layout_of lines.plan).delimiter (layout_of lines.plan).tables (layout_for lines) column.kind) known.limits.some_column
+          (λ column. asked_by-le true (layout_of lines.plan).delimiter (layout_of lines.plan).tables (layout_for lines) column.kind) known.limits.some_column
           (key_first (layout_of lines.plan).delimiter (layout_of lines.plan).tables (layout_for lines) (column_at columns 0).kind known.limits.key_first),
       asked_for_line-is lines,
       sum_by-map (λ (column : ColumnLayout). bounds_of (layout_of lines.plan).delimiter (layout_of lines.plan).tables (layout_for lines) column.kind)
@@ -170,92 +132,6 @@ updates_cost (Some period) = one_if-le (do_updates_differ (Some period))
     one_if-le true = omega arith
     one_if-le false = omega arith
 
--- a key is never null
-pub key_never_null : (columns : List ColumnLayout) (place : ℕ) → (column_at columns 0).null ≡ 0 →
-    ((other : ℕ) → suc other < length columns → (column_at columns (suc other)).kind ≡ key_kind → ⊥) →
-    place < length columns → (column_at columns place).kind ≡ key_kind → (column_at columns place).null ≡ 0
-key_never_null columns zero never no_other within is = never
-key_never_null columns (suc other) never no_other within is = absurd (no_other other within is)
-
--- what the row with an index in the cohort holds in the column at a place
-abbrev pub held_in_cohort : LinesOf → ℕ → ℕ → Option (List ℕ)
-held_in_cohort lines index place =
-    field (generator_of lines.plan) lines.unit lines.table (row_at (generator_of lines.plan) lines.table lines.unit (ordinal_of lines index)) place
-
--- what a key takes, and how it is written
-pub size-key : (lines : LinesOf) (place : ℕ) → (column_at (layout_for lines).columns place).kind ≡ key_kind → size_for lines place ≡ 20
-size-key lines place is =
-    ap (λ (kind : KindLayout). (bounds_of (layout_of lines.plan).delimiter (layout_of lines.plan).tables (layout_for lines) kind).size) is
-
-pub held-key : (lines : LinesOf) (place index key : ℕ) → (column_at (layout_for lines).columns place).kind ≡ key_kind →
-    (column_at (layout_for lines).columns place).null ≡ 0 → lines.born ≤ lines.unit →
-    index < cohort_size (layout_for lines).births lines.born → key ≡ key_for lines index →
-    held_in_cohort lines index place ≡ Some (decimal key)
-held-key lines place index key is never within below key_is =
-    let generator : Generator = generator_of lines.plan in
-    field-key generator lines.unit lines.table (ordinal_of lines index) place is never
-    ∙ ap (λ (k : ℕ). Some (decimal k)) (key_of-first_ordinal generator lines.table lines.unit lines.born index within below ∙ sym key_is)
-
-pub text-key : (lines : LinesOf) (place index key : ℕ) → (column_at (layout_for lines).columns place).kind ≡ key_kind →
-    (column_at (layout_for lines).columns place).null ≡ 0 → lines.born ≤ lines.unit →
-    index < cohort_size (layout_for lines).births lines.born → key ≡ key_for lines index → key < 2 ^ 64 →
-    text_in_cohort lines index place ≡ decimal key
-text-key lines place index key is never within below key_is small =
-    ap (field_text (layout_of lines.plan).delimiter) (held-key lines place index key is never within below key_is)
-    ∙ piece_text-decimal (layout_of lines.plan).delimiter key small
-
--- the rows of a cohort are those of its birth, and changed last when their layout says
-abbrev row_of_index : LinesOf → ℕ → Row
-row_of_index lines index = row_at (generator_of lines.plan) lines.table lines.unit (ordinal_of lines index)
-
-born_of_index : (lines : LinesOf) (index : ℕ) → lines.born ≤ lines.unit → index < cohort_size (layout_for lines).births lines.born →
-    (row_of_index lines index).born ≡ lines.born
-born_of_index lines index within below = birth-first_ordinal (layout_for lines).births lines.unit lines.born index within below
-
-changed_of_index : (lines : LinesOf) (index : ℕ) → lines.table < length lines.plan.schema.tables → (row_of_index lines index).changed ≡ change_for lines index
-changed_of_index lines index table =
-    row_at-changed (generator_of lines.plan) lines.table lines.unit (ordinal_of lines index)
-    (omega (arith, table, length-map lines.plan.schema.tables (table_layout lines.plan.dictionaries lines.plan.schema.tables)))
-
--- so what is made of a row's units is made of the cohort's birth and of the unit of its last change
-pub of_units : {A : Type 0} (lines : LinesOf) (index : ℕ) (f : ℕ → ℕ → A) → lines.table < length lines.plan.schema.tables → lines.born ≤ lines.unit →
-    index < cohort_size (layout_for lines).births lines.born →
-    f (row_of_index lines index).born (row_of_index lines index).changed ≡ f lines.born (change_for lines index)
-of_units lines index f table within below =
-    ap (λ (born : ℕ). f born (row_of_index lines index).changed) (born_of_index lines index within below)
-    ∙ ap (f lines.born) (changed_of_index lines index table)
-
--- what a column holds that needs no other row, as the values of the cohort have it
-pub held-own : (lines : LinesOf) (values : ValuesOf) (place index ordinal : ℕ) → values ≡ values_at lines (change_for lines index) →
-    ordinal ≡ ordinal_of lines index → is_own (column_at (layout_for lines).columns place).kind ≡ true → lines.born ≤ lines.unit →
-    index < cohort_size (layout_for lines).births lines.born → lines.table < length lines.plan.schema.tables →
-    held_in_cohort lines index place ≡ value_for values place ordinal
-held-own lines values place index ordinal values_are ordinal_is own within below table =
-    field-own (generator_of lines.plan) lines.unit lines.table (ordinal_of lines index) place own
-    ∙ of_units lines index (λ (born changed : ℕ). value_for (record { plan = lines.plan; table = lines.table; born = born; changed = changed }) place (ordinal_of lines index)) table within below
-    ∙ ap (value_for (values_at lines (change_for lines index)) place) (sym ordinal_is)
-    ∙ ap (λ (of : ValuesOf). value_for of place ordinal) (sym values_are)
-
-pub text-own : (lines : LinesOf) (values : ValuesOf) (place index ordinal : ℕ) → values ≡ values_at lines (change_for lines index) →
-    ordinal ≡ ordinal_of lines index → is_own (column_at (layout_for lines).columns place).kind ≡ true → lines.born ≤ lines.unit →
-    index < cohort_size (layout_for lines).births lines.born → lines.table < length lines.plan.schema.tables →
-    text_in_cohort lines index place ≡ field_text (layout_of lines.plan).delimiter (value_for values place ordinal)
-text-own lines values place index ordinal values_are ordinal_is own within below table =
-    ap (field_text (layout_of lines.plan).delimiter) (held-own lines values place index ordinal values_are ordinal_is own within below table)
-
--- a value that isn't null is written as its field, and a null one leaves nothing before it
-pub written-text : (delimiter : ℕ) (value : Option (List ℕ)) → Text ≡ put_of value → written delimiter value ≡ field_text delimiter value
-written-text delimiter (Some text) is = refl
-written-text delimiter None is = cc
-
-pub written-null : (delimiter : ℕ) (value : Option (List ℕ)) → Null ≡ put_of value → written delimiter value ≡ []
-written-null delimiter (Some text) is = cc
-written-null delimiter None is = refl
-
-pub field_text-null : (delimiter : ℕ) (value : Option (List ℕ)) → Null ≡ put_of value → field_text delimiter value ≡ codes "\\N"
-field_text-null delimiter (Some text) is = cc
-field_text-null delimiter None is = refl
-
 pub length-delimiter : (column delimiter : ℕ) → length (if column == 0 then [] else delimiter ∷ []) ≡ min column 1
 length-delimiter zero delimiter = refl
 length-delimiter (suc column) delimiter =
@@ -270,22 +146,11 @@ line_in_cohort-fields lines index count all =
     ap (λ (n : ℕ). join_with_byte (layout_of lines.plan).delimiter (map (text_in_cohort lines index) (range_with_len 0 n)) ++ codes "\n") all
 
 -- a cohort has no more rows than a table
-pub cohort_size-limit : (lines : LinesOf) (keys : CohortOf) (lives changes : CohortAt) (births : DrawsOf) (columns : List ReadyColumn) (first byte : ℕ) → AreLinesOf lines keys lives changes births columns first byte →
+pub cohort_size-limit : (lines : LinesOf) (keys : CohortOf) (lives changes : CohortAt) (births : DrawsOf) (columns : List ReadyColumn) (fields : LinesOf) (byte : ℕ) → AreLinesOf lines keys lives changes births columns fields byte →
     cohort_size (layout_for lines).births lines.born ≤ 2 ^ 40
-cohort_size-limit lines keys lives changes births columns first byte known =
+cohort_size-limit lines keys lives changes births columns fields byte known =
     omega (
       arith,
-      known.limits.row_limit,
-      cohort-within (layout_for lines).births lines.born (last_unit lines.plan) (omega (arith, known.born, known.unit)),
-    )
-
--- the ordinal of a row is no sum past 64 bits
-pub ordinal-limit : (lines : LinesOf) (keys : CohortOf) (lives changes : CohortAt) (births : DrawsOf) (columns : List ReadyColumn) (first byte : ℕ) → AreLinesOf lines keys lives changes births columns first byte →
-    (index : ℕ) → index < cohort_size (layout_for lines).births lines.born → first + index < 2 ^ 64
-ordinal-limit lines keys lives changes births columns first byte known index below =
-    omega (
-      arith,
-      known.first_is,
       known.limits.row_limit,
       cohort-within (layout_for lines).births lines.born (last_unit lines.plan) (omega (arith, known.born, known.unit)),
     )

@@ -4,14 +4,14 @@ use Rattle.std.proofs.lemmas.Bool.Decides.{nat_tests}
 use Rattle.std.proofs.lemmas.Fmt.{length-decimal-le}
 use Rattle.row_text.specs.Fields.{field_text}
 use Rattle.schema_check.specs.Cohorts.{born_count}
-use Rattle.schema_check.specs.Layout.{ColumnLayout, KindLayout, LeafLayout, PartLayout, born_kind, case_kind, changed_kind, cited_part, column_at, key_kind, leaf_kind, reference_kind, table_at, template_kind}
-use Rattle.schema_check.specs.Limits.{is_cited}
+use Rattle.schema_check.specs.Layout.{ColumnLayout, KindLayout, LeafLayout, PartLayout, born_kind, case_kind, changed_kind, cited_part, column_at, key_kind, leaf_kind, lookup_kind, reference_kind, table_at, template_kind}
+use Rattle.schema_check.specs.Limits.{is_cited, is_lookup_kind}
 use Rattle.draw_values.specs.Values.{Draws, is_own, leaf_value, own_field, own_value, unless_null}
 use Rattle.life_intervals.specs.Generator.{Generator}
 use Rattle.life_intervals.specs.Intervals.{row_at}
-use Rattle.life_intervals.specs.Keys.{key_of}
-use Rattle.life_intervals.specs.Rows.{Row}
-use Rattle.row_lines.specs.Lines.{at_row, draws_of, field, field_alone, key_line_of, part_text, value, value_alone}
+use Rattle.life_intervals.specs.Keys.{key_in_cohort, key_of}
+use Rattle.life_intervals.specs.Rows.{Row, index_in_cohort}
+use Rattle.row_lines.specs.Lines.{at_row, draws_of, field, field_alone, field_in_table, key_line_of, part_text, value, value_alone, value_in_table}
 use Rattle.row_lines.proofs.LineLemmas.{key_of-by}
 
 -- a field of a column that is never null
@@ -28,30 +28,61 @@ unfolding key_of
 field-key generator unit place ordinal column is never =
     let row : Row = row_at generator place unit ordinal in
     let of : ColumnLayout = column_at (table_at generator.tables place).columns column in
-    unless_null-never of.null (draws_of generator place row column) (value generator place row column of.kind) never
-    ∙ ap (value generator place row column) is
+    unless_null-never of.null (draws_of generator place row column) (value generator unit place row column of.kind) never
+    ∙ ap (value generator unit place row column) is
 
--- of a column that needs no other row: what it holds, unless it is null
+-- what it holds in a column that is no lookup needs no other row
+value-in_table : (generator : Generator) (unit place column : ℕ) (row : Row) (kind : KindLayout) → is_lookup_kind kind ≡ false →
+    value generator unit place row column kind ≡ value_in_table generator place row column kind
+value-in_table generator unit place column row key_kind no_lookup = refl
+value-in_table generator unit place column row born_kind no_lookup = refl
+value-in_table generator unit place column row changed_kind no_lookup = refl
+value-in_table generator unit place column row (leaf_kind leaf) no_lookup = refl
+value-in_table generator unit place column row (template_kind parts) no_lookup = refl
+value-in_table generator unit place column row (case_kind on branches) no_lookup = refl
+value-in_table generator unit place column row (reference_kind parent window spread) no_lookup = refl
+value-in_table generator unit place column row _ no_lookup = cc
+
+pub field-in_table : (generator : Generator) (unit place column : ℕ) (row : Row) → is_lookup_kind (column_at (table_at generator.tables place).columns column).kind ≡ false →
+    field generator unit place row column ≡ field_in_table generator place row column
+field-in_table generator unit place column row no_lookup =
+    let of : ColumnLayout = column_at (table_at generator.tables place).columns column in
+    ap (unless_null of.null (draws_of generator place row column)) (value-in_table generator unit place column row of.kind no_lookup)
+
+-- a key
+pub in_table-key : (generator : Generator) (place column : ℕ) (row : Row) → (column_at (table_at generator.tables place).columns column).kind ≡ key_kind →
+    (column_at (table_at generator.tables place).columns column).null ≡ 0 →
+    field_in_table generator place row column ≡ Some (decimal (key_in_cohort generator place row.born (index_in_cohort (table_at generator.tables place) row)))
+in_table-key generator place column row is never =
+    let of : ColumnLayout = column_at (table_at generator.tables place).columns column in
+    unless_null-never of.null (draws_of generator place row column) (value_in_table generator place row column of.kind) never
+    ∙ ap (value_in_table generator place row column) is
+
+-- units and what is drawn
 value-own : (generator : Generator) (place column : ℕ) (row : Row) (kind : KindLayout) → is_own kind ≡ true →
-    value generator place row column kind ≡ own_value (table_at generator.tables place).columns (at_row row) (draws_of generator place row) column kind
+    value_in_table generator place row column kind ≡ own_value (table_at generator.tables place).columns (at_row row) (draws_of generator place row) column kind
 value-own generator place column row born_kind own = refl
 value-own generator place column row changed_kind own = refl
 value-own generator place column row (leaf_kind leaf) own = refl
 value-own generator place column row (case_kind on branches) own = refl
 value-own generator place column row _ own = cc
 
-pub field-own : (generator : Generator) (unit place ordinal column : ℕ) → is_own (column_at (table_at generator.tables place).columns column).kind ≡ true →
-    field generator unit place (row_at generator place unit ordinal) column
-    ≡ own_field (table_at generator.tables place).columns (at_row (row_at generator place unit ordinal))
-    (draws_of generator place (row_at generator place unit ordinal)) column
-field-own generator unit place ordinal column own =
-    let row : Row = row_at generator place unit ordinal in
+pub in_table-own : (generator : Generator) (place column : ℕ) (row : Row) → is_own (column_at (table_at generator.tables place).columns column).kind ≡ true →
+    field_in_table generator place row column ≡ own_field (table_at generator.tables place).columns (at_row row) (draws_of generator place row) column
+in_table-own generator place column row own =
     let of : ColumnLayout = column_at (table_at generator.tables place).columns column in
     ap (unless_null of.null (draws_of generator place row column)) (value-own generator place column row of.kind own)
 
+-- the parts of a template
+pub in_table-template : (generator : Generator) (place column : ℕ) (row : Row) (parts : List PartLayout) → (column_at (table_at generator.tables place).columns column).kind ≡ template_kind parts →
+    field_in_table generator place row column
+    ≡ unless_null (column_at (table_at generator.tables place).columns column).null (draws_of generator place row column) (Some (flat_map (part_text generator place row) parts))
+in_table-template generator place column row parts is =
+    ap (λ (kind : KindLayout). unless_null (column_at (table_at generator.tables place).columns column).null (draws_of generator place row column) (value_in_table generator place row column kind)) is
+
 -- what a template may cite is the field itself
 value-cited : (generator : Generator) (place column : ℕ) (row : Row) (kind : KindLayout) → is_cited kind ≡ true →
-    value generator place row column kind ≡ value_alone generator place row column kind
+    value_in_table generator place row column kind ≡ value_alone generator place row column kind
 value-cited generator place column row key_kind cited = refl
 value-cited generator place column row born_kind cited = refl
 value-cited generator place column row changed_kind cited = refl
@@ -59,11 +90,27 @@ value-cited generator place column row (leaf_kind leaf) cited = refl
 value-cited generator place column row (reference_kind parent window spread) cited = refl
 value-cited generator place column row _ cited = cc
 
-pub field-cited : (generator : Generator) (unit place column : ℕ) (row : Row) → is_cited (column_at (table_at generator.tables place).columns column).kind ≡ true →
-    field generator unit place row column ≡ field_alone generator place row column
-field-cited generator unit place column row cited =
+pub in_table-cited : (generator : Generator) (place column : ℕ) (row : Row) → is_cited (column_at (table_at generator.tables place).columns column).kind ≡ true →
+    field_in_table generator place row column ≡ field_alone generator place row column
+in_table-cited generator place column row cited =
     let of : ColumnLayout = column_at (table_at generator.tables place).columns column in
     ap (unless_null of.null (draws_of generator place row column)) (value-cited generator place column row of.kind cited)
+
+no_lookup-cited : (kind : KindLayout) → is_cited kind ≡ true → is_lookup_kind kind ≡ false
+no_lookup-cited (lookup_kind via parent name) cited = cc
+no_lookup-cited key_kind cited = refl
+no_lookup-cited born_kind cited = refl
+no_lookup-cited changed_kind cited = refl
+no_lookup-cited (leaf_kind leaf) cited = refl
+no_lookup-cited (template_kind parts) cited = refl
+no_lookup-cited (case_kind on branches) cited = refl
+no_lookup-cited (reference_kind parent window spread) cited = refl
+
+field-cited : (generator : Generator) (unit place column : ℕ) (row : Row) → is_cited (column_at (table_at generator.tables place).columns column).kind ≡ true →
+    field generator unit place row column ≡ field_alone generator place row column
+field-cited generator unit place column row cited =
+    field-in_table generator unit place column row (no_lookup-cited (column_at (table_at generator.tables place).columns column).kind cited)
+    ∙ in_table-cited generator place column row cited
 
 pub part_text-cited : (generator : Generator) (unit place column : ℕ) (row : Row) → is_cited (column_at (table_at generator.tables place).columns column).kind ≡ true →
     part_text generator place row (cited_part column) ≡ unwrap_or (field generator unit place row column) []
@@ -77,7 +124,7 @@ pub field-template : (generator : Generator) (unit place ordinal column : ℕ) (
     (Some (flat_map (part_text generator place (row_at generator place unit ordinal)) parts))
 field-template generator unit place ordinal column parts is =
     let row : Row = row_at generator place unit ordinal in
-    ap (λ (kind : KindLayout). unless_null (column_at (table_at generator.tables place).columns column).null (draws_of generator place row column) (value generator place row column kind)) is
+    ap (λ (kind : KindLayout). unless_null (column_at (table_at generator.tables place).columns column).null (draws_of generator place row column) (value generator unit place row column kind)) is
 
 -- its unit of birth
 pub field-born : (generator : Generator) (unit place ordinal column : ℕ) → (column_at (table_at generator.tables place).columns column).kind ≡ born_kind →
@@ -86,7 +133,7 @@ pub field-born : (generator : Generator) (unit place ordinal column : ℕ) → (
     (Some (decimal (row_at generator place unit ordinal).born))
 field-born generator unit place ordinal column is =
     let row : Row = row_at generator place unit ordinal in
-    ap (λ (kind : KindLayout). unless_null (column_at (table_at generator.tables place).columns column).null (draws_of generator place row column) (value generator place row column kind)) is
+    ap (λ (kind : KindLayout). unless_null (column_at (table_at generator.tables place).columns column).null (draws_of generator place row column) (value generator unit place row column kind)) is
 
 -- its unit of the last change
 pub field-changed : (generator : Generator) (unit place ordinal column : ℕ) → (column_at (table_at generator.tables place).columns column).kind ≡ changed_kind →
@@ -95,7 +142,7 @@ pub field-changed : (generator : Generator) (unit place ordinal column : ℕ) �
     (Some (decimal (row_at generator place unit ordinal).changed))
 field-changed generator unit place ordinal column is =
     let row : Row = row_at generator place unit ordinal in
-    ap (λ (kind : KindLayout). unless_null (column_at (table_at generator.tables place).columns column).null (draws_of generator place row column) (value generator place row column kind)) is
+    ap (λ (kind : KindLayout). unless_null (column_at (table_at generator.tables place).columns column).null (draws_of generator place row column) (value generator unit place row column kind)) is
 
 -- what is drawn for it
 pub field-drawn : (generator : Generator) (unit place ordinal column : ℕ) (leaf : LeafLayout) → (column_at (table_at generator.tables place).columns column).kind ≡ leaf_kind leaf →
@@ -104,7 +151,7 @@ pub field-drawn : (generator : Generator) (unit place ordinal column : ℕ) (lea
     (leaf_value leaf (draws_of generator place (row_at generator place unit ordinal) column))
 field-drawn generator unit place ordinal column leaf is =
     let row : Row = row_at generator place unit ordinal in
-    ap (λ (kind : KindLayout). unless_null (column_at (table_at generator.tables place).columns column).null (draws_of generator place row column) (value generator place row column kind)) is
+    ap (λ (kind : KindLayout). unless_null (column_at (table_at generator.tables place).columns column).null (draws_of generator place row column) (value generator unit place row column kind)) is
 
 -- the unit that it is drawn at
 pub draws_of-changed : (generator : Generator) (place column : ℕ) (row : Row) → (column_at (table_at generator.tables place).columns column).changes ≡ true →

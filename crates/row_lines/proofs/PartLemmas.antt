@@ -14,28 +14,28 @@ use Rattle.schema_check.specs.Cohorts.{cohort_size}
 use Rattle.schema_check.specs.FieldBounds.{bounds_alone, bounds_of, bounds_of_part}
 use Rattle.schema_check.specs.Layout.{KindLayout, PartLayout, TableLayout, born_kind, changed_kind, cited_part, column_at, key_kind, layout_of, leaf_kind, literal_part, reference_kind, template_kind}
 use Rattle.schema_check.specs.Limits.{AreParts, IsKindInLimits, IsPart, is_cited}
-use Rattle.schema_check.specs.Ready.{is_served_kind, ready_kind, ready_part}
+use Rattle.schema_check.specs.Ready.{ready_kind, ready_part}
 use Rattle.draw_values.specs.CohortValues.{ValuesOf, is_null_for, value_for}
 use Rattle.draw_values.specs.Values.{is_null, is_own, written}
 use Rattle.life_intervals.specs.Generator.{Generator, generator_of}
 use Rattle.life_intervals.specs.Intervals.{row_at}
 use Rattle.life_intervals.specs.Rows.{Row}
-use Rattle.row_lines.specs.CohortLines.{LinesOf, asked_by, asked_by_part, asked_for, change_for, key_for, layout_for, ordinal_of, size_for, text_in_cohort, values_at}
+use Rattle.row_lines.specs.CohortLines.{LinesOf, asked_by, asked_by_part, asked_for, layout_for, ordinal_of, row_changed, size_for, text_in_table, values_at}
 use Rattle.row_lines.specs.Lines.{draws_of, part_text}
 use Rattle.row_lines.specs.Parts.{IsCitable, IsPartOf, cited_for, cited_size, cited_text, part_asked, part_size, written_part}
-use Rattle.row_lines.proofs.CohortLineLemmas.{held-key, held-own, held_in_cohort, of_units}
-use Rattle.row_lines.proofs.FieldLemmas.{field-cited, field-template}
+use Rattle.row_lines.proofs.CohortFieldLemmas.{held-own, held_in_table, of_units}
+use Rattle.row_lines.proofs.FieldLemmas.{in_table-cited, in_table-template}
 
 -- ---- a column that is cited
 
 -- it is a key, a reference, or made of units and of draws
-pub own_from_cited : (delimiter : ℕ) (kind : KindLayout) → is_cited kind ≡ true → is_served_kind (ready_kind delimiter kind) ≡ true → (ready_kind delimiter kind ≡ Key → ⊥) → ((reference : ReadyReference) → ready_kind delimiter kind ≡ Reference reference → ⊥) → is_own kind ≡ true
-own_from_cited delimiter key_kind cited served no_key no_reference = absurd (no_key refl)
-own_from_cited delimiter born_kind cited served no_key no_reference = refl
-own_from_cited delimiter (leaf_kind leaf) cited served no_key no_reference = refl
-own_from_cited delimiter changed_kind cited served no_key no_reference = refl
-own_from_cited delimiter (reference_kind parent window spread) cited served no_key no_reference = absurd (no_reference _ refl)
-own_from_cited delimiter _ cited served no_key no_reference = cc
+pub own_from_cited : (delimiter : ℕ) (kind : KindLayout) → is_cited kind ≡ true → (ready_kind delimiter kind ≡ Key → ⊥) → ((reference : ReadyReference) → ready_kind delimiter kind ≡ Reference reference → ⊥) → is_own kind ≡ true
+own_from_cited delimiter key_kind cited no_key no_reference = absurd (no_key refl)
+own_from_cited delimiter born_kind cited no_key no_reference = refl
+own_from_cited delimiter (leaf_kind leaf) cited no_key no_reference = refl
+own_from_cited delimiter changed_kind cited no_key no_reference = refl
+own_from_cited delimiter (reference_kind parent window spread) cited no_key no_reference = absurd (no_reference _ refl)
+own_from_cited delimiter _ cited no_key no_reference = cc
 
 -- it takes what its own field takes
 bounds_of-cited : (delimiter : ℕ) (tables : List TableLayout) (table : TableLayout) (kind : KindLayout) → is_cited kind ≡ true →
@@ -58,31 +58,22 @@ size_for-cited lines column citable =
     (bounds_of-cited (layout_of lines.plan).delimiter (layout_of lines.plan).tables (layout_for lines) (column_at (layout_for lines).columns column).kind citable.cited)
 
 -- and it holds what its own field holds
-cited_for-held : (lines : LinesOf) (index column : ℕ) → IsCitable lines column → cited_for lines index column ≡ held_in_cohort lines index column
-cited_for-held lines index column citable =
-    sym (field-cited (generator_of lines.plan) lines.unit lines.table column (row_at (generator_of lines.plan) lines.table lines.unit (ordinal_of lines index)) citable.cited)
-
-pub cited_text-key : (lines : LinesOf) (place index key : ℕ) → IsCitable lines place → (column_at (layout_for lines).columns place).kind ≡ key_kind →
-    (column_at (layout_for lines).columns place).null ≡ 0 → lines.born ≤ lines.unit →
-    index < cohort_size (layout_for lines).births lines.born → key ≡ key_for lines index → key < 2 ^ 64 →
-    cited_text lines index place ≡ decimal key
-cited_text-key lines place index key citable is never within below key_is small =
-    ap (written (layout_of lines.plan).delimiter) (cited_for-held lines index place citable ∙ held-key lines place index key is never within below key_is)
-    ∙ piece_text-decimal (layout_of lines.plan).delimiter key small
+cited_for-held : (lines : LinesOf) (index changed column : ℕ) → IsCitable lines column → cited_for lines index changed column ≡ held_in_table lines index changed column
+cited_for-held lines index changed column citable =
+    sym (in_table-cited (generator_of lines.plan) lines.table column (row_changed lines index changed) citable.cited)
 
 -- a cited column that holds a number
-pub cited_text-field : (lines : LinesOf) (index column key : ℕ) → IsCitable lines column → held_in_cohort lines index column ≡ Some (decimal key) → key < 2 ^ 64 →
-    cited_text lines index column ≡ decimal key
-cited_text-field lines index column key citable held small =
-    ap (written (layout_of lines.plan).delimiter) (cited_for-held lines index column citable ∙ held)
-    ∙ piece_text-decimal (layout_of lines.plan).delimiter key small
+pub cited_text-number : (lines : LinesOf) (index changed column number : ℕ) → IsCitable lines column → held_in_table lines index changed column ≡ Some (decimal number) → number < 2 ^ 64 →
+    cited_text lines index changed column ≡ decimal number
+cited_text-number lines index changed column number citable held small =
+    ap (written (layout_of lines.plan).delimiter) (cited_for-held lines index changed column citable ∙ held)
+    ∙ piece_text-decimal (layout_of lines.plan).delimiter number small
 
-pub cited_for-own : (lines : LinesOf) (values : ValuesOf) (place index ordinal : ℕ) → IsCitable lines place → values ≡ values_at lines (change_for lines index) →
+pub cited_for-own : (lines : LinesOf) (values : ValuesOf) (place index changed ordinal : ℕ) → IsCitable lines place → values ≡ values_at lines changed →
     ordinal ≡ ordinal_of lines index → is_own (column_at (layout_for lines).columns place).kind ≡ true → lines.born ≤ lines.unit →
-    index < cohort_size (layout_for lines).births lines.born → lines.table < length lines.plan.schema.tables →
-    cited_for lines index place ≡ value_for values place ordinal
-cited_for-own lines values place index ordinal citable values_are ordinal_is own within below table =
-    cited_for-held lines index place citable ∙ held-own lines values place index ordinal values_are ordinal_is own within below table
+    index < cohort_size (layout_for lines).births lines.born → cited_for lines index changed place ≡ value_for values place ordinal
+cited_for-own lines values place index changed ordinal citable values_are ordinal_is own within below =
+    cited_for-held lines index changed place citable ∙ held-own lines values place index changed ordinal values_are ordinal_is own within below
 
 -- what is written for it is no longer than its field
 pub length-written : (delimiter : ℕ) (value : Option (List ℕ)) → length (written delimiter value) ≤ length (field_text delimiter value)
@@ -105,19 +96,19 @@ written-unwrap_or delimiter None = refl
 written-unwrap_or delimiter (Some text) = refl
 
 -- a part is written as it is kept
-part-written : (lines : LinesOf) (index : ℕ) (part : PartLayout) →
-    written_part lines index (ready_part (layout_of lines.plan).delimiter part)
-    ≡ piece_text (layout_of lines.plan).delimiter (part_text (generator_of lines.plan) lines.table (row_at (generator_of lines.plan) lines.table lines.unit (ordinal_of lines index)) part)
-part-written lines index (literal_part bytes) = refl
-part-written lines index (cited_part column) = written-unwrap_or (layout_of lines.plan).delimiter (cited_for lines index column)
+part-written : (lines : LinesOf) (index changed : ℕ) (part : PartLayout) →
+    written_part lines index changed (ready_part (layout_of lines.plan).delimiter part)
+    ≡ piece_text (layout_of lines.plan).delimiter (part_text (generator_of lines.plan) lines.table (row_changed lines index changed) part)
+part-written lines index changed (literal_part bytes) = refl
+part-written lines index changed (cited_part column) = written-unwrap_or (layout_of lines.plan).delimiter (cited_for lines index changed column)
 
-parts-written : (lines : LinesOf) (index : ℕ) (parts : List PartLayout) →
-    piece_text (layout_of lines.plan).delimiter (flat_map (part_text (generator_of lines.plan) lines.table (row_at (generator_of lines.plan) lines.table lines.unit (ordinal_of lines index))) parts)
-    ≡ flat_map (written_part lines index) (map (ready_part (layout_of lines.plan).delimiter) parts)
-parts-written lines index parts =
-    piece_text-parts (generator_of lines.plan) lines.table (row_at (generator_of lines.plan) lines.table lines.unit (ordinal_of lines index)) parts
-    ∙ ap (λ (write : PartLayout → List ℕ). flat_map write parts) (sym (fun_ext (part-written lines index)))
-    ∙ sym (flat_map-map (written_part lines index) (ready_part (layout_of lines.plan).delimiter) parts)
+parts-written : (lines : LinesOf) (index changed : ℕ) (parts : List PartLayout) →
+    piece_text (layout_of lines.plan).delimiter (flat_map (part_text (generator_of lines.plan) lines.table (row_changed lines index changed)) parts)
+    ≡ flat_map (written_part lines index changed) (map (ready_part (layout_of lines.plan).delimiter) parts)
+parts-written lines index changed parts =
+    piece_text-parts (generator_of lines.plan) lines.table (row_changed lines index changed) parts
+    ∙ ap (λ (write : PartLayout → List ℕ). flat_map write parts) (sym (fun_ext (part-written lines index changed)))
+    ∙ sym (flat_map-map (written_part lines index changed) (ready_part (layout_of lines.plan).delimiter) parts)
 
 -- it takes what the schema counts for it
 part-size : (lines : LinesOf) (part : PartLayout) →
@@ -182,44 +173,42 @@ size-template lines column ready template =
     ∙ ap (λ (size : ℕ). max 2 size) (sym (parts-size lines template.parts) ∙ ap (λ (parts : List ReadyPart). sum_by (part_size lines) parts) (sym template.ready_are))
 
 -- and asks
-part-asked : (lines : LinesOf) (part : PartLayout) → part_asked lines (ready_part (layout_of lines.plan).delimiter part) ≡ asked_by_part (layout_of lines.plan).tables (layout_for lines) part
-part-asked lines (literal_part bytes) = refl
-part-asked lines (cited_part column) = refl
+part-asked : (known : Bool) (lines : LinesOf) (part : PartLayout) → part_asked known lines (ready_part (layout_of lines.plan).delimiter part) ≡ asked_by_part known (layout_of lines.plan).delimiter (layout_of lines.plan).tables (layout_for lines) part
+part-asked known lines (literal_part bytes) = refl
+part-asked known lines (cited_part column) = refl
 
-pub asked-template : (lines : LinesOf) (column : ℕ) (ready : List ReadyPart) → IsTemplateOf lines column ready → sum_by (part_asked lines) ready ≡ asked_for lines column
-asked-template lines column ready template =
-    ap (sum_by (part_asked lines)) template.ready_are
-    ∙ fold-map (λ all part. all + part_asked lines part) (ready_part (layout_of lines.plan).delimiter) 0 template.parts
-    ∙ ap (λ (asked : PartLayout → ℕ). sum_by asked template.parts) (fun_ext (part-asked lines))
-    ∙ sym (ap (asked_by (layout_of lines.plan).tables (layout_for lines)) template.is)
+pub asked-template : (known : Bool) (lines : LinesOf) (column : ℕ) (ready : List ReadyPart) → IsTemplateOf lines column ready → sum_by (part_asked known lines) ready ≡ asked_for known lines column
+asked-template known lines column ready template =
+    ap (sum_by (part_asked known lines)) template.ready_are
+    ∙ fold-map (λ all part. all + part_asked known lines part) (ready_part (layout_of lines.plan).delimiter) 0 template.parts
+    ∙ ap (λ (asked : PartLayout → ℕ). sum_by asked template.parts) (fun_ext (part-asked known lines))
+    ∙ sym (ap (asked_by known (layout_of lines.plan).delimiter (layout_of lines.plan).tables (layout_for lines)) template.is)
 
--- whether it is null, as the values of the cohort have it
-null-template : (lines : LinesOf) (values : ValuesOf) (column index ordinal : ℕ) → values ≡ values_at lines (change_for lines index) →
-    ordinal ≡ ordinal_of lines index → lines.born ≤ lines.unit → index < cohort_size (layout_for lines).births lines.born → lines.table < length lines.plan.schema.tables →
-    is_null (column_at (layout_for lines).columns column).null
-    (draws_of (generator_of lines.plan) lines.table (row_at (generator_of lines.plan) lines.table lines.unit (ordinal_of lines index)) column)
+-- whether a field is drawn to be null, as the values of the cohort have it
+pub null-drawn : (lines : LinesOf) (values : ValuesOf) (column index changed ordinal : ℕ) → values ≡ values_at lines changed →
+    ordinal ≡ ordinal_of lines index → lines.born ≤ lines.unit → index < cohort_size (layout_for lines).births lines.born →
+    is_null (column_at (layout_for lines).columns column).null (draws_of (generator_of lines.plan) lines.table (row_changed lines index changed) column)
     ≡ is_null_for values column ordinal
-null-template lines values column index ordinal values_are ordinal_is within below table =
-    of_units lines index (λ (born changed : ℕ). is_null_for (record { plan = lines.plan; table = lines.table; born = born; changed = changed }) column (ordinal_of lines index)) table within below
-    ∙ ap (λ (j : ℕ). is_null_for (values_at lines (change_for lines index)) column j) (sym ordinal_is)
+null-drawn lines values column index changed ordinal values_are ordinal_is within below =
+    of_units lines index changed (λ (born at : ℕ). is_null_for (record { plan = lines.plan; table = lines.table; born = born; changed = at }) column (ordinal_of lines index)) within below
+    ∙ ap (λ (j : ℕ). is_null_for (values_at lines changed) column j) (sym ordinal_is)
     ∙ ap (λ (of : ValuesOf). is_null_for of column ordinal) (sym values_are)
 
 -- how it is written
-pub text-template : (lines : LinesOf) (values : ValuesOf) (column index ordinal : ℕ) (ready : List ReadyPart) (null : Bool) → IsTemplateOf lines column ready →
-    values ≡ values_at lines (change_for lines index) →
-    ordinal ≡ ordinal_of lines index → lines.born ≤ lines.unit → index < cohort_size (layout_for lines).births lines.born → lines.table < length lines.plan.schema.tables →
+pub text-template : (lines : LinesOf) (values : ValuesOf) (column index changed ordinal : ℕ) (ready : List ReadyPart) (null : Bool) → IsTemplateOf lines column ready →
+    values ≡ values_at lines changed → ordinal ≡ ordinal_of lines index → lines.born ≤ lines.unit → index < cohort_size (layout_for lines).births lines.born →
     is_null_for values column ordinal ≡ null →
-    text_in_cohort lines index column ≡ (if null then codes "\\N" else flat_map (written_part lines index) ready)
-text-template lines values column index ordinal ready null template values_are ordinal_is within below table null_is =
+    text_in_table lines index changed column ≡ (if null then codes "\\N" else flat_map (written_part lines index changed) ready)
+text-template lines values column index changed ordinal ready null template values_are ordinal_is within below null_is =
     let generator : Generator = generator_of lines.plan in
     let d : ℕ = (layout_of lines.plan).delimiter in
-    let row : Row = row_at (generator_of lines.plan) lines.table lines.unit (ordinal_of lines index) in
+    let row : Row = row_changed lines index changed in
     let text : List ℕ = flat_map (part_text generator lines.table row) template.parts in
-    ap (field_text d) (field-template generator lines.unit lines.table (ordinal_of lines index) column template.parts template.is)
-    ∙ ap (λ (null : Bool). field_text d (if null then None else Some text)) (null-template lines values column index ordinal values_are ordinal_is within below table ∙ null_is)
+    ap (field_text d) (in_table-template generator lines.table column row template.parts template.is)
+    ∙ ap (λ (null : Bool). field_text d (if null then None else Some text)) (null-drawn lines values column index changed ordinal values_are ordinal_is within below ∙ null_is)
     ∙ field_text-if d null text
     ∙ ap (λ (bytes : List ℕ). if null then codes "\\N" else bytes)
-    (parts-written lines index template.parts ∙ ap (λ (parts : List ReadyPart). flat_map (written_part lines index) parts) (sym template.ready_are))
+    (parts-written lines index changed template.parts ∙ ap (λ (parts : List ReadyPart). flat_map (written_part lines index changed) parts) (sym template.ready_are))
   where
     field_text-if : (d : ℕ) (null : Bool) (text : List ℕ) → field_text d (if null then None else Some text) ≡ (if null then codes "\\N" else piece_text d text)
     field_text-if d true text = refl

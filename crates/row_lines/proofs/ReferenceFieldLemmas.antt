@@ -1,5 +1,5 @@
 -- What a row holds in a reference: the key of its parent.
-use Rattle.std.proofs.Common.{◌≡◌, ◌<◌, ◌≤◌, ◌^◌, ℕ, zero, suc, ◌+◌, ◌==◌, List, [], ◌∷◌, length, map, zip, decimal, Option, Some, None, refl, ap, sym, eq-eqb, ne_eqb, zero-add, ◌∙◌, arith}
+use Rattle.std.proofs.Common.{◌≡◌, ◌<◌, ◌≤◌, ◌^◌, ℕ, zero, suc, ◌+◌, ◌==◌, Bool, List, [], ◌∷◌, length, map, zip, decimal, Option, Some, None, refl, ap, sym, eq-eqb, ne_eqb, zero-add, ◌∙◌, arith}
 use Rattle.std.specs.Prelude.{find}
 use Rattle.std.specs.List.{cons_option}
 use Rattle.std.specs.Option.{option_map_or}
@@ -24,8 +24,8 @@ use Rattle.life_intervals.proofs.CohortLemmas.{birth-first_ordinal, birth-le}
 use Rattle.life_intervals.proofs.CohortParentLemmas.{parent_in-born, ready_is}
 use Rattle.life_intervals.proofs.LifeLemmas.{parent_of-born}
 use Rattle.life_intervals.proofs.ReferenceLemmas.{reference_at-within, references_in}
-use Rattle.row_lines.specs.CohortLines.{LinesOf, asked_alone, asked_by, layout_for, ordinal_of, parent_key_for, size_for, text_in_cohort}
-use Rattle.row_lines.specs.Lines.{draws_of, field, parent_of_row, value}
+use Rattle.row_lines.specs.CohortLines.{LinesOf, asked_alone, asked_by, asked_for, layout_for, ordinal_of, parent_key_for, row_changed, size_for, text_in_table}
+use Rattle.row_lines.specs.Lines.{draws_of, field, field_in_table, parent_of_row, value, value_in_table}
 use Rattle.row_lines.proofs.FieldLemmas.{unless_null-never}
 use Rattle.row_lines.proofs.LineLemmas.{key_of-by}
 
@@ -92,8 +92,21 @@ field-parent generator unit place ordinal column reference is never =
     let row : Row = row_at generator place unit ordinal in
     let table : TableLayout = table_at generator.tables place in
     let of : ColumnLayout = column_at table.columns column in
-    unless_null-never of.null (draws_of generator place row column) (value generator place row column of.kind) never
-    ∙ ap (value generator place row column) (kind_is table column reference is)
+    unless_null-never of.null (draws_of generator place row column) (value generator unit place row column of.kind) never
+    ∙ ap (value generator unit place row column) (kind_is table column reference is)
+    ∙ ap (λ (parent : ℕ). Some (decimal (key_of generator reference.parent row.born parent))) (parent_of_row-by table row (parent_of generator place unit ordinal) column reference refl is)
+
+-- whatever the unit of the row's last change
+in_table-parent : (generator : Generator) (unit place ordinal column changed : ℕ) (reference : Reference) → reference_at (table_at generator.tables place) column ≡ Some reference →
+    (column_at (table_at generator.tables place).columns column).null ≡ 0 →
+    field_in_table generator place (record (row_at generator place unit ordinal) { changed = changed }) column
+    ≡ Some (decimal (key_of generator reference.parent (birth (table_at generator.tables place).births unit ordinal) (parent_of generator place unit ordinal reference)))
+in_table-parent generator unit place ordinal column changed reference is never =
+    let row : Row = record (row_at generator place unit ordinal) { changed = changed } in
+    let table : TableLayout = table_at generator.tables place in
+    let of : ColumnLayout = column_at table.columns column in
+    unless_null-never of.null (draws_of generator place row column) (value_in_table generator place row column of.kind) never
+    ∙ ap (value_in_table generator place row column) (kind_is table column reference is)
     ∙ ap (λ (parent : ℕ). Some (decimal (key_of generator reference.parent row.born parent))) (parent_of_row-by table row (parent_of generator place unit ordinal) column reference refl is)
 
 -- which is its key at any unit by which the row is born
@@ -114,33 +127,31 @@ pub reference_here : (lines : LinesOf) (column : ℕ) (ready : ReadyReference) �
 reference_here lines column ready of = (ready_is lines.plan lines.table column ready of).is
 
 -- what its field takes
-pub asked-reference : (lines : LinesOf) (column : ℕ) (ready : ReadyReference) → IsReferenceOf lines.plan lines.table column ready →
-    asked_alone (layout_of lines.plan).tables (column_at (layout_for lines).columns column).kind ≡ 1 + one_if (table_of lines.plan ready.parent).key.scramble
-asked-reference lines column ready of =
-    ap (asked_alone (layout_of lines.plan).tables) (kind_is (layout_for lines) column (reference_by column ready) (reference_here lines column ready of))
+pub asked-reference : (known : Bool) (lines : LinesOf) (column : ℕ) (ready : ReadyReference) → IsReferenceOf lines.plan lines.table column ready →
+    asked_alone known (layout_of lines.plan).delimiter (layout_of lines.plan).tables (layout_for lines) (column_at (layout_for lines).columns column).kind
+    ≡ 1 + one_if (table_of lines.plan ready.parent).key.scramble
+asked-reference known lines column ready of =
+    ap (asked_alone known (layout_of lines.plan).delimiter (layout_of lines.plan).tables (layout_for lines)) (kind_is (layout_for lines) column (reference_by column ready) (reference_here lines column ready of))
 
-pub asked_by-reference : (lines : LinesOf) (column : ℕ) (ready : ReadyReference) → IsReferenceOf lines.plan lines.table column ready →
-    asked_by (layout_of lines.plan).tables (layout_for lines) (column_at (layout_for lines).columns column).kind
-    ≡ asked_alone (layout_of lines.plan).tables (column_at (layout_for lines).columns column).kind
-asked_by-reference lines column ready of =
-    let is = kind_is (layout_for lines) column (reference_by column ready) (reference_here lines column ready of) in
-    ap (asked_by (layout_of lines.plan).tables (layout_for lines)) is ∙ sym (ap (asked_alone (layout_of lines.plan).tables) is)
+pub asked_by-reference : (known : Bool) (lines : LinesOf) (column : ℕ) (ready : ReadyReference) → IsReferenceOf lines.plan lines.table column ready →
+    asked_for known lines column ≡ 1 + one_if (table_of lines.plan ready.parent).key.scramble
+asked_by-reference known lines column ready of =
+    ap (asked_by known (layout_of lines.plan).delimiter (layout_of lines.plan).tables (layout_for lines)) (kind_is (layout_for lines) column (reference_by column ready) (reference_here lines column ready of))
 
 pub size-reference : (lines : LinesOf) (column : ℕ) (ready : ReadyReference) → IsReferenceOf lines.plan lines.table column ready → size_for lines column ≡ 20
 size-reference lines column ready of =
     ap (λ (kind : KindLayout). (bounds_of (layout_of lines.plan).delimiter (layout_of lines.plan).tables (layout_for lines) kind).size)
     (kind_is (layout_for lines) column (reference_by column ready) (reference_here lines column ready of))
 
-index_here : (lines : LinesOf) (index : ℕ) → lines.born ≤ lines.unit → index < cohort_size (layout_for lines).births lines.born → index_at (layout_for lines).births lines.unit (ordinal_of lines index) ≡ index
+pub index_here : (lines : LinesOf) (index : ℕ) → lines.born ≤ lines.unit → index < cohort_size (layout_for lines).births lines.born → index_at (layout_for lines).births lines.unit (ordinal_of lines index) ≡ index
 index_here lines index early inside =
     omega (arith, ap (first_ordinal (layout_for lines).births) (birth-first_ordinal (layout_for lines).births lines.unit lines.born index early inside))
 
 -- what it holds
 pub held-reference : (lines : LinesOf) → IsInLimits lines.plan → IsTableInLimits (last_unit lines.plan) (layout_for lines) → lines.table < length lines.plan.schema.tables → lines.born ≤ lines.unit → lines.unit ≤ last_unit lines.plan →
-    (column index : ℕ) (ready : ReadyReference) → IsReferenceOf lines.plan lines.table column ready → index < cohort_size (layout_for lines).births lines.born →
-    field (generator_of lines.plan) lines.unit lines.table (row_at (generator_of lines.plan) lines.table lines.unit (ordinal_of lines index)) column
-    ≡ Some (decimal (parent_key_for lines index (reference_by column ready)))
-held-reference lines limits own below early within column index ready of inside =
+    (column index changed : ℕ) (ready : ReadyReference) → IsReferenceOf lines.plan lines.table column ready → index < cohort_size (layout_for lines).births lines.born →
+    field_in_table (generator_of lines.plan) lines.table (row_changed lines index changed) column ≡ Some (decimal (parent_key_for lines index (reference_by column ready)))
+held-reference lines limits own below early within column index changed ready of inside =
     let plan : Project = lines.plan in
     let generator : Generator = generator_of plan in
     let reference : Reference = reference_by column ready in
@@ -150,7 +161,7 @@ held-reference lines limits own below early within column index ready of inside 
     let index_is : index_at births lines.unit (ordinal_of lines index) ≡ index = index_here lines index early inside in
     let parent : ℕ → ℕ → ℕ = λ unit i. parent_in (record { plan = plan; table = lines.table; unit = unit }) i reference in
     let key : ℕ → ℕ → Option (List ℕ) = λ unit p. Some (decimal (key_of generator reference.parent unit p)) in
-    field-parent generator lines.unit lines.table (ordinal_of lines index) column reference is (own.reference_never_null column reference of.within is)
+    in_table-parent generator lines.unit lines.table (ordinal_of lines index) column changed reference is (own.reference_never_null column reference of.within is)
     ∙ ap (λ (i : ℕ). key (birth births lines.unit (ordinal_of lines index)) (parent (birth births lines.unit (ordinal_of lines index)) i)) index_is
     ∙ ap (λ (unit : ℕ). key unit (parent unit index)) born_is
     ∙ ap (λ (k : ℕ). Some (decimal k)) (sym (key_of-by generator (last_unit plan) lines.born reference.parent (parent lines.born index) (omega (arith, early, within))
@@ -158,8 +169,8 @@ held-reference lines limits own below early within column index ready of inside 
 
 -- how it is written
 pub text-reference : (lines : LinesOf) → IsInLimits lines.plan → IsTableInLimits (last_unit lines.plan) (layout_for lines) → lines.table < length lines.plan.schema.tables → lines.born ≤ lines.unit → lines.unit ≤ last_unit lines.plan →
-    (column index key : ℕ) (ready : ReadyReference) → IsReferenceOf lines.plan lines.table column ready → index < cohort_size (layout_for lines).births lines.born →
-    key ≡ parent_key_for lines index (reference_by column ready) → key < 2 ^ 64 → text_in_cohort lines index column ≡ decimal key
-text-reference lines limits own below early within column index key ready of inside is small =
-    ap (field_text (layout_of lines.plan).delimiter) (held-reference lines limits own below early within column index ready of inside ∙ ap (λ (k : ℕ). Some (decimal k)) (sym is))
+    (column index changed key : ℕ) (ready : ReadyReference) → IsReferenceOf lines.plan lines.table column ready → index < cohort_size (layout_for lines).births lines.born →
+    key ≡ parent_key_for lines index (reference_by column ready) → key < 2 ^ 64 → text_in_table lines index changed column ≡ decimal key
+text-reference lines limits own below early within column index changed key ready of inside is small =
+    ap (field_text (layout_of lines.plan).delimiter) (held-reference lines limits own below early within column index changed ready of inside ∙ ap (λ (k : ℕ). Some (decimal k)) (sym is))
     ∙ piece_text-decimal (layout_of lines.plan).delimiter key small

@@ -1,14 +1,13 @@
 -- The lines of one cohort, and what the code keeps of them.
-use Rattle.std.specs.Prelude.{◌≡◌, ◌<◌, ◌≤◌, ℕ, ◌+◌, Bool, List, All, length, sum_by, true}
+use Rattle.std.specs.Prelude.{◌≡◌, ◌<◌, ◌≤◌, ℕ, ◌+◌, Bool, List, if◌then◌else◌, length, sum_by, true}
 use Rattle.row_text.specs.Fields.{field_text}
 use Rattle.schema_check.specs.Cohorts.{first_ordinal}
-use Rattle.schema_check.specs.FieldBounds.{bounds_of}
-use Rattle.schema_check.specs.Layout.{PartLayout, literal_part, cited_part, KindLayout, template_kind, reference_kind, ColumnLayout, column_at, layout_of, TableLayout, table_at}
-use Rattle.schema_check.specs.Lineage.{one_if}
+use Rattle.schema_check.specs.FieldBounds.{bounds_alone, bounds_of}
+use Rattle.schema_check.specs.Layout.{PartLayout, literal_part, cited_part, KindLayout, key_kind, template_kind, lookup_kind, ColumnLayout, column_at, layout_of, TableLayout}
 use Rattle.schema_check.specs.Limits.{IsInLimits, IsTableInLimits}
 use Rattle.schema_check.specs.Dictionaries.{Project}
 use Rattle.schema_check.specs.declared.ready.ReadyColumn.{ReadyColumn}
-use Rattle.schema_check.specs.Ready.{ready_columns, is_served}
+use Rattle.schema_check.specs.Ready.{ready_columns}
 use Rattle.draw_values.specs.CohortValues.{ValuesOf}
 use Rattle.draw_values.specs.UnitDraws.{DrawsOf, unit_draws}
 use Rattle.life_intervals.specs.CohortKeys.{CohortOf}
@@ -18,7 +17,8 @@ use Rattle.life_intervals.specs.Intervals.{change_unit, is_live, row_at}
 use Rattle.life_intervals.specs.Keys.{key_in_cohort, key_of}
 use Rattle.life_intervals.specs.CohortParents.{parent_in}
 use Rattle.schema_check.specs.References.{Reference}
-use Rattle.row_lines.specs.Lines.{field, line_if_live, line_of}
+use Rattle.life_intervals.specs.Rows.{Row}
+use Rattle.row_lines.specs.Lines.{field, field_in_table, line_if_live, line_of}
 
 -- the lines at a unit of the rows that are born at one, in the table at a place
 pub record LinesOf : Type 0 where
@@ -39,11 +39,13 @@ ordinal_of lines index = first_ordinal (layout_for lines).births lines.born + in
 abbrev pub key_for : LinesOf → ℕ → ℕ
 key_for lines index = key_in_cohort (generator_of lines.plan) lines.table lines.born index
 
--- the key of the parent that it has by a reference
+-- the ordinal of the parent that it has by a reference, and the key of that
+abbrev pub parent_for : LinesOf → ℕ → Reference → ℕ
+parent_for lines index reference = parent_in (record { plan = lines.plan; table = lines.table; unit = lines.born }) index reference
+
 abbrev pub parent_key_for : LinesOf → ℕ → Reference → ℕ
 parent_key_for lines index reference =
-    key_of (generator_of lines.plan) reference.parent (last_unit lines.plan)
-    (parent_in (record { plan = lines.plan; table = lines.table; unit = lines.born }) index reference)
+    key_of (generator_of lines.plan) reference.parent (last_unit lines.plan) (parent_for lines index reference)
 
 -- the line of the row with an index in the cohort
 abbrev pub line_in_cohort : LinesOf → ℕ → List ℕ
@@ -60,6 +62,16 @@ text_in_cohort lines index column =
     field_text (layout_of lines.plan).delimiter
     (field (generator_of lines.plan) lines.unit lines.table (row_at (generator_of lines.plan) lines.table lines.unit (ordinal_of lines index)) column)
 
+-- the row with an index in the cohort, as one that changed last at a unit
+abbrev pub row_changed : LinesOf → ℕ → ℕ → Row
+row_changed lines index changed =
+    record (row_at (generator_of lines.plan) lines.table lines.unit (ordinal_of lines index)) { changed = changed }
+
+-- what it holds in the column at a place, which is no lookup, as it is written
+abbrev pub text_in_table : LinesOf → ℕ → ℕ → ℕ → List ℕ
+text_in_table lines index changed column =
+    field_text (layout_of lines.plan).delimiter (field_in_table (generator_of lines.plan) lines.table (row_changed lines index changed) column)
+
 -- whether it is alive
 abbrev pub is_live_for : LinesOf → ℕ → Bool
 is_live_for lines index = is_live (generator_of lines.plan) lines.table lines.unit (ordinal_of lines index)
@@ -72,18 +84,28 @@ change_for lines index = change_unit (generator_of lines.plan) lines.table lines
 abbrev pub values_at : LinesOf → ℕ → ValuesOf
 values_at lines changed = record { plan = lines.plan; table = lines.table; born = lines.born; changed = changed }
 
--- what is kept of the cohort, its lives, its changes and the draws of its birth is the cohort's, and what is kept beside is what the
--- schema says
-pub record AreLinesOf (lines : LinesOf) (keys : CohortOf) (lives changes : CohortAt) (births : DrawsOf) (columns : List ReadyColumn) (first byte : ℕ) : Type 0 where
+-- what is kept of the cohort is the cohort's parents, the first ordinal of its rows and what the schema says of the columns
+pub record AreFieldsOf (lines : LinesOf) (parents : CohortOf) (columns : List ReadyColumn) (first : ℕ) : Type 0 where
+  pub parents_are : parents ≡ record { plan = lines.plan; table = lines.table; unit = lines.born }
+  pub columns_are : columns ≡ ready_columns (layout_of lines.plan) lines.table
+  pub first_is : first ≡ first_ordinal (layout_for lines).births lines.born
+  pub sound : IsInLimits lines.plan
+  pub limits : IsTableInLimits (last_unit lines.plan) (layout_for lines)
+  pub table : lines.table < length lines.plan.schema.tables
+  pub born : lines.born ≤ lines.unit
+  pub unit : lines.unit ≤ last_unit lines.plan
+
+-- what is kept of the cohort, its fields, its lives, its changes and the draws of its birth is the cohort's, and what is kept beside is
+-- what the schema says
+pub record AreLinesOf (lines : LinesOf) (keys : CohortOf) (lives changes : CohortAt) (births : DrawsOf) (columns : List ReadyColumn) (fields : LinesOf) (byte : ℕ) : Type 0 where
   pub keys_are : keys ≡ record { plan = lines.plan; table = lines.table; unit = lines.born }
   pub lives_are : lives ≡ record { plan = lines.plan; table = lines.table; born = lines.born; unit = lines.unit }
   pub changes_are : changes ≡ record { plan = lines.plan; table = lines.table; born = lines.born; unit = lines.unit }
   pub births_are : births ≡ unit_draws lines.plan lines.table lines.born
   pub columns_are : columns ≡ ready_columns (layout_of lines.plan) lines.table
-  pub served : All (λ column. is_served column ≡ true) columns
+  pub fields_are : fields ≡ lines
   pub sound : IsInLimits lines.plan
   pub limits : IsTableInLimits (last_unit lines.plan) (layout_for lines)
-  pub first_is : first ≡ first_ordinal (layout_for lines).births lines.born
   pub delimiter : byte ≡ (layout_of lines.plan).delimiter
   pub table : lines.table < length lines.plan.schema.tables
   pub born : lines.born ≤ lines.unit
@@ -95,28 +117,32 @@ size_for lines column =
     (bounds_of (layout_of lines.plan).delimiter (layout_of lines.plan).tables (layout_for lines)
     (column_at (layout_for lines).columns column).kind).size
 
--- how many permutations a field takes of a row whose key is known, where it puts no fields together: a reference its own, and that of
--- its parent's key where this is scrambled
-abbrev pub asked_alone : List TableLayout → KindLayout → ℕ
-asked_alone tables (reference_kind parent window spread) = 1 + one_if (table_at tables parent).key.scramble
-asked_alone tables _ = 0
+-- how many permutations a field takes that needs no other column: as many as the schema counts for it, but none for a key that is known
+abbrev pub asked_alone : Bool → ℕ → List TableLayout → TableLayout → KindLayout → ℕ
+asked_alone known delimiter tables table key_kind = if known then 0 else (bounds_alone delimiter tables table key_kind).permutations
+asked_alone known delimiter tables table kind = (bounds_alone delimiter tables table kind).permutations
 
 -- how many a part of a template takes
-abbrev pub asked_by_part : List TableLayout → TableLayout → PartLayout → ℕ
-asked_by_part tables table (literal_part bytes) = 0
-asked_by_part tables table (cited_part column) = asked_alone tables (column_at table.columns column).kind
+abbrev pub asked_by_part : Bool → ℕ → List TableLayout → TableLayout → PartLayout → ℕ
+asked_by_part known delimiter tables table (literal_part bytes) = 0
+asked_by_part known delimiter tables table (cited_part column) =
+    asked_alone known delimiter tables table (column_at table.columns column).kind
 
--- how many a field takes at most
-abbrev pub asked_by : List TableLayout → TableLayout → KindLayout → ℕ
-asked_by tables table (template_kind parts) = sum_by (asked_by_part tables table) parts
-asked_by tables table kind = asked_alone tables kind
+-- how many a field takes at most, by whether the row's key is known
+abbrev pub asked_by : Bool → ℕ → List TableLayout → TableLayout → KindLayout → ℕ
+asked_by known delimiter tables table (template_kind parts) = sum_by (asked_by_part known delimiter tables table) parts
+asked_by known delimiter tables table (lookup_kind via parent column) =
+    (bounds_of delimiter tables table (lookup_kind via parent column)).permutations
+asked_by known delimiter tables table kind = asked_alone known delimiter tables table kind
 
 -- that of the column at a place
-abbrev pub asked_for : LinesOf → ℕ → ℕ
-asked_for lines column =
-    asked_by (layout_of lines.plan).tables (layout_for lines) (column_at (layout_for lines).columns column).kind
+abbrev pub asked_for : Bool → LinesOf → ℕ → ℕ
+asked_for known lines column =
+    asked_by known (layout_of lines.plan).delimiter (layout_of lines.plan).tables (layout_for lines)
+    (column_at (layout_for lines).columns column).kind
 
--- those of a line
+-- those of a line of a row whose key is known
 unfoldable pub asked_for_line : LinesOf → ℕ
 asked_for_line lines =
-    sum_by (λ (column : ColumnLayout). asked_by (layout_of lines.plan).tables (layout_for lines) column.kind) (layout_for lines).columns
+    sum_by (λ (column : ColumnLayout). asked_by true (layout_of lines.plan).delimiter (layout_of lines.plan).tables (layout_for lines) column.kind)
+    (layout_for lines).columns

@@ -2,5 +2,6 @@ pub mod Lines
 pub mod ChangeDraws
 pub mod CohortLines
 pub mod Parts
+pub mod Lookups
 pub mod Reports
 pub mod Worked

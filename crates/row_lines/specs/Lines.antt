@@ -1,13 +1,13 @@
 -- The text of a table: a line for each row, in COPY text form (PostgreSQL's manual, "COPY").
 use Rattle.std.specs.Prelude.{ℕ, ◌==◌, List, [], ◌++◌, filter, find, map, flat_map, length, zip, Option, Some, codes, decimal, if◌then◌else◌, unwrap_or}
 use Rattle.std.specs.List.{join_with_byte, range_with_len}
-use Rattle.std.specs.Option.{option_map_or}
+use Rattle.std.specs.Option.{option_and_then, option_map_or}
 use Rattle.row_text.specs.Fields.{field_text}
 use Rattle.schema_check.specs.Cohorts.{cohort_size, first_ordinal}
 use Rattle.schema_check.specs.Layout.{PartLayout, literal_part, cited_part, KindLayout, key_kind, template_kind, reference_kind, lookup_kind, TableLayout, table_at, column_at}
 use Rattle.schema_check.specs.References.{Reference, references_of}
 use Rattle.draw_values.specs.declared.values.RowAt.{RowAt}
-use Rattle.draw_values.specs.Values.{RowDraws, draw_unit, own_value, not_served, unless_null}
+use Rattle.draw_values.specs.Values.{RowDraws, draw_unit, own_value, unless_null}
 use Rattle.life_intervals.specs.Generator.{Generator}
 use Rattle.life_intervals.specs.Intervals.{is_live, row_at}
 use Rattle.life_intervals.specs.Keys.{key_in_cohort, key_of}
@@ -53,19 +53,36 @@ abbrev pub part_text : Generator → ℕ → Row → PartLayout → List ℕ
 part_text generator place row (literal_part bytes) = bytes
 part_text generator place row (cited_part column) = unwrap_or (field_alone generator place row column) []
 
--- what a row of the table at a place holds in the column at a place, which is of this kind, where that isn't null by its own draw: in a
--- template its parts, one after the other
-abbrev pub value : Generator → ℕ → Row → ℕ → KindLayout → Option (List ℕ)
-value generator place row column (template_kind parts) = Some (flat_map (part_text generator place row) parts)
-value generator place row column (lookup_kind via parent name) = not_served
-value generator place row column kind = value_alone generator place row column kind
+-- what a row of the table at a place holds in the column at a place, which is of this kind and no lookup, where that isn't null by its own
+-- draw: in a template its parts, one after the other
+abbrev pub value_in_table : Generator → ℕ → Row → ℕ → KindLayout → Option (List ℕ)
+value_in_table generator place row column (template_kind parts) = Some (flat_map (part_text generator place row) parts)
+value_in_table generator place row column kind = value_alone generator place row column kind
 
--- what a row of the table at a place holds at a unit in the column at a place, None where it is null. No value that is served speaks of
--- what changes in other rows: so the unit isn't asked yet
+-- what it holds in such a column, None where it is null
+abbrev pub field_in_table : Generator → ℕ → Row → ℕ → Option (List ℕ)
+field_in_table generator place row column =
+    unless_null (column_at (table_at generator.tables place).columns column).null (draws_of generator place row column)
+    (value_in_table generator place row column (column_at (table_at generator.tables place).columns column).kind)
+
+-- what a row of the table at a place looks up at a unit: what its parent by the reference in a column holds in a column of the parent's
+-- table, as this table holds it at the unit
+abbrev pub looked_up : Generator → ℕ → ℕ → Row → ℕ → ℕ → ℕ → Option (List ℕ)
+looked_up generator unit place row via parent name =
+    option_and_then (λ (held : Row). field_in_table generator parent held name)
+    (held_row generator parent unit (parent_of_row (table_at generator.tables place) row via))
+
+-- what a row of the table at a place holds at a unit in the column at a place, which is of this kind, where that isn't null by its own draw
+abbrev pub value : Generator → ℕ → ℕ → Row → ℕ → KindLayout → Option (List ℕ)
+value generator unit place row column (lookup_kind via parent name) = looked_up generator unit place row via parent name
+value generator unit place row column kind = value_in_table generator place row column kind
+
+-- what a row of the table at a place holds at a unit in the column at a place, None where it is null. Of the kinds a lookup alone asks for
+-- the unit
 abbrev pub field : Generator → ℕ → ℕ → Row → ℕ → Option (List ℕ)
 field generator unit place row column =
     unless_null (column_at (table_at generator.tables place).columns column).null (draws_of generator place row column)
-    (value generator place row column (column_at (table_at generator.tables place).columns column).kind)
+    (value generator unit place row column (column_at (table_at generator.tables place).columns column).kind)
 
 -- the fields of a row at a unit, as they are written
 abbrev pub field_texts : Generator → ℕ → ℕ → Row → List (List ℕ)

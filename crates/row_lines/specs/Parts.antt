@@ -1,5 +1,5 @@
 -- The parts of templates, as they are written by what a plan keeps of them.
-use Rattle.std.specs.Prelude.{◌≡◌, ◌<◌, ℕ, true, List, Option, length, ⊤}
+use Rattle.std.specs.Prelude.{◌≡◌, ◌<◌, ℕ, Bool, true, List, Option, length, ⊤}
 use Rattle.schema_check.specs.declared.ready.ReadyPart.{ReadyPart}
 use Rattle.schema_check.specs.declared.ready.ReadyPart.TheVariants as part
 use Rattle.schema_check.specs.FieldBounds.{bounds_alone}
@@ -7,18 +7,16 @@ use Rattle.schema_check.specs.Layout.{layout_of, column_at}
 use Rattle.schema_check.specs.Limits.{is_cited}
 use Rattle.draw_values.specs.Values.{written}
 use Rattle.life_intervals.specs.Generator.{generator_of}
-use Rattle.life_intervals.specs.Intervals.{row_at}
-use Rattle.row_lines.specs.CohortLines.{LinesOf, asked_alone, layout_for, ordinal_of}
+use Rattle.row_lines.specs.CohortLines.{LinesOf, asked_alone, layout_for, row_changed}
 use Rattle.row_lines.specs.Lines.{field_alone}
 
--- what the row with an index in the cohort holds in the column at a place, which may be cited
-abbrev pub cited_for : LinesOf → ℕ → ℕ → Option (List ℕ)
-cited_for lines index column =
-    field_alone (generator_of lines.plan) lines.table (row_at (generator_of lines.plan) lines.table lines.unit (ordinal_of lines index)) column
+-- what the row with an index in the cohort, as one that changed last at a unit, holds in the column at a place, which may be cited
+abbrev pub cited_for : LinesOf → ℕ → ℕ → ℕ → Option (List ℕ)
+cited_for lines index changed column = field_alone (generator_of lines.plan) lines.table (row_changed lines index changed) column
 
 -- what is written for it: nothing where it is null
-abbrev pub cited_text : LinesOf → ℕ → ℕ → List ℕ
-cited_text lines index column = written (layout_of lines.plan).delimiter (cited_for lines index column)
+abbrev pub cited_text : LinesOf → ℕ → ℕ → ℕ → List ℕ
+cited_text lines index changed column = written (layout_of lines.plan).delimiter (cited_for lines index changed column)
 
 -- what that takes at most, in bytes
 abbrev pub cited_size : LinesOf → ℕ → ℕ
@@ -32,21 +30,23 @@ pub record IsCitable (lines : LinesOf) (column : ℕ) : Type 0 where
   pub cited : is_cited (column_at (layout_for lines).columns column).kind ≡ true
 
 -- what is written for a part, what that takes at most, and that it cites no other column
-abbrev pub written_part : LinesOf → ℕ → ReadyPart → List ℕ
-written_part lines index (part.Literal bytes) = bytes
-written_part lines index (part.Cited column) = cited_text lines index column
+abbrev pub written_part : LinesOf → ℕ → ℕ → ReadyPart → List ℕ
+written_part lines index changed (part.Literal bytes) = bytes
+written_part lines index changed (part.Cited column) = cited_text lines index changed column
 
 abbrev pub part_size : LinesOf → ReadyPart → ℕ
 part_size lines (part.Literal bytes) = length bytes
 part_size lines (part.Cited column) = cited_size lines column
 
--- how many permutations a cited column and a part take, where the row's key is known
-abbrev pub cited_asked : LinesOf → ℕ → ℕ
-cited_asked lines column = asked_alone (layout_of lines.plan).tables (column_at (layout_for lines).columns column).kind
+-- how many permutations a cited column and a part take, by whether the row's key is known
+abbrev pub cited_asked : Bool → LinesOf → ℕ → ℕ
+cited_asked known lines column =
+    asked_alone known (layout_of lines.plan).delimiter (layout_of lines.plan).tables (layout_for lines)
+    (column_at (layout_for lines).columns column).kind
 
-abbrev pub part_asked : LinesOf → ReadyPart → ℕ
-part_asked lines (part.Literal bytes) = 0
-part_asked lines (part.Cited column) = cited_asked lines column
+abbrev pub part_asked : Bool → LinesOf → ReadyPart → ℕ
+part_asked known lines (part.Literal bytes) = 0
+part_asked known lines (part.Cited column) = cited_asked known lines column
 
 abbrev pub IsPartOf : LinesOf → ReadyPart → Type 0
 IsPartOf lines (part.Literal bytes) = ⊤

@@ -1,6 +1,6 @@
 -- Small generators, whose tables can be worked out by hand.
-use Rattle.std.specs.Prelude.{ℕ, ◌-◌, Bool, false, true, List, [], ◌∷◌, None, codes}
-use Rattle.schema_check.specs.Layout.{literal_part, cited_part, KindLayout, key_kind, born_kind, template_kind, ColumnLayout, TableLayout}
+use Rattle.std.specs.Prelude.{ℕ, ◌-◌, Bool, false, true, List, [], ◌∷◌, Some, None, codes}
+use Rattle.schema_check.specs.Layout.{literal_part, cited_part, KindLayout, key_kind, born_kind, template_kind, reference_kind, lookup_kind, ColumnLayout, TableLayout}
 use Rattle.life_intervals.specs.Generator.{Order, Draw, in_place, Generator}
 
 -- a column that neither changes nor is null
@@ -58,6 +58,18 @@ labels = record {
       ∷ plain (template_kind (literal_part (codes "a\tb\\") ∷ []))
       ∷ plain (template_kind (cited_part 0 ∷ cited_part 0 ∷ []))
       ∷ nulled (template_kind (cited_part 0 ∷ [])) ∷ []) ∷ [];
+  order = in_place;
+  draw = no_draw;
+  delimiter = 9;
+}
+
+-- cities with a row at each unit: the key, counted from 5, and a template of it; and houses with a row at each unit: the key, counted from 1, the city that is born with it, the birth of that, its template and its key, which is null;
+-- tabs between
+abbrev pub land : Generator
+land = record {
+  tables = table 1 1 5 false (plain (template_kind (literal_part (codes "c") ∷ cited_part 0 ∷ [])) ∷ plain born_kind ∷ [])
+      ∷ table 1 1 1 false (plain (reference_kind 0 (Some 0) (1 ∷ [])) ∷ plain (lookup_kind 1 0 2) ∷ plain (lookup_kind 1 0 1)
+      ∷ nulled (lookup_kind 1 0 0) ∷ []) ∷ [];
   order = in_place;
   draw = no_draw;
   delimiter = 9;

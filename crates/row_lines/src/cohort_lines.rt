@@ -1,30 +1,29 @@
 //! The lines of the rows of a cohort, with what doesn't change from row to row taken once.
 
-ghost use Rattle.std.specs.Prelude.{◌≡◌, ◌≢◌, ◌<◌, ◌≤◌, ℕ, ◌+◌, ◌*◌, ◌==◌, get_or, [], ◌∷◌, ◌++◌, if◌then◌else◌, false, true, All, flat_map, length, min, sum_by};
-ghost use Rattle.schema_check.specs.declared.ready.ReadyKind.TheVariants.{Template};
-ghost use Rattle.schema_check.specs.Cohorts.{cohort_size};
+ghost use Rattle.std.specs.Prelude.{◌≡◌, ◌≢◌, ◌<◌, ◌≤◌, ℕ, ◌+◌, ◌*◌, ◌==◌, get_or, [], ◌∷◌, ◌++◌, if◌then◌else◌, false, true, length, min};
+ghost use Rattle.schema_check.specs.Cohorts.{born_count, cohort_size};
 ghost use Rattle.schema_check.specs.Delimiters.{delimiter_byte as byte_of};
-ghost use Rattle.schema_check.specs.Layout.{column_at, layout_of};
+ghost use Rattle.schema_check.specs.FieldBounds.{bounds_at};
+ghost use Rattle.schema_check.specs.Layout.{layout_of};
 ghost use Rattle.schema_check.specs.Lineage.{one_if};
-ghost use Rattle.schema_check.specs.Ready.{ready_kind};
 ghost use Rattle.schema_check.specs.TableFacts.{line_cost, max_line};
 ghost use Rattle.draw_values.specs.UnitDraws.{unit_draws};
-ghost use Rattle.draw_values.specs.Values.{is_own};
-ghost use Rattle.life_intervals.specs.Generator.{last_unit};
 ghost use Rattle.life_intervals.specs.CohortLives.{survival_at};
 ghost use Rattle.life_intervals.specs.CohortOrders.{cohort_orders, do_updates_differ};
-ghost use Rattle.life_intervals.specs.CohortParents.{AreCandidates, IsReferenceOf, asked_for_death, reference_by};
+ghost use Rattle.life_intervals.specs.CohortParents.{AreCandidates, asked_for_death};
+ghost use Rattle.life_intervals.specs.Generator.{last_unit, table_of};
 ghost use Rattle.row_lines.specs.ChangeDraws.{change_draws};
-ghost use Rattle.row_lines.specs.CohortLines.{asked_for, asked_for_line, change_for, is_live_for, key_for, layout_for, line_in_cohort, parent_key_for, size_for, text_in_cohort, values_at};
-ghost use Rattle.row_lines.specs.Parts.{IsCitable, IsPartOf, cited_asked, cited_size, cited_text, part_asked, part_size, written_part};
+ghost use Rattle.row_lines.specs.CohortLines.{asked_for, asked_for_line, change_for, is_live_for, key_for, layout_for, line_in_cohort, size_for, text_in_cohort, values_at};
+ghost use Rattle.row_lines.specs.Lookups.{IsLookupOf, IsStillColumn, text_held};
 
-use draw_values::{CohortValues, Put, UnitDraws};
+use crate::cohort_fields::CohortFields;
+use draw_values::{CohortValues, UnitDraws};
 use life_intervals::{
-    Candidates, CohortChanges, CohortKeys, CohortLives, CohortOrders, Survival, cohort, key,
+    Candidates, CohortChanges, CohortKeys, CohortLives, CohortOrders, Survival, birth, cohort,
 };
 use pd_outside::{PageBuf, Piece};
 use row_text::put_null;
-use schema_check::{Plan, ReadyColumn, ReadyKind, ReadyPart, ReadyReference};
+use schema_check::{Plan, ReadyColumn, ReadyKind, ReadyLookup};
 use schema_model::Delimiter;
 use std::marker::Model;
 use std::sync::ledger::Ledger;
@@ -37,7 +36,7 @@ pub struct CohortLines<'a> {
     place: u32,
     born: u64,
     unit: u64,
-    first: u64,
+    fields: CohortFields<'a>,
     keys: CohortKeys<'a>,
     lives: CohortLives<'a>,
     changes: CohortChanges<'a>,
@@ -53,7 +52,7 @@ impl<'a> Model for CohortLines<'a> {
 
     ghost view = { λ l. record { plan = l.plan.now; table = l.place; born = l.born; unit = l.unit } };
 
-    ghost invariant = { λ l. AreLinesOf (record { plan = l.plan.now; table = l.place; born = l.born; unit = l.unit }) l.keys l.lives l.changes l.births l.columns.now l.first l.delimiter };
+    ghost invariant = { λ l. AreLinesOf (record { plan = l.plan.now; table = l.place; born = l.born; unit = l.unit }) l.keys l.lives l.changes l.births l.columns.now l.fields l.delimiter };
 }
 
 impl<'a> CohortLines<'a> {
@@ -79,7 +78,7 @@ impl<'a> CohortLines<'a> {
             place: table,
             born,
             unit,
-            first: cohort(plan, table, born).first,
+            fields: CohortFields::new(plan, table, born, unit, candidates),
             keys: CohortKeys::new(plan, table, born, &orders.keys),
             lives: CohortLives::new(plan, table, born, unit, &orders.lives, candidates),
             changes: CohortChanges::new(plan, table, born, unit, &orders.updates),
@@ -277,6 +276,7 @@ impl<'a> CohortLines<'a> {
         steps: &mut Steps<L>,
     )
         requires row { index < cohort_size (layout_for self.now).births self.now.born }
+        requires alive { is_live_for self.now index ≡ true }
         requires key { key ≡ key_for self.now index }
         requires draws { draws.now ≡ unit_draws self.now.plan self.now.table (change_for self.now index) }
         requires room { length buf.old.text + max_line (layout_of self.now.plan) self.now.table ≤ buf.old.room }
@@ -292,24 +292,6 @@ impl<'a> CohortLines<'a> {
         buf.put_piece(&Piece::of_byte(b'\n'));
     }
 
-    /// The key of the parent that the row with this index in the cohort has by a reference, which is ready in the column at a place.
-    fn parent_key<L: Ledger>(
-        &self,
-        column: u32,
-        reference: &ReadyReference,
-        index: u64,
-        steps: &mut Steps<L>,
-    ) -> u64
-        requires row { index < cohort_size (layout_for self.now).births self.now.born }
-        requires reference { IsReferenceOf self.now.plan self.now.table column reference.now }
-        ensures key { result ≡ parent_key_for self.now index (reference_by column reference.now) }
-        ensures steps { steps.new ≡ steps.old + cited_asked self.now column }
-    {
-        let _limits = self.plan.schema(); // the parent's table is an earlier one
-        let parent = self.lives.parent(column, reference, index, steps);
-        key(self.plan, reference.parent, parent, steps)
-    }
-
     /// Appends the field of the column at a place.
     #[inline(always)]
     fn put_field<L: Ledger>(
@@ -323,156 +305,82 @@ impl<'a> CohortLines<'a> {
     )
         requires column { column < length (layout_for self.now).columns }
         requires row { index < cohort_size (layout_for self.now).births self.now.born }
+        requires alive { is_live_for self.now index ≡ true }
         requires values { values.now ≡ values_at self.now (change_for self.now index) }
         requires key { key ≡ key_for self.now index }
         requires room { length buf.old.text + size_for self.now column ≤ buf.old.room }
         ensures text { buf.new ≡ record buf.old { text = buf.old.text ++ text_in_cohort self.now index column } }
         ensures size { length (text_in_cohort self.now index column) ≤ size_for self.now column }
-        ensures steps { steps.new ≤ steps.old + asked_for self.now column }
+        ensures steps { steps.new ≤ steps.old + asked_for true self.now column }
     {
         let columns = self.columns;
         match &columns[column].kind {
-            ReadyKind::Key => buf.put_number(key),
-            ReadyKind::Template { parts } => {
-                self.put_template(column, parts.as_slice(), index, key, values, buf, steps)
+            ReadyKind::Lookup(lookup) => {
+                self.put_lookup(column, lookup, index, values, buf, steps)
             }
-            ReadyKind::Reference(reference) => {
-                let parent = self.parent_key(column as u32, reference, index, steps);
-                buf.put_number(parent)
-            }
-            _ => self.put_own(column, index, values, buf),
+            _ => self.fields.put(column, index, Some(key), values, buf, steps),
         }
     }
 
-    /// Appends the field of a template with these parts.
-    fn put_template<L: Ledger>(
+    /// Appends the field of a lookup, which is ready in the column at a place.
+    fn put_lookup<L: Ledger>(
         &self,
         column: usize,
-        parts: &[ReadyPart],
+        lookup: &ReadyLookup,
         index: u64,
-        key: u64,
         values: &CohortValues<'_>,
         buf: &mut PageBuf,
         steps: &mut Steps<L>,
     )
-        requires column { column < length (layout_for self.now).columns }
-        requires template { ready_kind (layout_of self.now.plan).delimiter (column_at (layout_for self.now).columns column).kind ≡ Template parts.now }
+        requires lookup { IsLookupOf self.now column lookup.now }
         requires row { index < cohort_size (layout_for self.now).births self.now.born }
+        requires alive { is_live_for self.now index ≡ true }
         requires values { values.now ≡ values_at self.now (change_for self.now index) }
-        requires key { key ≡ key_for self.now index }
         requires room { length buf.old.text + size_for self.now column ≤ buf.old.room }
         ensures text { buf.new ≡ record buf.old { text = buf.old.text ++ text_in_cohort self.now index column } }
         ensures size { length (text_in_cohort self.now index column) ≤ size_for self.now column }
-        ensures steps { steps.new ≤ steps.old + asked_for self.now column }
+        ensures steps { steps.new ≤ steps.old + asked_for true self.now column }
     {
-        if values.is_null(column, self.first + index) {
+        if values.is_null(column, self.fields.ordinal(index)) {
             put_null(buf);
-        } else {
-            self.put_parts(parts, index, key, values, buf, steps);
+            return;
         }
-    }
-
-    /// Appends some parts, one after the other.
-    fn put_parts<L: Ledger>(
-        &self,
-        parts: &[ReadyPart],
-        index: u64,
-        key: u64,
-        values: &CohortValues<'_>,
-        buf: &mut PageBuf,
-        steps: &mut Steps<L>,
-    )
-        requires parts { All (IsPartOf self.now) parts.now }
-        requires row { index < cohort_size (layout_for self.now).births self.now.born }
-        requires values { values.now ≡ values_at self.now (change_for self.now index) }
-        requires key { key ≡ key_for self.now index }
-        requires room { length buf.old.text + sum_by (part_size self.now) parts.now ≤ buf.old.room }
-        ensures text { buf.new ≡ record buf.old { text = buf.old.text ++ flat_map (written_part self.now index) parts.now } }
-        ensures size { length (flat_map (written_part self.now index) parts.now) ≤ sum_by (part_size self.now) parts.now }
-        ensures steps { steps.new ≤ steps.old + sum_by (part_asked self.now) parts.now }
-    {
-        for part in parts {
-            self.put_part(part, index, key, values, buf, steps);
-        }
-    }
-
-    /// Appends a part.
-    #[inline(always)]
-    fn put_part<L: Ledger>(
-        &self,
-        part: &ReadyPart,
-        index: u64,
-        key: u64,
-        values: &CohortValues<'_>,
-        buf: &mut PageBuf,
-        steps: &mut Steps<L>,
-    )
-        requires part { IsPartOf self.now part.now }
-        requires row { index < cohort_size (layout_for self.now).births self.now.born }
-        requires values { values.now ≡ values_at self.now (change_for self.now index) }
-        requires key { key ≡ key_for self.now index }
-        requires room { length buf.old.text + part_size self.now part.now ≤ buf.old.room }
-        ensures text { buf.new ≡ record buf.old { text = buf.old.text ++ written_part self.now index part.now } }
-        ensures size { length (written_part self.now index part.now) ≤ part_size self.now part.now }
-        ensures steps { steps.new ≤ steps.old + part_asked self.now part.now }
-    {
-        match part {
-            ReadyPart::Literal(written) => buf.put(written.as_slice()),
-            ReadyPart::Cited(column) => {
-                self.put_cited(*column as usize, index, key, values, buf, steps)
-            }
-        }
-    }
-
-    /// Appends the field of the column at a place, which may be cited; nothing where it is null.
-    #[inline(always)]
-    fn put_cited<L: Ledger>(
-        &self,
-        column: usize,
-        index: u64,
-        key: u64,
-        values: &CohortValues<'_>,
-        buf: &mut PageBuf,
-        steps: &mut Steps<L>,
-    )
-        requires column { IsCitable self.now column }
-        requires row { index < cohort_size (layout_for self.now).births self.now.born }
-        requires values { values.now ≡ values_at self.now (change_for self.now index) }
-        requires key { key ≡ key_for self.now index }
-        requires room { length buf.old.text + cited_size self.now column ≤ buf.old.room }
-        ensures text { buf.new ≡ record buf.old { text = buf.old.text ++ cited_text self.now index column } }
-        ensures size { length (cited_text self.now index column) ≤ cited_size self.now column }
-        ensures steps { steps.new ≤ steps.old + cited_asked self.now column }
-    {
         let columns = self.columns;
-        match &columns[column].kind {
-            ReadyKind::Key => buf.put_number(key),
-            ReadyKind::Reference(reference) => {
-                let parent = self.parent_key(column as u32, reference, index, steps);
-                buf.put_number(parent)
-            }
-            _ => {
-                values.put(column, self.first + index, buf);
-            }
-        }
+        let ReadyKind::Reference(reference) = &columns[lookup.via as usize].kind else {
+            return; // it is one
+        };
+        let parent = self.fields.parent(lookup.via as u32, reference, index, steps);
+        put_still_field(self.plan, lookup.parent, parent, self.unit, lookup.column, buf, steps);
     }
+}
 
-    /// Appends the field of a column that needs no other row.
-    #[inline(always)]
-    fn put_own(&self, column: usize, index: u64, values: &CohortValues<'_>, buf: &mut PageBuf)
-        requires column { column < length (layout_for self.now).columns }
-        requires row { index < cohort_size (layout_for self.now).births self.now.born }
-        requires values { values.now ≡ values_at self.now (change_for self.now index) }
-        requires own { is_own (column_at (layout_for self.now).columns column).kind ≡ true }
-        requires room { length buf.old.text + size_for self.now column ≤ buf.old.room }
-        ensures text { buf.new ≡ record buf.old { text = buf.old.text ++ text_in_cohort self.now index column } }
-        ensures size { length (text_in_cohort self.now index column) ≤ size_for self.now column }
-    {
-        match values.put(column, self.first + index, buf) {
-            Put::Text => {}
-            Put::Null => put_null(buf),
-        }
-    }
+/// Appends what the row of an ordinal, which is born by a unit, holds then in the column at a place, one that doesn't move and is no
+/// lookup.
+fn put_still_field<L: Ledger>(
+    plan: &Plan,
+    table: u32,
+    ordinal: u64,
+    unit: u64,
+    column: u64,
+    buf: &mut PageBuf,
+    steps: &mut Steps<L>,
+)
+    requires table { table < length plan.now.schema.tables }
+    requires unit { unit ≤ last_unit plan.now }
+    requires born { ordinal < born_count (table_of plan.now table).births unit }
+    requires column { IsStillColumn (table_of plan.now table) column }
+    requires room { length buf.old.text + (bounds_at (layout_of plan.now).delimiter (layout_of plan.now).tables (table_of plan.now table) column).size ≤ buf.old.room }
+    ensures text { buf.new ≡ record buf.old { text = buf.old.text ++ text_held plan.now table unit ordinal column } }
+    ensures size { length (text_held plan.now table unit ordinal column) ≤ (bounds_at (layout_of plan.now).delimiter (layout_of plan.now).tables (table_of plan.now table) column).size }
+    ensures steps { steps.new ≤ steps.old + (bounds_at (layout_of plan.now).delimiter (layout_of plan.now).tables (table_of plan.now table) column).permutations }
+{
+    let _limits = plan.table(table); // a table has at most 2^40 rows
+    let born = birth(plan, table, ordinal);
+    let draws = UnitDraws::new(plan, table, born);
+    let values = CohortValues::new(plan, table, &draws, &draws);
+    let fields = CohortFields::new(plan, table, born, unit, &[]);
+    let index = ordinal - cohort(plan, table, born).first;
+    fields.put(column as usize, index, None, &values, buf, steps);
 }
 
 /// Puts a value into the list so many times, from its begin on.

@@ -8,8 +8,8 @@
 ghost use Rattle.std.specs.Prelude.{◌≡◌, ℕ, ◌+◌, ◌<◌, ◌≤◌, ◌++◌, [], List, Some, codes, decimal, flat_map, if◌then◌else◌, false, length, true, unwrap_or};
 ghost use Rattle.row_text.specs.Fields.{field_text, piece_text};
 ghost use Rattle.schema_check.specs.Cohorts.{born_count, cohort_size, first_ordinal};
-ghost use Rattle.schema_check.specs.Layout.{LeafLayout, PartLayout, born_kind, changed_kind, cited_part, column_at, key_kind, leaf_kind, literal_part, table_at, template_kind};
-ghost use Rattle.schema_check.specs.Limits.{is_cited};
+ghost use Rattle.schema_check.specs.Layout.{LeafLayout, PartLayout, born_kind, changed_kind, cited_part, column_at, key_kind, leaf_kind, literal_part, lookup_kind, table_at, template_kind};
+ghost use Rattle.schema_check.specs.Limits.{is_cited, is_lookup_kind};
 ghost use Rattle.draw_values.specs.Values.{leaf_value, unless_null};
 ghost use Rattle.life_intervals.specs.Generator.{Generator};
 ghost use Rattle.schema_check.specs.References.{Reference, reference_at};
@@ -18,7 +18,7 @@ ghost use Rattle.life_intervals.specs.Keys.{key_of};
 ghost use Rattle.life_intervals.specs.Rows.{Row};
 ghost use Rattle.life_intervals.specs.Sound.{AreSound};
 ghost use Rattle.row_lines.specs.Lines.{cohort_text, draws_of, field, first_lines, key_line_of, line_if_live, line_of, part_text, table_text, text_before};
-ghost use Rattle.row_lines.specs.Worked.{labels, one, pairs};
+ghost use Rattle.row_lines.specs.Worked.{labels, land, one, pairs};
 
 /// The text of a table at a unit is the lines of the ordinals that are born by then and alive.
 pub fn text_is_the_lines_of_the_living()
@@ -60,7 +60,8 @@ pub fn text_so_far_begins_the_text()
 {}
 
 /// What a row holds at a unit by which it is born: its key in a key column that is never null, and its parent's in a reference that
-/// is never null; in a column of units of birth, of units of the last change, of drawn values or of templates the unit, what its draws
+/// is never null; in a lookup, where the row is alive, what that parent holds at the unit in the column that is looked up, unless draw
+/// 0 makes it null; in a column of units of birth, of units of the last change, of drawn values or of templates the unit, what its draws
 /// give, or the template's parts one after the other, unless draw 0 makes it null. A part is a text, or what the row holds in the column
 /// that is cited, and nothing where that is null. The draws are those at the unit of the row's last change in a column that changes, and
 /// those at its birth in any other.
@@ -95,6 +96,18 @@ pub fn fields_of_a_row()
         (column_at (table_at generator.tables place).columns column).null ≡ 0 →
         field generator unit place (row_at generator place unit ordinal) column
         ≡ Some (decimal (key_of generator reference.parent unit (parent_of generator place unit ordinal reference))) }
+    ensures lookup { (units : ℕ) (generator : Generator) → AreSound units generator.tables →
+        (place : ℕ) → place < length generator.tables → (unit : ℕ) → unit ≤ units →
+        (ordinal : ℕ) → ordinal < born_count (table_at generator.tables place).births unit → is_live generator place unit ordinal ≡ true →
+        (column via shown : ℕ) (reference : Reference) →
+        (column_at (table_at generator.tables place).columns column).kind ≡ lookup_kind via reference.parent shown →
+        reference_at (table_at generator.tables place) via ≡ Some reference →
+        is_lookup_kind (column_at (table_at generator.tables reference.parent).columns shown).kind ≡ false →
+        field generator unit place (row_at generator place unit ordinal) column
+        ≡ unless_null (column_at (table_at generator.tables place).columns column).null
+        (draws_of generator place (row_at generator place unit ordinal) column)
+        (field generator unit reference.parent
+        (row_at generator reference.parent unit (parent_of generator place unit ordinal reference)) shown) }
     ensures template { (generator : Generator) (unit place ordinal column : ℕ) (parts : List PartLayout) →
         (column_at (table_at generator.tables place).columns column).kind ≡ template_kind parts →
         field generator unit place (row_at generator place unit ordinal) column
@@ -133,12 +146,13 @@ pub fn key_line_is_the_key_field()
 {}
 
 /// Texts worked out by hand: a row at each unit; scrambled keys in cohorts of two, none at unit 0;
-/// two rows at unit 0 alone.
+/// two rows at unit 0 alone; houses with the birth, the label and, where it isn't null, the key of their city.
 pub fn worked_texts()
     ensures row_at_each_unit { table_text one 2 0 ≡ codes "1\t0\n2\t1\n3\t2\n" }
     ensures scrambled { table_text pairs 2 0 ≡ codes "11|1|1\n10|1|1\n13|2|2\n12|2|2\n" }
     ensures empty { table_text pairs 0 0 ≡ [] }
     ensures at_unit_0_alone { table_text pairs 2 1 ≡ codes "0\n1\n" }
     ensures past_the_tables { table_text pairs 2 2 ≡ [] }
+    ensures lookups { table_text land 1 1 ≡ codes "1\t5\t0\tc5\t\\N\n2\t6\t1\tc6\t\\N\n" }
     ensures templates { table_text labels 1 0 ≡ codes "1\t\\N\tr1!\t[]\ta\\tb\\\\\t11\t\\N\n2\t\\N\tr2!\t[]\ta\\tb\\\\\t22\t\\N\n" }
 {}

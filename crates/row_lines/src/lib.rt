@@ -7,6 +7,7 @@
 #![tactic(auto)]
 
 mod changes;
+mod cohort_fields;
 mod cohort_lines;
 pub mod laws;
 mod reports;

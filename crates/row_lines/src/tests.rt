@@ -8,7 +8,7 @@ ghost use Rattle.life_intervals.specs.Generator.{last_unit, table_of};
 use super::*;
 use life_intervals::{Survival, born, cohort, cohort_orders, key, parent};
 use pd_outside::{Memory, PageBuf};
-use schema_check::{Dictionaries, Plan, ReadyKind, check, unbuilt};
+use schema_check::{Dictionaries, Plan, ReadyKind, check};
 use schema_model::{
     Column, Columns, Delimiter, Kind, Life, Longs, Part, Parts, Schema, Table, Tables, Text, Window,
 };
@@ -109,9 +109,6 @@ fn plan_of_all(alloc: Global, tables: Tables, units: i64) -> Result<Plan, Fail> 
         delimiter: Delimiter::Tab,
         tables,
     };
-    if unbuilt(&schema) {
-        return Err(Fail::from("not built"));
-    }
     match check(alloc, schema, Dictionaries::new(alloc)) {
         Ok(plan) => Ok(plan),
         Err(fault) => Err(Fail::from(fault)),

@@ -146,7 +146,7 @@ moves_in dictionaries tables all [] j = refl
 moves_in dictionaries tables all (column ∷ columns) zero = ap (λ unit. column.changes || unit) (is_change_unit-layout dictionaries tables all column.kind)
 moves_in dictionaries tables all (column ∷ columns) (suc j) = moves_in dictionaries tables all columns j
 
-still_from_test : (dictionaries : List Dictionary) (tables : List Table) (columns : List Column) (j : ℕ) → not (moves_at columns j) ≡ true → moves (column_at (columns_layout dictionaries tables columns) j) ≡ false
+pub still_from_test : (dictionaries : List Dictionary) (tables : List Table) (columns : List Column) (j : ℕ) → not (moves_at columns j) ≡ true → moves (column_at (columns_layout dictionaries tables columns) j) ≡ false
 still_from_test dictionaries tables columns j h = moves_in dictionaries tables columns columns j ∙ of_test (moves_at columns j) h
   where
     of_test : (test : Bool) → not test ≡ true → test ≡ false

@@ -10,13 +10,13 @@ use Rattle.schema_model.specs.declared.column.Column.{Column}
 use Rattle.schema_model.specs.declared.column.Kind.{Kind}
 use Rattle.schema_model.specs.declared.column.Kind.TheVariants.{Key}
 use Rattle.schema_check.specs.declared.rules.Rule.{Rule}
-use Rattle.schema_check.specs.declared.rules.Rule.TheVariants.{Dictionaries, SeedAndUnits, TableCount, Columns, KeyColumn, RowCount, LifeRange, UpdatePeriod, NumberRange, DateRange, PickEntries, SkewRange, LengthRange, TemplateParts, CaseBranches, StillCitations, ReferenceTargets, ReferenceWindows, ParentRows, SpreadWeights, RowCost, LineSize, ChangesAndNulls}
+use Rattle.schema_check.specs.declared.rules.Rule.TheVariants.{Dictionaries, SeedAndUnits, TableCount, Columns, KeyColumn, RowCount, LifeRange, UpdatePeriod, NumberRange, DateRange, PickEntries, SkewRange, LengthRange, TemplateParts, CaseBranches, StillCitations, ReferenceTargets, ReferenceWindows, ParentRows, SpreadWeights, LookupColumns, RowCost, LineSize, ChangesAndNulls}
 use Rattle.schema_check.specs.declared.site.Site.TheVariants.{Whole, OfTable, OfColumn}
 use Rattle.schema_check.specs.Cohorts.{born_count}
 use Rattle.schema_check.specs.Counts.{count}
 use Rattle.schema_check.specs.Dictionaries.{AreWordLists, Dictionary, Project}
 use Rattle.schema_check.specs.Layout.{ColumnLayout, TableLayout, births_of, column_at, column_layout, key_kind, keys_of_kind, kind_layout, layout_of, span_of, table_at, table_layout}
-use Rattle.schema_check.specs.Limits.{IsKindInLimits, IsLife, IsTableInLimits, IsInLimits, IsUpdatePeriod}
+use Rattle.schema_check.specs.Limits.{IsKindInLimits, IsLife, IsLookupInLimits, IsTableInLimits, IsInLimits, IsUpdatePeriod}
 use Rattle.schema_check.specs.References.{IsReferenceInLimits, reference_of, references_of}
 use Rattle.schema_check.specs.Rules.{broken_rule, first_broken, number_of, rules, changes_at, cites_still, is_between, is_change, is_key, is_key_in_range, is_key_first, is_life, is_null_share, is_one_to_64, is_update_period, kind_at, null_at, references_before, schema_table, IsAccepted, Keeps}
 use Rattle.schema_check.specs.Sites.{columns_at}
@@ -26,6 +26,7 @@ use Rattle.schema_check.proofs.FactsLemmas.{table_at-is}
 use Rattle.schema_check.proofs.FirstBreak.{none_of_rule}
 use Rattle.schema_check.proofs.FromTests.{count_from_test, least_from_test, limit_from_test}
 use Rattle.schema_check.proofs.Kept.{keeps_from_none, none_at}
+use Rattle.schema_check.proofs.LookupLimits.{lookup_in_limits}
 use Rattle.schema_check.proofs.ReferenceLimits.{each_reference, reference_from_tests}
 use Rattle.schema_check.proofs.RuleLemmas.{columns_at-is}
 
@@ -161,6 +162,22 @@ references_in_limits project accepted few i h =
     (keeps project accepted SpreadWeights refl (OfColumn i j) (h, column))
     reference kind)
 
+-- each lookup of a table of an accepted schema
+lookups_in_limits : (project : Project) → IsAccepted project → (i j : ℕ) → i < length project.schema.tables → j < length (table_at (layout_of project).tables i).columns →
+    IsLookupInLimits (layout_of project).tables (table_at (layout_of project).tables i).columns j (column_at (table_at (layout_of project).tables i).columns j).kind
+lookups_in_limits project accepted i j h within =
+    let dictionaries = project.dictionaries in
+    let tables = project.schema.tables in
+    let columns = columns_at project.schema i in
+    let t = schema_table project.schema i in
+    let same : columns ≡ t.columns = columns_at-is project.schema i _ h in
+    let at : (table_at (layout_of project).tables i).columns ≡ columns_layout dictionaries tables columns =
+    ap (λ (layout : TableLayout). layout.columns) (table_at-is dictionaries tables i _ h) ∙ ap (columns_layout dictionaries tables) (sym same) in
+    let column : j < length columns = omega (arith, within, ap length at, length-map columns (column_layout dictionaries tables columns)) in
+    subst (λ (layouts : List ColumnLayout). IsLookupInLimits (layout_of project).tables layouts j (column_at layouts j).kind) (sym at)
+    (subst (IsLookupInLimits (layout_of project).tables (columns_layout dictionaries tables columns) j) (sym (kind_at-layout dictionaries tables columns j column))
+    (lookup_in_limits dictionaries tables columns j (omega arith) (kind_at columns j) (keeps project accepted LookupColumns refl (OfColumn i j) (h, column))))
+
 -- a number of one of the first 64 tables is at most its limit
 within_limit : (place n limit : ℕ) → place < 64 → (nat_le 64 place || nat_le n limit) ≡ true → n ≤ limit
 within_limit place n limit h asked = of_test (nat_le 64 place) refl asked
@@ -185,6 +202,7 @@ in_limits project lists accepted =
           let within : i < length project.schema.tables = omega (arith, h, length-map project.schema.tables (table_layout project.dictionaries project.schema.tables)) in
           subst (IsTableInLimits (count project.schema.units)) (sym (get_or-map (table_layout project.dictionaries project.schema.tables) project.schema.tables i _ d within)) (table_in_limits project lists accepted i within);
       references = λ place h. references_in_limits project accepted few place h;
+      lookups = λ place column h lt. lookups_in_limits project accepted place column h lt;
       costs = λ place h. within_limit place (cost (layout_of project) place) 4096 (omega (arith, h, few)) (keeps project accepted RowCost refl (OfTable place) h);
       lines = λ place h. within_limit place (max_line (layout_of project) place) 65536 (omega (arith, h, few)) (keeps project accepted LineSize refl (OfTable place) h);
     }

@@ -15,6 +15,7 @@ pub mod LeafLemmas
 pub mod LeafLimits
 pub mod ReferenceLimits
 pub mod ColumnLimits
+pub mod LookupLimits
 pub mod InLimits
 pub mod ReadyLemmas
 pub mod PlannedLemmas

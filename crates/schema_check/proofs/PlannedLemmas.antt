@@ -1,12 +1,9 @@
 -- What a plan keeps of the table at a place.
-use Rattle.std.proofs.Common.{◌≡◌, ℕ, zero, suc, ◌<◌, ◌≤◌, min, max, false, List, [], ◌∷◌, length, map, get_or, slice_get, Some, refl, sym, ap, ◌∙◌, arith}
+use Rattle.std.proofs.Common.{◌≡◌, ℕ, zero, suc, ◌<◌, ◌≤◌, min, max, List, [], ◌∷◌, length, map, get_or, refl, sym, ap, ◌∙◌, arith}
 use Rattle.std.specs.List.{fold, range_with_len}
 use Rattle.std.proofs.lemmas.List.{length-map}
 use Rattle.std.proofs.lemmas.List.FromFn.{fill_by_all, get_or-map-range_with_len, length-map-range_with_len}
 use Rattle.std.proofs.lemmas.List.Folds.{fold-map}
-use Rattle.std.proofs.lemmas.Option.{get_or_from_slice_get, slice_get_within}
-use Rattle.schema_model.specs.declared.table.Schema.{Schema}
-use Rattle.schema_model.specs.declared.table.Table.{Table}
 use Rattle.schema_check.specs.declared.facts.TableFacts.{TableFacts}
 use Rattle.schema_check.specs.Capped.{capped, capped_facts, first_facts}
 use Rattle.schema_check.specs.Dictionaries.{Project}
@@ -14,8 +11,6 @@ use Rattle.schema_check.specs.FieldBounds.{greatest_by}
 use Rattle.schema_check.specs.Layout.{Layout, TableLayout, layout_of, no_table, table_at, table_layout}
 use Rattle.schema_check.specs.Limits.{IsInLimits}
 use Rattle.schema_check.specs.TableFacts.{facts_at, line_of_table, max_line, reach}
-use Rattle.schema_check.specs.Unbuilt.{is_unbuilt, is_unbuilt_table}
-use Rattle.schema_check.proofs.FromTests.{fails_each}
 use Rattle.schema_check.proofs.Lists.{map-map, map-same}
 
 -- no fact of an accepted schema is past the end of 64 bits
@@ -79,9 +74,3 @@ pub divisors_are : (project : Project) (kept : List TableFacts) (inserts : List 
 divisors_are project kept inserts facts divisors =
     let divisor = λ (fact : TableFacts). max 1 fact.births.insert in
     divisors ∙ ap (map divisor) facts ∙ map-map divisor (facts_at (layout_of project)) (range_with_len 0 (length project.schema.tables))
-
--- a table of a built schema is built
-pub built_table : (schema : Schema) → is_unbuilt schema ≡ false → (place : ℕ) (table : Table) → slice_get schema.tables place ≡ Some table → is_unbuilt_table table ≡ false
-built_table schema built place table at =
-    ap is_unbuilt_table (sym (get_or_from_slice_get schema.tables place table table at))
-    ∙ fails_each is_unbuilt_table schema.tables place table (slice_get_within schema.tables place table at) built

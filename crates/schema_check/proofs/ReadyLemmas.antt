@@ -1,9 +1,8 @@
--- What is kept of columns: it is made ready of what is within its limits, and where tables can be made of all of a schema, each
--- column is served.
-use Rattle.std.proofs.Common.{◌≡◌, ℕ, ◌+◌, ◌<◌, true, false, List, [], ◌∷◌, ◌++◌, length, map, get_or, refl, sym, ap, ◌∙◌, subst, arith}
+-- What is kept of columns: it is made ready of what is within its limits.
+use Rattle.std.proofs.Common.{◌≡◌, ℕ, ◌+◌, ◌<◌, List, [], ◌∷◌, ◌++◌, length, map, get_or, sym, ap, ◌∙◌, subst, arith}
 use Rattle.std.specs.List.{All, range_with_len}
-use Rattle.std.proofs.lemmas.List.{get_or-map, get_or_default, length-map}
-use Rattle.std.proofs.lemmas.List.Elements.{All-cons, All-map, All-same}
+use Rattle.std.proofs.lemmas.List.{get_or-map, length-map}
+use Rattle.std.proofs.lemmas.List.Elements.{All-cons}
 use Rattle.std.proofs.lemmas.List.FromFn.{map-range_with_len_more}
 use Rattle.schema_model.specs.declared.table.Table.{Table}
 use Rattle.schema_model.specs.declared.column.Column.{Column}
@@ -17,11 +16,8 @@ use Rattle.schema_check.specs.Delimiters.{delimiter_byte}
 use Rattle.schema_check.specs.Dictionaries.{Dictionary, Project}
 use Rattle.schema_check.specs.Layout.{ColumnLayout, TableLayout, column_at, column_layout, kind_layout, layout_of, leaf_layout, no_column, no_table, table_at, table_layout, table_layouts}
 use Rattle.schema_check.specs.Limits.{CanBeReady, IsInLimits, IsKindInLimits, IsLeafInLimits, IsSpreadOf, IsTableInLimits}
-use Rattle.schema_check.specs.Ready.{is_served, is_served_kind, ready_column, ready_columns, ready_kind}
-use Rattle.schema_check.specs.Rules.{schema_table}
-use Rattle.schema_check.specs.Unbuilt.{is_unbuilt, is_unbuilt_kind, is_unbuilt_table}
+use Rattle.schema_check.specs.Ready.{ready_column, ready_columns}
 use Rattle.schema_check.proofs.FactsLemmas.{table_at-is}
-use Rattle.schema_check.proofs.FromTests.{fails_each}
 use Rattle.schema_check.proofs.Lists.{map-map}
 
 -- ---- limits
@@ -73,27 +69,6 @@ ready_columns-is project place table within is =
     let of = ready_column delimiter in
     ap (λ (layout : TableLayout). map of layout.columns) at
     ∙ map-map of (column_layout dictionaries tables table.columns) table.columns
-
--- ---- served columns
-
-served_kind : (dictionaries : List Dictionary) (delimiter : ℕ) (tables : List Table) (columns : List Column) (kind : Kind) → is_unbuilt_kind kind ≡ false → is_served_kind (ready_kind delimiter (kind_layout dictionaries tables columns kind)) ≡ true
-served_kind dictionaries delimiter tables columns (kind.Lookup via column) h = cc
-served_kind dictionaries delimiter tables columns _ h = refl
-
-table_served : (dictionaries : List Dictionary) (delimiter : ℕ) (tables : List Table) (table : Table) → is_unbuilt_table table ≡ false → All (λ column. is_served column ≡ true) (map (kept_column dictionaries delimiter tables table.columns) table.columns)
-table_served dictionaries delimiter tables table built =
-    All-map (λ column. is_served column ≡ true) (kept_column dictionaries delimiter tables table.columns) table.columns
-    (λ i d within. served_kind dictionaries delimiter tables table.columns (get_or table.columns i d).kind (fails_each (λ (column : Column). is_unbuilt_kind column.kind) table.columns i d within built))
-
--- each column of a table of a built schema
-pub columns_served : (project : Project) (place : ℕ) → is_unbuilt project.schema ≡ false → place < length project.schema.tables → All (λ column. is_served column ≡ true) (ready_columns (layout_of project) place)
-columns_served project place built within =
-    let tables = project.schema.tables in
-    let table = schema_table project.schema place in
-    let delimiter = delimiter_byte project.schema.delimiter in
-    All-same (λ column. is_served column ≡ true) (ready_columns (layout_of project) place) (map (kept_column project.dictionaries delimiter tables table.columns) table.columns)
-    (ready_columns-is project place table within (get_or_default tables place _ table within))
-    (table_served project.dictionaries delimiter tables table (fails_each is_unbuilt_table tables place _ within built))
 
 -- ---- tables in order
 

@@ -13,7 +13,6 @@ pub mod FieldBounds
 pub mod TableFacts
 pub mod Sites
 pub mod Rules
-pub mod Unbuilt
 pub mod Limits
 pub mod Faults
 pub mod ReadyWords

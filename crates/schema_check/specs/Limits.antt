@@ -103,6 +103,15 @@ pub record IsCase (columns : List ColumnLayout) (place on : ℕ) (branches : Lis
   pub pick : IsPickOf (length branches) (column_at columns on).kind
   pub each : All IsLeafInLimits branches
 
+abbrev pub is_lookup_kind : KindLayout → Bool
+is_lookup_kind (lookup_kind via parent column) = true
+is_lookup_kind _ = false
+
+-- a reference to the table at a place
+abbrev pub IsReferenceTo : ℕ → KindLayout → Type 0
+IsReferenceTo place (reference_kind parent window spread) = parent ≡ place
+IsReferenceTo place _ = ⊥
+
 -- the column at a place within its limits, by its kind
 abbrev pub IsKindInLimits : List ColumnLayout → ℕ → KindLayout → Type 0
 IsKindInLimits columns place (leaf_kind leaf) = IsLeafInLimits leaf
@@ -137,6 +146,19 @@ abbrev pub CitesStill : List ColumnLayout → KindLayout → Type 0
 CitesStill columns (template_kind parts) = All (IsStillPart columns) parts
 CitesStill columns (case_kind on branches) = moves (column_at columns on) ≡ false
 CitesStill columns _ = ⊤
+
+-- a lookup by an earlier reference of its table, of a column of the parent's table that doesn't move and is no lookup
+pub record IsLookup (tables : List TableLayout) (columns : List ColumnLayout) (place via parent column : ℕ) : Type 0 where
+  pub earlier : via < place
+  pub reference : IsReferenceTo parent (column_at columns via).kind
+  pub within : column < length (table_at tables parent).columns
+  pub still : moves (column_at (table_at tables parent).columns column) ≡ false
+  pub no_lookup : is_lookup_kind (column_at (table_at tables parent).columns column).kind ≡ false
+
+-- the column at a place, where it is a lookup
+abbrev pub IsLookupInLimits : List TableLayout → List ColumnLayout → ℕ → KindLayout → Type 0
+IsLookupInLimits tables columns place (lookup_kind via parent column) = IsLookup tables columns place via parent column
+IsLookupInLimits tables columns place _ = ⊤
 
 -- a number of units that is at least one, from its least to its most
 pub record IsSpan (span : Span) : Type 0 where
@@ -180,5 +202,7 @@ pub record IsInLimits (project : Project) : Type 0 where
   pub tables : All (IsTableInLimits (count project.schema.units)) (layout_of project).tables
   pub references : (place : ℕ) → place < length project.schema.tables →
       All (IsReferenceInLimits (count project.schema.units) (layout_of project).tables place) (references_of (table_at (layout_of project).tables place))
+  pub lookups : (place column : ℕ) → place < length project.schema.tables → column < length (table_at (layout_of project).tables place).columns →
+      IsLookupInLimits (layout_of project).tables (table_at (layout_of project).tables place).columns column (column_at (table_at (layout_of project).tables place).columns column).kind
   pub costs : (place : ℕ) → place < length project.schema.tables → cost (layout_of project) place ≤ 4096
   pub lines : (place : ℕ) → place < length project.schema.tables → max_line (layout_of project) place ≤ 65536

@@ -1,5 +1,5 @@
 -- What a plan is, and what it keeps.
-use Rattle.std.specs.Prelude.{◌≡◌, ℕ, max, false, List, map, length, Option}
+use Rattle.std.specs.Prelude.{◌≡◌, ℕ, max, List, map, length, Option}
 use Rattle.std.specs.List.{position, range_with_len}
 use Rattle.schema_model.specs.declared.table.Schema.{Schema}
 use Rattle.schema_model.specs.declared.table.Table.{Table}
@@ -12,13 +12,11 @@ use Rattle.schema_check.specs.Names.{same_text}
 use Rattle.schema_check.specs.Ready.{ready_columns}
 use Rattle.schema_check.specs.Rules.{IsAccepted}
 use Rattle.schema_check.specs.TableFacts.{facts_at, reach}
-use Rattle.schema_check.specs.Unbuilt.{is_unbuilt}
 
--- an accepted schema of which tables can be made, with its dictionaries, the facts, the columns and the births of a unit to divide
+-- an accepted schema with its dictionaries, the facts, the columns and the births of a unit to divide
 -- by of each table, in order, and its reach
 pub record IsPlan (project : Project) (kept : List TableFacts) (ready : List (List ReadyColumn)) (inserts : List ℕ) (most : ℕ) : Type 0 where
   pub accepted : IsAccepted project
-  pub built : is_unbuilt project.schema ≡ false
   pub limits : IsInLimits project
   pub facts : kept ≡ map (facts_at (layout_of project)) (range_with_len 0 (length project.schema.tables))
   pub columns : ready ≡ map (ready_columns (layout_of project)) (range_with_len 0 (length project.schema.tables))

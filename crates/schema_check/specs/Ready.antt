@@ -1,5 +1,5 @@
 -- What a plan keeps of the columns, so that nothing that stays the same is worked out for a row.
-use Rattle.std.specs.Prelude.{ℕ, ◌+◌, ◌-◌, ◌^◌, Bool, true, false, List, encode_utf8, length, map, Option, sum}
+use Rattle.std.specs.Prelude.{ℕ, ◌+◌, ◌-◌, ◌^◌, List, encode_utf8, length, map, Option, sum}
 use Rattle.std.specs.Str.{chars}
 use Rattle.weight_tables.specs.Harmonic.{harmonic_weights}
 use Rattle.row_text.specs.Fields.{piece_text}
@@ -47,7 +47,7 @@ ready_kind delimiter (leaf_kind drawn) = kind.Drawn (ready_leaf delimiter drawn)
 ready_kind delimiter (template_kind parts) = kind.Template (map (ready_part delimiter) parts)
 ready_kind delimiter (case_kind on branches) = kind.Case on (map (ready_leaf delimiter) branches)
 ready_kind delimiter (reference_kind parent window spread) = kind.Reference (ready_reference parent window spread)
-ready_kind delimiter (lookup_kind via parent name) = kind.Unserved
+ready_kind delimiter (lookup_kind via parent column) = kind.Lookup (record { via = via; parent = parent; column = column })
 
 -- a column
 abbrev pub ready_column : ℕ → ColumnLayout → ReadyColumn
@@ -56,11 +56,3 @@ ready_column delimiter column = record { kind = ready_kind delimiter column.kind
 -- the columns of the table at a place
 abbrev pub ready_columns : Layout → ℕ → List ReadyColumn
 ready_columns layout place = map (ready_column layout.delimiter) (table_at layout.tables place).columns
-
--- whether tables can be made of a column
-abbrev pub is_served_kind : ReadyKind → Bool
-is_served_kind kind.Unserved = false
-is_served_kind _ = true
-
-abbrev pub is_served : ReadyColumn → Bool
-is_served column = is_served_kind column.kind

@@ -19,14 +19,14 @@ use Rattle.schema_model.specs.declared.column.Window.TheVariants as window
 use Rattle.schema_check.specs.declared.broken.Broken.{Broken}
 use Rattle.schema_check.specs.declared.layout.Births.{Births}
 use Rattle.schema_check.specs.declared.rules.Rule.{Rule}
-use Rattle.schema_check.specs.declared.rules.Rule.TheVariants.{Dictionaries, CitedNames, SeedAndUnits, TableCount, TableNames, Columns, KeyColumn, RowCount, LifeRange, UpdatePeriod, NumberRange, DateRange, PickEntries, SkewRange, LengthRange, TemplateParts, CaseBranches, StillCitations, ReferenceTargets, ReferenceWindows, ParentRows, SpreadWeights, RowCost, LineSize, ChangesAndNulls}
+use Rattle.schema_check.specs.declared.rules.Rule.TheVariants.{Dictionaries, CitedNames, SeedAndUnits, TableCount, TableNames, Columns, KeyColumn, RowCount, LifeRange, UpdatePeriod, NumberRange, DateRange, PickEntries, SkewRange, LengthRange, TemplateParts, CaseBranches, StillCitations, ReferenceTargets, ReferenceWindows, ParentRows, SpreadWeights, LookupColumns, RowCost, LineSize, ChangesAndNulls}
 use Rattle.schema_check.specs.declared.site.Site.{Site}
 use Rattle.schema_check.specs.declared.site.Site.TheVariants.{Whole, OfTable, OfColumn}
 use Rattle.schema_check.specs.Citations.{cited_names, leaves_of, may_cite, may_cite_all, names_in_leaf}
 use Rattle.schema_check.specs.Cohorts.{born_count, cohort_size}
 use Rattle.schema_check.specs.Counts.{count}
 use Rattle.schema_check.specs.Dictionaries.{Project, dictionary_named}
-use Rattle.schema_check.specs.Layout.{births_of, layout_of, place_of_column, place_of_table, window_layout}
+use Rattle.schema_check.specs.Layout.{births_of, columns_of, layout_of, place_of_column, place_of_table, window_layout}
 use Rattle.schema_check.specs.Lineage.{sure_life}
 use Rattle.schema_check.specs.Names.{same_text, is_name}
 use Rattle.schema_check.specs.References.{first_in_window}
@@ -287,6 +287,29 @@ is_spread (kind.Ref table window spread) =
     nat_le 1 (length spread) && nat_le (length spread) 64 && list_all (is_between 1 1000) spread
 is_spread _ = true
 
+-- ---- what rules ask of lookups
+
+abbrev pub is_lookup_kind : Kind → Bool
+is_lookup_kind (kind.Lookup via column) = true
+is_lookup_kind _ = false
+
+-- some columns have one of a name that doesn't move and is no lookup
+abbrev pub has_still_column : List Column → List ℕ → Bool
+has_still_column columns name =
+    nat_lt (place_of_column columns name) (length columns) && not (moves_at columns (place_of_column columns name))
+    && not (is_lookup_kind (kind_at columns (place_of_column columns name)))
+
+-- a kind is a reference to a table with such a column
+abbrev pub is_looked_up : List Table → Kind → List ℕ → Bool
+is_looked_up tables (kind.Ref table window spread) name = has_still_column (columns_of tables (place_of_table tables table)) name
+is_looked_up tables _ name = false
+
+-- a lookup names an earlier reference, and such a column of the parent's table
+abbrev pub is_lookup : List Table → List Column → ℕ → Kind → Bool
+is_lookup tables columns place (kind.Lookup via column) =
+    nat_lt (place_of_column columns via) place && is_looked_up tables (kind_at columns (place_of_column columns via)) column
+is_lookup tables columns place _ = true
+
 -- ---- the rules
 
 -- whether a rule holds at a site; where a rule asks nothing, it holds
@@ -343,6 +366,9 @@ holds ReferenceWindows project (OfColumn table column) = is_window project (kind
 holds ParentRows project (OfColumn table column) = has_parents project.schema table (kind_at (columns_at project.schema table) column)
 -- V21: a spread has 1 to 64 weights, each from 1 to 1,000
 holds SpreadWeights project (OfColumn table column) = is_spread (kind_at (columns_at project.schema table) column)
+-- V22: a lookup names an earlier reference of its table, and a column of the parent's table that doesn't move and is no lookup
+holds LookupColumns project (OfColumn table column) =
+    is_lookup project.schema.tables (columns_at project.schema table) column (kind_at (columns_at project.schema table) column)
 -- V23: the cost of a row is at most 4,096. Past 64 tables, where an earlier rule is broken, nothing is asked
 holds RowCost project (OfTable table) = nat_le 64 table || nat_le (cost (layout_of project) table) 4096
 -- V24: a line has at most 65,536 bytes. The same
@@ -377,16 +403,17 @@ number_of ReferenceTargets = 18
 number_of ReferenceWindows = 19
 number_of ParentRows = 20
 number_of SpreadWeights = 21
+number_of LookupColumns = 22
 number_of RowCost = 23
 number_of LineSize = 24
 number_of ChangesAndNulls = 25
 
--- the rules in the order in which they are tried, which for all of V1 to V25 is V13, V1 to V12, V14 to V25. Of V13 the part that a
+-- the rules in the order in which they are tried: V13, V1 to V12, V14 to V25. Of V13 the part that a
 -- schema alone tells is no rule beside the whole
 abbrev pub rules : List Rule
 rules = Dictionaries ∷ SeedAndUnits ∷ TableCount ∷ TableNames ∷ Columns ∷ KeyColumn ∷ RowCount
     ∷ LifeRange ∷ UpdatePeriod ∷ NumberRange ∷ DateRange ∷ PickEntries ∷ SkewRange ∷ LengthRange ∷ TemplateParts ∷ CaseBranches
-    ∷ StillCitations ∷ ReferenceTargets ∷ ReferenceWindows ∷ ParentRows ∷ SpreadWeights ∷ RowCost ∷ LineSize ∷ ChangesAndNulls ∷ []
+    ∷ StillCitations ∷ ReferenceTargets ∷ ReferenceWindows ∷ ParentRows ∷ SpreadWeights ∷ LookupColumns ∷ RowCost ∷ LineSize ∷ ChangesAndNulls ∷ []
 
 -- ---- the first broken rule
 

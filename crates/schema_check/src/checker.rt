@@ -1,13 +1,12 @@
 //! The check of a schema.
 
-ghost use Rattle.std.specs.Prelude.{◌≡◌, ◌≢◌, ◌≤◌, false, None, Some, IfErr, IfOk, IfSome, OnOk};
+ghost use Rattle.std.specs.Prelude.{◌≡◌, ◌≢◌, ◌≤◌, None, Some, IfErr, IfOk, IfSome, OnOk};
 ghost use Rattle.schema_check.specs.Capped.{first_facts};
 ghost use Rattle.schema_check.specs.Citations.{cited_names};
 ghost use Rattle.schema_check.specs.Dictionaries.{project_of};
 ghost use Rattle.schema_check.specs.Faults.{citation_refusal, refusal_of, told, Tells};
 ghost use Rattle.schema_check.specs.Rules.{IsAccepted};
 ghost use Rattle.schema_check.specs.Sites.{column_number, IsSiteOf};
-ghost use Rattle.schema_check.specs.Unbuilt.{is_unbuilt};
 
 use crate::broken::Broken;
 use crate::candidate::Candidate;
@@ -37,7 +36,6 @@ pub enum CheckFault {
 /// The names of the dictionaries that a schema cites, each once, in the order of their first citations; or the rule of
 /// dictionaries, where the schema may not cite them: a name has 1 to 255 bytes, and at most 64 different ones are cited.
 pub fn citations(alloc: Global, schema: &Schema) -> Result<Texts, CheckFault>
-    requires built { is_unbuilt schema.now ≡ false }
     ensures names { IfOk result (λ names. names ≡ cited_names schema.now.tables) }
     ensures citable { OnOk result (citation_refusal schema.now ≡ None) }
     ensures refused { IfErr result (λ fault. fault ≢ CheckFault.Memory → citation_refusal schema.now ≡ Some fault) }
@@ -61,7 +59,6 @@ pub fn citations(alloc: Global, schema: &Schema) -> Result<Texts, CheckFault>
 /// The plan of a schema that keeps all rules with its dictionaries, or the first rule that it breaks, at its first place. At a
 /// fault the schema and the dictionaries are given up.
 pub fn check(alloc: Global, schema: Schema, dictionaries: Dictionaries) -> Result<Plan, CheckFault>
-    requires built { is_unbuilt schema ≡ false }
     ensures plan { IfOk result (λ plan. plan ≡ project_of schema dictionaries) }
     ensures accepted { OnOk result (IsAccepted (project_of schema dictionaries)) }
     ensures refused { IfErr result (λ fault. Tells fault (project_of schema dictionaries)) }

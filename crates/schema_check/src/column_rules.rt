@@ -128,7 +128,7 @@ fn is_moving(columns: &[Column], name: &Text) -> bool
     place < columns.len() && moves(&columns[place])
 }
 
-fn moves(column: &Column) -> bool
+pub(crate) fn moves(column: &Column) -> bool
     ensures { result ≡ (column.now.changes || is_changed column.now.kind) }
 {
     column.changes || matches!(column.kind, Kind::Changed)

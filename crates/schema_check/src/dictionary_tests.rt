@@ -78,7 +78,6 @@ fn placed(rt: &(impl Abort + AllocGlobal), fault: CheckFault) -> String {
 
 /// What `citations` tells: the names with a comma behind each, or the place of the rule.
 fn cited(rt: &(impl Abort + AllocGlobal), schema: Schema) -> String {
-    assert!(rt; !unbuilt(&schema));
     match citations(rt.alloc(), &schema) {
         Ok(names) => listed(rt, names.as_slice()),
         Err(fault) => placed(rt, fault),

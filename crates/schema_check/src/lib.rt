@@ -1,8 +1,7 @@
 //! The layout of a schema, its rules, and the plan of an accepted one.
 //!
 //! A schema may be read whole and still make no sense. `check` tries its rules in their order and gives either the first
-//! one that is broken, at its first site, or a plan: the schema, with what doesn't change from row to row. `unbuilt` says of
-//! which schemas no table can be made yet; of these the rule that speaks of what isn't built isn't tried yet.
+//! one that is broken, at its first site, or a plan: the schema, with what doesn't change from row to row.
 #![tactic(auto)]
 
 mod broken;
@@ -17,9 +16,9 @@ pub mod laws;
 mod layout;
 mod leaf_rules;
 mod lineage;
+mod lookup_rules;
 mod memory;
 mod names;
-mod not_built;
 mod places;
 mod plan;
 mod ready;
@@ -35,9 +34,8 @@ mod word_lists;
 pub use checker::{CheckFault, check, citations};
 pub use layout::{Births, Keys, Span};
 pub use memory::Memory;
-pub use not_built::unbuilt;
 pub use plan::Plan;
-pub use ready::{ReadyColumn, ReadyKind, ReadyLeaf, ReadyPart, ReadyReference};
+pub use ready::{ReadyColumn, ReadyKind, ReadyLeaf, ReadyLookup, ReadyPart, ReadyReference};
 pub use ready_words::ReadyWords;
 pub use word_lists::Dictionaries;
 

@@ -2,7 +2,7 @@
 
 ghost use Rattle.std.specs.Prelude.{◌≡◌, ◌≤◌, length};
 ghost use Rattle.std.specs.List.{position};
-ghost use Rattle.schema_check.specs.Layout.{keys_of, keys_of_kind, parent_of, parent_via, place_of_column, place_of_table};
+ghost use Rattle.schema_check.specs.Layout.{columns_of, keys_of, keys_of_kind, parent_of, parent_via, place_of_column, place_of_table};
 ghost use Rattle.schema_check.specs.Names.{same_text};
 
 use crate::counts::count;
@@ -41,7 +41,8 @@ fn find_column(columns: &[Column], name: &Text) -> Option<usize>
 
 /// The place of the table that a kind names as its parent; the place past the last one where it names none.
 fn parent_of(tables: &[Table], kind: &Kind) -> usize
-    ensures { result ≡ parent_of tables.now kind.now }
+    ensures place { result ≡ parent_of tables.now kind.now }
+    ensures within { result ≤ length tables.now }
 {
     match kind {
         Kind::Ref { table, .. } => place_of_table(tables, table),
@@ -51,13 +52,24 @@ fn parent_of(tables: &[Table], kind: &Kind) -> usize
 
 /// The place of the table that the column with a name refers to.
 pub(crate) fn parent_via(tables: &[Table], columns: &[Column], via: &Text) -> usize
-    ensures { result ≡ parent_via tables.now columns.now via.now }
+    ensures place { result ≡ parent_via tables.now columns.now via.now }
+    ensures within { result ≤ length tables.now }
 {
     let place = place_of_column(columns, via);
     if place < columns.len() {
         parent_of(tables, &columns[place].kind)
     } else {
         tables.len()
+    }
+}
+
+/// The columns of the table at a place; none past the last one.
+pub(crate) fn columns_of(tables: &[Table], place: usize) -> &[Column]
+    ensures { result.now ≡ columns_of tables.now place }
+{
+    match tables.get(place) {
+        Some(table) => table.columns.as_slice(),
+        None => &[],
     }
 }
 

@@ -10,10 +10,9 @@ ghost use Rattle.schema_check.specs.Limits.{IsInLimits, IsLife, IsTableInLimits,
 ghost use Rattle.schema_check.specs.Lineage.{longest_life, sure_life};
 ghost use Rattle.schema_check.specs.Names.{same_text};
 ghost use Rattle.schema_check.specs.Planned.{table_named};
-ghost use Rattle.schema_check.specs.Ready.{is_served, ready_columns};
+ghost use Rattle.schema_check.specs.Ready.{ready_columns};
 ghost use Rattle.schema_check.specs.Rules.{IsAccepted};
 ghost use Rattle.schema_check.specs.TableFacts.{cost, facts_at, max_line, reach};
-ghost use Rattle.schema_check.specs.Unbuilt.{is_unbuilt, is_unbuilt_table};
 
 use crate::counts::count;
 use crate::facts::{TableFacts, greatest_line};
@@ -61,7 +60,6 @@ impl Plan {
         dictionaries: Dictionaries,
         facts: &[TableFacts],
     ) -> Result<Plan, Memory>
-        requires built { is_unbuilt schema ≡ false }
         requires accepted { IsAccepted (project_of schema dictionaries) }
         requires facts { facts.now ≡ first_facts (project_of schema dictionaries) }
         ensures { IfOk result (λ plan. plan ≡ project_of schema dictionaries) }
@@ -85,7 +83,6 @@ impl Plan {
     pub fn schema(&self) -> &Schema
         ensures value { result.now ≡ self.now.schema }
         ensures accepted { IsAccepted self.now }
-        ensures built { is_unbuilt self.now.schema ≡ false }
         ensures limits { IsInLimits self.now }
     {
         &self.schema
@@ -135,7 +132,6 @@ impl Plan {
         ensures found { slice_get self.now.schema.tables table ≡ Some result.now }
         ensures layout { table_layout self.now.dictionaries self.now.schema.tables result.now ≡ table_at (layout_of self.now).tables table }
         ensures limits { IsTableInLimits (layout_of self.now).units (table_at (layout_of self.now).tables table) }
-        ensures built { is_unbuilt_table result.now ≡ false }
     {
         self.schema.tables.get(table as usize)
     }
@@ -145,7 +141,6 @@ impl Plan {
     pub fn columns(&self, table: u32) -> &[ReadyColumn]
         requires { table < length self.now.schema.tables }
         ensures columns { result.now ≡ ready_columns (layout_of self.now) table }
-        ensures served { All (λ column. is_served column ≡ true) result.now }
         ensures limits { IsTableInLimits (layout_of self.now).units (table_at (layout_of self.now).tables table) }
         ensures units { (layout_of self.now).units ≤ 10000 }
     {

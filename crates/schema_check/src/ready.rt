@@ -39,8 +39,8 @@ pub enum ReadyKind {
     },
     /// The key of the parent.
     Reference(ReadyReference),
-    /// A kind that no table can be made of yet.
-    Unserved,
+    /// What the parent holds that the row has by one of its references.
+    Lookup(ReadyLookup),
 }
 
 /// By what a row's parent is chosen, ready for rows.
@@ -56,6 +56,17 @@ pub struct ReadyReference {
     pub groups: u64,
     /// Their sum.
     pub total: FixedDivisor,
+}
+
+/// Where a lookup finds what it shows.
+#[derive(Clone, Copy, Debug, PartialEq, Eq)]
+pub struct ReadyLookup {
+    /// The place of the reference's column in the table.
+    pub via: u64,
+    /// The place of the parent's table in the schema, counted from 0.
+    pub parent: u32,
+    /// The place of the column in the parent's table.
+    pub column: u64,
 }
 
 /// A part of a template, ready for rows.

@@ -1,9 +1,9 @@
 //! The columns of tables, made ready for rows.
 
-ghost use Rattle.std.specs.Prelude.{◌≡◌, ◌≤◌, All, IfOk, length, map, sum};
+ghost use Rattle.std.specs.Prelude.{◌≡◌, ◌≤◌, ℕ, List, All, IfOk, length, map, sum};
 ghost use Rattle.std.specs.List.{range_with_len};
 ghost use Rattle.schema_check.specs.Counts.{count};
-ghost use Rattle.schema_check.specs.Dictionaries.{project_of};
+ghost use Rattle.schema_check.specs.Dictionaries.{Dictionary, project_of};
 ghost use Rattle.schema_check.specs.Layout.{column_layout, kind_layout, layout_of, leaf_layout, window_layout};
 ghost use Rattle.schema_check.specs.Limits.{CanBeReady, IsInLimits, IsLeafInLimits};
 ghost use Rattle.schema_check.specs.Ready.{ready_column, ready_columns, ready_kind, ready_leaf, ready_reference};
@@ -12,14 +12,14 @@ ghost use Rattle.schema_check.specs.References.{IsSpread};
 use crate::counts::count;
 use crate::facts::delimiter_byte;
 use crate::memory::Memory;
-use crate::places::{place_of_column, place_of_table};
-use crate::ready::{ReadyColumn, ReadyKind, ReadyLeaf, ReadyReference};
+use crate::places::{columns_of, parent_via, place_of_column, place_of_table};
+use crate::ready::{ReadyColumn, ReadyKind, ReadyLeaf, ReadyLookup, ReadyReference};
 use crate::ready_leaves::{counts, ready_leaf};
 use crate::ready_parts::ready_parts;
 use crate::ready_words::Lexicon;
 use crate::word_lists::Dictionaries;
 use fixed_divisors::FixedDivisor;
-use schema_model::{Column, Kind, Leaf, Schema, Sequence, Table, Window};
+use schema_model::{Column, Kind, Leaf, Schema, Sequence, Table, Text, Window};
 use std::alloc::Global;
 use weight_tables::Weights;
 
@@ -117,7 +117,9 @@ fn ready_kind(
             let reference = ready_reference(alloc, parent, *window, spread.as_slice())?;
             Ok(ReadyKind::Reference(reference))
         }
-        Kind::Lookup { .. } => Ok(ReadyKind::Unserved),
+        Kind::Lookup { via, column } => {
+            Ok(ReadyKind::Lookup(ready_lookup(tables, columns, via, column)))
+        }
     }
 }
 
@@ -140,6 +142,19 @@ fn ready_reference(
         groups: spread.len() as u64,
         total,
     })
+}
+
+/// A lookup of one of some columns: by the reference with a name, of the parent's column with another.
+fn ready_lookup(tables: &[Table], columns: &[Column], via: &Text, column: &Text) -> ReadyLookup
+    requires { length tables.now ≤ 64 }
+    ensures { (delimiter : ℕ) (dictionaries : List Dictionary) → ReadyKind.Lookup result ≡ ready_kind delimiter (kind_layout dictionaries tables.now columns.now (Kind.Lookup via.now column.now)) }
+{
+    let parent = parent_via(tables, columns, via);
+    ReadyLookup {
+        via: place_of_column(columns, via) as u64,
+        parent: parent as u32,
+        column: place_of_column(columns_of(tables, parent), column) as u64,
+    }
 }
 
 /// By how many units a parent may be older; None where by any.

@@ -2,7 +2,7 @@
 
 use super::*;
 use crate::tests::fixtures::{
-    case, column, key_column, pick, plan_of, push_column, reference, schema, table, text,
+    case, column, key_column, lookup, pick, plan_of, push_column, reference, schema, table, text,
     with_table,
 };
 use fixed_divisors::FixedDivisor;
@@ -360,4 +360,28 @@ fn lives_and_costs_with_parents(rt: HostRuntime) {
     assert_lineage(&rt, &plan, 0, (3, 3), 3);
     assert_lineage(&rt, &plan, 1, (1, 3), 5);
     assert_lineage(&rt, &plan, 2, (1, 3), 6);
+}
+
+// The third column shows what the parent's second one holds, by the reference in the second.
+#[test]
+fn a_lookup_is_kept_by_places(rt: HostRuntime) {
+    let mut parents = key_column(&rt, 1);
+    push_column(&rt, &mut parents, text(&rt, "born"), Kind::Born);
+    let parents = table(text(&rt, "p"), (1, 0), parents);
+    let mut children = referring(&rt, "c", "p", Window::All);
+    let shown = lookup(&rt, "ref", "born");
+    push_column(&rt, &mut children.columns, text(&rt, "shown"), shown);
+    let schema = with_table(&rt, schema(&rt, 1, 4, Delimiter::Tab), parents);
+    let schema = with_table(&rt, schema, children);
+    let plan = plan_of(&rt, schema, Dictionaries::new(rt.alloc()));
+    assert_eq!(rt; plan.tables(), 2);
+    let columns = plan.columns(1);
+    assert_eq!(rt; columns.len(), 3);
+    let (via, parent, column) = (1, 0, 1);
+    match &columns[2].kind {
+        ReadyKind::Lookup(made) => {
+            assert_eq!(rt; *made, ReadyLookup { via, parent, column })
+        }
+        _ => panic!(rt; "no lookup"),
+    }
 }

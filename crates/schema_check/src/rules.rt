@@ -17,6 +17,7 @@ use crate::facts::TableFacts;
 use crate::leaf_rules::{
     are_date_ranges, are_length_ranges, are_number_ranges, are_skew_ranges, are_weighted, leaves_of,
 };
+use crate::lookup_rules::is_lookup;
 use crate::names::is_name;
 use crate::reference_rules::{has_parents, is_spread, is_target, is_window};
 use crate::site::Site;
@@ -93,6 +94,8 @@ pub(crate) enum Rule {
     ParentRows,
     /// V21
     SpreadWeights,
+    /// V22
+    LookupColumns,
     /// V23
     RowCost,
     /// V24
@@ -102,7 +105,7 @@ pub(crate) enum Rule {
 }
 
 /// The rules in the order in which they are tried.
-const ORDER: [Rule; 24] = [
+const ORDER: [Rule; 25] = [
     Rule::Dictionaries,
     Rule::SeedAndUnits,
     Rule::TableCount,
@@ -124,6 +127,7 @@ const ORDER: [Rule; 24] = [
     Rule::ReferenceWindows,
     Rule::ParentRows,
     Rule::SpreadWeights,
+    Rule::LookupColumns,
     Rule::RowCost,
     Rule::LineSize,
     Rule::ChangesAndNulls,
@@ -205,6 +209,7 @@ impl Rule {
             Rule::ReferenceWindows => 19,
             Rule::ParentRows => 20,
             Rule::SpreadWeights => 21,
+            Rule::LookupColumns => 22,
             Rule::RowCost => 23,
             Rule::LineSize => 24,
             Rule::ChangesAndNulls => 25,
@@ -279,6 +284,7 @@ impl Rule {
             Rule::ReferenceWindows => is_window(candidate, &columns[column].kind),
             Rule::ParentRows => has_parents(schema, table, &columns[column].kind),
             Rule::SpreadWeights => is_spread(&columns[column].kind),
+            Rule::LookupColumns => is_lookup(schema.tables.as_slice(), columns, column),
             Rule::ChangesAndNulls => is_null_share(&columns[column]) && is_change(&columns[column]),
             _ => true,
         }

@@ -1,10 +1,11 @@
 pub(crate) mod fixtures;
+mod lookups;
 mod references;
 
 use super::*;
 use fixtures::{
-    cite, column, fault_in, key, letters, lookup, numbered, plan_of, push_column, push_weights,
-    reference, schema, table, text, told, with_table,
+    cite, column, fault_in, key, letters, numbered, plan_of, push_column, push_weights,
+    schema, table, text, told, with_table,
 };
 use schema_model::{
     Columns, Delimiter, Kind, Leaf, Leaves, Life, Longs, Parts, Schema, Table, Text, Texts, Window,
@@ -426,7 +427,6 @@ fn kinds_that_may_not_change(rt: HostRuntime) {
     let fault = fault_unless(false, 25, 4);
     assert_eq!(rt; fault_of_change(&rt, Kind::Born), fault);
     assert_eq!(rt; fault_of_change(&rt, Kind::Changed), fault);
-    assert_eq!(rt; fault_of_change(&rt, lookup(&rt, "c", "id")), fault);
 }
 
 #[test]
@@ -681,28 +681,6 @@ fn rules_come_before_places(rt: HostRuntime) {
     assert_eq!(rt; told_of_two(&rt, &ONE, "u", &EXCHANGED), Some((5, 2, 1)));
 }
 
-/// Whether a schema with a second table of such lives and changes is unbuilt.
-fn is_unbuilt_table(
-    rt: &(impl Abort + AllocGlobal),
-    life: Option<Life>,
-    update: Option<i64>,
-) -> bool {
-    let mut changed = one(rt, "u");
-    changed.life = life;
-    changed.update = update;
-    unbuilt(&with_table(rt, single(rt, one(rt, "t")), changed))
-}
-
-#[test]
-fn schemas_that_are_not_built(rt: HostRuntime) {
-    assert!(rt; !unbuilt(&single(&rt, one(&rt, "t"))));
-    let life = Some(Life { lo: 1, hi: 2 });
-    assert!(rt; !is_unbuilt_table(&rt, None, None));
-    assert!(rt; !is_unbuilt_table(&rt, None, Some(1)));
-    assert!(rt; !is_unbuilt_table(&rt, life, None));
-    assert!(rt; !is_unbuilt_table(&rt, life, Some(1)));
-}
-
 #[test]
 fn bars_between_fields(rt: HostRuntime) {
     let bar = with_table(&rt, schema(&rt, 1, 2, Delimiter::Bar), one(&rt, "t"));
@@ -732,39 +710,6 @@ fn lengths_of_characters(rt: HostRuntime) {
         let told = told_of_characters(&rt, alphabet, lo, hi);
         assert_eq!(rt; told, broken_unless(is_kept, 14));
     }
-}
-
-/// Whether a schema with this column behind the key is unbuilt.
-fn is_unbuilt_with(rt: &(impl Abort + AllocGlobal), kind: Kind, changes: bool, null: i64) -> bool {
-    let mut column = column(text(rt, "c"), kind);
-    column.changes = changes;
-    column.null = null;
-    let mut table = holding(rt, "t", (1, 1), &[("id", Key(1))]);
-    table.columns.push(column).expect(rt, "memory");
-    unbuilt(&single(rt, table))
-}
-
-#[test]
-fn columns_that_are_not_built(rt: HostRuntime) {
-    assert!(rt; !is_unbuilt_with(&rt, Kind::Born, false, 0));
-    assert!(rt; !is_unbuilt_with(&rt, Kind::Changed, false, 0));
-    assert!(rt; !is_unbuilt_with(&rt, Kind::Born, true, 0));
-    assert!(rt; !is_unbuilt_with(&rt, Kind::Born, false, 1));
-    assert!(rt; !is_unbuilt_with(&rt, Kind::Born, false, -1));
-    assert!(rt; !is_unbuilt_with(&rt, kind_of(Key(1)), false, 0));
-    assert!(rt; !is_unbuilt_with(&rt, kind_of(Scrambled(1)), false, 0));
-    let parts = Parts::new(rt.alloc());
-    assert!(rt; !is_unbuilt_with(&rt, Kind::Template { parts }, false, 0));
-    let file = text(&rt, "words");
-    assert!(rt; !is_unbuilt_with(&rt, Kind::Leaf(Leaf::Dict { file }), false, 0));
-}
-
-// Of the columns that speak of other rows, references are built.
-#[test]
-fn lookups_are_not_built(rt: HostRuntime) {
-    let kind = reference(&rt, text(&rt, "t"), Window::All, (1, 1));
-    assert!(rt; !is_unbuilt_with(&rt, kind, false, 0));
-    assert!(rt; is_unbuilt_with(&rt, lookup(&rt, "c", "id"), false, 0));
 }
 
 /// The plan of three tables of one, two and three columns, the keys of the last scrambled.

@@ -5,7 +5,7 @@ ghost use Rattle.std.specs.Prelude.{◌≡◌, ◌<◌, IfOk, length};
 
 use super::*;
 use life_intervals::Cohort;
-use schema_check::{Dictionaries, Plan, check, unbuilt};
+use schema_check::{Dictionaries, Plan, check};
 use schema_model::{
     Column, Columns, Delimiter, Kind, Life, Longs, Schema, Table, Tables, Text, Window,
 };
@@ -66,9 +66,6 @@ fn plan_of(alloc: Global, units: i64, tables: Tables) -> Result<Plan, Fail> {
         delimiter: Delimiter::Tab,
         tables,
     };
-    if unbuilt(&schema) {
-        return Err(Fail::from("not built"));
-    }
     match check(alloc, schema, Dictionaries::new(alloc)) {
         Ok(plan) => Ok(plan),
         Err(fault) => Err(Fail::from(fault)),

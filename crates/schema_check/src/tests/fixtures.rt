@@ -4,7 +4,7 @@ use crate::checker::{CheckFault, first_fault};
 use crate::facts::{NO_FACTS, TableFacts, fill_facts};
 use crate::rules::MAX_ITEMS;
 use crate::word_lists::Dictionaries;
-use crate::{Plan, check, unbuilt};
+use crate::{Plan, check};
 use schema_model::{
     Column, Columns, Delimiter, Kind, Leaf, Leaves, Longs, Part, Parts, Schema, Table, Tables,
     Text, Texts, Window,
@@ -155,7 +155,7 @@ pub(crate) fn reference(
     }
 }
 
-/// The first fault of a schema, whether or not tables can be made of it.
+/// The first fault of a schema without dictionaries.
 pub(crate) fn fault_in(rt: &(impl Abort + AllocGlobal), schema: Schema) -> Option<CheckFault> {
     let dictionaries = Dictionaries::new(rt.alloc());
     let mut facts = [NO_FACTS; MAX_ITEMS];
@@ -170,17 +170,15 @@ pub(crate) fn plan_of(
     schema: Schema,
     dictionaries: Dictionaries,
 ) -> Plan {
-    assert!(rt; !unbuilt(&schema), "not built");
     check(rt.alloc(), schema, dictionaries).expect(rt, "refused")
 }
 
-/// What the check of a built schema tells: the rule, the table and the column, or None where it is accepted.
+/// What the check of a schema tells: the rule, the table and the column, or None where it is accepted.
 pub(crate) fn told(
     rt: &(impl Abort + AllocGlobal),
     schema: Schema,
     dictionaries: Dictionaries,
 ) -> Option<(u32, u64, u64)> {
-    assert!(rt; !unbuilt(&schema), "not built");
     match check(rt.alloc(), schema, dictionaries) {
         Ok(_) => None,
         Err(fault) => Some(told_rule(rt, fault)),

@@ -13,7 +13,7 @@ use Rattle.draw_values.proofs.values.put_value.Goals.{After-drawn_seed-2}
 kept : (c : After-drawn_seed-2) → IsKeptField (layout_of c.args.plan.now) c.args.table c.args.column c.chooser_of-chooser.result c.index-columns-column.result c.index-columns-chooser.result
 kept c =
     kept_field (layout_of c.args.plan.now) c.args.table c.args.column c.chooser_of-chooser.result (layout_of c.args.plan.now).units c.columns-columns.result.now
-    c.index-columns-column.result c.index-columns-chooser.result c.columns-columns.ensures.columns c.columns-columns.ensures.served c.columns-columns.ensures.limits
+    c.index-columns-column.result c.index-columns-chooser.result c.columns-columns.ensures.columns c.columns-columns.ensures.limits
     c.requires.column c.requires.own c.index-columns-column.is c.chooser_of-chooser.ensures c.index-columns-chooser.is
 
 pub put_field-requires-clause-ready : goal.put_field-requires-clause-ready

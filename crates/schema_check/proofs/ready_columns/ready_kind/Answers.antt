@@ -29,3 +29,8 @@ returns-in_ok-branches-in-Case c =
     ∙ sym (map-map (ready_leaf delimiter) (leaf_layout dictionaries) c.in-Case.branches))
     ∙ ap (λ on. Case on (map (ready_leaf delimiter) (map (leaf_layout dictionaries) c.in-Case.branches))) c.place_of_column-on.ensures.place
     ∙ ap (λ kind. ready_kind delimiter (kind_layout dictionaries c.args.tables.now columns kind)) (sym c.in-Case.is)
+
+pub returns-in-Lookup : goal.returns-in-Lookup
+returns-in-Lookup c =
+    c.ready_lookup.ensures c.args.lexicon.now.delimiter c.args.lexicon.now.dictionaries
+    ∙ ap (λ kind. ready_kind c.args.lexicon.now.delimiter (kind_layout c.args.lexicon.now.dictionaries c.args.tables.now c.args.columns.now kind)) (sym c.in-Lookup.is)

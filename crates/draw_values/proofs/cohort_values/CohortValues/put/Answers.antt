@@ -16,7 +16,7 @@ known c = AreValuesOf-view _ c.args.self.now c.self.inside.columns.now c.self.in
 kept : (c : After-seed-2) → IsKeptField (layout_of c.args.self.now.plan) c.args.self.now.table c.args.column c.chooser_of-chooser.result c.index-columns-column.result c.index-columns-chooser.result
 kept c =
     kept_field (layout_of c.args.self.now.plan) c.args.self.now.table c.args.column c.chooser_of-chooser.result (layout_of c.args.self.now.plan).units c.self.inside.columns.now
-    c.index-columns-column.result c.index-columns-chooser.result (known c).columns (known c).served (known c).limits c.requires.column c.requires.own
+    c.index-columns-column.result c.index-columns-chooser.result (known c).columns (known c).limits c.requires.column c.requires.own
     c.index-columns-column.is c.chooser_of-chooser.ensures c.index-columns-chooser.is
 
 pub put_field-requires-clause-ready : goal.put_field-requires-clause-ready

@@ -5,8 +5,9 @@ use Rattle.std.proofs.lemmas.List.Sums.{sum_by-take-le, sum_by_more, sum_by_more
 use Rattle.schema_check.specs.Layout.{ColumnLayout, layout_of, no_column}
 use Rattle.pd_outside.specs.Pages.{Page}
 use Rattle.row_lines.specs.CohortLines.{LinesOf, layout_for, text_in_cohort}
-use Rattle.row_lines.proofs.CohortLineLemmas.{AreLinesOf-view, asked_for_line-is, asked_in, length-columns, length-delimiter, line_in_cohort-fields, max_line-columns, room_in}
+use Rattle.row_lines.proofs.CohortLineLemmas.{AreLinesOf-view, asked_for_line-is, asked_in, length-delimiter, line_in_cohort-fields, max_line-columns, room_in}
 use Rattle.draw_values.proofs.JoinLemmas.{join_with_byte-range_more}
+use Rattle.row_lines.proofs.CohortFieldLemmas.{length-columns}
 use Rattle.row_lines.proofs.cohort_lines.CohortLines.put_drawn_line.Goals as goal
 
 pub put_delimiter-requires : goal.put_delimiter-requires
@@ -23,8 +24,8 @@ put_delimiter-requires g c =
 
 pub put_field-requires-clause-column : goal.put_field-requires-clause-column
 put_field-requires-clause-column g c =
-    let known = AreLinesOf-view _ c.args.self.now c.self.inside.keys c.self.inside.lives c.self.inside.changes c.self.inside.births c.self.inside.columns.now c.self.inside.first c.self.inside.delimiter c.self.view_is c.self.invariant in
-    omega (arith, c.loop-column-test.true, length-columns c.args.self.now _ _ _ _ _ _ _ known)
+    let known = AreLinesOf-view _ c.args.self.now c.self.inside.keys c.self.inside.lives c.self.inside.changes c.self.inside.births c.self.inside.columns.now c.self.inside.fields c.self.inside.delimiter c.self.view_is c.self.invariant in
+    omega (arith, c.loop-column-test.true, length-columns c.args.self.now _ known.columns_are)
 
 pub put_field-requires-clause-room : goal.put_field-requires-clause-room
 put_field-requires-clause-room g c =
@@ -46,10 +47,10 @@ put_field-requires-clause-room g c =
 pub loop-column-preserved : goal.loop-column-preserved
 loop-column-preserved g c =
     let lines : LinesOf = c.args.self.now in
-    let known = AreLinesOf-view _ lines c.self.inside.keys c.self.inside.lives c.self.inside.changes c.self.inside.births c.self.inside.columns.now c.self.inside.first c.self.inside.delimiter c.self.view_is c.self.invariant in
+    let known = AreLinesOf-view _ lines c.self.inside.keys c.self.inside.lives c.self.inside.changes c.self.inside.births c.self.inside.columns.now c.self.inside.fields c.self.inside.delimiter c.self.view_is c.self.invariant in
     let columns : List ColumnLayout = (layout_for lines).columns in
     let n : ℕ = c.loop-column.column in
-    let below : n < length columns = omega (arith, c.loop-column-test.true, length-columns lines _ _ _ _ _ _ _ known) in
+    let below : n < length columns = omega (arith, c.loop-column-test.true, length-columns lines _ known.columns_are) in
     let own : List ℕ = text_in_cohort lines c.args.index n in
     let delimiter : ℕ = (layout_of lines.plan).delimiter in
     record {
@@ -76,11 +77,11 @@ loop-column-preserved g c =
 pub put_piece-requires : goal.put_piece-requires
 put_piece-requires g c =
     let lines : LinesOf = c.args.self.now in
-    let known = AreLinesOf-view _ lines c.self.inside.keys c.self.inside.lives c.self.inside.changes c.self.inside.births c.self.inside.columns.now c.self.inside.first c.self.inside.delimiter c.self.view_is c.self.invariant in
+    let known = AreLinesOf-view _ lines c.self.inside.keys c.self.inside.lives c.self.inside.changes c.self.inside.births c.self.inside.columns.now c.self.inside.fields c.self.inside.delimiter c.self.view_is c.self.invariant in
     omega (
       arith,
       known.limits.some_column,
-      length-columns lines _ _ _ _ _ _ _ known,
+      length-columns lines _ known.columns_are,
       c.loop-column-test.false,
       ap (λ (bytes : List ℕ). length bytes) c.of_byte.ensures,
       c.loop-column.invariant.short,
@@ -93,10 +94,10 @@ put_piece-requires g c =
 pub returns-clause-line : goal.returns-clause-line
 returns-clause-line g c =
     let lines : LinesOf = c.args.self.now in
-    let known = AreLinesOf-view _ lines c.self.inside.keys c.self.inside.lives c.self.inside.changes c.self.inside.births c.self.inside.columns.now c.self.inside.first c.self.inside.delimiter c.self.view_is c.self.invariant in
+    let known = AreLinesOf-view _ lines c.self.inside.keys c.self.inside.lives c.self.inside.changes c.self.inside.births c.self.inside.columns.now c.self.inside.fields c.self.inside.delimiter c.self.view_is c.self.invariant in
     let n : ℕ = c.loop-column.column in
     let all : n ≡ length (layout_for lines).columns =
-    omega (arith, length-columns lines _ _ _ _ _ _ _ known, c.loop-column-test.false, c.loop-column.auto.column-end) in
+    omega (arith, length-columns lines _ known.columns_are, c.loop-column-test.false, c.loop-column.auto.column-end) in
     let joined : List ℕ = join_with_byte (layout_of lines.plan).delimiter (map (text_in_cohort lines c.args.index) (range_with_len 0 n)) in
     c.put_piece.ensures
     ∙ ap (λ (end : List ℕ). record { text = c.loop-column.buf.text ++ end; room = c.loop-column.buf.room }) c.of_byte.ensures
@@ -109,10 +110,10 @@ returns-clause-line g c =
 pub returns-clause-size : goal.returns-clause-size
 returns-clause-size g c =
     let lines : LinesOf = c.args.self.now in
-    let known = AreLinesOf-view _ lines c.self.inside.keys c.self.inside.lives c.self.inside.changes c.self.inside.births c.self.inside.columns.now c.self.inside.first c.self.inside.delimiter c.self.view_is c.self.invariant in
+    let known = AreLinesOf-view _ lines c.self.inside.keys c.self.inside.lives c.self.inside.changes c.self.inside.births c.self.inside.columns.now c.self.inside.fields c.self.inside.delimiter c.self.view_is c.self.invariant in
     let n : ℕ = c.loop-column.column in
     let all : n ≡ length (layout_for lines).columns =
-    omega (arith, length-columns lines _ _ _ _ _ _ _ known, c.loop-column-test.false, c.loop-column.auto.column-end) in
+    omega (arith, length-columns lines _ known.columns_are, c.loop-column-test.false, c.loop-column.auto.column-end) in
     let joined : List ℕ = join_with_byte (layout_of lines.plan).delimiter (map (text_in_cohort lines c.args.index) (range_with_len 0 n)) in
     omega (
       arith,

@@ -10,7 +10,7 @@ use Rattle.row_lines.proofs.cohort_lines.CohortLines.put_known_line.Goals.{Else-
 -- the row changed at one of the last units
 recent : (g : _) (c : Else-changed-self g) → IsRecent (layout_for c.args.self.now).update c.args.self.now.unit c.args.changed
 recent g c =
-    let known = AreLinesOf-view _ c.args.self.now c.self.inside.keys c.self.inside.lives c.self.inside.changes c.self.inside.births c.self.inside.columns.now c.self.inside.first c.self.inside.delimiter c.self.view_is c.self.invariant in
+    let known = AreLinesOf-view _ c.args.self.now c.self.inside.keys c.self.inside.lives c.self.inside.changes c.self.inside.births c.self.inside.columns.now c.self.inside.fields c.self.inside.delimiter c.self.view_is c.self.invariant in
     change_for-recent c.args.self.now _ _ _ _ _ _ _ known c.args.index c.args.changed c.requires.row c.requires.changed
     (λ same. c.if-changed-self.false (same ∙ ap (λ (lines : LinesOf). lines.born) (sym c.self.view_is)))
 

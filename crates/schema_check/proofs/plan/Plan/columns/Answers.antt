@@ -1,13 +1,11 @@
-use Rattle.std.proofs.Common.{◌≡◌, ◌<◌, ◌≤◌, true, length, sym, ap, ◌∙◌, subst, arith}
+use Rattle.std.proofs.Common.{◌≡◌, ◌<◌, ◌≤◌, length, sym, ap, ◌∙◌, subst, arith}
 use Rattle.std.proofs.lemmas.List.{length-map}
-use Rattle.std.proofs.lemmas.List.Elements.{All-same}
 use Rattle.schema_check.specs.Counts.{count}
 use Rattle.schema_check.specs.Layout.{layout_of, no_table, table_at, table_layout}
 use Rattle.schema_check.specs.Limits.{IsTableInLimits}
 use Rattle.schema_check.specs.Dictionaries.{Project, project_of}
-use Rattle.schema_check.specs.Ready.{is_served, ready_columns}
+use Rattle.schema_check.specs.Ready.{ready_columns}
 use Rattle.schema_check.proofs.PlannedLemmas.{length-kept, get_or-kept}
-use Rattle.schema_check.proofs.ReadyLemmas.{columns_served}
 use Rattle.schema_check.proofs.plan.Plan.columns.Goals as goal
 
 pub index-requires : goal.index-requires
@@ -31,7 +29,6 @@ returns c =
     ∙ get_or-kept (ready_columns (layout_of project)) (length schema.tables) inside.ready.items c.self.invariant.columns table _ within in
     record {
       columns = columns ∙ ap (λ (p : Project). ready_columns (layout_of p) table) c.self.view_is;
-      served = All-same (λ column. is_served column ≡ true) c.as_slice.result.now (ready_columns (layout_of project) table) columns (columns_served project table c.self.invariant.built within);
       limits = subst (λ (p : Project). IsTableInLimits (layout_of p).units (table_at (layout_of p).tables table)) c.self.view_is (c.self.invariant.limits.tables table no_table in_layouts);
       units = subst (λ (p : Project). count p.schema.units ≤ 10000) c.self.view_is c.self.invariant.limits.unit_limit;
     }

@@ -16,7 +16,6 @@ invariant_of-result c =
     let known = c.requires.facts ∙ facts_whole project limits in
     record {
       accepted = c.requires.accepted;
-      built = c.requires.built;
       limits = limits;
       facts = c.in_ok-facts.ensures.items ∙ known;
       columns = c.in_ok-ready.ensures;

@@ -3,7 +3,6 @@ use Rattle.std.proofs.lemmas.List.{length-map}
 use Rattle.schema_check.specs.Layout.{layout_of, no_table, table_at, table_layout}
 use Rattle.schema_check.specs.Limits.{IsTableInLimits}
 use Rattle.schema_check.specs.Dictionaries.{Project, project_of}
-use Rattle.schema_check.proofs.PlannedLemmas.{built_table}
 use Rattle.schema_check.proofs.plan.Plan.table.Goals as goal
 
 pub returns-clause-limits : goal.returns-clause-limits
@@ -14,6 +13,3 @@ returns-clause-limits c =
     let within : table < length schema.tables = subst (λ (p : Project). table < length p.schema.tables) (sym c.self.view_is) c.requires in
     let in_layouts : table < length (layout_of project).tables = omega (arith, within, length-map schema.tables (table_layout c.self.inside.dictionaries schema.tables)) in
     subst (λ (p : Project). IsTableInLimits (layout_of p).units (table_at (layout_of p).tables table)) c.self.view_is (c.self.invariant.limits.tables table no_table in_layouts)
-
-pub returns-clause-built : goal.returns-clause-built
-returns-clause-built c = built_table c.self.inside.schema c.self.invariant.built c.args.table c.get.result.now c.get.ensures

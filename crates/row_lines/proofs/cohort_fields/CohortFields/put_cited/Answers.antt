@@ -1,26 +1,26 @@
-use Rattle.std.proofs.Common.{◌≡◌, ◌<◌, ◌+◌, ◌^◌, ◌++◌, ℕ, List, Some, true, ap, sym, ◌∙◌, arith, decimal, length}
+use Rattle.std.proofs.Common.{◌≡◌, ◌<◌, ◌+◌, ◌^◌, ◌++◌, ℕ, List, Some, true, ap, sym, ◌∙◌, arith, decimal, is_some, length}
 use Rattle.schema_check.specs.Layout.{column_at, key_kind, layout_of}
 use Rattle.schema_check.specs.declared.ready.ReadyColumn.{ReadyColumn}
 use Rattle.schema_check.specs.declared.ready.ReadyKind.TheVariants.{Key, Reference}
 use Rattle.schema_check.specs.declared.ready.ReadyReference.{ReadyReference}
-use Rattle.schema_check.specs.Ready.{is_served, ready_column}
+use Rattle.schema_check.specs.Ready.{ready_column}
 use Rattle.life_intervals.specs.CohortParents.{IsReferenceOf, reference_by}
 use Rattle.draw_values.specs.CohortValues.{ValuesOf, layout_for as layout_of_values, size_for, value_for}
 use Rattle.draw_values.specs.Values.{is_own, written}
-use Rattle.row_lines.specs.CohortLines.{AreLinesOf, LinesOf, layout_for, parent_key_for}
+use Rattle.row_lines.specs.CohortLines.{AreFieldsOf, LinesOf, key_for, layout_for, ordinal_of, parent_key_for}
 use Rattle.row_lines.specs.Parts.{cited_for, cited_size, cited_text}
-use Rattle.row_lines.proofs.CohortLineLemmas.{AreLinesOf-view, key_from_ready, key_never_null, length-columns, ordinal-limit, ready_at, served_at}
+use Rattle.row_lines.proofs.CohortFieldLemmas.{AreFieldsOf-view, asked-key, held-key, key_from_ready, key_never_null, ready_at}
 use Rattle.row_lines.proofs.FieldLemmas.{length-decimal-le_20}
-use Rattle.row_lines.proofs.ReferenceFieldLemmas.{held-reference, size-reference}
-use Rattle.row_lines.proofs.PartLemmas.{cited_for-own, cited_size-key, cited_text-field, cited_text-key, length-written, own_from_cited, size_for-cited}
-use Rattle.row_lines.proofs.cohort_lines.CohortLines.put_cited.Goals as goal
-use Rattle.row_lines.proofs.cohort_lines.CohortLines.put_cited.Goals.{After-index-columns-column}
+use Rattle.row_lines.proofs.ReferenceFieldLemmas.{asked-reference, held-reference, size-reference}
+use Rattle.row_lines.proofs.PartLemmas.{cited_for-own, cited_size-key, cited_text-number, length-written, own_from_cited, size_for-cited}
+use Rattle.row_lines.proofs.cohort_fields.CohortFields.put_cited.Goals as goal
+use Rattle.row_lines.proofs.cohort_fields.CohortFields.put_cited.Goals.{After-index-columns-column}
 
-known : (g : _) (c : After-index-columns-column g) → AreLinesOf c.args.self.now c.self.inside.keys c.self.inside.lives c.self.inside.changes c.self.inside.births c.self.inside.columns.now c.self.inside.first c.self.inside.delimiter
-known g c = AreLinesOf-view _ c.args.self.now c.self.inside.keys c.self.inside.lives c.self.inside.changes c.self.inside.births c.self.inside.columns.now c.self.inside.first c.self.inside.delimiter c.self.view_is c.self.invariant
+known : (g : _) (c : After-index-columns-column g) → AreFieldsOf c.args.self.now c.self.inside.parents c.self.inside.columns.now c.self.inside.first
+known g c = AreFieldsOf-view _ c.args.self.now c.self.inside.parents c.self.inside.columns.now c.self.inside.first c.self.view_is c.self.invariant
 
 ready : (g : _) (c : After-index-columns-column g) → ready_column (layout_of c.args.self.now.plan).delimiter (column_at (layout_for c.args.self.now).columns c.args.column) ≡ c.index-columns-column.result
-ready g c = ready_at c.args.self.now _ _ _ _ _ _ _ (known g c) c.args.column c.index-columns-column.result c.requires.column.within c.index-columns-column.is
+ready g c = ready_at c.args.self.now _ (known g c).columns_are c.args.column c.index-columns-column.result c.requires.column.within c.index-columns-column.is
 
 -- the column is the key
 is_key : (g : _) (c : After-index-columns-column g) → c.index-columns-column.result.kind ≡ Key → (column_at (layout_for c.args.self.now).columns c.args.column).kind ≡ key_kind
@@ -31,10 +31,7 @@ is_key g c key =
 is_own_column : (g : _) (c : After-index-columns-column g) → (c.index-columns-column.result.kind ≡ Key → ⊥) → ((reference : ReadyReference) → c.index-columns-column.result.kind ≡ Reference reference → ⊥) →
     is_own (column_at (layout_for c.args.self.now).columns c.args.column).kind ≡ true
 is_own_column g c no_key no_reference =
-    let lines : LinesOf = c.args.self.now in
-    let served = served_at c.self.inside.columns.now (known g c).served c.args.column c.index-columns-column.result
-    (omega (arith, c.requires.column.within, length-columns lines _ _ _ _ _ _ _ (known g c))) c.index-columns-column.is in
-    own_from_cited (layout_of lines.plan).delimiter _ c.requires.column.cited (ap is_served (ready g c) ∙ served)
+    own_from_cited (layout_of c.args.self.now.plan).delimiter _ c.requires.column.cited
     (λ key. no_key (ap (λ (column : ReadyColumn). column.kind) (sym (ready g c)) ∙ key))
     (λ reference held. no_reference reference (ap (λ (column : ReadyColumn). column.kind) (sym (ready g c)) ∙ held))
 
@@ -43,24 +40,26 @@ put_number-requires g c =
     let here = (goal.at.put_number-requires g c).After-index-columns-column in
     omega (
       arith,
-      length-decimal-le_20 c.args.key (omega (arith, c.ranges.key)),
+      length-decimal-le_20 c.key.result c.key.type_inv,
       cited_size-key c.args.self.now c.args.column (is_key g here (ap (λ (column : ReadyColumn). column.kind) c.index-columns-column.is ∙ c.in-Key.is)),
       c.requires.room,
     )
 
 -- what is put is the key
-text_is_key : (g : _) (c : After-index-columns-column g) → c.index-columns-column.result.kind ≡ Key → cited_text c.args.self.now c.args.index c.args.column ≡ decimal c.args.key
-text_is_key g c key =
+text_is_key : (g : _) (c : After-index-columns-column g) (key : ℕ) → c.index-columns-column.result.kind ≡ Key → key ≡ key_for c.args.self.now c.args.index → key < 2 ^ 64 →
+    cited_text c.args.self.now c.args.index c.args.values.now.changed c.args.column ≡ decimal key
+text_is_key g c key is key_is small =
     let lines : LinesOf = c.args.self.now in
-    let never = key_never_null (layout_for lines).columns c.args.column (known g c).limits.key_never_null (known g c).limits.no_other_key c.requires.column.within (is_key g c key) in
-    cited_text-key lines c.args.column c.args.index c.args.key c.requires.column (is_key g c key) never (known g c).born c.requires.row c.requires.key (omega (arith, c.ranges.key))
+    let never = key_never_null (layout_for lines).columns c.args.column (known g c).limits.key_never_null (known g c).limits.no_other_key c.requires.column.within (is_key g c is) in
+    cited_text-number lines c.args.index c.args.values.now.changed c.args.column key c.requires.column
+    (held-key lines c.args.column c.args.index c.args.values.now.changed key (is_key g c is) never (known g c).born c.requires.row key_is) small
 
 pub returns-in-Key-clause-text : goal.returns-in-Key-clause-text
 returns-in-Key-clause-text g c =
     let here = (goal.at.returns-in-Key-clause-text g c).After-index-columns-column in
     c.put_number.ensures
     ∙ ap (λ (text : List ℕ). record { text = c.args.buf.now.text ++ text; room = c.args.buf.now.room })
-    (sym (text_is_key g here (ap (λ (column : ReadyColumn). column.kind) c.index-columns-column.is ∙ c.in-Key.is)))
+    (sym (text_is_key g here c.key.result (ap (λ (column : ReadyColumn). column.kind) c.index-columns-column.is ∙ c.in-Key.is) c.key.ensures.key c.key.type_inv))
 
 pub returns-in-Key-clause-size : goal.returns-in-Key-clause-size
 returns-in-Key-clause-size g c =
@@ -68,14 +67,10 @@ returns-in-Key-clause-size g c =
     let key = ap (λ (column : ReadyColumn). column.kind) c.index-columns-column.is ∙ c.in-Key.is in
     omega (
       arith,
-      length-decimal-le_20 c.args.key (omega (arith, c.ranges.key)),
+      length-decimal-le_20 c.key.result c.key.type_inv,
       cited_size-key c.args.self.now c.args.column (is_key g here key),
-      ap (λ (text : List ℕ). length text) (text_is_key g here key),
+      ap (λ (text : List ℕ). length text) (text_is_key g here c.key.result key c.key.ensures.key c.key.type_inv),
     )
-
-pub overflow_add-self-inside : goal.overflow_add-self-inside
-overflow_add-self-inside g c =
-    omega (arith, ordinal-limit c.args.self.now _ _ _ _ _ _ _ (known g (goal.at.overflow_add-self-inside g c).After-index-columns-column) c.args.index c.requires.row)
 
 pub put-requires-clause-own : goal.put-requires-clause-own
 put-requires-clause-own g c =
@@ -92,34 +87,34 @@ put-requires-clause-room g c =
     omega (arith, taken, c.requires.room)
 
 -- what is put is what the column holds
-held_is : (g : _) (c : After-index-columns-column g) → (c.index-columns-column.result.kind ≡ Key → ⊥) → ((reference : ReadyReference) → c.index-columns-column.result.kind ≡ Reference reference → ⊥) →
-    cited_for c.args.self.now c.args.index c.args.column ≡ value_for c.args.values.now c.args.column (c.self.inside.first + c.args.index)
-held_is g c no_key no_reference =
-    cited_for-own c.args.self.now c.args.values.now c.args.column c.args.index (c.self.inside.first + c.args.index) c.requires.column c.requires.values
-    (ap (λ (first : ℕ). first + c.args.index) (known g c).first_is) (is_own_column g c no_key no_reference) (known g c).born c.requires.row (known g c).table
+held_is : (g : _) (c : After-index-columns-column g) (ordinal : ℕ) → ordinal ≡ ordinal_of c.args.self.now c.args.index → (c.index-columns-column.result.kind ≡ Key → ⊥) → ((reference : ReadyReference) → c.index-columns-column.result.kind ≡ Reference reference → ⊥) →
+    cited_for c.args.self.now c.args.index c.args.values.now.changed c.args.column ≡ value_for c.args.values.now c.args.column ordinal
+held_is g c ordinal ordinal_is no_key no_reference =
+    cited_for-own c.args.self.now c.args.values.now c.args.column c.args.index c.args.values.now.changed ordinal c.requires.column c.requires.values
+    ordinal_is (is_own_column g c no_key no_reference) (known g c).born c.requires.row
 
-text_is_own : (g : _) (c : After-index-columns-column g) → (c.index-columns-column.result.kind ≡ Key → ⊥) → ((reference : ReadyReference) → c.index-columns-column.result.kind ≡ Reference reference → ⊥) →
-    cited_text c.args.self.now c.args.index c.args.column
-    ≡ written (layout_of c.args.values.now.plan).delimiter (value_for c.args.values.now c.args.column (c.self.inside.first + c.args.index))
-text_is_own g c no_key no_reference =
-    let value = value_for c.args.values.now c.args.column (c.self.inside.first + c.args.index) in
-    ap (written (layout_of c.args.self.now.plan).delimiter) (held_is g c no_key no_reference)
+text_is_own : (g : _) (c : After-index-columns-column g) (ordinal : ℕ) → ordinal ≡ ordinal_of c.args.self.now c.args.index → (c.index-columns-column.result.kind ≡ Key → ⊥) → ((reference : ReadyReference) → c.index-columns-column.result.kind ≡ Reference reference → ⊥) →
+    cited_text c.args.self.now c.args.index c.args.values.now.changed c.args.column
+    ≡ written (layout_of c.args.values.now.plan).delimiter (value_for c.args.values.now c.args.column ordinal)
+text_is_own g c ordinal ordinal_is no_key no_reference =
+    let value = value_for c.args.values.now c.args.column ordinal in
+    ap (written (layout_of c.args.self.now.plan).delimiter) (held_is g c ordinal ordinal_is no_key no_reference)
     ∙ sym (ap (λ (of : ValuesOf). written (layout_of of.plan).delimiter value) c.requires.values)
 
 pub returns-in_default-clause-text : goal.returns-in_default-clause-text
 returns-in_default-clause-text g c =
     c.put.ensures.text
     ∙ ap (λ (text : List ℕ). record { text = c.args.buf.now.text ++ text; room = c.args.buf.now.room })
-    (sym (text_is_own g (goal.at.returns-in_default-clause-text g c).After-index-columns-column
+    (sym (text_is_own g (goal.at.returns-in_default-clause-text g c).After-index-columns-column c.ordinal.result c.ordinal.ensures.ordinal
     (λ key. c.in_default.not-Key (ap (λ (column : ReadyColumn). column.kind) (sym c.index-columns-column.is) ∙ key)) (λ reference held. c.in_default.not-Reference reference (ap (λ (column : ReadyColumn). column.kind) (sym c.index-columns-column.is) ∙ held))))
 
 pub returns-in_default-clause-size : goal.returns-in_default-clause-size
 returns-in_default-clause-size g c =
     let here = (goal.at.returns-in_default-clause-size g c).After-index-columns-column in
-    let value = value_for c.args.values.now c.args.column (c.self.inside.first + c.args.index) in
+    let value = value_for c.args.values.now c.args.column c.ordinal.result in
     let taken : size_for c.args.values.now c.args.column ≡ cited_size c.args.self.now c.args.column =
     ap (λ (of : ValuesOf). size_for of c.args.column) c.requires.values ∙ size_for-cited c.args.self.now c.args.column c.requires.column in
-    let is = text_is_own g here (λ key. c.in_default.not-Key (ap (λ (column : ReadyColumn). column.kind) (sym c.index-columns-column.is) ∙ key)) (λ reference held. c.in_default.not-Reference reference (ap (λ (column : ReadyColumn). column.kind) (sym c.index-columns-column.is) ∙ held)) in
+    let is = text_is_own g here c.ordinal.result c.ordinal.ensures.ordinal (λ key. c.in_default.not-Key (ap (λ (column : ReadyColumn). column.kind) (sym c.index-columns-column.is) ∙ key)) (λ reference held. c.in_default.not-Reference reference (ap (λ (column : ReadyColumn). column.kind) (sym c.index-columns-column.is) ∙ held)) in
     omega (
       arith,
       ap (λ (text : List ℕ). length text) is,
@@ -137,12 +132,12 @@ here g c reference held = record {
 
 -- whose text is the parent's key
 text_is_parent : (g : _) (c : After-index-columns-column g) (reference : ReadyReference) (key : ℕ) → c.index-columns-column.result.kind ≡ Reference reference →
-    key ≡ parent_key_for c.args.self.now c.args.index (reference_by c.args.column reference) → key < 2 ^ 64 → cited_text c.args.self.now c.args.index c.args.column ≡ decimal key
+    key ≡ parent_key_for c.args.self.now c.args.index (reference_by c.args.column reference) → key < 2 ^ 64 → cited_text c.args.self.now c.args.index c.args.values.now.changed c.args.column ≡ decimal key
 text_is_parent g c reference key held is small =
     let lines : LinesOf = c.args.self.now in
     let is_known = known g c in
-    cited_text-field lines c.args.index c.args.column key c.requires.column
-    (held-reference lines is_known.sound is_known.limits is_known.table is_known.born is_known.unit c.args.column c.args.index reference (here g c reference held) c.requires.row
+    cited_text-number lines c.args.index c.args.values.now.changed c.args.column key c.requires.column
+    (held-reference lines is_known.sound is_known.limits is_known.table is_known.born is_known.unit c.args.column c.args.index c.args.values.now.changed reference (here g c reference held) c.requires.row
     ∙ ap (λ (k : ℕ). Some (decimal k)) (sym is)) small
 
 pub put_number-requires-in-Reference : goal.put_number-requires-in-Reference
@@ -178,3 +173,15 @@ returns-in-Reference-clause-size g c =
       size_for-cited lines c.args.column c.requires.column,
       ap (λ (text : List ℕ). length text) (text_is_parent g at c.in-Reference.reference c.parent_key-parent.result held c.parent_key-parent.ensures.key c.parent_key-parent.type_inv),
     )
+
+pub returns-in-Reference-clause-steps : goal.returns-in-Reference-clause-steps
+returns-in-Reference-clause-steps g c =
+    let at = (goal.at.returns-in-Reference-clause-steps g c).After-index-columns-column in
+    let held = ap (λ (column : ReadyColumn). column.kind) c.index-columns-column.is ∙ c.in-Reference.is in
+    omega (arith, c.parent_key-parent.ensures.steps, asked-reference (is_some c.args.key) c.args.self.now c.args.column c.in-Reference.reference (here g at c.in-Reference.reference held))
+
+pub returns-in-Key-clause-steps : goal.returns-in-Key-clause-steps
+returns-in-Key-clause-steps g c =
+    let at = (goal.at.returns-in-Key-clause-steps g c).After-index-columns-column in
+    let held = ap (λ (column : ReadyColumn). column.kind) c.index-columns-column.is ∙ c.in-Key.is in
+    omega (arith, c.key.ensures.steps, asked-key (is_some c.args.key) c.args.self.now c.args.column (is_key g at held))

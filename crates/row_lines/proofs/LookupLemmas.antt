@@ -1,0 +1,269 @@
+-- What a lookup shows is what the parent holds, which its table holds as long as the row is alive.
+use Rattle.std.proofs.Common.{◌≡◌, ◌<◌, ◌≤◌, ℕ, ◌+◌, max, true, false, Bool, List, length, codes, Option, Some, None, if◌then◌else◌, refl, ap, subst, sym, ◌∙◌, arith}
+use Rattle.std.specs.Option.{option_and_then}
+use Rattle.row_text.specs.Fields.{field_text}
+use Rattle.schema_check.specs.declared.layout.Births.{Births}
+use Rattle.schema_check.specs.declared.ready.ReadyKind.TheVariants as kind
+use Rattle.schema_check.specs.declared.ready.ReadyLookup.{ReadyLookup}
+use Rattle.schema_check.specs.declared.ready.ReadyReference.{ReadyReference}
+use Rattle.schema_check.specs.Cohorts.{born_count, cohort_size, first_ordinal}
+use Rattle.schema_check.specs.Dictionaries.{Project}
+use Rattle.schema_check.specs.FieldBounds.{bounds_at, bounds_in_table, bounds_of}
+use Rattle.schema_check.specs.Layout.{KindLayout, TableLayout, born_kind, case_kind, changed_kind, column_at, key_kind, layout_of, leaf_kind, lookup_kind, reference_kind, table_at, template_kind}
+use Rattle.schema_check.specs.Limits.{IsInLimits, IsLookup, IsLookupInLimits, IsReferenceTo, IsTableInLimits, is_lookup_kind}
+use Rattle.schema_check.specs.Ready.{ready_kind, ready_reference}
+use Rattle.schema_check.specs.References.{Reference, reference_at, references_of}
+use Rattle.draw_values.specs.CohortValues.{ValuesOf, is_null_for}
+use Rattle.draw_values.specs.Values.{is_null, unless_null}
+use Rattle.life_intervals.specs.CohortParents.{IsReferenceOf, parent_in, reference_by}
+use Rattle.life_intervals.specs.Generator.{Generator, generator_of, last_unit, table_of}
+use Rattle.life_intervals.specs.Intervals.{birth, index_at, is_live, parent_of, row_at}
+use Rattle.life_intervals.specs.Rows.{Row}
+use Rattle.life_intervals.specs.Simulation.{holds_row, rows_at}
+use Rattle.life_intervals.specs.Sound.{AreSound}
+use Rattle.life_intervals.proofs.AcceptedLemmas.{AreSound-accepted, length-tables, row_at-changed}
+use Rattle.life_intervals.proofs.CohortLemmas.{birth-first_ordinal, birth-le, born_count-le, cohort-within}
+use Rattle.life_intervals.proofs.HeldParentLemmas.{parents-held}
+use Rattle.life_intervals.proofs.LifeLemmas.{parent_of-born}
+use Rattle.life_intervals.proofs.LiveLemmas.{holds_row-live}
+use Rattle.life_intervals.proofs.ReferenceLemmas.{at_column, reference_at-within}
+use Rattle.row_lines.specs.CohortLines.{LinesOf, asked_by, asked_for, change_for, is_live_for, layout_for, ordinal_of, parent_for, row_changed, size_for, text_in_cohort, text_in_table, values_at}
+use Rattle.row_lines.specs.Lines.{draws_of, field, field_in_table, held_row, looked_up, parent_of_row, value}
+use Rattle.row_lines.specs.Lookups.{IsLookupOf, IsStillColumn, text_held}
+use Rattle.row_lines.proofs.CohortLineLemmas.{asked_by-le}
+use Rattle.row_lines.proofs.FieldLemmas.{field-in_table}
+use Rattle.row_lines.proofs.HeldRowLemmas.{held_row-live}
+use Rattle.row_lines.proofs.PartLemmas.{null-drawn}
+use Rattle.row_lines.proofs.ReferenceFieldLemmas.{index_here, parent_of_row-by, reference_here}
+use Rattle.row_lines.proofs.StillLemmas.{still_field}
+
+-- ---- what fields take
+
+-- but for lookups no field takes from another table
+pub bounds_of-in_table : (delimiter : ℕ) (tables : List TableLayout) (table : TableLayout) (kind : KindLayout) → is_lookup_kind kind ≡ false →
+    bounds_of delimiter tables table kind ≡ bounds_in_table delimiter tables table kind
+bounds_of-in_table delimiter tables table key_kind no_lookup = refl
+bounds_of-in_table delimiter tables table born_kind no_lookup = refl
+bounds_of-in_table delimiter tables table changed_kind no_lookup = refl
+bounds_of-in_table delimiter tables table (leaf_kind leaf) no_lookup = refl
+bounds_of-in_table delimiter tables table (template_kind parts) no_lookup = refl
+bounds_of-in_table delimiter tables table (case_kind on branches) no_lookup = refl
+bounds_of-in_table delimiter tables table (reference_kind parent window spread) no_lookup = refl
+bounds_of-in_table delimiter tables table _ no_lookup = cc
+
+-- each has room for a null one
+pub room_for_null : (delimiter : ℕ) (tables : List TableLayout) (table : TableLayout) (kind : KindLayout) → 2 ≤ (bounds_in_table delimiter tables table kind).size
+room_for_null delimiter tables table key_kind = omega arith
+room_for_null delimiter tables table born_kind = omega arith
+room_for_null delimiter tables table changed_kind = omega arith
+room_for_null delimiter tables table (leaf_kind leaf) = omega arith
+room_for_null delimiter tables table (template_kind parts) = omega arith
+room_for_null delimiter tables table (case_kind on branches) = omega arith
+room_for_null delimiter tables table (reference_kind parent window spread) = omega arith
+room_for_null delimiter tables table (lookup_kind via parent name) = omega arith
+
+-- ---- a column that is ready as a lookup
+
+lookup_from_ready : (delimiter : ℕ) (held : KindLayout) (lookup : ReadyLookup) → ready_kind delimiter held ≡ kind.Lookup lookup →
+    held ≡ lookup_kind lookup.via lookup.parent lookup.column
+lookup_from_ready delimiter (lookup_kind via parent column) lookup is =
+    let same : record { via = via; parent = parent; column = column } ≡ lookup = cc in
+    ap (λ (l : ReadyLookup). lookup_kind l.via l.parent l.column) same
+lookup_from_ready delimiter _ lookup is = absurd (cc)
+
+pub no_lookup-ready : (delimiter : ℕ) (held : KindLayout) → ((lookup : ReadyLookup) → ready_kind delimiter held ≡ kind.Lookup lookup → ⊥) → is_lookup_kind held ≡ false
+no_lookup-ready delimiter (lookup_kind via parent column) other = absurd (other _ refl)
+no_lookup-ready delimiter _ other = refl
+
+-- a reference is ready as one, to the same table
+pub reference_ready : (delimiter place : ℕ) (held : KindLayout) → IsReferenceTo place held → (ready : ReadyReference) × (ready_kind delimiter held ≡ kind.Reference ready)
+reference_ready delimiter place (reference_kind parent window spread) is = (ready_reference parent window spread, refl)
+reference_ready delimiter place _ is = absurd is
+
+pub reference_to : (delimiter place : ℕ) (held : KindLayout) (ready : ReadyReference) → IsReferenceTo place held → ready_kind delimiter held ≡ kind.Reference ready → ready.parent ≡ place
+reference_to delimiter place (reference_kind parent window spread) ready is held =
+    let same : ready_reference parent window spread ≡ ready = cc in
+    sym (ap (λ (r : ReadyReference). r.parent) same) ∙ is
+reference_to delimiter place _ ready is held = absurd is
+
+module _ (lines : LinesOf) (limits : IsInLimits lines.plan) (table : lines.table < length lines.plan.schema.tables) (column : ℕ) (lookup : ReadyLookup) (of : IsLookupOf lines column lookup) where
+  -- it is that of the layout
+  pub kind_of_lookup : (column_at (layout_for lines).columns column).kind ≡ lookup_kind lookup.via lookup.parent lookup.column
+  kind_of_lookup = lookup_from_ready (layout_of lines.plan).delimiter (column_at (layout_for lines).columns column).kind lookup of.is
+
+  -- within its limits
+  pub is_lookup : IsLookup (layout_of lines.plan).tables (layout_for lines).columns column lookup.via lookup.parent lookup.column
+  is_lookup =
+      subst (IsLookupInLimits (layout_of lines.plan).tables (layout_for lines).columns column) kind_of_lookup
+      (limits.lookups lines.table column table of.within)
+
+  pub looks_up_still : IsStillColumn (table_of lines.plan lookup.parent) lookup.column
+  looks_up_still = record { within = is_lookup.within; still = is_lookup.still; no_lookup = is_lookup.no_lookup }
+
+  -- what it takes
+  pub size-lookup : size_for lines column ≡ (bounds_at (layout_of lines.plan).delimiter (layout_of lines.plan).tables (table_of lines.plan lookup.parent) lookup.column).size
+  size-lookup = ap (λ (held : KindLayout). (bounds_of (layout_of lines.plan).delimiter (layout_of lines.plan).tables (layout_for lines) held).size) kind_of_lookup
+
+  pub room-lookup : 2 ≤ size_for lines column
+  room-lookup = omega (
+    arith,
+    size-lookup,
+    room_for_null (layout_of lines.plan).delimiter (layout_of lines.plan).tables (table_of lines.plan lookup.parent) (column_at (table_of lines.plan lookup.parent).columns lookup.column).kind,
+  )
+
+  pub asked-lookup : asked_for true lines column ≡ 1 + (bounds_at (layout_of lines.plan).delimiter (layout_of lines.plan).tables (table_of lines.plan lookup.parent) lookup.column).permutations
+  asked-lookup = ap (asked_by true (layout_of lines.plan).delimiter (layout_of lines.plan).tables (layout_for lines)) kind_of_lookup
+
+-- ---- what it shows
+
+-- what a living row looks up is what its parent holds, as the parent's ordinal tells
+pub looked_up-held : (units : ℕ) (generator : Generator) → AreSound units generator.tables → (place : ℕ) → place < length generator.tables → (unit : ℕ) → unit ≤ units →
+    (ordinal : ℕ) → ordinal < born_count (table_at generator.tables place).births unit → is_live generator place unit ordinal ≡ true →
+    (via name : ℕ) (reference : Reference) → reference_at (table_at generator.tables place) via ≡ Some reference →
+    looked_up generator unit place (row_at generator place unit ordinal) via reference.parent name
+    ≡ field_in_table generator reference.parent (row_at generator reference.parent unit (parent_of generator place unit ordinal reference)) name
+looked_up-held units generator sound place below unit within ordinal born alive via name reference is =
+    let table : TableLayout = table_at generator.tables place in
+    let parent : ℕ = parent_of generator place unit ordinal reference in
+    let early : birth table.births unit ordinal ≤ unit = birth-le table.births unit ordinal born in
+    let parent_born : parent < born_count (table_at generator.tables reference.parent).births unit = omega (
+      arith,
+      parent_of-born units generator sound place below unit within ordinal born via reference is,
+      born_count-le (table_at generator.tables reference.parent).births (birth table.births unit ordinal) unit early,
+    ) in
+    let held : holds_row (rows_at generator reference.parent unit) parent ≡ true =
+    at_column (λ (r : Reference). holds_row (rows_at generator r.parent unit) (parent_of generator place unit ordinal r) ≡ true) table
+    (parents-held units generator sound place below unit ordinal within (holds_row-live units generator place unit ordinal sound within born ∙ alive))
+    via reference (reference_at-within table via reference is) is in
+    let parent_alive : is_live generator reference.parent unit parent ≡ true =
+    sym (holds_row-live units generator reference.parent unit parent sound within parent_born) ∙ held in
+    ap (λ (j : ℕ). option_and_then (λ (row : Row). field_in_table generator reference.parent row name) (held_row generator reference.parent unit j))
+    (parent_of_row-by table (row_at generator place unit ordinal) (parent_of generator place unit ordinal) via reference refl is)
+    ∙ ap (option_and_then (λ (row : Row). field_in_table generator reference.parent row name)) (held_row-live units generator reference.parent unit parent sound within parent_born parent_alive)
+
+-- so that is the field of a lookup, unless it is drawn to be null
+field-lookup : (units : ℕ) (generator : Generator) → AreSound units generator.tables → (place : ℕ) → place < length generator.tables → (unit : ℕ) → unit ≤ units →
+    (ordinal : ℕ) → ordinal < born_count (table_at generator.tables place).births unit → is_live generator place unit ordinal ≡ true →
+    (column via name : ℕ) (reference : Reference) → (column_at (table_at generator.tables place).columns column).kind ≡ lookup_kind via reference.parent name →
+    reference_at (table_at generator.tables place) via ≡ Some reference →
+    field generator unit place (row_at generator place unit ordinal) column
+    ≡ unless_null (column_at (table_at generator.tables place).columns column).null (draws_of generator place (row_at generator place unit ordinal) column)
+    (field_in_table generator reference.parent (row_at generator reference.parent unit (parent_of generator place unit ordinal reference)) name)
+field-lookup units generator sound place below unit within ordinal born alive column via name reference held is =
+    let row : Row = row_at generator place unit ordinal in
+    let null : ℕ = (column_at (table_at generator.tables place).columns column).null in
+    ap (λ (kind : KindLayout). unless_null null (draws_of generator place row column) (value generator unit place row column kind)) held
+    ∙ ap (unless_null null (draws_of generator place row column)) (looked_up-held units generator sound place below unit within ordinal born alive via name reference is)
+
+-- and that of the parent, as its own field has it
+pub lookup-field : (units : ℕ) (generator : Generator) → AreSound units generator.tables → (place : ℕ) → place < length generator.tables → (unit : ℕ) → unit ≤ units →
+    (ordinal : ℕ) → ordinal < born_count (table_at generator.tables place).births unit → is_live generator place unit ordinal ≡ true →
+    (column via shown : ℕ) (reference : Reference) → (column_at (table_at generator.tables place).columns column).kind ≡ lookup_kind via reference.parent shown →
+    reference_at (table_at generator.tables place) via ≡ Some reference →
+    is_lookup_kind (column_at (table_at generator.tables reference.parent).columns shown).kind ≡ false →
+    field generator unit place (row_at generator place unit ordinal) column
+    ≡ unless_null (column_at (table_at generator.tables place).columns column).null (draws_of generator place (row_at generator place unit ordinal) column)
+    (field generator unit reference.parent (row_at generator reference.parent unit (parent_of generator place unit ordinal reference)) shown)
+lookup-field units generator sound place below unit within ordinal born alive column via shown reference held is no_lookup =
+    field-lookup units generator sound place below unit within ordinal born alive column via shown reference held is
+    ∙ ap (unless_null (column_at (table_at generator.tables place).columns column).null (draws_of generator place (row_at generator place unit ordinal) column))
+    (sym (field-in_table generator unit reference.parent shown (row_at generator reference.parent unit (parent_of generator place unit ordinal reference)) no_lookup))
+
+-- the parent of a row of a cohort, by its ordinal and by its index
+parent_of-for : (lines : LinesOf) (index : ℕ) (reference : Reference) → lines.born ≤ lines.unit → index < cohort_size (layout_for lines).births lines.born →
+    parent_of (generator_of lines.plan) lines.table lines.unit (ordinal_of lines index) reference ≡ parent_for lines index reference
+parent_of-for lines index reference early inside =
+    let births : Births = (layout_for lines).births in
+    let parent : ℕ → ℕ → ℕ = λ unit i. parent_in (record { plan = lines.plan; table = lines.table; unit = unit }) i reference in
+    ap (parent (birth births lines.unit (ordinal_of lines index))) (index_here lines index early inside)
+    ∙ ap (λ (unit : ℕ). parent unit index) (birth-first_ordinal births lines.unit lines.born index early inside)
+
+-- how it is written for a row of a cohort
+pub text-lookup : (lines : LinesOf) → IsInLimits lines.plan → lines.table < length lines.plan.schema.tables → lines.born ≤ lines.unit → lines.unit ≤ last_unit lines.plan →
+    (column index : ℕ) (lookup : ReadyLookup) (reference : ReadyReference) (null : Bool) → IsLookupOf lines column lookup →
+    IsReferenceOf lines.plan lines.table lookup.via reference → reference.parent ≡ lookup.parent → index < cohort_size (layout_for lines).births lines.born → is_live_for lines index ≡ true →
+    is_null (column_at (layout_for lines).columns column).null (draws_of (generator_of lines.plan) lines.table (row_at (generator_of lines.plan) lines.table lines.unit (ordinal_of lines index)) column) ≡ null →
+    text_in_cohort lines index column ≡ (if null then codes "\\N" else text_held lines.plan lookup.parent lines.unit (parent_for lines index (reference_by lookup.via reference)) lookup.column)
+text-lookup lines limits table early within column index lookup reference null of refers to inside alive null_is =
+    let generator : Generator = generator_of lines.plan in
+    let d : ℕ = (layout_of lines.plan).delimiter in
+    let by : Reference = reference_by lookup.via reference in
+    let is = reference_here lines lookup.via reference refers in
+    let shown : ℕ → ℕ → Option (List ℕ) = λ place j. field_in_table generator place (row_at generator place lines.unit j) lookup.column in
+    let kind : (column_at (layout_for lines).columns column).kind ≡ lookup_kind lookup.via by.parent lookup.column =
+    kind_of_lookup lines limits table column lookup of ∙ ap (λ (place : ℕ). lookup_kind lookup.via place lookup.column) (sym to) in
+    ap (field_text d)
+    (field-lookup (last_unit lines.plan) generator (AreSound-accepted lines.plan limits) lines.table (omega (arith, table, length-tables lines.plan)) lines.unit within
+    (ordinal_of lines index) (cohort_born lines index early inside) alive column lookup.via lookup.column by kind is
+    ∙ ap (λ (b : Bool). if b then None else shown by.parent (parent_of generator lines.table lines.unit (ordinal_of lines index) by)) null_is
+    ∙ ap (λ (j : ℕ). if null then None else shown by.parent j) (parent_of-for lines index by early inside)
+    ∙ ap (λ (place : ℕ). if null then None else shown place (parent_for lines index by)) to)
+    ∙ of_null null (shown lookup.parent (parent_for lines index by))
+  where
+    of_null : (null : Bool) (held : Option (List ℕ)) → field_text (layout_of lines.plan).delimiter (if null then None else held) ≡ (if null then codes "\\N" else field_text (layout_of lines.plan).delimiter held)
+    of_null true held = refl
+    of_null false held = refl
+
+    cohort_born : (lines : LinesOf) (index : ℕ) → lines.born ≤ lines.unit → index < cohort_size (layout_for lines).births lines.born → ordinal_of lines index < born_count (layout_for lines).births lines.unit
+    cohort_born lines index early inside = omega (arith, inside, cohort-within (layout_for lines).births lines.born lines.unit early)
+
+-- ---- the row as it is at the unit
+
+-- a row of a cohort is the one that changed when its layout says
+row_changed-is : (lines : LinesOf) (index : ℕ) → lines.table < length lines.plan.schema.tables →
+    row_changed lines index (change_for lines index) ≡ row_at (generator_of lines.plan) lines.table lines.unit (ordinal_of lines index)
+row_changed-is lines index table =
+    let row : Row = row_at (generator_of lines.plan) lines.table lines.unit (ordinal_of lines index) in
+    ap (λ (changed : ℕ). record row { changed = changed })
+    (sym (row_at-changed (generator_of lines.plan) lines.table lines.unit (ordinal_of lines index) (omega (arith, table, length-tables lines.plan))))
+
+-- so what it holds in a column that is no lookup is its field
+pub text-in_table : (lines : LinesOf) (index column : ℕ) → lines.table < length lines.plan.schema.tables → is_lookup_kind (column_at (layout_for lines).columns column).kind ≡ false →
+    text_in_table lines index (change_for lines index) column ≡ text_in_cohort lines index column
+text-in_table lines index column table no_lookup =
+    let generator : Generator = generator_of lines.plan in
+    ap (λ (row : Row). field_text (layout_of lines.plan).delimiter (field_in_table generator lines.table row column)) (row_changed-is lines index table)
+    ∙ ap (field_text (layout_of lines.plan).delimiter)
+    (sym (field-in_table generator lines.unit lines.table column (row_at generator lines.table lines.unit (ordinal_of lines index)) no_lookup))
+
+-- whether its field is drawn to be null, as the values of the cohort have it
+pub null-field : (lines : LinesOf) (values : ValuesOf) (column index ordinal : ℕ) → values ≡ values_at lines (change_for lines index) → ordinal ≡ ordinal_of lines index →
+    lines.born ≤ lines.unit → index < cohort_size (layout_for lines).births lines.born → lines.table < length lines.plan.schema.tables →
+    is_null (column_at (layout_for lines).columns column).null (draws_of (generator_of lines.plan) lines.table (row_at (generator_of lines.plan) lines.table lines.unit (ordinal_of lines index)) column)
+    ≡ is_null_for values column ordinal
+null-field lines values column index ordinal values_are ordinal_is early inside table =
+    ap (λ (row : Row). is_null (column_at (layout_for lines).columns column).null (draws_of (generator_of lines.plan) lines.table row column)) (sym (row_changed-is lines index table))
+    ∙ null-drawn lines values column index (change_for lines index) ordinal values_are ordinal_is early inside
+
+pub text-null : (lines : LinesOf) (column index : ℕ) →
+    is_null (column_at (layout_for lines).columns column).null (draws_of (generator_of lines.plan) lines.table (row_at (generator_of lines.plan) lines.table lines.unit (ordinal_of lines index)) column) ≡ true →
+    text_in_cohort lines index column ≡ codes "\\N"
+text-null lines column index null_is =
+    let generator : Generator = generator_of lines.plan in
+    let row : Row = row_at generator lines.table lines.unit (ordinal_of lines index) in
+    ap (λ (b : Bool). field_text (layout_of lines.plan).delimiter (if b then None else value generator lines.unit lines.table row column (column_at (layout_for lines).columns column).kind)) null_is
+
+-- what a row holds in a column that doesn't move, by any unit of its change
+pub text-still : (lines : LinesOf) (index changed ordinal column : ℕ) → IsTableInLimits (last_unit lines.plan) (layout_for lines) → ordinal_of lines index ≡ ordinal → IsStillColumn (layout_for lines) column →
+    text_in_table lines index changed column ≡ text_held lines.plan lines.table lines.unit ordinal column
+text-still lines index changed ordinal column limits ordinal_is still =
+    let generator : Generator = generator_of lines.plan in
+    ap (field_text (layout_of lines.plan).delimiter)
+    (ap (λ (j : ℕ). field_in_table generator lines.table (record (row_at generator lines.table lines.unit j) { changed = changed }) column) ordinal_is
+    ∙ still_field generator lines.table (row_at generator lines.table lines.unit ordinal) changed (last_unit lines.plan) limits column still.within still.still)
+
+-- what it takes
+pub size-still : (lines : LinesOf) (column : ℕ) → IsStillColumn (layout_for lines) column →
+    size_for lines column ≡ (bounds_at (layout_of lines.plan).delimiter (layout_of lines.plan).tables (layout_for lines) column).size
+size-still lines column still =
+    ap (λ bounds. bounds.size) (bounds_of-in_table (layout_of lines.plan).delimiter (layout_of lines.plan).tables (layout_for lines) (column_at (layout_for lines).columns column).kind still.no_lookup)
+
+pub asked-still : (lines : LinesOf) (column : ℕ) → IsStillColumn (layout_for lines) column →
+    asked_for false lines column ≤ (bounds_at (layout_of lines.plan).delimiter (layout_of lines.plan).tables (layout_for lines) column).permutations
+asked-still lines column still =
+    let kind : KindLayout = (column_at (layout_for lines).columns column).kind in
+    omega (
+      arith,
+      asked_by-le false (layout_of lines.plan).delimiter (layout_of lines.plan).tables (layout_for lines) kind,
+      ap (λ bounds. bounds.permutations) (bounds_of-in_table (layout_of lines.plan).delimiter (layout_of lines.plan).tables (layout_for lines) kind still.no_lookup),
+    )

@@ -1,0 +1,164 @@
+use Rattle.std.proofs.Common.{◌≡◌, ◌<◌, ◌≤◌, ◌++◌, ℕ, List, Bool, false, true, length, codes, if◌then◌else◌, get_or, ap, arith, subst, sym, ◌∙◌}
+use Rattle.schema_check.specs.declared.ready.ReadyColumn.{ReadyColumn}
+use Rattle.schema_check.specs.declared.ready.ReadyKind.TheVariants.{Reference}
+use Rattle.schema_check.specs.declared.ready.ReadyLookup.{ReadyLookup}
+use Rattle.schema_check.specs.declared.ready.ReadyReference.{ReadyReference}
+use Rattle.schema_check.specs.Cohorts.{born_count, cohort_size}
+use Rattle.schema_check.specs.FieldBounds.{bounds_at}
+use Rattle.schema_check.specs.Layout.{column_at, layout_of}
+use Rattle.schema_check.specs.Limits.{IsInLimits}
+use Rattle.schema_check.specs.Ready.{ready_columns}
+use Rattle.draw_values.specs.CohortValues.{ValuesOf, is_null_for}
+use Rattle.draw_values.specs.Values.{is_null}
+use Rattle.life_intervals.specs.CohortParents.{IsReferenceOf, reference_by}
+use Rattle.life_intervals.specs.Generator.{generator_of, last_unit, table_of}
+use Rattle.life_intervals.specs.Intervals.{row_at}
+use Rattle.life_intervals.proofs.CohortLemmas.{born_count-le}
+use Rattle.row_lines.specs.CohortLines.{LinesOf, change_for, is_live_for, layout_for, ordinal_of, parent_for, text_in_cohort, values_at}
+use Rattle.row_lines.specs.Lines.{draws_of}
+use Rattle.row_lines.specs.Lookups.{IsLookupOf, text_held}
+use Rattle.row_lines.proofs.CohortFieldLemmas.{ready_at}
+use Rattle.row_lines.proofs.CohortLineLemmas.{AreLinesOf-view}
+use Rattle.row_lines.proofs.LookupLemmas.{asked-lookup, is_lookup, null-field, reference_ready, reference_to, room-lookup, size-lookup, text-lookup, text-null}
+use Rattle.row_lines.proofs.cohort_lines.CohortLines.put_lookup.Goals as goal
+
+-- whether the field is drawn to be null, as the row has it
+null_is : (lines fields : LinesOf) (values : ValuesOf) (column index ordinal : ℕ) (null : Bool) → values ≡ values_at lines (change_for lines index) → fields ≡ lines → ordinal ≡ ordinal_of fields index →
+    lines.born ≤ lines.unit → index < cohort_size (layout_for lines).births lines.born → lines.table < length lines.plan.schema.tables → null ≡ is_null_for values column ordinal →
+    is_null (column_at (layout_for lines).columns column).null (draws_of (generator_of lines.plan) lines.table (row_at (generator_of lines.plan) lines.table lines.unit (ordinal_of lines index)) column) ≡ null
+null_is lines fields values column index ordinal null values_are same ordinal_is early inside table told =
+    null-field lines values column index ordinal values_are (ordinal_is ∙ ap (λ (of : LinesOf). ordinal_of of index) same) early inside table ∙ sym told
+
+pub put_null-requires : goal.put_null-requires
+put_null-requires g c =
+    let known = AreLinesOf-view _ c.args.self.now c.self.inside.keys c.self.inside.lives c.self.inside.changes c.self.inside.births c.self.inside.columns.now c.self.inside.fields c.self.inside.delimiter c.self.view_is c.self.invariant in
+    omega (arith, c.requires.room, room-lookup c.args.self.now known.sound known.table c.args.column c.args.lookup.now c.requires.lookup)
+
+pub returns-then-is_null-clause-text : goal.returns-then-is_null-clause-text
+returns-then-is_null-clause-text g c =
+    let known = AreLinesOf-view _ c.args.self.now c.self.inside.keys c.self.inside.lives c.self.inside.changes c.self.inside.births c.self.inside.columns.now c.self.inside.fields c.self.inside.delimiter c.self.view_is c.self.invariant in
+    let text_is = text-null c.args.self.now c.args.column c.args.index
+    (null_is c.args.self.now c.self.inside.fields c.args.values.now c.args.column c.args.index c.ordinal.result c.is_null.result c.requires.values known.fields_are c.ordinal.ensures.ordinal known.born c.requires.row known.table c.is_null.ensures
+    ∙ c.if-is_null.true) in
+    c.put_null.ensures
+    ∙ ap (λ (text : List ℕ). record { text = c.args.buf.now.text ++ text; room = c.args.buf.now.room }) (sym text_is)
+
+pub returns-then-is_null-clause-size : goal.returns-then-is_null-clause-size
+returns-then-is_null-clause-size g c =
+    let known = AreLinesOf-view _ c.args.self.now c.self.inside.keys c.self.inside.lives c.self.inside.changes c.self.inside.births c.self.inside.columns.now c.self.inside.fields c.self.inside.delimiter c.self.view_is c.self.invariant in
+    let text_is = text-null c.args.self.now c.args.column c.args.index
+    (null_is c.args.self.now c.self.inside.fields c.args.values.now c.args.column c.args.index c.ordinal.result c.is_null.result c.requires.values known.fields_are c.ordinal.ensures.ordinal known.born c.requires.row known.table c.is_null.ensures
+    ∙ c.if-is_null.true) in
+    omega (
+      arith,
+      ap (λ (text : List ℕ). length text) text_is,
+      room-lookup c.args.self.now known.sound known.table c.args.column c.args.lookup.now c.requires.lookup,
+    )
+
+-- the column that is looked up by is a reference
+pub returns-in_default : goal.returns-in_default
+returns-in_default g c =
+    let lines : LinesOf = c.args.self.now in
+    let known = AreLinesOf-view _ c.args.self.now c.self.inside.keys c.self.inside.lives c.self.inside.changes c.self.inside.births c.self.inside.columns.now c.self.inside.fields c.self.inside.delimiter c.self.view_is c.self.invariant in
+    let looks = is_lookup lines known.sound known.table c.args.column c.args.lookup.now c.requires.lookup in
+    let is = ready_at lines _ known.columns_are c.args.lookup.now.via c.index-columns-lookup.result (omega (arith, looks.earlier, c.requires.lookup.within)) c.index-columns-lookup.is in
+    let found = reference_ready (layout_of lines.plan).delimiter c.args.lookup.now.parent (column_at (layout_for lines).columns c.args.lookup.now.via).kind looks.reference in
+    absurd (c.in_default.not-Reference found.0 (ap (λ (column : ReadyColumn). column.kind) (sym (is ∙ c.index-columns-lookup.is)) ∙ found.1))
+
+-- one that is ready, to the lookup's table
+refers : (lines : LinesOf) → IsInLimits lines.plan → lines.table < length lines.plan.schema.tables → (columns : List ReadyColumn) → columns ≡ ready_columns (layout_of lines.plan) lines.table →
+    (column : ℕ) (lookup : ReadyLookup) (found : ReadyColumn) (reference : ReadyReference) → IsLookupOf lines column lookup → found ≡ get_or columns lookup.via found → found.kind ≡ Reference reference →
+    IsReferenceOf lines.plan lines.table lookup.via reference × (reference.parent ≡ lookup.parent)
+refers lines limits table columns are column lookup found reference of at held =
+    let looks = is_lookup lines limits table column lookup of in
+    let within : lookup.via < length (layout_for lines).columns = omega (arith, looks.earlier, of.within) in
+    let is = ap (λ (column : ReadyColumn). column.kind) (ready_at lines columns are lookup.via found within at) ∙ held in (
+      record { within = within; is = is },
+      reference_to (layout_of lines.plan).delimiter lookup.parent (column_at (layout_for lines).columns lookup.via).kind reference looks.reference is,
+    )
+
+pub put_still_field-requires-clause-table : goal.put_still_field-requires-clause-table
+put_still_field-requires-clause-table g c =
+    let lines : LinesOf = c.args.self.now in
+    let known = AreLinesOf-view _ c.args.self.now c.self.inside.keys c.self.inside.lives c.self.inside.changes c.self.inside.births c.self.inside.columns.now c.self.inside.fields c.self.inside.delimiter c.self.view_is c.self.invariant in
+    let found = refers lines known.sound known.table c.self.inside.columns.now known.columns_are c.args.column c.args.lookup.now c.index-columns-lookup.result c.in-Reference.reference c.requires.lookup c.index-columns-lookup.is
+    (ap (λ (column : ReadyColumn). column.kind) c.index-columns-lookup.is ∙ c.in-Reference.is) in
+    subst (λ (of : LinesOf). c.args.lookup.now.parent < length of.plan.schema.tables) (sym c.self.view_is)
+    (omega (arith, found.1, known.table, subst (λ (of : LinesOf). c.in-Reference.reference.parent < of.table) known.fields_are c.parent-parent.ensures.table))
+
+pub put_still_field-requires-clause-born : goal.put_still_field-requires-clause-born
+put_still_field-requires-clause-born g c =
+    let lines : LinesOf = c.args.self.now in
+    let known = AreLinesOf-view _ c.args.self.now c.self.inside.keys c.self.inside.lives c.self.inside.changes c.self.inside.births c.self.inside.columns.now c.self.inside.fields c.self.inside.delimiter c.self.view_is c.self.invariant in
+    let found = refers lines known.sound known.table c.self.inside.columns.now known.columns_are c.args.column c.args.lookup.now c.index-columns-lookup.result c.in-Reference.reference c.requires.lookup c.index-columns-lookup.is
+    (ap (λ (column : ReadyColumn). column.kind) c.index-columns-lookup.is ∙ c.in-Reference.is) in
+    subst (λ (of : LinesOf). c.parent-parent.result < born_count (table_of of.plan c.args.lookup.now.parent).births of.unit) (sym c.self.view_is)
+    (subst (λ (parent : ℕ). c.parent-parent.result < born_count (table_of lines.plan parent).births lines.unit) found.1
+    (omega (
+      arith,
+      subst (λ (of : LinesOf). c.parent-parent.result < born_count (table_of of.plan c.in-Reference.reference.parent).births of.born) known.fields_are c.parent-parent.ensures.born,
+      born_count-le (table_of lines.plan c.in-Reference.reference.parent).births lines.born lines.unit known.born,
+    )))
+
+-- what is put is what the parent holds
+text_is : (lines fields : LinesOf) (plan_is : LinesOf) → IsInLimits lines.plan → lines.table < length lines.plan.schema.tables → lines.born ≤ lines.unit → lines.unit ≤ last_unit lines.plan → fields ≡ lines → plan_is ≡ lines →
+    (column index parent : ℕ) (lookup : ReadyLookup) (reference : ReadyReference) → IsLookupOf lines column lookup → IsReferenceOf lines.plan lines.table lookup.via reference × (reference.parent ≡ lookup.parent) →
+    index < cohort_size (layout_for lines).births lines.born → is_live_for lines index ≡ true →
+    is_null (column_at (layout_for lines).columns column).null (draws_of (generator_of lines.plan) lines.table (row_at (generator_of lines.plan) lines.table lines.unit (ordinal_of lines index)) column) ≡ false →
+    parent ≡ parent_for fields index (reference_by lookup.via reference) →
+    text_in_cohort lines index column ≡ text_held plan_is.plan lookup.parent plan_is.unit parent lookup.column
+text_is lines fields plan_is limits table early within same view column index parent lookup reference of refers inside alive drawn parent_is =
+    text-lookup lines limits table early within column index lookup reference false of refers.0 refers.1 inside alive drawn
+    ∙ ap (λ (j : ℕ). text_held lines.plan lookup.parent lines.unit j lookup.column) (sym (parent_is ∙ ap (λ (of : LinesOf). parent_for of index (reference_by lookup.via reference)) same))
+    ∙ ap (λ (of : LinesOf). text_held of.plan lookup.parent of.unit parent lookup.column) (sym view)
+
+pub returns-clause-text : goal.returns-clause-text
+returns-clause-text g c =
+    let lines : LinesOf = c.args.self.now in
+    let known = AreLinesOf-view _ c.args.self.now c.self.inside.keys c.self.inside.lives c.self.inside.changes c.self.inside.births c.self.inside.columns.now c.self.inside.fields c.self.inside.delimiter c.self.view_is c.self.invariant in
+    let found = refers lines known.sound known.table c.self.inside.columns.now known.columns_are c.args.column c.args.lookup.now c.index-columns-lookup.result c.in-Reference.reference c.requires.lookup c.index-columns-lookup.is
+    (ap (λ (column : ReadyColumn). column.kind) c.index-columns-lookup.is ∙ c.in-Reference.is) in
+    let drawn = null_is lines c.self.inside.fields c.args.values.now c.args.column c.args.index c.ordinal.result c.is_null.result c.requires.values known.fields_are c.ordinal.ensures.ordinal known.born c.requires.row known.table c.is_null.ensures ∙ c.if-is_null.false in
+    c.put_still_field.ensures.text
+    ∙ ap (λ (text : List ℕ). record { text = c.args.buf.now.text ++ text; room = c.args.buf.now.room })
+    (sym (text_is lines c.self.inside.fields _ known.sound known.table known.born known.unit known.fields_are c.self.view_is c.args.column c.args.index c.parent-parent.result c.args.lookup.now c.in-Reference.reference c.requires.lookup found c.requires.row c.requires.alive drawn c.parent-parent.ensures.parent))
+
+pub returns-clause-size : goal.returns-clause-size
+returns-clause-size g c =
+    let lines : LinesOf = c.args.self.now in
+    let known = AreLinesOf-view _ c.args.self.now c.self.inside.keys c.self.inside.lives c.self.inside.changes c.self.inside.births c.self.inside.columns.now c.self.inside.fields c.self.inside.delimiter c.self.view_is c.self.invariant in
+    let found = refers lines known.sound known.table c.self.inside.columns.now known.columns_are c.args.column c.args.lookup.now c.index-columns-lookup.result c.in-Reference.reference c.requires.lookup c.index-columns-lookup.is
+    (ap (λ (column : ReadyColumn). column.kind) c.index-columns-lookup.is ∙ c.in-Reference.is) in
+    let drawn = null_is lines c.self.inside.fields c.args.values.now c.args.column c.args.index c.ordinal.result c.is_null.result c.requires.values known.fields_are c.ordinal.ensures.ordinal known.born c.requires.row known.table c.is_null.ensures ∙ c.if-is_null.false in
+    let taken = size-lookup lines known.sound known.table c.args.column c.args.lookup.now c.requires.lookup in
+    omega (
+      arith,
+      taken,
+      ap (λ (text : List ℕ). length text)
+          (text_is lines c.self.inside.fields _ known.sound known.table known.born known.unit known.fields_are c.self.view_is c.args.column c.args.index c.parent-parent.result c.args.lookup.now c.in-Reference.reference c.requires.lookup found c.requires.row c.requires.alive drawn c.parent-parent.ensures.parent),
+      c.put_still_field.ensures.size,
+      ap (λ (of : LinesOf). (bounds_at (layout_of of.plan).delimiter (layout_of of.plan).tables (table_of of.plan c.args.lookup.now.parent) c.args.lookup.now.column).size) c.self.view_is,
+    )
+
+pub returns-clause-steps : goal.returns-clause-steps
+returns-clause-steps g c =
+    let lines : LinesOf = c.args.self.now in
+    let known = AreLinesOf-view _ c.args.self.now c.self.inside.keys c.self.inside.lives c.self.inside.changes c.self.inside.births c.self.inside.columns.now c.self.inside.fields c.self.inside.delimiter c.self.view_is c.self.invariant in
+    omega (
+      arith,
+      asked-lookup lines known.sound known.table c.args.column c.args.lookup.now c.requires.lookup,
+      c.parent-parent.ensures.one_step,
+      c.put_still_field.ensures.steps,
+      ap (λ (of : LinesOf). (bounds_at (layout_of of.plan).delimiter (layout_of of.plan).tables (table_of of.plan c.args.lookup.now.parent) c.args.lookup.now.column).permutations) c.self.view_is,
+    )
+
+pub put_still_field-requires-clause-room : goal.put_still_field-requires-clause-room
+put_still_field-requires-clause-room g c =
+    let lines : LinesOf = c.args.self.now in
+    let known = AreLinesOf-view _ c.args.self.now c.self.inside.keys c.self.inside.lives c.self.inside.changes c.self.inside.births c.self.inside.columns.now c.self.inside.fields c.self.inside.delimiter c.self.view_is c.self.invariant in
+    omega (
+      arith,
+      c.requires.room,
+      size-lookup lines known.sound known.table c.args.column c.args.lookup.now c.requires.lookup,
+      ap (λ (of : LinesOf). (bounds_at (layout_of of.plan).delimiter (layout_of of.plan).tables (table_of of.plan c.args.lookup.now.parent) c.args.lookup.now.column).size) c.self.view_is,
+    )

@@ -1,0 +1,303 @@
+//! The fields of the rows of a cohort, but for lookups, with what doesn't change from row to row taken once.
+
+ghost use Rattle.std.specs.Prelude.{◌≡◌, ◌<◌, ◌≤◌, ◌+◌, ◌++◌, All, IfSome, false, flat_map, if◌then◌else◌, is_some, length, sum_by, true};
+ghost use Rattle.schema_check.specs.declared.ready.ReadyKind.TheVariants.{Template};
+ghost use Rattle.schema_check.specs.Cohorts.{born_count, cohort_size};
+ghost use Rattle.schema_check.specs.Layout.{column_at, layout_of};
+ghost use Rattle.schema_check.specs.Limits.{IsTableInLimits, is_lookup_kind};
+ghost use Rattle.schema_check.specs.Lineage.{one_if};
+ghost use Rattle.schema_check.specs.Ready.{ready_kind};
+ghost use Rattle.draw_values.specs.Values.{is_own};
+ghost use Rattle.life_intervals.specs.CohortParents.{AreCandidates, IsReferenceOf, reference_by};
+ghost use Rattle.life_intervals.specs.Generator.{last_unit, table_of};
+ghost use Rattle.row_lines.specs.CohortLines.{asked_for, key_for, layout_for, ordinal_of, parent_for, parent_key_for, size_for, text_in_table, values_at};
+ghost use Rattle.row_lines.specs.Parts.{IsCitable, IsPartOf, cited_asked, cited_size, cited_text, part_asked, part_size, written_part};
+
+use draw_values::{CohortValues, Put};
+use life_intervals::{Candidates, CohortParents, cohort, key as key_of};
+use pd_outside::PageBuf;
+use row_text::put_null;
+use schema_check::{Plan, ReadyColumn, ReadyKind, ReadyPart, ReadyReference};
+use std::marker::Model;
+use std::sync::ledger::Ledger;
+use step_count::Steps;
+
+/// The fields at a unit of the rows of a table that are born at another. A contract sees the plan, the table and the two units.
+///
+/// What a field takes from its row's change is told by the values that are handed in, and so is the key of the row, where it is known.
+#[derive(Drop)]
+pub(crate) struct CohortFields<'a> {
+    plan: &'a Plan,
+    table: u32,
+    born: u64,
+    unit: u64,
+    first: u64,
+    parents: CohortParents<'a>,
+    columns: &'a [ReadyColumn],
+}
+
+impl<'a> Model for CohortFields<'a> {
+    ghost use Rattle.row_lines.specs.CohortLines.{AreFieldsOf, LinesOf};
+
+    ghost Value = { LinesOf };
+
+    ghost view = { λ f. record { plan = f.plan.now; table = f.table; born = f.born; unit = f.unit } };
+
+    ghost invariant = { λ f. AreFieldsOf (record { plan = f.plan.now; table = f.table; born = f.born; unit = f.unit }) f.parents f.columns.now f.first };
+}
+
+impl<'a> CohortFields<'a> {
+    /// The fields at `unit` of the rows of a table that are born at unit `born`, with the candidates of their parents, or with none,
+    /// where these are found anew for each row.
+    pub(crate) fn new(
+        plan: &'a Plan,
+        table: u32,
+        born: u64,
+        unit: u64,
+        candidates: &'a [Option<Candidates>],
+    ) -> CohortFields<'a>
+        requires table { table < length plan.now.schema.tables }
+        requires born { born ≤ unit }
+        requires unit { unit ≤ last_unit plan.now }
+        requires candidates { AreCandidates plan.now table born candidates.now }
+        ensures { result ≡ record { plan = plan.now; table = table; born = born; unit = unit } }
+    {
+        let _limits = plan.schema(); // each table is within its limits
+        CohortFields {
+            plan,
+            table,
+            born,
+            unit,
+            first: cohort(plan, table, born).first,
+            parents: CohortParents::new(plan, table, born, candidates),
+            columns: plan.columns(table),
+        }
+    }
+
+    /// The ordinal of the row with this index in the cohort.
+    #[inline(always)]
+    pub(crate) fn ordinal(&self, index: u64) -> u64
+        requires { index < cohort_size (layout_for self.now).births self.now.born }
+        ensures ordinal { result ≡ ordinal_of self.now index }
+        ensures early { self.now.born ≤ self.now.unit }
+        ensures limits { IsTableInLimits (last_unit self.now.plan) (layout_for self.now) }
+    {
+        self.first + index
+    }
+
+    /// The key of the row with this index, found anew where it isn't known.
+    #[inline(always)]
+    fn key<L: Ledger>(&self, index: u64, key: Option<u64>, steps: &mut Steps<L>) -> u64
+        requires row { index < cohort_size (layout_for self.now).births self.now.born }
+        requires known { IfSome key (λ k. k ≡ key_for self.now index) }
+        ensures key { result ≡ key_for self.now index }
+        ensures steps { steps.new ≡ steps.old + (if is_some key then 0 else one_if (layout_for self.now).key.scramble) }
+    {
+        match key {
+            Some(key) => key,
+            None => key_of(self.plan, self.table, self.ordinal(index), steps),
+        }
+    }
+
+    /// The ordinal of the parent that the row with this index has by a reference, which is ready in the column at a place. It takes one
+    /// step.
+    #[inline(always)]
+    pub(crate) fn parent<L: Ledger>(
+        &self,
+        column: u32,
+        reference: &ReadyReference,
+        index: u64,
+        steps: &mut Steps<L>,
+    ) -> u64
+        requires row { index < cohort_size (layout_for self.now).births self.now.born }
+        requires reference { IsReferenceOf self.now.plan self.now.table column reference.now }
+        ensures parent { result ≡ parent_for self.now index (reference_by column reference.now) }
+        ensures born { result < born_count (table_of self.now.plan reference.now.parent).births self.now.born }
+        ensures table { reference.now.parent < self.now.table }
+        ensures one_step { steps.new ≡ steps.old + 1 }
+    {
+        self.parents.parent(column, reference, index, steps)
+    }
+
+    /// The key of that parent.
+    fn parent_key<L: Ledger>(
+        &self,
+        column: u32,
+        reference: &ReadyReference,
+        index: u64,
+        steps: &mut Steps<L>,
+    ) -> u64
+        requires row { index < cohort_size (layout_for self.now).births self.now.born }
+        requires reference { IsReferenceOf self.now.plan self.now.table column reference.now }
+        ensures key { result ≡ parent_key_for self.now index (reference_by column reference.now) }
+        ensures steps { steps.new ≡ steps.old + (1 + one_if (table_of self.now.plan reference.now.parent).key.scramble) }
+    {
+        let parent = self.parent(column, reference, index, steps);
+        key_of(self.plan, reference.parent, parent, steps)
+    }
+
+    /// Appends the field of the column at a place, which is no lookup.
+    #[inline(always)]
+    pub(crate) fn put<L: Ledger>(
+        &self,
+        column: usize,
+        index: u64,
+        key: Option<u64>,
+        values: &CohortValues<'_>,
+        buf: &mut PageBuf,
+        steps: &mut Steps<L>,
+    )
+        requires column { column < length (layout_for self.now).columns }
+        requires no_lookup { is_lookup_kind (column_at (layout_for self.now).columns column).kind ≡ false }
+        requires row { index < cohort_size (layout_for self.now).births self.now.born }
+        requires values { values.now ≡ values_at self.now values.now.changed }
+        requires key { IfSome key (λ k. k ≡ key_for self.now index) }
+        requires room { length buf.old.text + size_for self.now column ≤ buf.old.room }
+        ensures text { buf.new ≡ record buf.old { text = buf.old.text ++ text_in_table self.now index values.now.changed column } }
+        ensures size { length (text_in_table self.now index values.now.changed column) ≤ size_for self.now column }
+        ensures steps { steps.new ≤ steps.old + asked_for (is_some key) self.now column }
+    {
+        let columns = self.columns;
+        match &columns[column].kind {
+            ReadyKind::Key => buf.put_number(self.key(index, key, steps)),
+            ReadyKind::Template { parts } => {
+                self.put_template(column, parts.as_slice(), index, key, values, buf, steps)
+            }
+            ReadyKind::Reference(reference) => {
+                let parent = self.parent_key(column as u32, reference, index, steps);
+                buf.put_number(parent)
+            }
+            _ => self.put_own(column, index, values, buf),
+        }
+    }
+
+    /// Appends the field of a template with these parts.
+    fn put_template<L: Ledger>(
+        &self,
+        column: usize,
+        parts: &[ReadyPart],
+        index: u64,
+        key: Option<u64>,
+        values: &CohortValues<'_>,
+        buf: &mut PageBuf,
+        steps: &mut Steps<L>,
+    )
+        requires column { column < length (layout_for self.now).columns }
+        requires template { ready_kind (layout_of self.now.plan).delimiter (column_at (layout_for self.now).columns column).kind ≡ Template parts.now }
+        requires row { index < cohort_size (layout_for self.now).births self.now.born }
+        requires values { values.now ≡ values_at self.now values.now.changed }
+        requires key { IfSome key (λ k. k ≡ key_for self.now index) }
+        requires room { length buf.old.text + size_for self.now column ≤ buf.old.room }
+        ensures text { buf.new ≡ record buf.old { text = buf.old.text ++ text_in_table self.now index values.now.changed column } }
+        ensures size { length (text_in_table self.now index values.now.changed column) ≤ size_for self.now column }
+        ensures steps { steps.new ≤ steps.old + asked_for (is_some key) self.now column }
+    {
+        if values.is_null(column, self.ordinal(index)) {
+            put_null(buf);
+        } else {
+            self.put_parts(parts, index, key, values, buf, steps);
+        }
+    }
+
+    /// Appends some parts, one after the other.
+    fn put_parts<L: Ledger>(
+        &self,
+        parts: &[ReadyPart],
+        index: u64,
+        key: Option<u64>,
+        values: &CohortValues<'_>,
+        buf: &mut PageBuf,
+        steps: &mut Steps<L>,
+    )
+        requires parts { All (IsPartOf self.now) parts.now }
+        requires row { index < cohort_size (layout_for self.now).births self.now.born }
+        requires values { values.now ≡ values_at self.now values.now.changed }
+        requires key { IfSome key (λ k. k ≡ key_for self.now index) }
+        requires room { length buf.old.text + sum_by (part_size self.now) parts.now ≤ buf.old.room }
+        ensures text { buf.new ≡ record buf.old { text = buf.old.text ++ flat_map (written_part self.now index values.now.changed) parts.now } }
+        ensures size { length (flat_map (written_part self.now index values.now.changed) parts.now) ≤ sum_by (part_size self.now) parts.now }
+        ensures steps { steps.new ≤ steps.old + sum_by (part_asked (is_some key) self.now) parts.now }
+    {
+        for part in parts {
+            self.put_part(part, index, key, values, buf, steps);
+        }
+    }
+
+    /// Appends a part.
+    #[inline(always)]
+    fn put_part<L: Ledger>(
+        &self,
+        part: &ReadyPart,
+        index: u64,
+        key: Option<u64>,
+        values: &CohortValues<'_>,
+        buf: &mut PageBuf,
+        steps: &mut Steps<L>,
+    )
+        requires part { IsPartOf self.now part.now }
+        requires row { index < cohort_size (layout_for self.now).births self.now.born }
+        requires values { values.now ≡ values_at self.now values.now.changed }
+        requires key { IfSome key (λ k. k ≡ key_for self.now index) }
+        requires room { length buf.old.text + part_size self.now part.now ≤ buf.old.room }
+        ensures text { buf.new ≡ record buf.old { text = buf.old.text ++ written_part self.now index values.now.changed part.now } }
+        ensures size { length (written_part self.now index values.now.changed part.now) ≤ part_size self.now part.now }
+        ensures steps { steps.new ≤ steps.old + part_asked (is_some key) self.now part.now }
+    {
+        match part {
+            ReadyPart::Literal(written) => buf.put(written.as_slice()),
+            ReadyPart::Cited(column) => {
+                self.put_cited(*column as usize, index, key, values, buf, steps)
+            }
+        }
+    }
+
+    /// Appends the field of the column at a place, which may be cited; nothing where it is null.
+    #[inline(always)]
+    fn put_cited<L: Ledger>(
+        &self,
+        column: usize,
+        index: u64,
+        key: Option<u64>,
+        values: &CohortValues<'_>,
+        buf: &mut PageBuf,
+        steps: &mut Steps<L>,
+    )
+        requires column { IsCitable self.now column }
+        requires row { index < cohort_size (layout_for self.now).births self.now.born }
+        requires values { values.now ≡ values_at self.now values.now.changed }
+        requires key { IfSome key (λ k. k ≡ key_for self.now index) }
+        requires room { length buf.old.text + cited_size self.now column ≤ buf.old.room }
+        ensures text { buf.new ≡ record buf.old { text = buf.old.text ++ cited_text self.now index values.now.changed column } }
+        ensures size { length (cited_text self.now index values.now.changed column) ≤ cited_size self.now column }
+        ensures steps { steps.new ≤ steps.old + cited_asked (is_some key) self.now column }
+    {
+        let columns = self.columns;
+        match &columns[column].kind {
+            ReadyKind::Key => buf.put_number(self.key(index, key, steps)),
+            ReadyKind::Reference(reference) => {
+                let parent = self.parent_key(column as u32, reference, index, steps);
+                buf.put_number(parent)
+            }
+            _ => {
+                values.put(column, self.ordinal(index), buf);
+            }
+        }
+    }
+
+    /// Appends the field of a column that needs no other row.
+    #[inline(always)]
+    fn put_own(&self, column: usize, index: u64, values: &CohortValues<'_>, buf: &mut PageBuf)
+        requires column { column < length (layout_for self.now).columns }
+        requires row { index < cohort_size (layout_for self.now).births self.now.born }
+        requires values { values.now ≡ values_at self.now values.now.changed }
+        requires own { is_own (column_at (layout_for self.now).columns column).kind ≡ true }
+        requires room { length buf.old.text + size_for self.now column ≤ buf.old.room }
+        ensures text { buf.new ≡ record buf.old { text = buf.old.text ++ text_in_table self.now index values.now.changed column } }
+        ensures size { length (text_in_table self.now index values.now.changed column) ≤ size_for self.now column }
+    {
+        match values.put(column, self.ordinal(index), buf) {
+            Put::Text => {}
+            Put::Null => put_null(buf),
+        }
+    }
+}
