@@ -2,6 +2,7 @@
 use Rattle.std.specs.Prelude.{ℕ, ◌-◌, Bool, false, true, List, [], ◌∷◌, Some, None, codes}
 use Rattle.schema_check.specs.Layout.{literal_part, cited_part, KindLayout, key_kind, born_kind, template_kind, reference_kind, lookup_kind, ColumnLayout, TableLayout}
 use Rattle.life_intervals.specs.Generator.{Order, Draw, in_place, Generator}
+use Rattle.life_intervals.specs.Rows.{Row}
 
 -- a column that neither changes nor is null
 abbrev pub plain : KindLayout → ColumnLayout
@@ -63,8 +64,8 @@ labels = record {
   delimiter = 9;
 }
 
--- cities with a row at each unit: the key, counted from 5, and a template of it; and houses with a row at each unit: the key, counted from 1, the city that is born with it, the birth of that, its template and its key, which is null;
--- tabs between
+-- cities with a row at each unit: the key, counted from 5, a template of it, and the birth; and houses with a row at each unit: the key,
+-- counted from 1, the city that is born with it, and of that the birth, the template and the key, which is null; tabs between
 abbrev pub land : Generator
 land = record {
   tables = table 1 1 5 false (plain (template_kind (literal_part (codes "c") ∷ cited_part 0 ∷ [])) ∷ plain born_kind ∷ [])
@@ -74,3 +75,7 @@ land = record {
   draw = no_draw;
   delimiter = 9;
 }
+
+-- the house that is born at unit 0
+abbrev pub first_house : Row
+first_house = record { ordinal = 0; born = 0; changed = 0; left = None; wait = None; parents = 0 ∷ [] }

@@ -5,7 +5,7 @@
 //! A table is named by its place in the schema from 0. Units and ordinals count from 0, and so do the indices of a
 //! cohort's rows.
 
-ghost use Rattle.std.specs.Prelude.{◌≡◌, ℕ, ◌+◌, ◌<◌, ◌≤◌, ◌++◌, [], List, Some, codes, decimal, flat_map, if◌then◌else◌, false, length, true, unwrap_or};
+ghost use Rattle.std.specs.Prelude.{◌≡◌, ℕ, ◌+◌, ◌<◌, ◌≤◌, ◌++◌, [], List, None, Some, codes, decimal, flat_map, if◌then◌else◌, false, length, true, unwrap_or};
 ghost use Rattle.row_text.specs.Fields.{field_text, piece_text};
 ghost use Rattle.schema_check.specs.Cohorts.{born_count, cohort_size, first_ordinal};
 ghost use Rattle.schema_check.specs.Layout.{LeafLayout, PartLayout, born_kind, changed_kind, cited_part, column_at, key_kind, leaf_kind, literal_part, lookup_kind, table_at, template_kind};
@@ -18,7 +18,7 @@ ghost use Rattle.life_intervals.specs.Keys.{key_of};
 ghost use Rattle.life_intervals.specs.Rows.{Row};
 ghost use Rattle.life_intervals.specs.Sound.{AreSound};
 ghost use Rattle.row_lines.specs.Lines.{cohort_text, draws_of, field, first_lines, key_line_of, line_if_live, line_of, part_text, table_text, text_before};
-ghost use Rattle.row_lines.specs.Worked.{labels, land, one, pairs};
+ghost use Rattle.row_lines.specs.Worked.{first_house, labels, land, one, pairs};
 
 /// The text of a table at a unit is the lines of the ordinals that are born by then and alive.
 pub fn text_is_the_lines_of_the_living()
@@ -146,13 +146,15 @@ pub fn key_line_is_the_key_field()
 {}
 
 /// Texts worked out by hand: a row at each unit; scrambled keys in cohorts of two, none at unit 0;
-/// two rows at unit 0 alone; houses with the birth, the label and, where it isn't null, the key of their city.
+/// two rows at unit 0 alone. And what a house looks up of its city: the birth, the label, and what is null.
 pub fn worked_texts()
     ensures row_at_each_unit { table_text one 2 0 ≡ codes "1\t0\n2\t1\n3\t2\n" }
     ensures scrambled { table_text pairs 2 0 ≡ codes "11|1|1\n10|1|1\n13|2|2\n12|2|2\n" }
     ensures empty { table_text pairs 0 0 ≡ [] }
     ensures at_unit_0_alone { table_text pairs 2 1 ≡ codes "0\n1\n" }
     ensures past_the_tables { table_text pairs 2 2 ≡ [] }
-    ensures lookups { table_text land 1 1 ≡ codes "1\t5\t0\tc5\t\\N\n2\t6\t1\tc6\t\\N\n" }
+    ensures birth_of_a_city { field land 0 1 first_house 2 ≡ Some (codes "0") }
+    ensures label_of_a_city { field land 0 1 first_house 3 ≡ Some (codes "c5") }
+    ensures null_beside_a_city { field land 0 1 first_house 4 ≡ None }
     ensures templates { table_text labels 1 0 ≡ codes "1\t\\N\tr1!\t[]\ta\\tb\\\\\t11\t\\N\n2\t\\N\tr2!\t[]\ta\\tb\\\\\t22\t\\N\n" }
 {}

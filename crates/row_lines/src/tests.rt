@@ -318,20 +318,32 @@ fn customers(alloc: Global, births: Births) -> Result<Table, AllocError> {
     table(alloc, "customers", births, three, Some(2), columns)
 }
 
-/// Orders, each of the oldest customer of the last three units, that would live nine.
+/// What the parent holds by a column in another.
+fn lookup(alloc: Global, via: &str, column: &str) -> Result<Kind, AllocError> {
+    Ok(Kind::Lookup {
+        via: Text::of(alloc, via).map_err(|_| AllocError)?,
+        column: Text::of(alloc, column).map_err(|_| AllocError)?,
+    })
+}
+
+/// Orders, each of the oldest customer of the last three units, with the birth of that, that would live nine.
 fn orders(alloc: Global, births: Births) -> Result<Table, AllocError> {
     let customer = reference(alloc, "customers", Window::Units(2))?;
     let columns = with_column(alloc, key_column(alloc, births)?, "customer", customer, 0)?;
+    let since = lookup(alloc, "customer", "born")?;
+    let columns = with_column(alloc, columns, "since", since, 0)?;
     let nine = Some(Life { lo: 9, hi: 9 });
     table(alloc, "orders", births, nine, None, columns)
 }
 
-/// Their lines, each of the order of its own unit, with a label that has the order's key.
+/// Their lines, each of the order of its own unit, with a label that has the order's key, and with the order's customer.
 fn order_lines(alloc: Global, births: Births) -> Result<Table, AllocError> {
     let order = reference(alloc, "orders", Window::Units(0))?;
     let columns = with_column(alloc, key_column(alloc, births)?, "order_id", order, 0)?;
     let label = template(alloc, &[("o", "order_id")])?;
     let columns = with_column(alloc, columns, "label", label, 0)?;
+    let payer = lookup(alloc, "order_id", "customer")?;
+    let columns = with_column(alloc, columns, "payer", payer, 0)?;
     table(alloc, "lines", births, None, None, columns)
 }
 
@@ -392,20 +404,21 @@ fn assert_family_lines<L: Ledger>(
 
 // By hand: the orders 0 to 2 are of customer 0, and order 3 of customer 1; order 0 dies with its customer at unit 3.
 #[test]
-fn lines_of_references(rt: HostRuntime) -> Result<(), Fail> {
+fn lines_of_references_and_lookups(rt: HostRuntime) -> Result<(), Fail> {
     let alloc = rt.alloc();
     let plan = sales(alloc)?;
     let lines = [
         (0, 2, 0, "1\t0\t1\n"),
         (0, 2, 1, "2\t1\t2\n"),
         (0, 2, 2, "3\t2\t2\n"),
-        (1, 2, 0, "1\t1\n"),
-        (1, 2, 1, "2\t1\n"),
-        (1, 2, 2, "3\t1\n"),
-        (1, 3, 3, "4\t2\n"),
-        (2, 2, 0, "1\t1\to1\n"),
-        (2, 2, 1, "2\t2\to2\n"),
-        (2, 2, 2, "3\t3\to3\n"),
+        (1, 2, 0, "1\t1\t0\n"),
+        (1, 2, 1, "2\t1\t0\n"),
+        (1, 2, 2, "3\t1\t0\n"),
+        (1, 3, 3, "4\t2\t1\n"),
+        (2, 2, 0, "1\t1\to1\t1\n"),
+        (2, 2, 1, "2\t2\to2\t1\n"),
+        (2, 2, 2, "3\t3\to3\t1\n"),
+        (2, 3, 3, "4\t4\to4\t2\n"),
     ];
     assert_family_lines::<Brand>(&rt, alloc, &plan, &lines, Blank::new(1))?;
     let lives = [(0, 2, true), (0, 3, false)];

@@ -7,4 +7,4 @@ use Rattle.row_lines.proofs.laws.worked_texts.Goals as goal
 
 pub returns : goal.returns
 unfolding simulation rows_at line table_text digits escaped
-returns c = record { row_at_each_unit = refl; scrambled = refl; empty = refl; at_unit_0_alone = refl; past_the_tables = refl; lookups = refl; templates = refl }
+returns c = record { row_at_each_unit = refl; scrambled = refl; empty = refl; at_unit_0_alone = refl; past_the_tables = refl; birth_of_a_city = refl; label_of_a_city = refl; null_beside_a_city = refl; templates = refl }
