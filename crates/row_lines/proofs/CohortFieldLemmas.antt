@@ -1,5 +1,5 @@
 -- The fields of a row of a cohort, but for lookups.
-use Rattle.std.proofs.Common.{◌≡◌, ◌<◌, ◌≤◌, ◌^◌, ℕ, zero, suc, ◌+◌, Bool, false, true, List, [], ◌++◌, length, codes, decimal, Option, Some, None, get_or, if◌then◌else◌, refl, ap, sym, subst, ◌∙◌, arith}
+use Rattle.std.proofs.Common.{◌≡◌, ◌<◌, ◌≤◌, ◌^◌, ℕ, zero, suc, ◌+◌, Bool, false, true, List, [], length, codes, decimal, Option, Some, None, get_or, if◌then◌else◌, refl, ap, sym, subst, ◌∙◌, arith}
 use Rattle.std.proofs.lemmas.List.{get_or-map, length-map}
 use Rattle.row_text.specs.Fields.{field_text}
 use Rattle.row_text.proofs.DigitLemmas.{piece_text-decimal}
@@ -9,7 +9,7 @@ use Rattle.schema_check.specs.declared.ready.ReadyPart.{ReadyPart}
 use Rattle.schema_check.specs.declared.ready.ReadyReference.{ReadyReference}
 use Rattle.schema_check.specs.Cohorts.{cohort_size, first_ordinal}
 use Rattle.schema_check.specs.FieldBounds.{bounds_of}
-use Rattle.schema_check.specs.Layout.{ColumnLayout, KindLayout, born_kind, case_kind, changed_kind, column_at, key_kind, layout_of, leaf_kind, lookup_kind, no_column, reference_kind, template_kind}
+use Rattle.schema_check.specs.Layout.{ColumnLayout, KindLayout, born_kind, case_kind, changed_kind, column_at, key_kind, layout_of, leaf_kind, no_column, reference_kind, template_kind}
 use Rattle.schema_check.specs.Limits.{is_lookup_kind}
 use Rattle.schema_check.specs.Lineage.{one_if}
 use Rattle.schema_check.specs.Ready.{ready_column, ready_columns, ready_kind}

@@ -1,36 +1,25 @@
 -- The line of a row of a cohort, field by field.
-use Rattle.std.proofs.Common.{◌≡◌, ◌<◌, ◌≤◌, ◌^◌, ℕ, zero, suc, ◌+◌, ◌==◌, if◌then◌else◌, Bool, false, true, List, [], ◌∷◌, ◌++◌, map, length, min, sum_by, take, codes, decimal, is_some, All, Option, Some, None, get_or, refl, ap, sym, subst, ◌∙◌, arith}
+use Rattle.std.proofs.Common.{◌≡◌, ◌<◌, ◌≤◌, ◌^◌, ℕ, zero, suc, ◌+◌, ◌-◌, ◌==◌, if◌then◌else◌, Bool, false, true, List, [], ◌∷◌, ◌++◌, map, length, min, sum_by, take, codes, is_some, Option, Some, None, refl, ap, subst, ◌∙◌, arith}
 use Rattle.std.specs.List.{join_with_byte, range_with_len}
 use Rattle.std.proofs.lemmas.Bool.Decides.{nat_tests}
-use Rattle.std.proofs.lemmas.List.{get_or-map, length-map}
 use Rattle.std.proofs.lemmas.List.Folds.{fold-map}
 use Rattle.std.proofs.lemmas.List.Sums.{sum_by-cons}
-use Rattle.row_text.specs.Fields.{field_text}
-use Rattle.row_text.proofs.DigitLemmas.{piece_text-decimal}
 use Rattle.schema_check.specs.declared.ready.ReadyColumn.{ReadyColumn}
-use Rattle.schema_check.specs.declared.ready.ReadyKind.TheVariants.{Key, Reference, Template}
-use Rattle.schema_check.specs.declared.ready.ReadyPart.{ReadyPart}
-use Rattle.schema_check.specs.declared.ready.ReadyReference.{ReadyReference}
 use Rattle.schema_check.specs.Cohorts.{cohort_size}
 use Rattle.schema_check.specs.FieldBounds.{bounds_alone, bounds_of, bounds_of_part}
-use Rattle.schema_check.specs.Layout.{ColumnLayout, KindLayout, PartLayout, TableLayout, born_kind, case_kind, changed_kind, cited_part, column_at, key_kind, layout_of, leaf_kind, literal_part, lookup_kind, no_column, reference_kind, table_layout, template_kind}
+use Rattle.schema_check.specs.Layout.{ColumnLayout, KindLayout, PartLayout, TableLayout, born_kind, case_kind, changed_kind, cited_part, column_at, key_kind, layout_of, leaf_kind, literal_part, lookup_kind, reference_kind, template_kind}
 use Rattle.schema_check.specs.Lineage.{one_if}
+use Rattle.schema_check.specs.Limits.{IsTableInLimits}
 use Rattle.schema_check.specs.TableFacts.{line_cost, max_line}
-use Rattle.draw_values.specs.CohortValues.{ValuesOf, value_for}
-use Rattle.draw_values.specs.declared.values.Put.TheVariants.{Text, Null}
 use Rattle.draw_values.specs.UnitDraws.{DrawsOf}
-use Rattle.draw_values.specs.Values.{is_own, put_of, written}
 use Rattle.life_intervals.specs.CohortKeys.{CohortOf}
 use Rattle.life_intervals.specs.CohortLives.{CohortAt}
 use Rattle.life_intervals.specs.CohortOrders.{do_updates_differ}
-use Rattle.life_intervals.specs.Generator.{Generator, generator_of, last_unit}
-use Rattle.life_intervals.specs.Intervals.{row_at}
-use Rattle.life_intervals.specs.Rows.{Row}
-use Rattle.life_intervals.proofs.CohortLemmas.{birth-first_ordinal, cohort-within}
-use Rattle.life_intervals.proofs.KeyLemmas.{key_of-first_ordinal}
-use Rattle.life_intervals.proofs.AcceptedLemmas.{row_at-changed}
-use Rattle.row_lines.specs.CohortLines.{AreLinesOf, LinesOf, asked_alone, asked_by, asked_by_part, asked_for_line, change_for, key_for, layout_for, line_in_cohort, ordinal_of, size_for, text_in_cohort, values_at}
-use Rattle.row_lines.specs.Lines.{field, line}
+use Rattle.life_intervals.specs.Generator.{generator_of, last_unit}
+use Rattle.life_intervals.proofs.CohortLemmas.{cohort-within}
+use Rattle.life_intervals.proofs.LifeLemmas.{change_unit-le}
+use Rattle.row_lines.specs.CohortLines.{AreLinesOf, LinesOf, asked_alone, asked_by, asked_by_part, asked_for_line, change_for, layout_for, line_in_cohort, ordinal_of, text_in_cohort}
+use Rattle.row_lines.specs.Lines.{line, line_of}
 
 -- what the field of a column takes at most: bytes, with the one behind, and permutations
 abbrev pub room_in : LinesOf → ColumnLayout → ℕ
@@ -108,16 +97,16 @@ line_cost-columns asked permutations [] scramble each some first = absurd (omega
 line_cost-columns asked permutations (column ∷ others) scramble each some first =
     omega (arith, first, sum_by-cons asked column others, sum_by-cons permutations column others, sum_by-each asked permutations each others)
 
-pub steps-line_cost : (lines : LinesOf) (keys : CohortOf) (lives changes : CohortAt) (births : DrawsOf) (columns : List ReadyColumn) (fields : LinesOf) (byte : ℕ) → AreLinesOf lines keys lives changes births columns fields byte →
+pub steps-line_cost : (lines : LinesOf) → IsTableInLimits (last_unit lines.plan) (layout_for lines) →
     one_if (layout_for lines).key.scramble + one_if (is_some (layout_for lines).update) + asked_for_line lines ≤ line_cost (layout_of lines.plan) lines.table
 unfolding line_cost
-steps-line_cost lines keys lives changes births ready fields byte known =
+steps-line_cost lines limits =
     let columns : List ColumnLayout = (layout_for lines).columns in
     omega (
       arith,
       line_cost-columns (asked_in lines) (permutations_in lines) columns (one_if (layout_for lines).key.scramble)
-          (λ column. asked_by-le true (layout_of lines.plan).delimiter (layout_of lines.plan).tables (layout_for lines) column.kind) known.limits.some_column
-          (key_first (layout_of lines.plan).delimiter (layout_of lines.plan).tables (layout_for lines) (column_at columns 0).kind known.limits.key_first),
+          (λ column. asked_by-le true (layout_of lines.plan).delimiter (layout_of lines.plan).tables (layout_for lines) column.kind) limits.some_column
+          (key_first (layout_of lines.plan).delimiter (layout_of lines.plan).tables (layout_for lines) (column_at columns 0).kind limits.key_first),
       asked_for_line-is lines,
       sum_by-map (λ (column : ColumnLayout). bounds_of (layout_of lines.plan).delimiter (layout_of lines.plan).tables (layout_for lines) column.kind)
           (layout_for lines).columns (λ bounds. bounds.permutations),
@@ -154,3 +143,20 @@ cohort_size-limit lines keys lives changes births columns fields byte known =
       known.limits.row_limit,
       cohort-within (layout_for lines).births lines.born (last_unit lines.plan) (omega (arith, known.born, known.unit)),
     )
+
+-- an ordinal lies behind the first of its cohort by its index
+pub ordinal_of-index : (start first ordinal : ℕ) → first ≡ start → start ≤ ordinal → start + (ordinal - first) ≡ ordinal
+ordinal_of-index start first ordinal same begun = omega (arith, same, begun)
+
+-- the line of its index in its cohort is that of the ordinal
+pub line_in_cohort-line_of : (lines schema_lines : LinesOf) (index ordinal : ℕ) → lines ≡ schema_lines → ordinal_of schema_lines index ≡ ordinal →
+    line_in_cohort lines index ≡ line_of (generator_of schema_lines.plan) schema_lines.unit schema_lines.table ordinal
+line_in_cohort-line_of lines schema_lines index ordinal same at =
+    ap (λ (of : LinesOf). line_in_cohort of index) same
+    ∙ ap (line_of (generator_of schema_lines.plan) schema_lines.unit schema_lines.table) at
+
+-- the unit of a row's last change is no later than the unit of the lines
+pub change_for-le : (lines : LinesOf) (index : ℕ) → lines.born ≤ lines.unit → index < cohort_size (layout_for lines).births lines.born → change_for lines index ≤ lines.unit
+change_for-le lines index within below =
+    change_unit-le (generator_of lines.plan) lines.table lines.unit (ordinal_of lines index)
+    (omega (arith, below, cohort-within (layout_for lines).births lines.born lines.unit within))

@@ -1,5 +1,5 @@
 -- The row of an ordinal that a table holds: that of the closed form where it is born and alive, and none where it isn't.
-use Rattle.std.proofs.Common.{◌≡◌, ℕ, zero, suc, ◌+◌, ◌<◌, ◌≤◌, ◌==◌, true, false, List, filter, map, Option, Some, None, inl, inr, ne_eqb, eq-eqb, refl, ap, arith, sym, ◌∙◌}
+use Rattle.std.proofs.Common.{◌≡◌, ℕ, zero, suc, ◌+◌, ◌<◌, ◌≤◌, ◌==◌, true, false, filter, map, Option, Some, None, inl, inr, ne_eqb, eq-eqb, refl, ap, arith, sym, ◌∙◌}
 use Rattle.std.specs.List.{find, range_with_len}
 use Rattle.std.proofs.lemmas.Bool.{cases_Bool, cases_lt, false≢true}
 use Rattle.schema_check.specs.Cohorts.{born_count}

@@ -1,6 +1,7 @@
--- Lists: pieces of what passes a test, and pieces joined by a byte.
-use Rattle.std.proofs.Common.{◌≡◌, ℕ, zero, suc, ◌+◌, ◌-◌, ◌<◌, ◌≤◌, Bool, true, false, List, [], ◌∷◌, ◌++◌, filter, if◌then◌else◌, refl, ap, sym, arith, ◌∙◌}
-use Rattle.std.specs.List.{flat_map, range_with_len}
+-- Lists: pieces of what passes a test, and the first number of a range that does.
+use Rattle.std.proofs.Common.{◌≡◌, ℕ, zero, suc, ◌+◌, ◌-◌, ◌<◌, ◌≤◌, Bool, true, false, List, [], ◌∷◌, ◌++◌, Some, None, inl, inr, filter, if◌then◌else◌, refl, ap, sym, arith, ◌∙◌}
+use Rattle.std.specs.List.{find, flat_map, range_with_len}
+use Rattle.std.proofs.lemmas.Bool.{cases_lt}
 use Rattle.std.proofs.lemmas.List.{append-nil}
 use Rattle.std.proofs.lemmas.List.Concat.{flat_map-append}
 use Rattle.std.proofs.lemmas.List.Elements.{filter-append}
@@ -50,3 +51,19 @@ filter-none p a (suc n) fails =
     let rest : filter p (range_with_len (a + 1) n) ≡ [] =
     filter-none p (a + 1) n (λ k below. let next : (a + 1) + k ≡ a + (k + 1) = omega arith in ap p next ∙ fails (k + 1) (omega arith)) in
     rw (head, rest) refl
+
+-- the first number of a range that passes a test
+pub find-range_first : (p : ℕ → Bool) (a n k : ℕ) → a ≤ k → k < a + n → ((j : ℕ) → a ≤ j → j < k → p j ≡ false) → p k ≡ true → find p (range_with_len a n) ≡ Some k
+find-range_first p a zero k from below before passes = absurd (omega arith)
+find-range_first p a (suc n) k from below before passes = elim (cases_lt a k) [
+  | inl later ↦ rw (before a (omega arith) later) (find-range_first p (a + 1) n k (omega arith) (omega arith) (λ j low high. before j (omega arith) high) passes)
+  | inr here ↦
+      let same : a ≡ k = omega arith in
+      let passes_here : p a ≡ true = ap p same ∙ passes in
+      rw passes_here (ap Some same)
+]
+
+-- and of one of which each number fails it, none
+pub find-range_none : (p : ℕ → Bool) (a n : ℕ) → ((j : ℕ) → a ≤ j → j < a + n → p j ≡ false) → find p (range_with_len a n) ≡ None
+find-range_none p a zero fails = refl
+find-range_none p a (suc n) fails = rw (fails a (omega arith) (omega arith)) (find-range_none p (a + 1) n (λ j low high. fails j (omega arith) (omega arith)))

@@ -1,23 +1,22 @@
 -- What a lookup shows is what the parent holds, which its table holds as long as the row is alive.
-use Rattle.std.proofs.Common.{◌≡◌, ◌<◌, ◌≤◌, ℕ, ◌+◌, max, true, false, Bool, List, length, codes, Option, Some, None, if◌then◌else◌, refl, ap, subst, sym, ◌∙◌, arith}
+use Rattle.std.proofs.Common.{◌≡◌, ◌<◌, ◌≤◌, ℕ, ◌+◌, true, false, Bool, List, length, codes, Option, Some, None, if◌then◌else◌, refl, ap, subst, sym, ◌∙◌, arith}
 use Rattle.std.specs.Option.{option_and_then}
 use Rattle.row_text.specs.Fields.{field_text}
 use Rattle.schema_check.specs.declared.layout.Births.{Births}
 use Rattle.schema_check.specs.declared.ready.ReadyKind.TheVariants as kind
 use Rattle.schema_check.specs.declared.ready.ReadyLookup.{ReadyLookup}
 use Rattle.schema_check.specs.declared.ready.ReadyReference.{ReadyReference}
-use Rattle.schema_check.specs.Cohorts.{born_count, cohort_size, first_ordinal}
-use Rattle.schema_check.specs.Dictionaries.{Project}
+use Rattle.schema_check.specs.Cohorts.{born_count, cohort_size}
 use Rattle.schema_check.specs.FieldBounds.{bounds_at, bounds_in_table, bounds_of}
 use Rattle.schema_check.specs.Layout.{KindLayout, TableLayout, born_kind, case_kind, changed_kind, column_at, key_kind, layout_of, leaf_kind, lookup_kind, reference_kind, table_at, template_kind}
 use Rattle.schema_check.specs.Limits.{IsInLimits, IsLookup, IsLookupInLimits, IsReferenceTo, IsTableInLimits, is_lookup_kind}
 use Rattle.schema_check.specs.Ready.{ready_kind, ready_reference}
-use Rattle.schema_check.specs.References.{Reference, reference_at, references_of}
+use Rattle.schema_check.specs.References.{Reference, reference_at}
 use Rattle.draw_values.specs.CohortValues.{ValuesOf, is_null_for}
 use Rattle.draw_values.specs.Values.{is_null, unless_null}
 use Rattle.life_intervals.specs.CohortParents.{IsReferenceOf, parent_in, reference_by}
 use Rattle.life_intervals.specs.Generator.{Generator, generator_of, last_unit, table_of}
-use Rattle.life_intervals.specs.Intervals.{birth, index_at, is_live, parent_of, row_at}
+use Rattle.life_intervals.specs.Intervals.{birth, is_live, parent_of, row_at}
 use Rattle.life_intervals.specs.Rows.{Row}
 use Rattle.life_intervals.specs.Simulation.{holds_row, rows_at}
 use Rattle.life_intervals.specs.Sound.{AreSound}
@@ -28,7 +27,7 @@ use Rattle.life_intervals.proofs.LifeLemmas.{parent_of-born}
 use Rattle.life_intervals.proofs.LiveLemmas.{holds_row-live}
 use Rattle.life_intervals.proofs.ReferenceLemmas.{at_column, reference_at-within}
 use Rattle.row_lines.specs.CohortLines.{LinesOf, asked_by, asked_for, change_for, is_live_for, layout_for, ordinal_of, parent_for, row_changed, size_for, text_in_cohort, text_in_table, values_at}
-use Rattle.row_lines.specs.Lines.{draws_of, field, field_in_table, held_row, looked_up, parent_of_row, value}
+use Rattle.row_lines.specs.Lines.{draws_of, field, field_in_table, held_row, looked_up, value}
 use Rattle.row_lines.specs.Lookups.{IsLookupOf, IsStillColumn, text_held}
 use Rattle.row_lines.proofs.CohortLineLemmas.{asked_by-le}
 use Rattle.row_lines.proofs.FieldLemmas.{field-in_table}

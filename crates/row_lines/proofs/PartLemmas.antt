@@ -18,7 +18,6 @@ use Rattle.schema_check.specs.Ready.{ready_kind, ready_part}
 use Rattle.draw_values.specs.CohortValues.{ValuesOf, is_null_for, value_for}
 use Rattle.draw_values.specs.Values.{is_null, is_own, written}
 use Rattle.life_intervals.specs.Generator.{Generator, generator_of}
-use Rattle.life_intervals.specs.Intervals.{row_at}
 use Rattle.life_intervals.specs.Rows.{Row}
 use Rattle.row_lines.specs.CohortLines.{LinesOf, asked_by, asked_by_part, asked_for, layout_for, ordinal_of, row_changed, size_for, text_in_table, values_at}
 use Rattle.row_lines.specs.Lines.{draws_of, part_text}

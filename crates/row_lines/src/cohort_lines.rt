@@ -229,14 +229,35 @@ impl<'a> CohortLines<'a> {
         ensures size { length (line_in_cohort self.now index) ≤ max_line (layout_of self.now.plan) self.now.table }
         ensures steps { steps.new ≤ steps.old + line_cost (layout_of self.now.plan) self.now.table }
     {
+        let _limits = self.plan.schema(); // the first column is the key
         let key = self.key(index, steps);
         let changed = self.changed(index, steps);
+        self.put_changed_line(index, key, changed, buf, steps);
+    }
+
+    /// The same for a row whose key and whose unit of the last change are known. It asks no permutation but those of references.
+    pub fn put_changed_line<L: Ledger>(
+        &self,
+        index: u64,
+        key: u64,
+        changed: u64,
+        buf: &mut PageBuf,
+        steps: &mut Steps<L>,
+    )
+        requires row { index < cohort_size (layout_for self.now).births self.now.born }
+        requires alive { is_live_for self.now index ≡ true }
+        requires key { key ≡ key_for self.now index }
+        requires changed { changed ≡ change_for self.now index }
+        requires room { length buf.old.text + max_line (layout_of self.now.plan) self.now.table ≤ buf.old.room }
+        ensures line { buf.new ≡ record buf.old { text = buf.old.text ++ line_in_cohort self.now index } }
+        ensures size { length (line_in_cohort self.now index) ≤ max_line (layout_of self.now.plan) self.now.table }
+        ensures steps { steps.new ≤ steps.old + asked_for_line self.now }
+    {
         let draws = UnitDraws::new(self.plan, self.place, changed);
         self.put_drawn_line(index, key, &draws, buf, steps);
     }
 
-    /// The same for a row whose key and whose unit of the last change are known, with the draws of the table's changes, so that its
-    /// line makes no seed but its own and asks no permutation but those of references.
+    /// The same with the draws of the table's changes, so that a line makes no seed but its own.
     #[inline]
     pub fn put_known_line<L: Ledger>(
         &self,
@@ -318,7 +339,9 @@ impl<'a> CohortLines<'a> {
             ReadyKind::Lookup(lookup) => {
                 self.put_lookup(column, lookup, index, values, buf, steps)
             }
-            _ => self.fields.put(column, index, Some(key), values, buf, steps),
+            _ => self
+                .fields
+                .put(column, index, Some(key), values, buf, steps),
         }
     }
 
@@ -349,8 +372,18 @@ impl<'a> CohortLines<'a> {
         let ReadyKind::Reference(reference) = &columns[lookup.via as usize].kind else {
             return; // it is one
         };
-        let parent = self.fields.parent(lookup.via as u32, reference, index, steps);
-        put_still_field(self.plan, lookup.parent, parent, self.unit, lookup.column, buf, steps);
+        let parent = self
+            .fields
+            .parent(lookup.via as u32, reference, index, steps);
+        put_still_field(
+            self.plan,
+            lookup.parent,
+            parent,
+            self.unit,
+            lookup.column,
+            buf,
+            steps,
+        );
     }
 }
 

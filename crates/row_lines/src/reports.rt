@@ -1,11 +1,17 @@
 //! The report on one row.
 
-ghost use Rattle.std.specs.Prelude.{◌≡◌, ◌<◌, ◌≤◌, ◌+◌, ◌++◌, [], is_some, length, unwrap_or};
+ghost use Rattle.std.specs.Prelude.{◌≡◌, ◌<◌, ◌≤◌, ◌+◌, ◌++◌, ◌&&◌, Some, [], codes, decimal, is_some, length, nat_le, true, unwrap_or};
+ghost use Rattle.schema_check.specs.Cohorts.{born_count};
 ghost use Rattle.schema_check.specs.Layout.{layout_of};
-ghost use Rattle.schema_check.specs.TableFacts.{cost, max_line};
-ghost use Rattle.life_intervals.specs.Generator.{last_unit};
-ghost use Rattle.row_lines.specs.Reports.{report_on};
+ghost use Rattle.schema_check.specs.Lineage.{death_cost};
+ghost use Rattle.schema_check.specs.TableFacts.{cost, line_cost, max_line};
+ghost use Rattle.life_intervals.specs.Generator.{generator_of, last_unit, rows_in_all, table_of};
+ghost use Rattle.life_intervals.specs.Intervals.{is_after, is_live, row_at};
+ghost use Rattle.life_intervals.specs.Keys.{key_of};
+ghost use Rattle.row_lines.specs.Reports.{gone_at, gone_text, held_text, report_on, row_report, state_text};
 
+use crate::cohort_lines::CohortLines;
+use life_intervals::{birth, cohort, cohort_orders, death, last_change, row_of_key};
 use pd_outside::PageBuf;
 use schema_check::Plan;
 use std::sync::ledger::Ledger;
@@ -31,5 +37,134 @@ pub fn row_report<L: Ledger>(
     ensures size { length (unwrap_or (report_on plan.now table t key) []) ≤ 128 + max_line (layout_of plan.now) table }
     ensures steps { steps.new ≤ steps.old + cost (layout_of plan.now) table }
 {
-    false
+    match row_of_key(plan, table, key, steps) {
+        Some(j) => {
+            put_report(plan, table, j, key, t, buf, steps);
+            true
+        }
+        None => false,
+    }
+}
+
+/// Appends the report at unit `t` on the row of ordinal `j`, which has this key.
+fn put_report<L: Ledger>(
+    plan: &Plan,
+    table: u32,
+    j: u64,
+    key: u64,
+    t: u64,
+    buf: &mut PageBuf,
+    steps: &mut Steps<L>,
+)
+    requires table { table < length plan.now.schema.tables }
+    requires row { j < rows_in_all plan.now table }
+    requires key { key_of (generator_of plan.now) table (last_unit plan.now) j ≡ key }
+    requires unit { t ≤ last_unit plan.now }
+    requires room { length buf.old.text + (128 + max_line (layout_of plan.now) table) ≤ buf.old.room }
+    ensures text { buf.new ≡ record buf.old { text = buf.old.text ++ row_report (generator_of plan.now) (last_unit plan.now) table t j } }
+    ensures size { length (row_report (generator_of plan.now) (last_unit plan.now) table t j) ≤ 128 + max_line (layout_of plan.now) table }
+    ensures steps { steps.new ≤ steps.old + death_cost (layout_of plan.now).tables table + line_cost (layout_of plan.now) table }
+{
+    let _sound = plan.schema(); // so the simulation is its closed form
+    let born = birth(plan, table, j);
+    let gone = gone_at(plan, table, j, steps);
+    let held = is_held(born, gone, t);
+    put_number_line(buf, b"born ", born);
+    put_gone_line(buf, gone);
+    put_state_line(buf, born <= t, held);
+    if held {
+        put_held(plan, table, j, key, t, buf, steps);
+    }
+}
+
+/// The unit at which the row of ordinal `j` is gone, its death; None where that doesn't come by the last unit. It asks at most as many
+/// permutations as the cost of a death says.
+fn gone_at<L: Ledger>(plan: &Plan, table: u32, j: u64, steps: &mut Steps<L>) -> Option<u64>
+    requires table { table < length plan.now.schema.tables }
+    requires row { j < rows_in_all plan.now table }
+    ensures unit { result ≡ gone_at (generator_of plan.now) (last_unit plan.now) table j }
+    ensures steps { steps.new ≤ steps.old + death_cost (layout_of plan.now).tables table }
+{
+    let _sound = plan.schema(); // so the simulation is its closed form
+    let last = plan.units();
+    match death(plan, table, j, steps) {
+        Some(unit) if unit <= last => Some(unit),
+        _ => None,
+    }
+}
+
+/// Whether a row that is born and gone at these units is held at another.
+fn is_held(born: u64, gone: Option<u64>, t: u64) -> bool
+    ensures { result ≡ (nat_le born t && is_after gone t) }
+{
+    born <= t && gone.is_none_or(|unit| t < unit)
+}
+
+/// Appends a line of a label and a number.
+fn put_number_line(buf: &mut PageBuf, label: &[u8], number: u64)
+    requires { length buf.old.text + (length label.now + 21) ≤ buf.old.room }
+    ensures text { buf.new ≡ record buf.old { text = buf.old.text ++ (label.now ++ decimal number ++ codes "\n") } }
+    ensures size { length (label.now ++ decimal number ++ codes "\n") ≤ length label.now + 21 }
+{
+    buf.put(label);
+    buf.put_number(number);
+    buf.put(b"\n");
+}
+
+/// Appends the line of the unit at which a row is gone.
+fn put_gone_line(buf: &mut PageBuf, gone: Option<u64>)
+    requires { length buf.old.text + 26 ≤ buf.old.room }
+    ensures text { buf.new ≡ record buf.old { text = buf.old.text ++ (codes "gone " ++ gone_text gone ++ codes "\n") } }
+    ensures size { length (codes "gone " ++ gone_text gone ++ codes "\n") ≤ 26 }
+{
+    match gone {
+        Some(unit) => put_number_line(buf, b"gone ", unit),
+        None => buf.put(b"gone never\n"),
+    }
+}
+
+/// Appends the line of how a row stands at a unit, by whether it is born by then and whether its table holds it.
+fn put_state_line(buf: &mut PageBuf, born: bool, held: bool)
+    requires { length buf.old.text + 13 ≤ buf.old.room }
+    ensures text { buf.new ≡ record buf.old { text = buf.old.text ++ (codes "state " ++ state_text born held ++ codes "\n") } }
+    ensures size { length (codes "state " ++ state_text born held ++ codes "\n") ≤ 13 }
+{
+    if !born {
+        buf.put(b"state unborn\n");
+    } else if held {
+        buf.put(b"state live\n");
+    } else {
+        buf.put(b"state dead\n");
+    }
+}
+
+/// Appends what is told at unit `t` of the row of ordinal `j`, which has this key and is alive then: the unit of its last change, and
+/// its line. It asks at most as many permutations as the cost of a row counts for its line.
+fn put_held<L: Ledger>(
+    plan: &Plan,
+    table: u32,
+    j: u64,
+    key: u64,
+    t: u64,
+    buf: &mut PageBuf,
+    steps: &mut Steps<L>,
+)
+    requires table { table < length plan.now.schema.tables }
+    requires unit { t ≤ last_unit plan.now }
+    requires born { j < born_count (table_of plan.now table).births t }
+    requires alive { is_live (generator_of plan.now) table t j ≡ true }
+    requires key { key_of (generator_of plan.now) table (last_unit plan.now) j ≡ key }
+    requires room { length buf.old.text + (29 + max_line (layout_of plan.now) table) ≤ buf.old.room }
+    ensures text { buf.new ≡ record buf.old { text = buf.old.text ++ held_text (generator_of plan.now) t table (Some (row_at (generator_of plan.now) table t j)) } }
+    ensures size { length (held_text (generator_of plan.now) t table (Some (row_at (generator_of plan.now) table t j))) ≤ 29 + max_line (layout_of plan.now) table }
+    ensures steps { steps.new ≤ steps.old + line_cost (layout_of plan.now) table }
+{
+    let _limits = plan.table(table); // its first column is the key
+    let changed = last_change(plan, table, j, t, steps);
+    put_number_line(buf, b"changed ", changed);
+    let born = birth(plan, table, j);
+    let index = j - cohort(plan, table, born).first;
+    let orders = cohort_orders(plan, table, born);
+    let lines = CohortLines::new(plan, table, born, t, &orders, &[]);
+    lines.put_changed_line(index, key, changed, buf, steps);
 }

@@ -574,3 +574,56 @@ fn text_of_a_table(rt: HostRuntime) -> Result<(), Fail> {
     }
     Ok(())
 }
+
+/// The reports on rows of a table, by their keys and units; empty where no row has the key.
+fn assert_reports<L: Ledger>(
+    rt: &impl Abort,
+    alloc: Global,
+    plan: &Plan,
+    reports: &[(u64, u64, &str)],
+    blank: Blank,
+) -> Result<(), Fail>
+    requires name { blank.name ≡ L.name }
+    requires parts { blank.parts ≡ L.parts }
+    requires some { 0 < blank.parts }
+{
+    let mut steps = Steps::<L>::new(blank);
+    assert!(rt; plan.tables() == 1);
+    assert!(rt; plan.max_line(0) <= 100);
+    for (key, unit, report) in reports {
+        assert!(rt; *unit <= plan.units());
+        let mut page = page_of(alloc, 228)?;
+        let found = row_report(plan, 0, *key, *unit, &mut page, &mut steps);
+        assert!(rt; found != report.is_empty());
+        assert!(rt; page.text() == report.as_bytes());
+    }
+    Ok(())
+}
+
+// By hand: a row is there for three units from its birth, and changes one unit behind it and then every two. A table of keys alone
+// holds each row to its end.
+#[test]
+fn reports_on_rows(rt: HostRuntime) -> Result<(), Fail> {
+    let alloc = rt.alloc();
+    let births = Births {
+        rows: 1,
+        insert: 1,
+        units: 5,
+        scramble: false,
+    };
+    let plan = plan_of(alloc, customers(alloc, births)?, births.units)?;
+    let reports = [
+        (1, 2, "born 0\ngone 3\nstate live\nchanged 1\n1\t0\t1\n"),
+        (1, 3, "born 0\ngone 3\nstate dead\n"),
+        (3, 2, "born 2\ngone 5\nstate live\nchanged 2\n3\t2\t2\n"),
+        (5, 2, "born 4\ngone never\nstate unborn\n"),
+        (5, 5, "born 4\ngone never\nstate live\nchanged 5\n5\t4\t5\n"),
+        (0, 2, ""),
+        (7, 2, ""),
+    ];
+    assert_reports::<Brand>(&rt, alloc, &plan, &reports, Blank::new(1))?;
+    let large = plan_with(alloc, large(false), key_column(alloc, large(false))?)?;
+    let last = "born 0\ngone never\nstate live\nchanged 0\n1099511627776\n";
+    let reports = [(1_099_511_627_776, 0, last), (1_099_511_627_777, 0, "")];
+    assert_reports::<Brand>(&rt, alloc, &large, &reports, Blank::new(1))
+}

@@ -1,11 +1,11 @@
-use Rattle.std.proofs.Common.{◌≡◌, ◌≤◌, ◌+◌, ◌-◌, ◌++◌, ℕ, List, false, length, ap, arith, subst, ◌∙◌}
+use Rattle.std.proofs.Common.{◌≡◌, ◌≤◌, ◌+◌, ◌-◌, ◌++◌, ℕ, List, false, length, ap, arith, ◌∙◌}
 use Rattle.schema_check.specs.Cohorts.{first_ordinal}
 use Rattle.schema_check.specs.FieldBounds.{bounds_at}
 use Rattle.schema_check.specs.Layout.{layout_of}
 use Rattle.schema_check.specs.Limits.{IsTableInLimits}
 use Rattle.life_intervals.specs.Generator.{last_unit, table_of}
 use Rattle.life_intervals.proofs.CohortLemmas.{born_count-le}
-use Rattle.row_lines.specs.CohortLines.{LinesOf, asked_for, layout_for, ordinal_of, size_for, text_in_table}
+use Rattle.row_lines.specs.CohortLines.{LinesOf, asked_for, layout_for, size_for, text_in_table}
 use Rattle.row_lines.specs.Lookups.{IsStillColumn, text_held}
 use Rattle.row_lines.proofs.LineLemmas.{birth-within}
 use Rattle.row_lines.proofs.LookupLemmas.{asked-still, size-still, text-still}

@@ -1,11 +1,11 @@
-use Rattle.std.proofs.Common.{◌≡◌, ◌≤◌, ◌+◌, ◌-◌, ◌++◌, ℕ, List, length, ap, arith, subst, ◌∙◌}
+use Rattle.std.proofs.Common.{◌≤◌, ◌-◌, ◌++◌, ℕ, List, length, ap, arith, subst, ◌∙◌}
 use Rattle.schema_check.specs.Layout.{layout_of}
 use Rattle.schema_check.specs.TableFacts.{max_line}
 use Rattle.life_intervals.specs.Generator.{generator_of, last_unit, table_of}
 use Rattle.life_intervals.specs.Intervals.{is_live}
 use Rattle.life_intervals.proofs.CohortLemmas.{born_count-le}
 use Rattle.row_lines.specs.CohortLines.{LinesOf, line_in_cohort, ordinal_of}
-use Rattle.row_lines.specs.Lines.{line_of}
+use Rattle.row_lines.proofs.CohortLineLemmas.{line_in_cohort-line_of, ordinal_of-index}
 use Rattle.row_lines.proofs.LineLemmas.{birth-within}
 use Rattle.row_lines.proofs.rows.put_line.Goals as goal
 
@@ -21,30 +21,19 @@ new-requires-clause-born g c =
       birth-within (table_of c.args.plan.now c.args.table).births (last_unit c.args.plan.now) c.args.t c.args.j c.requires.unit c.requires.born,
     )
 
--- an ordinal lies behind the first of its cohort by its index
-ordinal_is : (start first ordinal : ℕ) → first ≡ start → start ≤ ordinal → start + (ordinal - first) ≡ ordinal
-ordinal_is start first ordinal same begun = omega (arith, same, begun)
-
 pub put_line-requires-clause-alive : goal.put_line-requires-clause-alive
 put_line-requires-clause-alive g c =
     ap (λ (lines : LinesOf). is_live (generator_of lines.plan) lines.table lines.unit (ordinal_of lines (c.args.j - c.cohort.result.first))) c.new.ensures
-    ∙ ap (is_live (generator_of c.args.plan.now) c.args.table c.args.t) (ordinal_is _ _ _ c.cohort.ensures.first c.birth-born.ensures.lies.begun)
+    ∙ ap (is_live (generator_of c.args.plan.now) c.args.table c.args.t) (ordinal_of-index _ _ _ c.cohort.ensures.first c.birth-born.ensures.lies.begun)
     ∙ c.requires.alive
-
--- the line of its index in its cohort is that of the ordinal
-line_is : (lines : LinesOf) (schema_lines : LinesOf) (index ordinal : ℕ) → lines ≡ schema_lines → ordinal_of schema_lines index ≡ ordinal →
-    line_in_cohort lines index ≡ line_of (generator_of schema_lines.plan) schema_lines.unit schema_lines.table ordinal
-line_is lines schema_lines index ordinal same at =
-    ap (λ (of : LinesOf). line_in_cohort of index) same
-    ∙ ap (line_of (generator_of schema_lines.plan) schema_lines.unit schema_lines.table) at
 
 pub returns-clause-line : goal.returns-clause-line
 returns-clause-line g c =
     c.put_line.ensures.line
-    ∙ ap (λ (line : List ℕ). record { text = c.args.buf.now.text ++ line; room = c.args.buf.now.room }) (line_is c.new.result _ (c.args.j - c.cohort.result.first) c.args.j c.new.ensures (ordinal_is _ _ _ c.cohort.ensures.first c.birth-born.ensures.lies.begun))
+    ∙ ap (λ (line : List ℕ). record { text = c.args.buf.now.text ++ line; room = c.args.buf.now.room }) (line_in_cohort-line_of c.new.result _ (c.args.j - c.cohort.result.first) c.args.j c.new.ensures (ordinal_of-index _ _ _ c.cohort.ensures.first c.birth-born.ensures.lies.begun))
 
 pub returns-clause-size : goal.returns-clause-size
 returns-clause-size g c =
     subst (λ (line : List ℕ). length line ≤ max_line (layout_of c.args.plan.now) c.args.table)
-    (line_is c.new.result _ (c.args.j - c.cohort.result.first) c.args.j c.new.ensures (ordinal_is _ _ _ c.cohort.ensures.first c.birth-born.ensures.lies.begun))
+    (line_in_cohort-line_of c.new.result _ (c.args.j - c.cohort.result.first) c.args.j c.new.ensures (ordinal_of-index _ _ _ c.cohort.ensures.first c.birth-born.ensures.lies.begun))
     (subst (λ (lines : LinesOf). length (line_in_cohort c.new.result (c.args.j - c.cohort.result.first)) ≤ max_line (layout_of lines.plan) lines.table) c.new.ensures c.put_line.ensures.size)

@@ -1,4 +1,4 @@
-use Rattle.std.proofs.Common.{◌≡◌, ◌<◌, ◌≤◌, ℕ, ap, arith, subst, sym, ◌∙◌}
+use Rattle.std.proofs.Common.{◌<◌, ap, arith, subst, sym, ◌∙◌}
 use Rattle.life_intervals.specs.Generator.{generator_of, last_unit, rows_in_all}
 use Rattle.life_intervals.specs.Keys.{key_of}
 use Rattle.life_intervals.proofs.CohortLemmas.{cohort-within}

@@ -1,4 +1,4 @@
-use Rattle.std.proofs.Common.{◌+◌, ℕ, ap, arith, ◌∙◌}
+use Rattle.std.proofs.Common.{◌+◌, ℕ, ap, arith}
 use Rattle.row_lines.proofs.CohortFieldLemmas.{AreFieldsOf-view, ordinal-limit}
 use Rattle.row_lines.proofs.cohort_fields.CohortFields.ordinal.Goals as goal
 

@@ -1,4 +1,4 @@
-use Rattle.std.proofs.Common.{◌≡◌, ◌<◌, ◌+◌, ℕ, length, ap, arith, subst, sym, ◌∙◌}
+use Rattle.std.proofs.Common.{◌≡◌, ◌<◌, ℕ, length, ap, arith, subst, sym, ◌∙◌}
 use Rattle.schema_check.specs.Dictionaries.{Project}
 use Rattle.schema_check.specs.Lineage.{one_if}
 use Rattle.life_intervals.specs.Generator.{generator_of, last_unit, rows_in_all, table_of}

@@ -1,4 +1,4 @@
-use Rattle.std.proofs.Common.{◌≡◌, ◌<◌, ◌+◌, ◌^◌, ◌++◌, ℕ, List, Some, true, ap, sym, ◌∙◌, arith, decimal, is_some, length}
+use Rattle.std.proofs.Common.{◌≡◌, ◌<◌, ◌^◌, ◌++◌, ℕ, List, Some, true, ap, sym, ◌∙◌, arith, decimal, is_some, length}
 use Rattle.schema_check.specs.Layout.{column_at, key_kind, layout_of}
 use Rattle.schema_check.specs.declared.ready.ReadyColumn.{ReadyColumn}
 use Rattle.schema_check.specs.declared.ready.ReadyKind.TheVariants.{Key, Reference}

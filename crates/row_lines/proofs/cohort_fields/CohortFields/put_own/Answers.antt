@@ -1,4 +1,4 @@
-use Rattle.std.proofs.Common.{◌≡◌, ◌≤◌, ◌++◌, ◌+◌, ℕ, List, ap, sym, subst, ◌∙◌, arith, codes, length}
+use Rattle.std.proofs.Common.{◌≡◌, ◌≤◌, ◌++◌, ℕ, List, ap, sym, subst, ◌∙◌, codes, length}
 use Rattle.std.proofs.lemmas.List.{append-nil}
 use Rattle.pd_outside.specs.Pages.{Page}
 use Rattle.row_text.specs.Fields.{field_text}

@@ -1,4 +1,4 @@
-use Rattle.std.proofs.Common.{◌≡◌, ◌+◌, ◌++◌, ℕ, List, Bool, if◌then◌else◌, true, false, ap, sym, ◌∙◌, arith, codes, flat_map, is_some, length}
+use Rattle.std.proofs.Common.{◌≡◌, ◌++◌, ℕ, List, Bool, if◌then◌else◌, true, false, ap, sym, ◌∙◌, arith, codes, flat_map, is_some, length}
 use Rattle.row_lines.specs.CohortLines.{text_in_table}
 use Rattle.row_lines.specs.Parts.{written_part}
 use Rattle.row_lines.proofs.PartLemmas.{asked-template, parts_citable, size-template, template_of, text-template}

@@ -1,4 +1,4 @@
-use Rattle.std.proofs.Common.{◌≡◌, ◌<◌, ◌≤◌, ◌++◌, ℕ, List, Bool, false, true, length, codes, if◌then◌else◌, get_or, ap, arith, subst, sym, ◌∙◌}
+use Rattle.std.proofs.Common.{◌≡◌, ◌<◌, ◌≤◌, ◌++◌, ℕ, List, Bool, false, true, length, get_or, ap, arith, subst, sym, ◌∙◌}
 use Rattle.schema_check.specs.declared.ready.ReadyColumn.{ReadyColumn}
 use Rattle.schema_check.specs.declared.ready.ReadyKind.TheVariants.{Reference}
 use Rattle.schema_check.specs.declared.ready.ReadyLookup.{ReadyLookup}
