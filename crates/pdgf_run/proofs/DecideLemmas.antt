@@ -13,7 +13,7 @@ use Rattle.pdgf_run.specs.ReadingList.{cited_by_read, cited_in, up_to_fault, Ask
 use Rattle.pdgf_run.specs.Stages.{in_stage, Decides}
 use Rattle.pdgf_run.specs.Statuses.{is_free, job_status, status_of, text_status}
 use Rattle.pdgf_run.specs.Verdict.{of_file, of_request, of_text, told_files, verdict, WhereTold}
-use Rattle.pdgf_run.specs.Words.{Given, directory_wrong, form, in_mode as words_in_mode, is_number, missing, mode_named, number_wrong, of_form, request, request_of, unless_wrong, unwanted, wrong, wrong_at_unit}
+use Rattle.pdgf_run.specs.Words.{Given, directory_wrong, form, in_mode as words_in_mode, is_number, missing, mode_named, number_wrong, of_form, request, request_of, unless_wrong, unwanted, wrong, wrong_at_unit, wrong_option}
 use Rattle.pdgf_run.specs.declared.job.Job.{Job}
 use Rattle.pdgf_run.specs.declared.refusal.JobFault.{JobFault}
 use Rattle.pdgf_run.specs.declared.refusal.JobFault.TheVariants as job
@@ -21,7 +21,7 @@ use Rattle.pdgf_run.specs.declared.refusal.Refusal.{Refusal}
 use Rattle.pdgf_run.specs.declared.refusal.Refusal.TheVariants as refusal
 use Rattle.pdgf_run.specs.declared.refusal.TextFault.{TextFault}
 use Rattle.pdgf_run.specs.declared.usage.Mode.{Mode}
-use Rattle.pdgf_run.specs.declared.usage.Mode.TheVariants.{Check, Snapshot, Unit}
+use Rattle.pdgf_run.specs.declared.usage.Mode.TheVariants.{Check, Snapshot, Unit, Row}
 use Rattle.pdgf_run.specs.declared.usage.OptionName.{OptionName}
 use Rattle.pdgf_run.specs.declared.usage.OptionName.TheVariants as option
 use Rattle.pdgf_run.specs.declared.usage.Request.{Request}
@@ -178,16 +178,23 @@ directory_wrong-of_words name (Some (byte ∷ rest)) = tt
 
 wrong_at_unit-of_words : (given : Given) → IfSome (wrong_at_unit given) IsOfWords
 wrong_at_unit-of_words given =
-    option_or-of_words _ _ (missing-of_words option.Schema given.schema)
-    (option_or-of_words _ _ (number_wrong-of_words option.Unit given.unit) (directory_wrong-of_words option.Out given.out))
+    option_or-of_words _ _ (number_wrong-of_words option.Unit given.unit)
+    (option_or-of_words _ _ (unwanted-of_words option.Key given.key) (directory_wrong-of_words option.Out given.out))
+
+wrong_option-of_words : (mode : Mode) (given : Given) → IfSome (wrong_option mode given) IsOfWords
+wrong_option-of_words Check given =
+    option_or-of_words _ _ (unwanted-of_words option.Unit given.unit)
+    (option_or-of_words _ _ (unwanted-of_words option.Table given.table)
+    (option_or-of_words _ _ (unwanted-of_words option.Key given.key) (unwanted-of_words option.Out given.out)))
+wrong_option-of_words Snapshot given = wrong_at_unit-of_words given
+wrong_option-of_words Unit given = wrong_at_unit-of_words given
+wrong_option-of_words Row given =
+    option_or-of_words _ _ (number_wrong-of_words option.Unit given.unit)
+    (option_or-of_words _ _ (missing-of_words option.Table given.table)
+    (option_or-of_words _ _ (number_wrong-of_words option.Key given.key) (unwanted-of_words option.Out given.out)))
 
 wrong-of_words : (mode : Mode) (given : Given) → IfSome (wrong mode given) IsOfWords
-wrong-of_words Check given =
-    option_or-of_words _ _ (missing-of_words option.Schema given.schema)
-    (option_or-of_words _ _ (unwanted-of_words option.Unit given.unit)
-    (option_or-of_words _ _ (unwanted-of_words option.Table given.table) (unwanted-of_words option.Out given.out)))
-wrong-of_words Snapshot given = wrong_at_unit-of_words given
-wrong-of_words Unit given = wrong_at_unit-of_words given
+wrong-of_words mode given = option_or-of_words _ _ (missing-of_words option.Schema given.schema) (wrong_option-of_words mode given)
 
 unless_wrong-of_words : (fault : Option UsageFault) (r : Request) → IfSome fault IsOfWords → IfErr (unless_wrong fault r) IsOfWords
 unless_wrong-of_words None r of = tt

@@ -11,13 +11,13 @@ use Rattle.schema_check.specs.Lineage.{sure_life}
 use Rattle.schema_check.specs.Planned.{table_named}
 use Rattle.schema_check.specs.TableFacts.{cost, max_line}
 use Rattle.life_intervals.specs.Generator.{generator_of, last_unit, rows_in_all}
-use Rattle.life_intervals.specs.Rows.{Row}
+use Rattle.life_intervals.specs.Rows.{Row as HeldRow}
 use Rattle.life_intervals.specs.Streams.{deleted, inserted, updated}
 use Rattle.row_lines.specs.Lines.{key_line_of, line, table_text}
 use Rattle.pdgf_run.specs.declared.job.Content.{Content}
 use Rattle.pdgf_run.specs.declared.job.Content.TheVariants as content
 use Rattle.pdgf_run.specs.declared.usage.Mode.{Mode}
-use Rattle.pdgf_run.specs.declared.usage.Mode.TheVariants.{Check, Snapshot, Unit}
+use Rattle.pdgf_run.specs.declared.usage.Mode.TheVariants.{Check, Snapshot, Unit, Row}
 
 -- the name of the standard output
 abbrev pub standard_output : List ℕ
@@ -40,7 +40,7 @@ pub record Part : Type 0 where
 -- the text of what a unit deletes from the table at a place: the key lines of the rows
 abbrev pub deleted_text : Project → ℕ → ℕ → List ℕ
 deleted_text plan unit place =
-    flat_map (λ (row : Row). key_line_of (generator_of plan) (last_unit plan) place row.ordinal) (deleted (generator_of plan) place unit)
+    flat_map (λ (row : HeldRow). key_line_of (generator_of plan) (last_unit plan) place row.ordinal) (deleted (generator_of plan) place unit)
 
 -- of what it updates there, and of what it inserts: the lines of the rows
 abbrev pub updated_text : Project → ℕ → ℕ → List ℕ
@@ -83,11 +83,12 @@ abbrev pub part_file : Project → ℕ → List ℕ → Part → File
 part_file plan unit directory part =
     file_of plan unit (path_of directory (name_at plan.schema part.place) (ending_of unit part.content)) (part ∷ [])
 
--- what a mode tells of each table, in order
+-- what a mode tells of each table at a unit, in order
 abbrev pub contents_of : Mode → List Content
 contents_of Check = []
 contents_of Snapshot = content.Snapshot ∷ []
 contents_of Unit = content.Deleted ∷ content.Updated ∷ content.Inserted ∷ []
+contents_of Row = []
 
 -- it of the table at a place, and of those at some places
 abbrev pub parts_at : Mode → ℕ → List Part
@@ -100,6 +101,10 @@ parts_of mode places = flat_map (parts_at mode) places
 abbrev pub table_files : Mode → Project → ℕ → List ℕ → Option (List ℕ) → List File
 table_files mode plan unit places None = file_of plan unit standard_output (parts_of mode places) ∷ []
 table_files mode plan unit places (Some directory) = map (part_file plan unit directory) (parts_of mode places)
+
+-- a text as the one file, on the standard output
+abbrev pub text_files : List ℕ → List File
+text_files text = record { name = standard_output; bytes = text } ∷ []
 
 -- how long the rows of a table live for sure, as it is told
 abbrev pub life_text : Option ℕ → List ℕ
@@ -121,4 +126,4 @@ check_lines plan count = flat_map (check_line plan) (range_with_len 0 count)
 
 -- the file of a check: a line for each table on the standard output
 abbrev pub check_files : Project → List File
-check_files plan = record { name = standard_output; bytes = check_lines plan (length plan.schema.tables) } ∷ []
+check_files plan = text_files (check_lines plan (length plan.schema.tables))

@@ -11,11 +11,11 @@ use Rattle.life_intervals.specs.Generator.{generator_of, last_unit}
 use Rattle.life_intervals.specs.Streams.{deleted, updated}
 use Rattle.row_lines.specs.ChangeDraws.{change_draws}
 use Rattle.update_box.specs.UnitLists.{ordinals}
-use Rattle.pdgf_run.specs.DueFiles.{Part, ending_of, file_of, name_at, path_of, standard_output}
+use Rattle.pdgf_run.specs.DueFiles.{Part, ending_of, file_of, name_at, path_of, standard_output, text_files}
 use Rattle.pdgf_run.specs.declared.job.Content.{Content}
 use Rattle.pdgf_run.specs.declared.job.Content.TheVariants as content
 use Rattle.pdgf_run.specs.declared.job.Job.{Job}
-use Rattle.pdgf_run.specs.declared.job.Job.TheVariants.{Text, Files}
+use Rattle.pdgf_run.specs.declared.job.Job.TheVariants.{Text, Page, Files}
 use Rattle.pdgf_run.specs.declared.job.JobRows.{JobRows}
 use Rattle.pdgf_run.specs.declared.job.JobRows.TheVariants as rows
 use Rattle.pdgf_run.specs.declared.job.JobPart.{JobPart}
@@ -52,7 +52,8 @@ files_due job = files_by job.plan job.unit job.apart job.parts.items
 
 -- the files of a job
 abbrev pub due_of : Job → List File
-due_of (Text bytes) = record { name = standard_output; bytes = bytes.items } ∷ []
+due_of (Text bytes) = text_files bytes.items
+due_of (Page page) = text_files page.text
 due_of (Files job) = files_due job
 
 -- the rows of a part, with what is made ready for them, are those of the table at a place at a unit
@@ -81,6 +82,7 @@ pub record CanWrite (job : FilesJob) : Type 0 where
 
 abbrev pub CanFill : Job → Type 0
 CanFill (Text bytes) = ⊤
+CanFill (Page page) = ⊤
 CanFill (Files job) = CanWrite job
 
 -- the name of the file that a part of a table has in a directory; none where it has none

@@ -100,6 +100,7 @@ abbrev pub option_text : OptionName → List ℕ
 option_text option.Schema = codes "SCHEMA"
 option_text option.Unit = codes "--unit"
 option_text option.Table = codes "--table"
+option_text option.Key = codes "--key"
 option_text option.Out = codes "--out"
 
 -- what is wrong with the words (want of memory never comes as a refusal: it tells what it is)

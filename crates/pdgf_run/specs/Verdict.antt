@@ -1,19 +1,21 @@
 -- What words and files come to: the due files, or a refusal.
 use Rattle.std.specs.Prelude.{◌≡◌, ℕ, ◌==◌, ◌||◌, nat_lt, List, [], length, Option, Some, None, Result, Ok, Err, IfSome, if◌then◌else◌}
-use Rattle.std.specs.Option.{option_map}
+use Rattle.std.specs.Option.{option_and_then, option_map}
 use Rattle.pd_outside.specs.Files.{File, bytes_of}
 use Rattle.pd_outside.specs.Library.{Content, left}
 use Rattle.pd_outside.specs.declared.faults.ReadFault.TheVariants.{TooLong}
 use Rattle.schema_check.specs.Citations.{cited_names}
 use Rattle.schema_check.specs.Dictionaries.{Dictionary, Project, project_of}
 use Rattle.schema_check.specs.Faults.{citation_refusal, refusal_of}
+use Rattle.schema_check.specs.Planned.{table_named}
 use Rattle.schema_check.specs.Unbuilt.{is_unbuilt}
 use Rattle.schema_check.specs.declared.checker.CheckFault.{CheckFault}
 use Rattle.schema_model.specs.declared.table.Schema.{Schema}
 use Rattle.schema_read.specs.Schema.{schema_of}
 use Rattle.life_intervals.specs.Generator.{last_unit}
+use Rattle.row_lines.specs.Reports.{report_on}
 use Rattle.pdgf_run.specs.DictionaryFiles.{with_dictionaries}
-use Rattle.pdgf_run.specs.DueFiles.{check_files, chosen, table_files}
+use Rattle.pdgf_run.specs.DueFiles.{check_files, chosen, table_files, text_files}
 use Rattle.pdgf_run.specs.Limits.{schema_limit}
 use Rattle.pdgf_run.specs.Stages.{in_stage, on_ok}
 use Rattle.pdgf_run.specs.Words.{request}
@@ -25,7 +27,7 @@ use Rattle.pdgf_run.specs.declared.refusal.Refusal.{Refusal}
 use Rattle.pdgf_run.specs.declared.refusal.Refusal.TheVariants as refusal
 use Rattle.pdgf_run.specs.declared.refusal.TextFault.{TextFault}
 use Rattle.pdgf_run.specs.declared.refusal.TextFault.TheVariants as text
-use Rattle.pdgf_run.specs.declared.usage.Mode.TheVariants.{Check, Snapshot, Unit}
+use Rattle.pdgf_run.specs.declared.usage.Mode.TheVariants.{Check, Snapshot, Unit, Row}
 use Rattle.pdgf_run.specs.declared.usage.Mode.{Mode}
 use Rattle.pdgf_run.specs.declared.usage.OptionName.TheVariants as option
 use Rattle.pdgf_run.specs.declared.usage.Request.{Request}
@@ -58,8 +60,18 @@ abbrev pub of_places : Request → Project → Option (List ℕ) → Result (Lis
 of_places request plan None = Err (text.Range option.Table)
 of_places request plan (Some places) = Ok (table_files request.mode plan request.unit places request.out)
 
+-- the file of the report on a row, where a row has the key
+abbrev pub of_report : Option (List ℕ) → Result (List File) TextFault
+of_report None = Err (text.Range option.Key)
+of_report (Some report) = Ok (text_files report)
+
+-- the same, where the schema has the table that is named
+abbrev pub of_row : Request → Project → Option ℕ → Result (List File) TextFault
+of_row request plan None = Err (text.Range option.Table)
+of_row request plan (Some place) = of_report (report_on plan place request.unit request.key)
+
 -- a request over a plan: a unit past the last one is refused first, and unit 0 where changes are asked for, which are none; then a
--- table that isn't there
+-- table that isn't there; then a key that no row has of those that are born in all units
 abbrev pub in_mode : Mode → Request → Project → Result (List File) TextFault
 in_mode Check request plan = Ok (check_files plan)
 in_mode Snapshot request plan =
@@ -68,6 +80,9 @@ in_mode Snapshot request plan =
 in_mode Unit request plan =
     if request.unit == 0 || nat_lt (last_unit plan) request.unit then Err (text.Range option.Unit)
     else of_places request plan (chosen plan.schema request.table)
+in_mode Row request plan =
+    if nat_lt (last_unit plan) request.unit then Err (text.Range option.Unit)
+    else of_row request plan (option_and_then (table_named plan.schema) request.table)
 
 -- a request over a schema
 abbrev pub of_schema : Request → List File → Schema → Result (List File) TextFault

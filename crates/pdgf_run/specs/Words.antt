@@ -6,7 +6,7 @@ use Rattle.std.specs.Option.{option_copied, option_or, option_and_then, option_m
 use Rattle.std.specs.Str.{bytes_eq}
 use Rattle.std.specs.Str.Parse.{digits_value}
 use Rattle.pdgf_run.specs.declared.usage.Mode.{Mode}
-use Rattle.pdgf_run.specs.declared.usage.Mode.TheVariants.{Check, Snapshot, Unit}
+use Rattle.pdgf_run.specs.declared.usage.Mode.TheVariants.{Check, Snapshot, Unit, Row}
 use Rattle.pdgf_run.specs.declared.usage.OptionName.{OptionName}
 use Rattle.pdgf_run.specs.declared.usage.OptionName.TheVariants as option
 use Rattle.pdgf_run.specs.declared.usage.Request.{Request}
@@ -22,6 +22,7 @@ pub record Given : Type 0 where
   pub schema : Option (List ℕ)
   pub unit : Option (List ℕ)
   pub table : Option (List ℕ)
+  pub key : Option (List ℕ)
   pub out : Option (List ℕ)
 
 -- the words that the program refers to, by what they are given for
@@ -31,6 +32,7 @@ given_of words = record {
   schema = option_copied words.schema;
   unit = option_copied words.unit;
   table = option_copied words.table;
+  key = option_copied words.key;
   out = option_copied words.out;
 }
 
@@ -44,13 +46,15 @@ abbrev pub option_named : List ℕ → Option OptionName
 option_named word =
     if bytes_eq word (codes "--unit") then Some option.Unit
     else (if bytes_eq word (codes "--table") then Some option.Table
-    else (if bytes_eq word (codes "--out") then Some option.Out else None))
+    else (if bytes_eq word (codes "--key") then Some option.Key
+    else (if bytes_eq word (codes "--out") then Some option.Out else None)))
 
 -- what is given for an option
 abbrev pub value_of : OptionName → Given → Option (List ℕ)
 value_of option.Schema given = given.schema
 value_of option.Unit given = given.unit
 value_of option.Table given = given.table
+value_of option.Key given = given.key
 value_of option.Out given = given.out
 
 -- a word is given for an option too
@@ -58,6 +62,7 @@ abbrev pub give : OptionName → List ℕ → Given → Given
 give option.Schema word given = record given { schema = Some word }
 give option.Unit word given = record given { unit = Some word }
 give option.Table word given = record given { table = Some word }
+give option.Key word given = record given { key = Some word }
 give option.Out word given = record given { out = Some word }
 
 -- one more option with its value: it isn't given twice, and its value doesn't begin with a hyphen
@@ -75,7 +80,7 @@ with_options given (name ∷ value ∷ rest) =
 
 -- nothing but a mode is given
 abbrev pub only_mode : List ℕ → Given
-only_mode mode = record { mode = mode; schema = None; unit = None; table = None; out = None }
+only_mode mode = record { mode = mode; schema = None; unit = None; table = None; key = None; out = None }
 
 -- the words behind the mode: a name or none, then options
 abbrev pub behind_mode : Given → List (List ℕ) → Option Given
@@ -89,14 +94,15 @@ form [] = None
 form (program ∷ []) = None
 form (program ∷ mode ∷ rest) = if is_option mode then None else behind_mode (only_mode mode) rest
 
--- ---- the request, or the first fault: the mode, then the schema, the unit, the table and the directory
+-- ---- the request, or the first fault: the mode, then the schema, the unit, the table, the key and the directory
 
 -- the mode of this name
 abbrev pub mode_named : List ℕ → Option Mode
 mode_named word =
     if bytes_eq word (codes "check") then Some Check
     else (if bytes_eq word (codes "snapshot") then Some Snapshot
-    else (if bytes_eq word (codes "unit") then Some Unit else None))
+    else (if bytes_eq word (codes "unit") then Some Unit
+    else (if bytes_eq word (codes "row") then Some Row else None)))
 
 -- whether these are one to twenty decimal digits that stand for a number of 64 bits
 abbrev pub is_number : List ℕ → Bool
@@ -126,20 +132,28 @@ abbrev pub directory_wrong : OptionName → Option (List ℕ) → Option UsageFa
 directory_wrong name (Some []) = Some (usage.EmptyDirectory name)
 directory_wrong name _ = None
 
--- what is wrong first with what is given for a mode over the tables at a unit
+-- what is wrong first with the options of a mode over the tables at a unit
 abbrev pub wrong_at_unit : Given → Option UsageFault
 wrong_at_unit given =
-    option_or (missing option.Schema given.schema)
-    (option_or (number_wrong option.Unit given.unit) (directory_wrong option.Out given.out))
+    option_or (number_wrong option.Unit given.unit)
+    (option_or (unwanted option.Key given.key) (directory_wrong option.Out given.out))
 
--- and for any mode
+-- and with those of any mode
+abbrev pub wrong_option : Mode → Given → Option UsageFault
+wrong_option Check given =
+    option_or (unwanted option.Unit given.unit)
+    (option_or (unwanted option.Table given.table)
+    (option_or (unwanted option.Key given.key) (unwanted option.Out given.out)))
+wrong_option Snapshot given = wrong_at_unit given
+wrong_option Unit given = wrong_at_unit given
+wrong_option Row given =
+    option_or (number_wrong option.Unit given.unit)
+    (option_or (missing option.Table given.table)
+    (option_or (number_wrong option.Key given.key) (unwanted option.Out given.out)))
+
+-- what is wrong first with what is given for a mode: each needs a schema
 abbrev pub wrong : Mode → Given → Option UsageFault
-wrong Check given =
-    option_or (missing option.Schema given.schema)
-    (option_or (unwanted option.Unit given.unit)
-    (option_or (unwanted option.Table given.table) (unwanted option.Out given.out)))
-wrong Snapshot given = wrong_at_unit given
-wrong Unit given = wrong_at_unit given
+wrong mode given = option_or (missing option.Schema given.schema) (wrong_option mode given)
 
 -- the request that is given, where nothing is wrong
 abbrev pub request_of : Mode → Given → Request
@@ -148,6 +162,7 @@ request_of mode given = record {
   schema = unwrap_or given.schema [];
   unit = option_map_or (digits_value 10) given.unit 0;
   table = given.table;
+  key = option_map_or (digits_value 10) given.key 0;
   out = given.out;
 }
 

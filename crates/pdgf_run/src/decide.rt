@@ -1,11 +1,12 @@
 //! From the words to a job: all that is read and all memory that is taken, stage by stage.
 
-ghost use Rattle.std.specs.Prelude.{◌≡◌, ◌≢◌, ◌<◌, ◌≤◌, ◌+◌, ◌⊎◌, [], false, map, string_bytes, Err, IfErr, IfOk, IfSome, IsErrAnd, Ok, OnOk};
+ghost use Rattle.std.specs.Prelude.{◌≡◌, ◌≢◌, ◌<◌, ◌≤◌, ◌+◌, ◌⊎◌, [], false, map, nat_lt, string_bytes, Err, IfErr, IfOk, IfSome, IsErrAnd, Ok, OnOk};
 ghost use Rattle.std.specs.Option.{option_map};
 ghost use Rattle.pd_outside.specs.Faults.{Rose};
 ghost use Rattle.pd_outside.specs.Files.{bytes_of};
 ghost use Rattle.pd_outside.specs.Library.{Content, left};
 ghost use Rattle.schema_read.specs.Schema.{schema_of};
+ghost use Rattle.life_intervals.specs.Generator.{last_unit};
 ghost use Rattle.pdgf_run.specs.Jobs.{due_of, CanFill};
 ghost use Rattle.pdgf_run.specs.Limits.{dictionary_limit, schema_limit};
 ghost use Rattle.pdgf_run.specs.ReadingList.{cited_by, cited_by_read, AskedAlone, AskedNone, AsksInTurn, AsksNames};
@@ -19,6 +20,7 @@ use crate::check::check_text;
 use crate::dictionary_files::read_dictionaries;
 use crate::job::{Job, choose, snapshot_job, unit_job};
 use crate::refusal::{JobFault, PlanFault, Refusal, TextFault};
+use crate::row::{named_table, row_text};
 use crate::usage::{Mode, OptionName, Request};
 use crate::words::read_words;
 use pd_outside::{Library, read_whole};
@@ -157,7 +159,15 @@ fn job_of(alloc: Global, plan: Plan, request: &Request) -> Result<Job, TextFault
         Mode::Check => Ok(Job::Text(check_text(alloc, &plan)?)),
         Mode::Snapshot => plan_snapshot(alloc, plan, request),
         Mode::Unit => plan_unit::<Brand>(alloc, plan, request, Blank::new(1)),
+        Mode::Row => plan_row::<Brand>(alloc, plan, request, Blank::new(1)),
     }
+}
+
+/// Whether a unit is past the last one of a plan.
+fn is_past_last(plan: &Plan, unit: u64) -> bool
+    ensures { result ≡ nat_lt (last_unit plan.now) unit }
+{
+    plan.units() < unit
 }
 
 /// The job of a snapshot of a plan's tables.
@@ -167,7 +177,7 @@ fn plan_snapshot(alloc: Global, plan: Plan, request: &Request) -> Result<Job, Te
     ensures nothing_read { IfErr result (λ fault. text_status fault ≢ 5) }
     ensures can { IfOk result CanFill }
 {
-    if plan.units() < request.unit {
+    if is_past_last(&plan, request.unit) {
         return Err(TextFault::Range(OptionName::Unit));
     }
     let Some(tables) = choose(&plan, &request.table) else {
@@ -191,7 +201,7 @@ fn plan_unit<B: Ledger>(
     ensures nothing_read { IfErr result (λ fault. text_status fault ≢ 5) }
     ensures can { IfOk result CanFill }
 {
-    if request.unit == 0 || plan.units() < request.unit {
+    if request.unit == 0 || is_past_last(&plan, request.unit) {
         return Err(TextFault::Range(OptionName::Unit));
     }
     let Some(tables) = choose(&plan, &request.table) else {
@@ -199,4 +209,30 @@ fn plan_unit<B: Ledger>(
     };
     let job = unit_job::<B>(alloc, plan, request.unit, tables, &request.out, blank)?;
     Ok(Job::Files(job))
+}
+
+/// The job of the report on a row of one of a plan's tables.
+fn plan_row<B: Ledger>(
+    alloc: Global,
+    plan: Plan,
+    request: &Request,
+    blank: Blank,
+) -> Result<Job, TextFault>
+    requires name { blank.name ≡ B.name }
+    requires parts { blank.parts ≡ B.parts }
+    requires some { 0 < blank.parts }
+    ensures job { Decides text_status due_of result (in_mode Mode.Row request.now plan) }
+    ensures nothing_read { IfErr result (λ fault. text_status fault ≢ 5) }
+    ensures can { IfOk result CanFill }
+{
+    if is_past_last(&plan, request.unit) {
+        return Err(TextFault::Range(OptionName::Unit));
+    }
+    let Some(table) = named_table(&plan, &request.table) else {
+        return Err(TextFault::Range(OptionName::Table));
+    };
+    let Some(report) = row_text::<B>(alloc, &plan, table, request.key, request.unit, blank)? else {
+        return Err(TextFault::Range(OptionName::Key));
+    };
+    Ok(Job::Page(report))
 }

@@ -582,6 +582,7 @@ pub(crate) fn fill<S: Shelf>(shelf: &mut S, job: Job) -> Result<(), WriteFailed>
 {
     match job {
         Job::Text(bytes) => write_text(shelf, &bytes),
+        Job::Page(page) => write_text(shelf, page.text()),
         Job::Files(job) => write_files::<S, Brand>(shelf, job, Blank::new(1)),
     }
 }

@@ -33,6 +33,8 @@ const KEY_LINE: usize = 21;
 pub(crate) enum Job {
     /// These bytes, on the standard output.
     Text(Vec<u8>),
+    /// The text of this page, on the standard output.
+    Page(PageBuf),
     /// The texts of tables at a unit.
     Files(FilesJob),
 }

@@ -9,6 +9,7 @@ mod job;
 mod message;
 mod refusal;
 mod report;
+mod row;
 mod run;
 mod usage;
 mod words;

@@ -288,6 +288,7 @@ fn option_words(name: OptionName) -> &'static str
         OptionName::Schema => "SCHEMA",
         OptionName::Unit => "--unit",
         OptionName::Table => "--table",
+        OptionName::Key => "--key",
         OptionName::Out => "--out",
     }
 }

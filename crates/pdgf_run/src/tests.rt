@@ -107,6 +107,18 @@ kind = "key"
 base = 1
 "#;
 
+// As many rows as a table may have.
+const MOST_ROWS: &str = r#"seed = 1
+units = 0
+[[table]]
+name = "t"
+rows = 1099511627776
+[[table.column]]
+name = "id"
+kind = "key"
+base = 1
+"#;
+
 // A row at each unit that lives for two units.
 const MORTAL: &str = r#"seed = 1
 units = 2
@@ -773,6 +785,188 @@ fn other_words_and_schemas_are_refused(rt: HostRuntime) -> Result<(), Fail> {
             shelf,
             refused(status, message),
         )?;
+    }
+    Ok(())
+}
+
+// The words of a line, behind the program's name.
+fn words_of(alloc: Global, line: &str) -> Result<Vec<&str>, AllocError> {
+    let mut given = Vec::new(alloc);
+    given.push("pdgf")?;
+    for word in line.split(' ') {
+        given.push(word)?;
+    }
+    Ok(given)
+}
+
+// By hand: when a row is born and gone, how it stands at a unit, and what it holds where it is alive then.
+#[test]
+fn rows_are_told_as_worked_out(rt: HostRuntime) -> Result<(), Fail> {
+    let alloc = rt.alloc();
+    for (schema, line, text) in [
+        (
+            SALES,
+            "row s.toml --table customer --key 1 --unit 2",
+            "born 0\ngone 3\nstate live\nchanged 1\n1\t0\t1\n",
+        ),
+        (
+            SALES,
+            "row s.toml --unit 0 --key 1 --table customer",
+            "born 0\ngone 3\nstate live\nchanged 0\n1\t0\t0\n",
+        ),
+        (
+            SALES,
+            "row s.toml --table customer --key 1 --unit 3",
+            "born 0\ngone 3\nstate dead\n",
+        ),
+        (
+            SALES,
+            "row s.toml --table customer --key 5 --unit 2",
+            "born 4\ngone never\nstate unborn\n",
+        ),
+        (
+            SALES,
+            "row s.toml --table orders --key 4 --unit 3",
+            "born 3\ngone 4\nstate live\nchanged 3\n4\t2\n",
+        ),
+        (
+            SALES,
+            "row s.toml --table lines --key 4 --unit 4",
+            "born 3\ngone 4\nstate dead\n",
+        ),
+        (
+            ONE_SCRAMBLED,
+            "row s.toml --table t --key 2 --unit 2",
+            "born 1\ngone never\nstate live\nchanged 1\n2\t1\n",
+        ),
+        (
+            MOST_ROWS,
+            "row s.toml --table t --key 1099511627776 --unit 0",
+            "born 0\ngone never\nstate live\nchanged 0\n1099511627776\n",
+        ),
+    ] {
+        let shelf = shelf(alloc, ShelfFail::Begin(2), 1000)?;
+        let given = words_of(alloc, line)?;
+        let files = [("-", text)];
+        run_gives(
+            &rt,
+            alloc,
+            schema.as_bytes(),
+            &given,
+            shelf,
+            all_done(&files),
+        )?;
+    }
+    let most = "row s.toml --table t --key 1099511627777 --unit 0";
+    let outcome = refused(8, "pdgf: out of range: --key\n");
+    let given = words_of(alloc, most)?;
+    let shelf = shelf(alloc, ShelfFail::Begin(2), 1000)?;
+    run_gives(&rt, alloc, MOST_ROWS.as_bytes(), &given, shelf, outcome)
+}
+
+// Requests for rows that are refused, and keys that other modes don't take.
+#[test]
+fn requests_for_rows_are_refused_in_order(rt: HostRuntime) -> Result<(), Fail> {
+    let alloc = rt.alloc();
+    let cases: [(&str, u8, &str); 20] = [
+        ("row --unit x", 2, "pdgf: usage: missing SCHEMA\n"),
+        ("row s.toml --key x", 2, "pdgf: usage: missing --unit\n"),
+        (
+            "row s.toml --unit x",
+            2,
+            "pdgf: usage: bad number for --unit\n",
+        ),
+        (
+            "row s.toml --unit 2 --key x",
+            2,
+            "pdgf: usage: missing --table\n",
+        ),
+        (
+            "row s.toml --unit 2 --table customer --out d",
+            2,
+            "pdgf: usage: missing --key\n",
+        ),
+        (
+            "row s.toml --unit 2 --table customer --key x --out d",
+            2,
+            "pdgf: usage: bad number for --key\n",
+        ),
+        (
+            "row s.toml --unit 2 --table customer --key 18446744073709551616",
+            2,
+            "pdgf: usage: bad number for --key\n",
+        ),
+        (
+            "row s.toml --unit 2 --table customer --key 1 --out d",
+            2,
+            "pdgf: usage: unwanted --out\n",
+        ),
+        (
+            "row s.toml --unit 2 --table customer --key 1 --out ",
+            2,
+            "pdgf: usage: unwanted --out\n",
+        ),
+        (
+            "row s.toml --unit 2 --table customer --key 1 --key 1",
+            2,
+            "pdgf: usage: bad words\n",
+        ),
+        (
+            "check s.toml --key 1 --out d",
+            2,
+            "pdgf: usage: unwanted --key\n",
+        ),
+        (
+            "check s.toml --key 1 --table customer",
+            2,
+            "pdgf: usage: unwanted --table\n",
+        ),
+        (
+            "snapshot s.toml --unit 2 --key 1",
+            2,
+            "pdgf: usage: unwanted --key\n",
+        ),
+        (
+            "snapshot s.toml --unit x --key 1",
+            2,
+            "pdgf: usage: bad number for --unit\n",
+        ),
+        (
+            "unit s.toml --unit 2 --key x --out ",
+            2,
+            "pdgf: usage: unwanted --key\n",
+        ),
+        (
+            "row s.toml --unit 6 --table product --key 7",
+            8,
+            "pdgf: out of range: --unit\n",
+        ),
+        (
+            "row s.toml --unit 5 --table product --key 7",
+            8,
+            "pdgf: out of range: --table\n",
+        ),
+        (
+            "row s.toml --unit 5 --table customer --key 7",
+            8,
+            "pdgf: out of range: --key\n",
+        ),
+        (
+            "row s.toml --unit 5 --table customer --key 0",
+            8,
+            "pdgf: out of range: --key\n",
+        ),
+        (
+            "row s.toml --unit 0 --table lines --key 18446744073709551615",
+            8,
+            "pdgf: out of range: --key\n",
+        ),
+    ];
+    for (line, status, message) in cases {
+        let shelf = shelf(alloc, ShelfFail::Begin(1), 1000)?;
+        let given = words_of(alloc, line)?;
+        let outcome = refused(status, message);
+        run_gives(&rt, alloc, SALES.as_bytes(), &given, shelf, outcome)?;
     }
     Ok(())
 }

@@ -11,6 +11,8 @@ pub enum Mode {
     Snapshot,
     /// Writes what a unit deletes, updates and inserts in each table.
     Unit,
+    /// Tells when a row is born and gone, and how it stands at a unit.
+    Row,
 }
 
 /// A place for a word: the schema's name, or the value of an option.
@@ -22,6 +24,8 @@ pub enum OptionName {
     Unit,
     /// `--table`: the name of a table.
     Table,
+    /// `--key`: the key of a row.
+    Key,
     /// `--out`: a directory for the files.
     Out,
 }
@@ -33,10 +37,12 @@ pub struct Request {
     pub mode: Mode,
     /// The name of the schema's file.
     pub schema: Text,
-    /// The time unit of a snapshot or of changes.
+    /// The time unit of a snapshot, of changes or of the report on a row.
     pub unit: u64,
     /// The one table that is wanted, where not all are.
     pub table: Option<Text>,
+    /// The key of the row that is wanted.
+    pub key: u64,
     /// The directory of the files, where they don't go to the standard output.
     pub out: Option<Text>,
 }

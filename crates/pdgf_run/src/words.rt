@@ -5,7 +5,7 @@ ghost use Rattle.std.specs.Char.{is_ascii_digit};
 ghost use Rattle.std.specs.List.{list_all};
 ghost use Rattle.std.specs.Option.{option_copied};
 ghost use Rattle.std.specs.Str.Parse.{digits_value};
-ghost use Rattle.pdgf_run.specs.Words.{behind_mode, directory_wrong, form, given_of, is_number, is_option, missing, give, mode_named, number_wrong, option_named, request, request_of, unwanted, value_of, with_option, with_options, wrong};
+ghost use Rattle.pdgf_run.specs.Words.{behind_mode, directory_wrong, form, given_of, is_number, is_option, missing, give, mode_named, number_wrong, option_named, request, request_of, unwanted, value_of, with_option, with_options, wrong, wrong_option};
 
 use crate::usage::{Mode, OptionName, Request, UsageFault};
 use schema_model::Text;
@@ -15,8 +15,8 @@ use std::alloc::Global;
 ///
 /// Behind the name stand a mode, a schema or none, and options, each with its value and none twice.
 /// No mode, schema or value begins with a hyphen. `Words` is told first, then `Mode`, then what is
-/// wrong with the schema, the unit, the table and the directory, in this order. A fault of the words
-/// is told without memory being taken.
+/// wrong with the schema, the unit, the table, the key and the directory, in this order. A fault of
+/// the words is told without memory being taken.
 #[tactic(auto, unfolding(crate::specs::Words::request))]
 pub fn read_words(alloc: Global, words: &[String]) -> Result<Request, UsageFault>
     ensures read { IfOk result (λ made. request (map string_bytes words.now) ≡ Ok made) }
@@ -43,6 +43,7 @@ struct GivenWords<'a> {
     schema: Option<&'a str>,
     unit: Option<&'a str>,
     table: Option<&'a str>,
+    key: Option<&'a str>,
     out: Option<&'a str>,
 }
 
@@ -61,6 +62,7 @@ fn form(words: &[String]) -> Option<GivenWords<'_>>
         schema: None,
         unit: None,
         table: None,
+        key: None,
         out: None,
     };
     behind_mode(given, rest)
@@ -116,6 +118,7 @@ fn value_of<'a>(name: OptionName, given: GivenWords<'a>) -> Option<&'a str>
         OptionName::Schema => given.schema,
         OptionName::Unit => given.unit,
         OptionName::Table => given.table,
+        OptionName::Key => given.key,
         OptionName::Out => given.out,
     }
 }
@@ -127,6 +130,7 @@ fn give<'a>(name: OptionName, word: &'a str, mut given: GivenWords<'a>) -> Given
         OptionName::Schema => given.schema = Some(word),
         OptionName::Unit => given.unit = Some(word),
         OptionName::Table => given.table = Some(word),
+        OptionName::Key => given.key = Some(word),
         OptionName::Out => given.out = Some(word),
     }
     given
@@ -138,6 +142,7 @@ fn option_named(word: &str) -> Option<OptionName>
     match word {
         "--unit" => Some(OptionName::Unit),
         "--table" => Some(OptionName::Table),
+        "--key" => Some(OptionName::Key),
         "--out" => Some(OptionName::Out),
         _ => None,
     }
@@ -150,23 +155,33 @@ fn mode_named(word: &str) -> Option<Mode>
         "check" => Some(Mode::Check),
         "snapshot" => Some(Mode::Snapshot),
         "unit" => Some(Mode::Unit),
+        "row" => Some(Mode::Row),
         _ => None,
     }
 }
 
-/// What is wrong first: the schema, then the unit, the table and the directory.
+/// What is wrong first: the schema, then the unit, the table, the key and the directory.
 fn wrong(mode: Mode, given: GivenWords<'_>) -> Option<UsageFault>
     ensures { result ≡ wrong mode (given_of given.entry) }
 {
-    let no_schema = missing(OptionName::Schema, given.schema);
+    missing(OptionName::Schema, given.schema).or(wrong_option(mode, given))
+}
+
+fn wrong_option(mode: Mode, given: GivenWords<'_>) -> Option<UsageFault>
+    ensures { result ≡ wrong_option mode (given_of given.entry) }
+{
     match mode {
-        Mode::Check => no_schema
-            .or(unwanted(OptionName::Unit, given.unit))
+        Mode::Check => unwanted(OptionName::Unit, given.unit)
             .or(unwanted(OptionName::Table, given.table))
+            .or(unwanted(OptionName::Key, given.key))
             .or(unwanted(OptionName::Out, given.out)),
-        Mode::Snapshot | Mode::Unit => no_schema
-            .or(number_wrong(OptionName::Unit, given.unit))
+        Mode::Snapshot | Mode::Unit => number_wrong(OptionName::Unit, given.unit)
+            .or(unwanted(OptionName::Key, given.key))
             .or(directory_wrong(OptionName::Out, given.out)),
+        Mode::Row => number_wrong(OptionName::Unit, given.unit)
+            .or(missing(OptionName::Table, given.table))
+            .or(number_wrong(OptionName::Key, given.key))
+            .or(unwanted(OptionName::Out, given.out)),
     }
 }
 
@@ -216,6 +231,7 @@ fn request_of(alloc: Global, mode: Mode, given: GivenWords<'_>) -> Result<Reques
     ensures refused { IfErr result (λ fault. fault ≡ UsageFault.Memory) }
 {
     let unit = given.unit.and_then(read_number).unwrap_or(0);
+    let key = given.key.and_then(read_number).unwrap_or(0);
     let schema = text_of(alloc, given.schema.unwrap_or(""))?;
     let table = optional_text_of(alloc, given.table)?;
     let out = optional_text_of(alloc, given.out)?;
@@ -224,6 +240,7 @@ fn request_of(alloc: Global, mode: Mode, given: GivenWords<'_>) -> Result<Reques
         schema,
         unit,
         table,
+        key,
         out,
     })
 }
