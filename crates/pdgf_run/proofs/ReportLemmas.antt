@@ -43,7 +43,6 @@ past_limit (Job (job.Reading reading.Memory)) taken ten is = absurd (cc)
 past_limit (Job (job.Text (text.Schema schema.Memory))) taken ten is = absurd (cc)
 past_limit (Job (job.Text (text.Schema schema.Syntax))) taken ten is = absurd (cc)
 past_limit (Job (job.Text (text.Schema (schema.Shape place key expected)))) taken ten is = absurd (cc)
-past_limit (Job (job.Text (text.Plan plan.NotBuilt))) taken ten is = absurd (cc)
 past_limit (Job (job.Text (text.Plan (plan.Dictionary fault)))) taken ten is = past_dictionary fault.number fault.cause taken ten is
 past_limit (Job (job.Text (text.Plan (plan.Check check.Memory)))) taken ten is = absurd (cc)
 past_limit (Job (job.Text (text.Plan (plan.Check (check.Rule number table column))))) taken ten is = absurd (cc)

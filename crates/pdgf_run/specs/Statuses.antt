@@ -47,7 +47,6 @@ cause_status cause.Memory = 7
 
 -- the status of a schema without a plan
 abbrev pub plan_status : PlanFault → ℕ
-plan_status plan.NotBuilt = 11
 plan_status (plan.Dictionary fault) = cause_status fault.cause
 plan_status (plan.Check check.Memory) = 7
 plan_status (plan.Check (check.Rule number table column)) = 4
@@ -91,7 +90,7 @@ write_failed_status = 6
 -- whether a number is a status of the program
 abbrev pub is_status : ℕ → Bool
 is_status status =
-    list_any (λ known. status == known) (0 ∷ 2 ∷ 3 ∷ 4 ∷ 5 ∷ 6 ∷ 7 ∷ 8 ∷ 10 ∷ 11 ∷ [])
+    list_any (λ known. status == known) (0 ∷ 2 ∷ 3 ∷ 4 ∷ 5 ∷ 6 ∷ 7 ∷ 8 ∷ 10 ∷ [])
 
 -- ---- the words of messages
 
@@ -192,7 +191,6 @@ cause_text number (cause.Grammar fault) = grammar_fault_text number fault
 cause_text number cause.Memory = codes "out of memory"
 
 abbrev pub plan_fault_text : PlanFault → List ℕ
-plan_fault_text plan.NotBuilt = codes "not built"
 plan_fault_text (plan.Dictionary fault) = cause_text fault.number fault.cause
 plan_fault_text (plan.Check (check.Rule number table column)) = rule_text number table column
 plan_fault_text (plan.Check check.Memory) = codes "out of memory"

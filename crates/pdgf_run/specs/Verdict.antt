@@ -8,7 +8,6 @@ use Rattle.schema_check.specs.Citations.{cited_names}
 use Rattle.schema_check.specs.Dictionaries.{Dictionary, Project, project_of}
 use Rattle.schema_check.specs.Faults.{citation_refusal, refusal_of}
 use Rattle.schema_check.specs.Planned.{table_named}
-use Rattle.schema_check.specs.Unbuilt.{is_unbuilt}
 use Rattle.schema_check.specs.declared.checker.CheckFault.{CheckFault}
 use Rattle.schema_model.specs.declared.table.Schema.{Schema}
 use Rattle.schema_read.specs.Schema.{schema_of}
@@ -38,10 +37,10 @@ abbrev pub unless_refused : {A : Type 0} → Option CheckFault → A → Result 
 unless_refused None answer = Ok answer
 unless_refused (Some fault) answer = Err (plan.Check fault)
 
--- the names of the dictionaries that a schema cites, where all is built, and as far as it may cite them by itself
+-- the names of the dictionaries that a schema cites, as far as it may cite them by itself
 abbrev pub citations_of : Schema → Result (List (List ℕ)) PlanFault
 citations_of schema =
-    if is_unbuilt schema then Err plan.NotBuilt else unless_refused (citation_refusal schema) (cited_names schema.tables)
+    unless_refused (citation_refusal schema) (cited_names schema.tables)
 
 -- the plan of a schema that is accepted with its dictionaries
 abbrev pub accepted_with : Schema → List Dictionary → Result Project PlanFault
@@ -51,7 +50,7 @@ accepted_with schema dictionaries = unless_refused (refusal_of (project_of schem
 abbrev pub planned_with : List File → Schema → List (List ℕ) → Result Project PlanFault
 planned_with files schema names = on_ok (in_stage plan.Dictionary (with_dictionaries files [] names)) (accepted_with schema)
 
--- the plan of a schema that is built and accepted over files
+-- the plan of a schema that is accepted over files
 abbrev pub planned : List File → Schema → Result Project PlanFault
 planned files schema = on_ok (citations_of schema) (planned_with files schema)
 

@@ -24,7 +24,7 @@ use crate::row::{named_table, row_text};
 use crate::usage::{Mode, OptionName, Request};
 use crate::words::read_words;
 use pd_outside::{Library, read_whole};
-use schema_check::{Plan, check, citations, unbuilt};
+use schema_check::{Plan, check, citations};
 use schema_model::Schema;
 use schema_read::read_schema;
 use std::alloc::Global;
@@ -49,7 +49,7 @@ pub(crate) fn decide<L: Library>(
         (L.taken library.new ≤ schema_limit) ⊎ IsErrAnd result (λ refusal. status_of refusal ≡ 10)) }
     ensures longer_dictionary { OnOk (request (map string_bytes words.now)) (IfErr result (λ refusal.
         status_of refusal ≢ 7 → L.taken library.new ≡ dictionary_limit + 1 → status_of refusal ≡ 10)) }
-    ensures schema_read { IfErr result (λ refusal. (status_of refusal ≡ 3) ⊎ (status_of refusal ≡ 11) → L.taken library.new ≤ schema_limit) }
+    ensures schema_read { IfErr result (λ refusal. status_of refusal ≡ 3 → L.taken library.new ≤ schema_limit) }
     ensures within { OnOk result (L.taken library.new ≤ dictionary_limit) }
     ensures read_failed { IfErr result (λ refusal. status_of refusal ≡ 5 → Rose (L.faults library.old) (L.faults library.new)) }
     ensures stopped { IfErr result (λ refusal. status_of refusal ≡ 5 → L.is_started library.new ≡ false) }
@@ -77,7 +77,7 @@ fn job_of_request<L: Library>(
     ensures longer_schema { AskedAlone request.now.schema (L.asked library.old) (L.asked library.new) →
         (L.taken library.new ≤ schema_limit) ⊎ IsErrAnd result (λ fault. job_status fault ≡ 10) }
     ensures longer_dictionary { IfErr result (λ fault. L.taken library.new ≡ dictionary_limit + 1 → job_status fault ≡ 10) }
-    ensures schema_read { IfErr result (λ fault. (job_status fault ≡ 3) ⊎ (job_status fault ≡ 11) → L.taken library.new ≤ schema_limit) }
+    ensures schema_read { IfErr result (λ fault. job_status fault ≡ 3 → L.taken library.new ≤ schema_limit) }
     ensures within { OnOk result (L.taken library.new ≤ dictionary_limit) }
     ensures read_failed { IfErr result (λ fault. job_status fault ≡ 5 → Rose (L.faults library.old) (L.faults library.new)) }
     ensures stopped { IfErr result (λ fault. job_status fault ≡ 5 → L.is_started library.new ≡ false) }
@@ -105,7 +105,7 @@ fn job_of_text<L: Library>(
     ensures can { IfOk result CanFill }
     ensures too_long { IfErr result (λ fault. text_status fault ≡ 10 → L.taken library.new ≡ dictionary_limit + 1) }
     ensures longer { IfErr result (λ fault. L.taken library.new ≡ dictionary_limit + 1 → text_status fault ≡ 10) }
-    ensures schema_read { IfErr result (λ fault. (text_status fault ≡ 3) ⊎ (text_status fault ≡ 11) → L.taken library.new ≤ schema_limit) }
+    ensures schema_read { IfErr result (λ fault. text_status fault ≡ 3 → L.taken library.new ≤ schema_limit) }
     ensures within { OnOk result (L.taken library.new ≤ dictionary_limit) }
     ensures read_failed { IfErr result (λ fault. text_status fault ≡ 5 → Rose (L.faults library.old) (L.faults library.new)) }
     ensures stopped { IfErr result (λ fault. text_status fault ≡ 5 → L.is_started library.new ≡ false) }
@@ -129,7 +129,7 @@ fn plan_of<L: Library>(alloc: Global, library: &mut L, schema: Schema) -> Result
     ensures plan { IfSome (told_files (L.content library.old)) (λ files. Decides plan_status (λ plan. plan) result (planned files schema)) }
     ensures too_long { IfErr result (λ fault. plan_status fault ≡ 10 → L.taken library.new ≡ dictionary_limit + 1) }
     ensures longer { IfErr result (λ fault. L.taken library.new ≡ dictionary_limit + 1 → plan_status fault ≡ 10) }
-    ensures schema_read { IfErr result (λ fault. (plan_status fault ≡ 3) ⊎ (plan_status fault ≡ 11) → L.taken library.new ≤ schema_limit) }
+    ensures schema_read { IfErr result (λ fault. plan_status fault ≡ 3 → L.taken library.new ≤ schema_limit) }
     ensures within { OnOk result (L.taken library.new ≤ dictionary_limit) }
     ensures read_failed { IfErr result (λ fault. plan_status fault ≡ 5 → Rose (L.faults library.old) (L.faults library.new)) }
     ensures stopped { IfErr result (λ fault. plan_status fault ≡ 5 → L.is_started library.new ≡ false) }
@@ -141,9 +141,6 @@ fn plan_of<L: Library>(alloc: Global, library: &mut L, schema: Schema) -> Result
     ensures files { told_files (L.content library.new) ≡ told_files (L.content library.old) }
     ensures never_falls { L.faults library.old ≤ L.faults library.new }
 {
-    if unbuilt(&schema) {
-        return Err(PlanFault::NotBuilt);
-    }
     let names = citations(alloc, &schema)?;
     let dictionaries = read_dictionaries(alloc, library, &names)?;
     Ok(check(alloc, schema, dictionaries)?)

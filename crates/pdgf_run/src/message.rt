@@ -74,7 +74,6 @@ fn put_plan_fault(message: &mut Message, fault: PlanFault)
     ensures short { length message.new ≤ length message.old + 150 }
 {
     match fault {
-        PlanFault::NotBuilt => message.put(b"not built"),
         PlanFault::Dictionary(fault) => put_dictionary_fault(message, fault),
         PlanFault::Check(
             CheckFault::Rule {

@@ -49,8 +49,6 @@ pub enum TextFault {
 /// Why a schema has no plan.
 #[derive(Clone, Copy, Debug, PartialEq, Eq)]
 pub enum PlanFault {
-    /// It holds something that isn't built.
-    NotBuilt,
     /// A dictionary that it cites isn't read.
     Dictionary(DictionaryFault),
     /// It breaks a rule, or memory ran out.
@@ -134,7 +132,6 @@ impl PlanFault {
         ensures { result ≡ plan_status self }
     {
         match self {
-            PlanFault::NotBuilt => 11,
             PlanFault::Dictionary(fault) => fault.cause.status(),
             PlanFault::Check(CheckFault::Memory) => 7,
             PlanFault::Check(_) => 4,

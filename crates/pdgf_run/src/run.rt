@@ -1,6 +1,6 @@
 //! The top call.
 
-ghost use Rattle.std.specs.Prelude.{◌≡◌, ◌≢◌, ◌≤◌, ◌+◌, ◌↔◌, ◌⊎◌, [], false, map, string_bytes, IfErr, IfOk, IfSome, IsErr, IsOkAnd, IsTrue, OnOk};
+ghost use Rattle.std.specs.Prelude.{◌≡◌, ◌≢◌, ◌≤◌, ◌+◌, ◌↔◌, [], false, map, string_bytes, IfErr, IfOk, IfSome, IsErr, IsOkAnd, IsTrue, OnOk};
 ghost use Rattle.std.specs.Option.{option_map};
 ghost use Rattle.pd_outside.specs.Faults.{Rose};
 ghost use Rattle.pd_outside.specs.Library.{Content, left};
@@ -26,8 +26,8 @@ use std::thread::Threads;
 /// What words and files come to is the definition `verdict`: due files by a plain simulation that steps from unit to unit,
 /// or a refusal. The statuses are 0 (all is done), 2 (the words give no request), 3 (the schema's text isn't a schema), 4
 /// (the schema breaks a rule, or what it cites is no dictionary), 5 (a read failed), 6 (a write failed), 7 (memory ran out), 8
-/// (an option's value is out of the schema's range), 10 (the schema's text or a dictionary is too long) and 11 (what is asked
-/// for isn't built). Where a library or a shelf doesn't tell its files, the clauses say only what can be said.
+/// (an option's value is out of the schema's range) and 10 (the schema's text or a dictionary is too long). Where a library or a
+/// shelf doesn't tell its files, the clauses say only what can be said.
 pub fn pdgf<R: Threads + Sync, L: Library, S: Shelf, G: Gate + Sync>(
     _rt: &R,
     alloc: Global,
@@ -53,7 +53,7 @@ pub fn pdgf<R: Threads + Sync, L: Library, S: Shelf, G: Gate + Sync>(
         L.taken library.new ≡ schema_limit + 1 → result.status ≡ 10) }
     ensures longer_dictionary { OnOk (request (map string_bytes words.now))
         (result.status ≢ 7 → L.taken library.new ≡ dictionary_limit + 1 → result.status ≡ 10) }
-    ensures schema_read { (result.status ≡ 3) ⊎ (result.status ≡ 11) → L.taken library.new ≤ schema_limit }
+    ensures schema_read { result.status ≡ 3 → L.taken library.new ≤ schema_limit }
     ensures read_failed { result.status ≡ 5 → Rose (L.faults library.old) (L.faults library.new) }
     ensures stopped { result.status ≡ 5 → L.is_started library.new ≡ false }
     ensures write_failed { result.status ≡ 6 → Rose (S.faults shelf.old) (S.faults shelf.new) }

@@ -257,7 +257,7 @@ table = "p"
 window = 1
 "#;
 
-// A table that shows what another holds, which isn't built.
+// A lookup by a column that is no reference.
 const SHOWING: &str = r#"seed = 1
 units = 2
 [[table]]
@@ -274,7 +274,7 @@ via = "id"
 column = "id"
 "#;
 
-// Both: what isn't built is told before a broken rule.
+// Both: the broken rule with the lower number is told.
 const SHOWING_AND_TOO_MANY_ROWS: &str = r#"seed = 1
 units = 2
 [[table]]
@@ -771,8 +771,8 @@ fn other_words_and_schemas_are_refused(rt: HostRuntime) -> Result<(), Fail> {
         (TOO_MANY_ROWS, 4, "pdgf: rule V6 at table 1\n"),
         (WINDOW_TOO_LONG, 4, "pdgf: rule V19 at table 2 column 2\n"),
         (NO_PARENT, 4, "pdgf: rule V20 at table 2 column 2\n"),
-        (SHOWING, 11, "pdgf: not built\n"),
-        (SHOWING_AND_TOO_MANY_ROWS, 11, "pdgf: not built\n"),
+        (SHOWING, 4, "pdgf: rule V22 at table 1 column 2\n"),
+        (SHOWING_AND_TOO_MANY_ROWS, 4, "pdgf: rule V6 at table 1\n"),
         (TOO_MANY_ROWS_TO_UNIT_1, 4, "pdgf: rule V6 at table 1\n"),
     ];
     for (schema, status, message) in schemas {

@@ -380,7 +380,14 @@ fn a_lookup_is_kept_by_places(rt: HostRuntime) {
     let (via, parent, column) = (1, 0, 1);
     match &columns[2].kind {
         ReadyKind::Lookup(made) => {
-            assert_eq!(rt; *made, ReadyLookup { via, parent, column })
+            assert_eq!(rt;
+                *made,
+                ReadyLookup {
+                    via,
+                    parent,
+                    column
+                }
+            )
         }
         _ => panic!(rt; "no lookup"),
     }

@@ -4,8 +4,8 @@ mod references;
 
 use super::*;
 use fixtures::{
-    cite, column, fault_in, key, letters, numbered, plan_of, push_column, push_weights,
-    schema, table, text, told, with_table,
+    cite, column, fault_in, key, letters, numbered, plan_of, push_column, push_weights, schema,
+    table, text, told, with_table,
 };
 use schema_model::{
     Columns, Delimiter, Kind, Leaf, Leaves, Life, Longs, Parts, Schema, Table, Text, Texts, Window,

@@ -118,11 +118,7 @@ fn lookups_by_a_later_reference(rt: HostRuntime) {
 
 #[test]
 fn lookups_that_are_null_or_change(rt: HostRuntime) {
-    for (null, changes, is_kept) in [
-        (999, false, true),
-        (1_000, false, false),
-        (0, true, false),
-    ] {
+    for (null, changes, is_kept) in [(999, false, true), (1_000, false, false), (0, true, false)] {
         let mut shown = shown(&rt, "city", "size");
         shown.null = null;
         shown.changes = changes;
