@@ -1,3 +1,4 @@
 pub mod UnitLists
 pub mod Fates
 pub mod TableLists
+pub mod TextLaws

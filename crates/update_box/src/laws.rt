@@ -1,16 +1,21 @@
-//! The laws of what a unit changes, each the contract of a function that does nothing, for accepted schemas.
+//! The laws of what a unit changes and of what the tables' texts hold, each the contract of a function that does nothing, for accepted
+//! schemas.
 //!
 //! A table is named by its place in the schema, and a row by its ordinal; both count from 0.
 
-ghost use Rattle.std.specs.Prelude.{◌≡◌, ℕ, ◌-◌, ◌<◌, ◌≤◌, ◌==◌, ◌&&◌, filter, length, not};
+ghost use Rattle.std.specs.Prelude.{◌≡◌, ℕ, ℤ, ◌-◌, ◌<◌, ◌≤◌, ◌==◌, ◌&&◌, All, Some, filter, flat_map, length, not, slice_index_or, true};
 ghost use Rattle.std.specs.List.{range_with_len};
 ghost use Rattle.schema_check.specs.Cohorts.{first_ordinal};
 ghost use Rattle.schema_check.specs.Dictionaries.{Project};
 ghost use Rattle.schema_check.specs.Limits.{IsInLimits};
+ghost use Rattle.schema_check.specs.References.{Reference, reference_at, references_of};
 ghost use Rattle.life_intervals.specs.Generator.{generator_of, last_unit, table_of};
-ghost use Rattle.life_intervals.specs.Intervals.{change_unit, is_live};
+ghost use Rattle.life_intervals.specs.Intervals.{change_unit, is_live, parent_of};
 ghost use Rattle.life_intervals.specs.Rows.{Row};
-ghost use Rattle.life_intervals.specs.Simulation.{holds_row, rows_at};
+ghost use Rattle.life_intervals.specs.Simulation.{holds_row, rows_at, simulation};
+ghost use Rattle.life_intervals.specs.Streams.{deleted, inserted, updated};
+ghost use Rattle.row_lines.specs.Lines.{key_line_of, line, table_text};
+ghost use Rattle.update_box.specs.TextLaws.{field_of_line, lines_with_key, with_last_unit};
 ghost use Rattle.update_box.specs.UnitLists.{ordinals, table_lists};
 
 /// The step to a unit updates the rows that are born before it, are alive at it and have it as their change unit.
@@ -29,4 +34,46 @@ pub fn deletions_are_the_rows_that_are_gone()
         (table_lists plan t place).deleted
         ≡ ordinals (filter (λ (row : Row). not (holds_row (rows_at (generator_of plan) place t) row.ordinal))
         (rows_at (generator_of plan) place (t - 1))) }
+{}
+
+/// Each row that a table holds at a unit has its parents in their tables at the unit, and in the tables' texts the field of a reference
+/// is the key field of exactly one line of the parent's text.
+pub fn references_name_one_line_each()
+    ensures held { (plan : Project) → IsInLimits plan →
+        (place : ℕ) → place < length plan.schema.tables → (unit ordinal : ℕ) → unit ≤ last_unit plan →
+        holds_row (rows_at (generator_of plan) place unit) ordinal ≡ true →
+        All (λ reference. holds_row (rows_at (generator_of plan) reference.parent unit)
+        (parent_of (generator_of plan) place unit ordinal reference) ≡ true)
+        (references_of (table_of plan place)) }
+    ensures line { (plan : Project) → IsInLimits plan →
+        (place : ℕ) → place < length plan.schema.tables → (unit : ℕ) → unit ≤ last_unit plan →
+        (i : ℕ) (d : Row) → i < length (rows_at (generator_of plan) place unit) →
+        (column : ℕ) (reference : Reference) → reference_at (table_of plan place) column ≡ Some reference →
+        lines_with_key (generator_of plan) unit reference.parent
+        (field_of_line (generator_of plan) unit place column (slice_index_or (rows_at (generator_of plan) place unit) i d)) ≡ 1 }
+{}
+
+/// What comes later is no part of a unit: two accepted schemas that differ in their last unit alone have the same states, texts and
+/// changes at each unit that both reach.
+pub fn a_longer_run_changes_nothing_earlier()
+    ensures states { (plan : Project) (last : ℤ) (unit : ℕ) →
+        simulation (generator_of (with_last_unit plan last)) unit ≡ simulation (generator_of plan) unit }
+    ensures texts { (plan : Project) (last : ℤ) (unit place : ℕ) →
+        table_text (generator_of (with_last_unit plan last)) unit place ≡ table_text (generator_of plan) unit place }
+    ensures updates { (plan : Project) (last : ℤ) (unit place : ℕ) →
+        let other = generator_of (with_last_unit plan last) in
+        flat_map (line other unit place) (updated other place unit)
+        ≡ flat_map (line (generator_of plan) unit place) (updated (generator_of plan) place unit) }
+    ensures insertions { (plan : Project) (last : ℤ) (unit place : ℕ) →
+        let other = generator_of (with_last_unit plan last) in
+        flat_map (line other unit place) (inserted other place unit)
+        ≡ flat_map (line (generator_of plan) unit place) (inserted (generator_of plan) place unit) }
+    ensures deletions { (plan : Project) (last : ℤ) → IsInLimits plan →
+        (place : ℕ) → place < length plan.schema.tables →
+        (unit : ℕ) → unit ≤ last_unit plan → unit ≤ last_unit (with_last_unit plan last) →
+        let other = with_last_unit plan last in
+        flat_map (λ (row : Row). key_line_of (generator_of other) (last_unit other) place row.ordinal)
+        (deleted (generator_of other) place unit)
+        ≡ flat_map (λ (row : Row). key_line_of (generator_of plan) (last_unit plan) place row.ordinal)
+        (deleted (generator_of plan) place unit) }
 {}

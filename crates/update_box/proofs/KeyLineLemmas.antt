@@ -1,0 +1,161 @@
+-- What a line holds in a reference is the key field of one line of the parent's text.
+use Rattle.std.proofs.Common.{◌≡◌, ℕ, ◌^◌, ◌<◌, ◌≤◌, Bool, true, false, List, [], count_by, decimal, length, map, Some, inl, inr, zero-add, ap, arith, sym, ◌∙◌}
+use Rattle.std.specs.Prelude.{slice_index_or}
+use Rattle.std.specs.List.{range_with_len}
+use Rattle.std.specs.Str.{bytes_eq}
+use Rattle.std.proofs.lemmas.Bool.{cases_Bool}
+use Rattle.std.proofs.lemmas.Fmt.{decimal_injective}
+use Rattle.std.proofs.lemmas.List.{get_or-map, length-map}
+use Rattle.std.proofs.lemmas.List.Elements.{All-filter, filter_passes}
+use Rattle.std.proofs.lemmas.List.FromFn.{get_or-map-range_with_len, get_or-range_with_len, length-range_with_len}
+use Rattle.std.proofs.lemmas.Slice.Eq.{bytes_eq-Decides}
+use Rattle.row_text.specs.Fields.{field_text}
+use Rattle.row_text.proofs.DigitLemmas.{piece_text-decimal}
+use Rattle.schema_check.specs.Cohorts.{born_count}
+use Rattle.schema_check.specs.Dictionaries.{Project}
+use Rattle.schema_check.specs.Layout.{layout_of, no_table, table_at}
+use Rattle.schema_check.specs.Limits.{IsInLimits, IsTableInLimits}
+use Rattle.schema_check.specs.References.{IsReferenceInLimits, Reference, reference_at}
+use Rattle.life_intervals.specs.Generator.{Generator, generator_of, last_unit, table_of}
+use Rattle.life_intervals.specs.Intervals.{birth, is_live, living, parent_of, row_at}
+use Rattle.life_intervals.specs.Keys.{key_of}
+use Rattle.life_intervals.specs.Rows.{Row}
+use Rattle.life_intervals.specs.Simulation.{holds_row, rows_at}
+use Rattle.life_intervals.specs.Sound.{AreSound}
+use Rattle.life_intervals.proofs.AcceptedLemmas.{AreSound-accepted, place-below}
+use Rattle.life_intervals.proofs.CohortLemmas.{birth-le, born_count-le}
+use Rattle.life_intervals.proofs.HeldParentLemmas.{parents-held}
+use Rattle.life_intervals.proofs.KeyLemmas.{OrdersCohorts-generator_of, key_of-one_to_one, key_of-within}
+use Rattle.life_intervals.proofs.LifeLemmas.{parent_of-born}
+use Rattle.life_intervals.proofs.LiveLemmas.{holds_row-live}
+use Rattle.life_intervals.proofs.ReferenceLemmas.{at_column, reference_at-within}
+use Rattle.life_intervals.proofs.SimulationLemmas.{rows_at-rows_of}
+use Rattle.row_lines.specs.Lines.{field}
+use Rattle.row_lines.proofs.FieldLemmas.{field-key}
+use Rattle.row_lines.proofs.ReferenceFieldLemmas.{field-reference}
+use Rattle.update_box.specs.TextLaws.{field_of_line, lines_with_key}
+use Rattle.update_box.proofs.RangeLemmas.{count_by-filter_one, count_by-map}
+
+-- what a line holds in a column of its table
+field_of_line-is : (generator : Generator) (unit place column : ℕ) (row : Row) → column < length (table_at generator.tables place).columns →
+    field_of_line generator unit place column row ≡ field_text generator.delimiter (field generator unit place row column)
+field_of_line-is generator unit place column row within =
+    get_or-map-range_with_len (λ (at : ℕ). field_text generator.delimiter (field generator unit place row at)) 0 (length (table_at generator.tables place).columns)
+    column column [] within (zero-add column)
+
+-- texts that differ
+bytes_eq-apart : (xs ys : List ℕ) → (xs ≡ ys → ⊥) → bytes_eq xs ys ≡ false
+bytes_eq-apart xs ys apart = elim (cases_Bool (bytes_eq xs ys)) [
+  | inl same ↦ absurd (apart ((bytes_eq-Decides xs ys).0 same))
+  | inr differ ↦ differ
+]
+
+module _ (plan : Project) (limits : IsInLimits plan) (unit : ℕ) (within : unit ≤ last_unit plan) where
+  abbrev generator : Generator
+  generator = generator_of plan
+
+  abbrev sound : AreSound (last_unit plan) (generator_of plan).tables
+  sound = AreSound-accepted plan limits
+
+  -- how many rows of a table are born by the unit
+  abbrev born_by : ℕ → ℕ
+  born_by place = born_count (table_of plan place).births unit
+
+  -- a table is within its limits
+  own : (place : ℕ) → place < length plan.schema.tables → IsTableInLimits (last_unit plan) (table_of plan place)
+  own place below = limits.tables place no_table (place-below plan place below)
+
+  -- ---- the lines of a table, by their keys
+
+  -- a key is a number of 64 bits
+  key-small : (place : ℕ) → place < length plan.schema.tables → (ordinal : ℕ) → ordinal < born_by place → key_of generator place unit ordinal < 2 ^ 64
+  key-small place below ordinal born =
+      let table : IsTableInLimits (last_unit plan) (table_of plan place) = own place below in
+      omega (
+        arith,
+        key_of-within generator place (OrdersCohorts-generator_of plan place) unit ordinal born,
+        table.base_limit,
+        table.row_limit,
+        born_count-le (table_of plan place).births unit (last_unit plan) within,
+      )
+
+  -- and stands first in a line
+  key-field : (place : ℕ) → place < length plan.schema.tables → (ordinal : ℕ) → ordinal < born_by place →
+      field_of_line generator unit place 0 (row_at generator place unit ordinal) ≡ decimal (key_of generator place unit ordinal)
+  key-field place below ordinal born =
+      let table : IsTableInLimits (last_unit plan) (table_of plan place) = own place below in
+      field_of_line-is generator unit place 0 (row_at generator place unit ordinal) (omega (arith, table.some_column))
+      ∙ ap (field_text generator.delimiter) (field-key generator unit place ordinal 0 table.key_first table.key_never_null)
+      ∙ piece_text-decimal generator.delimiter (key_of generator place unit ordinal) (key-small place below ordinal born)
+
+  -- no two rows have the same
+  key-field_apart : (place : ℕ) → place < length plan.schema.tables → (i j : ℕ) → i < born_by place → j < born_by place → (i ≡ j → ⊥) →
+      bytes_eq (field_of_line generator unit place 0 (row_at generator place unit i)) (decimal (key_of generator place unit j)) ≡ false
+  key-field_apart place below i j born_i born_j apart =
+      bytes_eq-apart (field_of_line generator unit place 0 (row_at generator place unit i)) (decimal (key_of generator place unit j)) (λ same.
+      apart (key_of-one_to_one generator place (OrdersCohorts-generator_of plan place) unit i j born_i born_j
+      (decimal_injective (key_of generator place unit i) (key_of generator place unit j) (key-small place below i born_i) (key-small place below j born_j)
+      (sym (key-field place below i born_i) ∙ same))))
+
+  -- so the key of a row that is alive stands in one line
+  lines_with_key-live : (place : ℕ) → place < length plan.schema.tables → (ordinal : ℕ) → ordinal < born_by place → is_live generator place unit ordinal ≡ true →
+      lines_with_key generator unit place (decimal (key_of generator place unit ordinal)) ≡ 1
+  lines_with_key-live place below ordinal born alive =
+      let key : List ℕ = decimal (key_of generator place unit ordinal) in
+      let has_key : Row → Bool = λ row. bytes_eq (field_of_line generator unit place 0 row) key in
+      ap (count_by has_key) (rows_at-rows_of (last_unit plan) generator place unit sound within)
+      ∙ count_by-map has_key (row_at generator place unit) (living generator place unit)
+      ∙ count_by-filter_one (is_live generator place unit) (λ j. has_key (row_at generator place unit j)) 0 (born_by place) ordinal (omega arith) (omega (arith, born)) alive
+      ((bytes_eq-Decides (field_of_line generator unit place 0 (row_at generator place unit ordinal)) key).1 (key-field place below ordinal born))
+      (λ j low high apart. key-field_apart place below j ordinal (omega (arith, high)) born apart)
+
+  -- ---- the line that a reference names
+
+  -- a row that is alive names the line of its parent
+  line-live : (place : ℕ) → place < length plan.schema.tables → (ordinal : ℕ) → ordinal < born_by place → is_live generator place unit ordinal ≡ true →
+      (column : ℕ) (reference : Reference) → reference_at (table_of plan place) column ≡ Some reference →
+      lines_with_key generator unit reference.parent (field_of_line generator unit place column (row_at generator place unit ordinal)) ≡ 1
+  line-live place below ordinal born alive column reference is =
+      let place_is : place < length generator.tables = place-below plan place below in
+      let inside : column < length (table_of plan place).columns = reference_at-within (table_of plan place) column reference is in
+      let earlier : reference.parent < place =
+      (at_column (IsReferenceInLimits (last_unit plan) (layout_of plan).tables place) (table_of plan place) (limits.references place below) column reference inside is).earlier in
+      let parent_below : reference.parent < length plan.schema.tables = omega (arith, earlier, below) in
+      let parent : ℕ = parent_of generator place unit ordinal reference in
+      let parent_born : parent < born_by reference.parent =
+      omega (
+        arith,
+        parent_of-born (last_unit plan) generator sound place place_is unit within ordinal born column reference is,
+        born_count-le (table_of plan reference.parent).births (birth (table_of plan place).births unit ordinal) unit (birth-le (table_of plan place).births unit ordinal born),
+      ) in
+      let held : holds_row (rows_at generator reference.parent unit) parent ≡ true =
+      at_column (λ (to : Reference). holds_row (rows_at generator to.parent unit) (parent_of generator place unit ordinal to) ≡ true) (table_of plan place)
+      (parents-held (last_unit plan) generator sound place place_is unit ordinal within (holds_row-live (last_unit plan) generator place unit ordinal sound within born ∙ alive))
+      column reference inside is in
+      let parent_alive : is_live generator reference.parent unit parent ≡ true =
+      sym (holds_row-live (last_unit plan) generator reference.parent unit parent sound within parent_born) ∙ held in
+      let key : ℕ = key_of generator reference.parent unit parent in
+      let names : field_of_line generator unit place column (row_at generator place unit ordinal) ≡ decimal key =
+      field_of_line-is generator unit place column (row_at generator place unit ordinal) inside
+      ∙ ap (field_text generator.delimiter)
+      (field-reference (last_unit plan) generator sound place place_is unit within ordinal born column reference is ((own place below).reference_never_null column reference inside is))
+      ∙ piece_text-decimal generator.delimiter key (key-small reference.parent parent_below parent parent_born) in
+      ap (lines_with_key generator unit reference.parent) names
+      ∙ lines_with_key-live reference.parent parent_below parent parent_born parent_alive
+
+  -- and so does each row that the table holds
+  pub line-held : (place : ℕ) → place < length plan.schema.tables → (i : ℕ) (d : Row) → i < length (rows_at generator place unit) →
+      (column : ℕ) (reference : Reference) → reference_at (table_of plan place) column ≡ Some reference →
+      lines_with_key generator unit reference.parent (field_of_line generator unit place column (slice_index_or (rows_at generator place unit) i d)) ≡ 1
+  line-held place below i d inside column reference is =
+      let ordinals : List ℕ = living generator place unit in
+      let rows_are : rows_at generator place unit ≡ map (row_at generator place unit) ordinals = rows_at-rows_of (last_unit plan) generator place unit sound within in
+      let among : i < length ordinals = omega (arith, inside, ap length rows_are, length-map ordinals (row_at generator place unit)) in
+      let ordinal : ℕ = slice_index_or ordinals i 0 in
+      let row_is : slice_index_or (rows_at generator place unit) i d ≡ row_at generator place unit ordinal =
+      ap (λ (rows : List Row). slice_index_or rows i d) rows_are ∙ get_or-map (row_at generator place unit) ordinals i 0 d among in
+      let born : ordinal < born_by place =
+      All-filter (is_live generator place unit) (λ j. j < born_by place) (range_with_len 0 (born_by place))
+      (λ k d small. omega (arith, get_or-range_with_len 0 (born_by place) k d (omega (arith, small, length-range_with_len 0 (born_by place))), small, length-range_with_len 0 (born_by place))) i 0 among in
+      ap (λ (row : Row). lines_with_key generator unit reference.parent (field_of_line generator unit place column row)) row_is
+      ∙ line-live place below ordinal born (filter_passes (is_live generator place unit) (range_with_len 0 (born_by place)) i 0 among) column reference is

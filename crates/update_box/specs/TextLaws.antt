@@ -1,0 +1,21 @@
+-- What the laws of the tables' texts speak of.
+use Rattle.std.specs.Prelude.{ℕ, ℤ, List, [], count_by, slice_index_or}
+use Rattle.std.specs.Str.{bytes_eq}
+use Rattle.schema_check.specs.Dictionaries.{Project}
+use Rattle.life_intervals.specs.Generator.{Generator}
+use Rattle.life_intervals.specs.Rows.{Row}
+use Rattle.life_intervals.specs.Simulation.{rows_at}
+use Rattle.row_lines.specs.Lines.{field_texts}
+
+-- what the line of a row at a unit holds in the column at a place, as it is written
+abbrev pub field_of_line : Generator → ℕ → ℕ → ℕ → Row → List ℕ
+field_of_line generator unit place column row = slice_index_or (field_texts generator unit place row) column []
+
+-- how many lines of the text at a unit of the table at a place have this key field
+abbrev pub lines_with_key : Generator → ℕ → ℕ → List ℕ → ℕ
+lines_with_key generator unit place key =
+    count_by (λ (row : Row). bytes_eq (field_of_line generator unit place 0 row) key) (rows_at generator place unit)
+
+-- a schema with another last unit
+abbrev pub with_last_unit : Project → ℤ → Project
+with_last_unit plan last = record plan { schema = record plan.schema { units = last } }
