@@ -39,8 +39,7 @@ unless_refused (Some fault) answer = Err (plan.Check fault)
 
 -- the names of the dictionaries that a schema cites, as far as it may cite them by itself
 abbrev pub citations_of : Schema → Result (List (List ℕ)) PlanFault
-citations_of schema =
-    unless_refused (citation_refusal schema) (cited_names schema.tables)
+citations_of schema = unless_refused (citation_refusal schema) (cited_names schema.tables)
 
 -- the plan of a schema that is accepted with its dictionaries
 abbrev pub accepted_with : Schema → List Dictionary → Result Project PlanFault

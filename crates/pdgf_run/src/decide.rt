@@ -129,7 +129,7 @@ fn plan_of<L: Library>(alloc: Global, library: &mut L, schema: Schema) -> Result
     ensures plan { IfSome (told_files (L.content library.old)) (λ files. Decides plan_status (λ plan. plan) result (planned files schema)) }
     ensures too_long { IfErr result (λ fault. plan_status fault ≡ 10 → L.taken library.new ≡ dictionary_limit + 1) }
     ensures longer { IfErr result (λ fault. L.taken library.new ≡ dictionary_limit + 1 → plan_status fault ≡ 10) }
-    ensures schema_read { IfErr result (λ fault. plan_status fault ≡ 3 → L.taken library.new ≤ schema_limit) }
+    ensures is_schema { IfErr result (λ fault. plan_status fault ≢ 3) }
     ensures within { OnOk result (L.taken library.new ≤ dictionary_limit) }
     ensures read_failed { IfErr result (λ fault. plan_status fault ≡ 5 → Rose (L.faults library.old) (L.faults library.new)) }
     ensures stopped { IfErr result (λ fault. plan_status fault ≡ 5 → L.is_started library.new ≡ false) }

@@ -274,7 +274,7 @@ via = "id"
 column = "id"
 "#;
 
-// Both: the broken rule with the lower number is told.
+// The same with more rows than a table may have: of two broken rules the first is told.
 const SHOWING_AND_TOO_MANY_ROWS: &str = r#"seed = 1
 units = 2
 [[table]]
