@@ -9,7 +9,7 @@ use Rattle.life_intervals.specs.CohortOrders.{cohort_orders, table_orders}
 use Rattle.life_intervals.specs.CohortParents.{cohort_candidates, table_candidates}
 use Rattle.life_intervals.specs.Generator.{generator_of, last_unit}
 use Rattle.life_intervals.specs.Streams.{deleted, updated}
-use Rattle.row_lines.specs.ChangeDraws.{change_draws}
+use Rattle.row_lines.specs.LineDraws.{line_draws}
 use Rattle.update_box.specs.UnitLists.{ordinals}
 use Rattle.pdgf_run.specs.DueFiles.{Part, ending_of, file_of, name_at, path_of, standard_output, text_files}
 use Rattle.pdgf_run.specs.declared.job.Content.{Content}
@@ -28,10 +28,10 @@ places_of places = range_with_len places.from places.count
 
 -- what some rows are of their table
 abbrev pub content_of : JobRows → Content
-content_of (rows.Snapshot orders candidates changes) = content.Snapshot
+content_of (rows.Snapshot orders candidates draws) = content.Snapshot
 content_of (rows.Deleted ordinals) = content.Deleted
 content_of (rows.Updated ordinals) = content.Updated
-content_of (rows.Inserted orders candidates changes) = content.Inserted
+content_of (rows.Inserted orders candidates draws) = content.Inserted
 
 -- what a part holds
 abbrev pub part_of : JobPart → Part
@@ -58,14 +58,14 @@ due_of (Files job) = files_due job
 
 -- the rows of a part, with what is made ready for them, are those of the table at a place at a unit
 abbrev pub AreRowsOf : Project → ℕ → ℕ → JobRows → Type 0
-AreRowsOf plan unit place (rows.Snapshot orders candidates changes) =
+AreRowsOf plan unit place (rows.Snapshot orders candidates draws) =
     (orders.items ≡ table_orders plan place unit) × (candidates.items ≡ table_candidates plan place unit)
-    × (changes.items ≡ change_draws plan place unit)
+    × (draws ≡ line_draws plan place unit)
 AreRowsOf plan unit place (rows.Deleted kept) = (1 ≤ unit) × (kept.items ≡ ordinals (deleted (generator_of plan) place unit))
 AreRowsOf plan unit place (rows.Updated kept) = (1 ≤ unit) × (kept.items ≡ ordinals (updated (generator_of plan) place unit))
-AreRowsOf plan unit place (rows.Inserted orders candidates changes) =
+AreRowsOf plan unit place (rows.Inserted orders candidates draws) =
     (orders ≡ cohort_orders plan place unit) × (candidates ≡ cohort_candidates plan place unit)
-    × (changes.items ≡ change_draws plan place unit)
+    × (draws ≡ line_draws plan place unit)
 
 -- a part is one of the plan's tables
 pub record IsPartOf (plan : Project) (unit : ℕ) (part : JobPart) : Type 0 where

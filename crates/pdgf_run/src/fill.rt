@@ -10,8 +10,8 @@ ghost use Rattle.life_intervals.specs.CohortParents.{cohort_candidates, table_ca
 ghost use Rattle.life_intervals.specs.Generator.{generator_of, last_unit, rows_in_all, table_of};
 ghost use Rattle.life_intervals.specs.Intervals.{is_live};
 ghost use Rattle.life_intervals.specs.Streams.{deleted as deleted_rows, updated as updated_rows};
-ghost use Rattle.row_lines.specs.ChangeDraws.{change_draws};
 ghost use Rattle.row_lines.specs.CohortLines.{layout_for, living_line};
+ghost use Rattle.row_lines.specs.LineDraws.{line_draws};
 ghost use Rattle.row_lines.specs.Lines.{cohort_text, key_line_of, line_of};
 ghost use Rattle.update_box.specs.UnitLists.{ordinals};
 ghost use Rattle.pdgf_run.specs.Appends.{Appends, Finishes};
@@ -20,10 +20,9 @@ ghost use Rattle.pdgf_run.specs.KnownRows.{IsRowOf};
 ghost use Rattle.pdgf_run.specs.Jobs.{CanFill, CanWrite, IsPartOf, due_of, files_due, own_file, part_of};
 
 use crate::job::{Content, FilesJob, Job, JobPart, JobRows};
-use draw_values::UnitDraws;
 use life_intervals::{Candidates, CohortOrders, Survival, cohort};
 use pd_outside::{Failed, PageBuf, Shelf, WriteFailed, write_all};
-use row_lines::{CohortLines, put_key, put_line};
+use row_lines::{CohortLines, LineDraws, put_key, put_line};
 use schema_check::Plan;
 use schema_model::Sequence;
 use std::marker::Brand;
@@ -48,13 +47,13 @@ fn write_row<S: Shelf, B: Ledger>(
     shelf: &mut S,
     page: &mut PageBuf,
     lines: &CohortLines<'_>,
-    changes: &[UnitDraws],
+    draws: &LineDraws,
     row: KnownRow,
     steps: &mut Steps<B>,
 ) -> Result<(), WriteFailed>
     requires begun { IsTrue (S.is_begun shelf.old) }
     requires row { IsRowOf lines.now row }
-    requires changes { changes.now ≡ change_draws lines.now.plan lines.now.table lines.now.unit }
+    requires draws { draws.now ≡ line_draws lines.now.plan lines.now.table lines.now.unit }
     requires room { max_line (layout_of lines.now.plan) lines.now.table ≤ page.old.room }
     ensures line { Appends result (living_line lines.now row.index) (S.held shelf.old) (S.held shelf.new) }
     ensures cause { OnErr result (Rose (S.faults shelf.old) (S.faults shelf.new)) }
@@ -67,7 +66,7 @@ fn write_row<S: Shelf, B: Ledger>(
         return Ok(());
     }
     page.clear();
-    lines.put_known_line(row.index, row.key, row.changed, changes, page, steps);
+    lines.put_known_line(row.index, row.key, row.changed, draws, page, steps);
     write_all(shelf, page.text())
 }
 
@@ -77,12 +76,12 @@ fn write_cohort<S: Shelf, B: Ledger>(
     page: &mut PageBuf,
     lines: &CohortLines<'_>,
     size: u64,
-    changes: &[UnitDraws],
+    draws: &LineDraws,
     steps: &mut Steps<B>,
 ) -> Result<(), WriteFailed>
     requires begun { IsTrue (S.is_begun shelf.old) }
     requires size { size ≡ cohort_size (layout_for lines.now).births lines.now.born }
-    requires changes { changes.now ≡ change_draws lines.now.plan lines.now.table lines.now.unit }
+    requires draws { draws.now ≡ line_draws lines.now.plan lines.now.table lines.now.unit }
     requires room { max_line (layout_of lines.now.plan) lines.now.table ≤ page.old.room }
     ensures lines { Appends result (cohort_text (generator_of lines.now.plan) lines.now.unit lines.now.table lines.now.born) (S.held shelf.old) (S.held shelf.new) }
     ensures cause { OnErr result (Rose (S.faults shelf.old) (S.faults shelf.new)) }
@@ -110,7 +109,7 @@ fn write_cohort<S: Shelf, B: Ledger>(
                 changed: changed[index as usize],
                 is_live: live[index as usize],
             };
-            match write_row(shelf, page, lines, changes, row, steps) {
+            match write_row(shelf, page, lines, draws, row, steps) {
                 Ok(()) => {}
                 Err(WriteFailed) => return Err(WriteFailed),
             }
@@ -136,7 +135,7 @@ fn write_born<S: Shelf, B: Ledger>(
     born: u64,
     orders: &CohortOrders,
     candidates: &[Option<Candidates>],
-    changes: &[UnitDraws],
+    draws: &LineDraws,
     steps: &mut Steps<B>,
 ) -> Result<(), WriteFailed>
     requires begun { IsTrue (S.is_begun shelf.old) }
@@ -147,7 +146,7 @@ fn write_born<S: Shelf, B: Ledger>(
     requires born { born ≤ at.now.unit }
     requires orders { orders.now ≡ cohort_orders at.now.plan.now at.now.place born }
     requires candidates { candidates.now ≡ cohort_candidates at.now.plan.now at.now.place born }
-    requires changes { changes.now ≡ change_draws at.now.plan.now at.now.place at.now.unit }
+    requires draws { draws.now ≡ line_draws at.now.plan.now at.now.place at.now.unit }
     ensures lines { Appends result (cohort_text (generator_of at.now.plan.now) at.now.unit at.now.place born) (S.held shelf.old) (S.held shelf.new) }
     ensures cause { OnErr result (Rose (S.faults shelf.old) (S.faults shelf.new)) }
     ensures no_fault { OnOk result (S.faults shelf.new ≡ S.faults shelf.old) }
@@ -157,7 +156,7 @@ fn write_born<S: Shelf, B: Ledger>(
 {
     let lines = CohortLines::new(at.plan, at.place, born, at.unit, orders, candidates);
     let size = cohort(at.plan, at.place, born).size;
-    write_cohort(shelf, page, &lines, size, changes, steps)
+    write_cohort(shelf, page, &lines, size, draws, steps)
 }
 
 /// Writes the text of a table at a unit: the lines of the rows that are born by then and alive.
@@ -167,7 +166,7 @@ fn write_table<S: Shelf, B: Ledger>(
     at: &TableAt<'_>,
     orders: &[CohortOrders],
     candidates: &[Sequence<Option<Candidates>>],
-    changes: &[UnitDraws],
+    draws: &LineDraws,
     steps: &mut Steps<B>,
 ) -> Result<(), WriteFailed>
     requires begun { IsTrue (S.is_begun shelf.old) }
@@ -177,7 +176,7 @@ fn write_table<S: Shelf, B: Ledger>(
     requires room { reach (layout_of at.now.plan.now) ≤ page.old.room }
     requires orders { orders.now ≡ table_orders at.now.plan.now at.now.place at.now.unit }
     requires candidates { candidates.now ≡ table_candidates at.now.plan.now at.now.place at.now.unit }
-    requires changes { changes.now ≡ change_draws at.now.plan.now at.now.place at.now.unit }
+    requires draws { draws.now ≡ line_draws at.now.plan.now at.now.place at.now.unit }
     ensures text { Appends result (content_text at.now.plan.now at.now.unit at.now.place Content.Snapshot) (S.held shelf.old) (S.held shelf.new) }
     ensures cause { OnErr result (Rose (S.faults shelf.old) (S.faults shelf.new)) }
     ensures no_fault { OnOk result (S.faults shelf.new ≡ S.faults shelf.old) }
@@ -194,7 +193,7 @@ fn write_table<S: Shelf, B: Ledger>(
             born,
             &orders[born as usize],
             candidates[born as usize].as_slice(),
-            changes,
+            draws,
             steps,
         ) {
             Ok(()) => {}
@@ -326,7 +325,7 @@ fn write_inserted<S: Shelf, B: Ledger>(
     at: &TableAt<'_>,
     orders: &CohortOrders,
     candidates: &[Option<Candidates>],
-    changes: &[UnitDraws],
+    draws: &LineDraws,
     steps: &mut Steps<B>,
 ) -> Result<(), WriteFailed>
     requires begun { IsTrue (S.is_begun shelf.old) }
@@ -336,7 +335,7 @@ fn write_inserted<S: Shelf, B: Ledger>(
     requires room { reach (layout_of at.now.plan.now) ≤ page.old.room }
     requires orders { orders.now ≡ cohort_orders at.now.plan.now at.now.place at.now.unit }
     requires candidates { candidates.now ≡ cohort_candidates at.now.plan.now at.now.place at.now.unit }
-    requires changes { changes.now ≡ change_draws at.now.plan.now at.now.place at.now.unit }
+    requires draws { draws.now ≡ line_draws at.now.plan.now at.now.place at.now.unit }
     ensures text { Appends result (content_text at.now.plan.now at.now.unit at.now.place Content.Inserted) (S.held shelf.old) (S.held shelf.new) }
     ensures cause { OnErr result (Rose (S.faults shelf.old) (S.faults shelf.new)) }
     ensures no_fault { OnOk result (S.faults shelf.new ≡ S.faults shelf.old) }
@@ -345,7 +344,7 @@ fn write_inserted<S: Shelf, B: Ledger>(
     ensures room { page.new.room ≡ page.old.room }
 {
     let _sound = at.plan.schema(); // so each of them is alive
-    write_born(shelf, page, at, at.unit, orders, candidates, changes, steps)
+    write_born(shelf, page, at, at.unit, orders, candidates, draws, steps)
 }
 
 /// Writes a part of a table.
@@ -376,24 +375,24 @@ fn write_part<S: Shelf, B: Ledger>(
         unit,
     };
     match &part.rows {
-        JobRows::Snapshot(orders, candidates, changes) => write_table(
+        JobRows::Snapshot(orders, candidates, draws) => write_table(
             shelf,
             page,
             &at,
             orders.as_slice(),
             candidates.as_slice(),
-            changes.as_slice(),
+            draws,
             steps,
         ),
         JobRows::Deleted(deleted) => write_deleted(shelf, page, &at, deleted.as_slice(), steps),
         JobRows::Updated(updated) => write_updated(shelf, page, &at, updated.as_slice(), steps),
-        JobRows::Inserted(orders, candidates, changes) => write_inserted(
+        JobRows::Inserted(orders, candidates, draws) => write_inserted(
             shelf,
             page,
             &at,
             orders,
             candidates.as_slice(),
-            changes.as_slice(),
+            draws,
             steps,
         ),
     }

@@ -11,13 +11,12 @@ ghost use Rattle.pdgf_run.specs.Jobs.{AreRowsOf, CanWrite, IsPartOf, content_of,
 
 use crate::check::name_of;
 use crate::usage::Mode;
-use draw_values::UnitDraws;
 use itoa::Buffer;
 use life_intervals::{
     Candidates, CohortOrders, cohort_candidates, cohort_orders, table_candidates, table_orders,
 };
 use pd_outside::{Memory, PageBuf};
-use row_lines::change_draws;
+use row_lines::{LineDraws, line_draws};
 use schema_check::Plan;
 use schema_model::{Sequence, Text as Name};
 use std::alloc::Global;
@@ -70,14 +69,14 @@ pub(crate) struct JobPart {
 /// The rows of a part, with what doesn't change from row to row.
 #[derive(Drop)]
 pub(crate) enum JobRows {
-    /// All at the unit, with the orders and the candidates of the cohorts up to it, and the draws of the changes.
-    Snapshot(Vec<CohortOrders>, Vec<Sequence<Option<Candidates>>>, Vec<UnitDraws>),
+    /// All at the unit, with the orders and the candidates of the cohorts up to it, and what their lines are drawn from.
+    Snapshot(Vec<CohortOrders>, Vec<Sequence<Option<Candidates>>>, LineDraws),
     /// Those that the unit deletes, by their ordinals.
     Deleted(Vec<u64>),
     /// Those that it updates.
     Updated(Vec<u64>),
-    /// Its cohort, with the orders and the candidates of this, and the draws of the changes.
-    Inserted(CohortOrders, Sequence<Option<Candidates>>, Vec<UnitDraws>),
+    /// Its cohort, with the orders and the candidates of this, and what their lines are drawn from.
+    Inserted(CohortOrders, Sequence<Option<Candidates>>, LineDraws),
 }
 
 /// The places of `count` tables from the one at place `from` on.
@@ -207,8 +206,8 @@ fn push_snapshot(
     let Ok(candidates) = table_candidates(alloc, plan, place, unit) else {
         return Err(Memory);
     };
-    let changes = change_draws(alloc, plan, place, unit)?;
-    let rows = JobRows::Snapshot(orders, candidates, changes);
+    let draws = line_draws(alloc, plan, place, unit)?;
+    let rows = JobRows::Snapshot(orders, candidates, draws);
     push_part(alloc, plan, unit, place, rows, out, parts)
 }
 
@@ -238,8 +237,8 @@ fn push_changes<B: Ledger>(
     let Ok(candidates) = cohort_candidates(alloc, plan, place, unit) else {
         return Err(Memory);
     };
-    let changes = change_draws(alloc, plan, place, unit)?;
-    let inserted = JobRows::Inserted(cohort_orders(plan, place, unit), candidates, changes);
+    let draws = line_draws(alloc, plan, place, unit)?;
+    let inserted = JobRows::Inserted(cohort_orders(plan, place, unit), candidates, draws);
     push_part(
         alloc,
         plan,

@@ -9,4 +9,5 @@ pub mod CohortFieldLemmas
 pub mod PartLemmas
 mod StillLemmas
 mod LookupLemmas
+mod LineDrawLemmas
 mod ReportLemmas

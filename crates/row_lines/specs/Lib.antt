@@ -1,5 +1,6 @@
 pub mod Lines
 pub mod ChangeDraws
+pub mod LineDraws
 pub mod CohortLines
 pub mod Parts
 pub mod Lookups

@@ -23,7 +23,7 @@ fn change_count(plan: &Plan, table: u32, unit: u64) -> u64
 
 /// The draws of a table's fields at the units at which its rows may have changed last by `unit`, for its lines at that unit: the
 /// last units up to it, as many as from one change of a row to its next. At `Memory` none are made.
-pub fn change_draws(
+pub(crate) fn change_draws(
     alloc: Global,
     plan: &Plan,
     table: u32,

@@ -1,6 +1,6 @@
 //! The lines of the rows of a cohort, with what doesn't change from row to row taken once.
 
-ghost use Rattle.std.specs.Prelude.{◌≡◌, ◌≢◌, ◌<◌, ◌≤◌, ℕ, ◌+◌, ◌*◌, ◌==◌, get_or, [], ◌∷◌, ◌++◌, if◌then◌else◌, false, true, length, min};
+ghost use Rattle.std.specs.Prelude.{◌≡◌, ◌≢◌, ◌<◌, ◌≤◌, ℕ, ◌+◌, ◌*◌, ◌==◌, get_or, [], ◌∷◌, ◌++◌, if◌then◌else◌, false, true, IfSome, length, min};
 ghost use Rattle.schema_check.specs.Cohorts.{born_count, cohort_size};
 ghost use Rattle.schema_check.specs.Delimiters.{delimiter_byte as byte_of};
 ghost use Rattle.schema_check.specs.FieldBounds.{bounds_at};
@@ -12,11 +12,13 @@ ghost use Rattle.life_intervals.specs.CohortLives.{survival_at};
 ghost use Rattle.life_intervals.specs.CohortOrders.{cohort_orders, do_updates_differ};
 ghost use Rattle.life_intervals.specs.CohortParents.{AreCandidates, asked_for_death};
 ghost use Rattle.life_intervals.specs.Generator.{last_unit, table_of};
-ghost use Rattle.row_lines.specs.ChangeDraws.{change_draws};
 ghost use Rattle.row_lines.specs.CohortLines.{asked_for, asked_for_line, change_for, is_live_for, key_for, layout_for, line_in_cohort, size_for, text_in_cohort, values_at};
+ghost use Rattle.life_intervals.specs.Intervals.{birth};
+ghost use Rattle.row_lines.specs.LineDraws.{line_draws};
 ghost use Rattle.row_lines.specs.Lookups.{IsLookupOf, IsStillColumn, text_held};
 
 use crate::cohort_fields::CohortFields;
+use crate::draws::LineDraws;
 use draw_values::{CohortValues, UnitDraws};
 use life_intervals::{
     Candidates, CohortChanges, CohortKeys, CohortLives, CohortOrders, Survival, birth, cohort,
@@ -254,7 +256,7 @@ impl<'a> CohortLines<'a> {
         ensures steps { steps.new ≤ steps.old + asked_for_line self.now }
     {
         let draws = UnitDraws::new(self.plan, self.place, changed);
-        self.put_drawn_line(index, key, &draws, buf, steps);
+        self.put_drawn_line(index, key, &draws, None, buf, steps);
     }
 
     /// The same with the draws of the table's changes, so that a line makes no seed but its own.
@@ -264,7 +266,7 @@ impl<'a> CohortLines<'a> {
         index: u64,
         key: u64,
         changed: u64,
-        changes: &[UnitDraws],
+        draws: &LineDraws,
         buf: &mut PageBuf,
         steps: &mut Steps<L>,
     )
@@ -272,27 +274,29 @@ impl<'a> CohortLines<'a> {
         requires alive { is_live_for self.now index ≡ true }
         requires key { key ≡ key_for self.now index }
         requires changed { changed ≡ change_for self.now index }
-        requires changes { changes.now ≡ change_draws self.now.plan self.now.table self.now.unit }
+        requires draws { draws.now ≡ line_draws self.now.plan self.now.table self.now.unit }
         requires room { length buf.old.text + max_line (layout_of self.now.plan) self.now.table ≤ buf.old.room }
         ensures line { buf.new ≡ record buf.old { text = buf.old.text ++ line_in_cohort self.now index } }
         ensures size { length (line_in_cohort self.now index) ≤ max_line (layout_of self.now.plan) self.now.table }
         ensures steps { steps.new ≤ steps.old + asked_for_line self.now }
     {
         if changed == self.born {
-            self.put_drawn_line(index, key, &self.births, buf, steps);
+            self.put_drawn_line(index, key, &self.births, Some(draws), buf, steps);
         } else {
-            let draws = &changes[changes.len() - 1 - (self.unit - changed) as usize];
-            self.put_drawn_line(index, key, draws, buf, steps);
+            let changes = draws.changes();
+            let change = &changes[changes.len() - 1 - (self.unit - changed) as usize];
+            self.put_drawn_line(index, key, change, Some(draws), buf, steps);
         }
     }
 
-    /// The same with the draws of the row's last change.
+    /// The same with the draws of the row's last change, and with those of all lines, where they are known.
     #[inline]
     fn put_drawn_line<L: Ledger>(
         &self,
         index: u64,
         key: u64,
         draws: &UnitDraws,
+        known: Option<&LineDraws>,
         buf: &mut PageBuf,
         steps: &mut Steps<L>,
     )
@@ -300,6 +304,7 @@ impl<'a> CohortLines<'a> {
         requires alive { is_live_for self.now index ≡ true }
         requires key { key ≡ key_for self.now index }
         requires draws { draws.now ≡ unit_draws self.now.plan self.now.table (change_for self.now index) }
+        requires known { IfSome known (λ k. k.now ≡ line_draws self.now.plan self.now.table self.now.unit) }
         requires room { length buf.old.text + max_line (layout_of self.now.plan) self.now.table ≤ buf.old.room }
         ensures line { buf.new ≡ record buf.old { text = buf.old.text ++ line_in_cohort self.now index } }
         ensures size { length (line_in_cohort self.now index) ≤ max_line (layout_of self.now.plan) self.now.table }
@@ -308,7 +313,7 @@ impl<'a> CohortLines<'a> {
         let values = CohortValues::new(self.plan, self.place, &self.births, draws);
         for column in 0..self.columns.len() {
             put_delimiter(buf, self.delimiter, column);
-            self.put_field(column, index, key, &values, buf, steps);
+            self.put_field(column, index, key, &values, known, buf, steps);
         }
         buf.put_piece(&Piece::of_byte(b'\n'));
     }
@@ -321,6 +326,7 @@ impl<'a> CohortLines<'a> {
         index: u64,
         key: u64,
         values: &CohortValues<'_>,
+        known: Option<&LineDraws>,
         buf: &mut PageBuf,
         steps: &mut Steps<L>,
     )
@@ -328,6 +334,7 @@ impl<'a> CohortLines<'a> {
         requires row { index < cohort_size (layout_for self.now).births self.now.born }
         requires alive { is_live_for self.now index ≡ true }
         requires values { values.now ≡ values_at self.now (change_for self.now index) }
+        requires known { IfSome known (λ k. k.now ≡ line_draws self.now.plan self.now.table self.now.unit) }
         requires key { key ≡ key_for self.now index }
         requires room { length buf.old.text + size_for self.now column ≤ buf.old.room }
         ensures text { buf.new ≡ record buf.old { text = buf.old.text ++ text_in_cohort self.now index column } }
@@ -337,7 +344,7 @@ impl<'a> CohortLines<'a> {
         let columns = self.columns;
         match &columns[column].kind {
             ReadyKind::Lookup(lookup) => {
-                self.put_lookup(column, lookup, index, values, buf, steps)
+                self.put_lookup(column, lookup, index, values, known, buf, steps)
             }
             _ => self
                 .fields
@@ -352,6 +359,7 @@ impl<'a> CohortLines<'a> {
         lookup: &ReadyLookup,
         index: u64,
         values: &CohortValues<'_>,
+        known: Option<&LineDraws>,
         buf: &mut PageBuf,
         steps: &mut Steps<L>,
     )
@@ -359,6 +367,7 @@ impl<'a> CohortLines<'a> {
         requires row { index < cohort_size (layout_for self.now).births self.now.born }
         requires alive { is_live_for self.now index ≡ true }
         requires values { values.now ≡ values_at self.now (change_for self.now index) }
+        requires known { IfSome known (λ k. k.now ≡ line_draws self.now.plan self.now.table self.now.unit) }
         requires room { length buf.old.text + size_for self.now column ≤ buf.old.room }
         ensures text { buf.new ≡ record buf.old { text = buf.old.text ++ text_in_cohort self.now index column } }
         ensures size { length (text_in_cohort self.now index column) ≤ size_for self.now column }
@@ -375,45 +384,46 @@ impl<'a> CohortLines<'a> {
         let parent = self
             .fields
             .parent(lookup.via as u32, reference, index, steps);
-        put_still_field(
-            self.plan,
-            lookup.parent,
-            parent,
-            self.unit,
-            lookup.column,
-            buf,
-            steps,
-        );
+        let born = birth(self.plan, lookup.parent, parent);
+        match known {
+            Some(draws) => {
+                let draws = draws.of_parent(lookup.parent, born);
+                self.put_looked_up(lookup, parent, draws, buf, steps)
+            }
+            None => {
+                let draws = UnitDraws::new(self.plan, lookup.parent, born);
+                self.put_looked_up(lookup, parent, &draws, buf, steps)
+            }
+        }
     }
-}
 
-/// Appends what the row of an ordinal, which is born by a unit, holds then in the column at a place, one that doesn't move and is no
-/// lookup.
-fn put_still_field<L: Ledger>(
-    plan: &Plan,
-    table: u32,
-    ordinal: u64,
-    unit: u64,
-    column: u64,
-    buf: &mut PageBuf,
-    steps: &mut Steps<L>,
-)
-    requires table { table < length plan.now.schema.tables }
-    requires unit { unit ≤ last_unit plan.now }
-    requires born { ordinal < born_count (table_of plan.now table).births unit }
-    requires column { IsStillColumn (table_of plan.now table) column }
-    requires room { length buf.old.text + (bounds_at (layout_of plan.now).delimiter (layout_of plan.now).tables (table_of plan.now table) column).size ≤ buf.old.room }
-    ensures text { buf.new ≡ record buf.old { text = buf.old.text ++ text_held plan.now table unit ordinal column } }
-    ensures size { length (text_held plan.now table unit ordinal column) ≤ (bounds_at (layout_of plan.now).delimiter (layout_of plan.now).tables (table_of plan.now table) column).size }
-    ensures steps { steps.new ≤ steps.old + (bounds_at (layout_of plan.now).delimiter (layout_of plan.now).tables (table_of plan.now table) column).permutations }
-{
-    let _limits = plan.table(table); // a table has at most 2^40 rows
-    let born = birth(plan, table, ordinal);
-    let draws = UnitDraws::new(plan, table, born);
-    let values = CohortValues::new(plan, table, &draws, &draws);
-    let fields = CohortFields::new(plan, table, born, unit, &[]);
-    let index = ordinal - cohort(plan, table, born).first;
-    fields.put(column as usize, index, None, &values, buf, steps);
+    /// Appends what a lookup shows of the row of an ordinal in the parent's table, by the draws of that one's birth.
+    #[inline(always)]
+    fn put_looked_up<L: Ledger>(
+        &self,
+        lookup: &ReadyLookup,
+        parent: u64,
+        draws: &UnitDraws,
+        buf: &mut PageBuf,
+        steps: &mut Steps<L>,
+    )
+        requires table { lookup.now.parent < length self.now.plan.schema.tables }
+        requires born { parent < born_count (table_of self.now.plan lookup.now.parent).births self.now.unit }
+        requires draws { draws.now ≡ unit_draws self.now.plan lookup.now.parent (birth (table_of self.now.plan lookup.now.parent).births (last_unit self.now.plan) parent) }
+        requires column { IsStillColumn (table_of self.now.plan lookup.now.parent) lookup.now.column }
+        requires room { length buf.old.text + (bounds_at (layout_of self.now.plan).delimiter (layout_of self.now.plan).tables (table_of self.now.plan lookup.now.parent) lookup.now.column).size ≤ buf.old.room }
+        ensures text { buf.new ≡ record buf.old { text = buf.old.text ++ text_held self.now.plan lookup.now.parent self.now.unit parent lookup.now.column } }
+        ensures size { length (text_held self.now.plan lookup.now.parent self.now.unit parent lookup.now.column) ≤ (bounds_at (layout_of self.now.plan).delimiter (layout_of self.now.plan).tables (table_of self.now.plan lookup.now.parent) lookup.now.column).size }
+        ensures steps { steps.new ≤ steps.old + (bounds_at (layout_of self.now.plan).delimiter (layout_of self.now.plan).tables (table_of self.now.plan lookup.now.parent) lookup.now.column).permutations }
+    {
+        let table = lookup.parent;
+        let _limits = self.plan.table(table); // a table has at most 2^40 rows
+        let values = CohortValues::new(self.plan, table, draws, draws);
+        let born = draws.unit();
+        let fields = CohortFields::new(self.plan, table, born, self.unit, &[]);
+        let index = parent - cohort(self.plan, table, born).first;
+        fields.put(lookup.column as usize, index, None, &values, buf, steps);
+    }
 }
 
 /// Puts a value into the list so many times, from its begin on.

@@ -4,7 +4,7 @@ use Rattle.schema_check.specs.Cohorts.{cohort_size}
 use Rattle.schema_check.specs.Layout.{layout_of}
 use Rattle.schema_check.specs.TableFacts.{max_line}
 use Rattle.life_intervals.specs.Generator.{generator_of}
-use Rattle.row_lines.specs.ChangeDraws.{change_draws}
+use Rattle.row_lines.specs.LineDraws.{line_draws}
 use Rattle.row_lines.specs.CohortLines.{LinesOf, layout_for}
 use Rattle.row_lines.specs.Lines.{cohort_text}
 use Rattle.pdgf_run.specs.Appends.{Appends}
@@ -14,9 +14,9 @@ pub write_cohort-requires-clause-size : goal.write_cohort-requires-clause-size
 write_cohort-requires-clause-size g c =
     c.cohort-size.ensures.size ∙ ap (λ (lines : LinesOf). cohort_size (layout_for lines).births lines.born) (sym c.new-lines.ensures)
 
-pub write_cohort-requires-clause-changes : goal.write_cohort-requires-clause-changes
-write_cohort-requires-clause-changes g c =
-    c.requires.changes ∙ ap (λ (lines : LinesOf). change_draws lines.plan lines.table lines.unit) (sym c.new-lines.ensures)
+pub write_cohort-requires-clause-draws : goal.write_cohort-requires-clause-draws
+write_cohort-requires-clause-draws g c =
+    c.requires.draws ∙ ap (λ (lines : LinesOf). line_draws lines.plan lines.table lines.unit) (sym c.new-lines.ensures)
 
 pub write_cohort-requires-clause-room : goal.write_cohort-requires-clause-room
 write_cohort-requires-clause-room g c =

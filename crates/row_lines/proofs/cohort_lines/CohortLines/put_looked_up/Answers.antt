@@ -1,0 +1,135 @@
+use Rattle.std.proofs.Common.{◌≡◌, ◌<◌, ◌≤◌, ◌+◌, ◌-◌, ◌++◌, ℕ, List, false, length, ap, arith, subst, sym, ◌∙◌}
+use Rattle.schema_check.specs.Cohorts.{born_count, cohort_size, first_ordinal}
+use Rattle.schema_check.specs.FieldBounds.{bounds_at}
+use Rattle.schema_check.specs.Layout.{layout_of}
+use Rattle.schema_check.specs.Limits.{IsTableInLimits}
+use Rattle.draw_values.specs.UnitDraws.{DrawsOf}
+use Rattle.life_intervals.specs.Generator.{last_unit, table_of}
+use Rattle.life_intervals.specs.Intervals.{LiesIn, birth}
+use Rattle.life_intervals.proofs.CohortLemmas.{LiesIn-birth, born_count-le}
+use Rattle.row_lines.specs.CohortLines.{LinesOf, asked_for, layout_for, size_for, text_in_table}
+use Rattle.row_lines.specs.Lookups.{IsStillColumn, text_held}
+use Rattle.row_lines.proofs.CohortLineLemmas.{AreLinesOf-view}
+use Rattle.row_lines.proofs.LineLemmas.{birth-within}
+use Rattle.row_lines.proofs.LookupLemmas.{asked-still, size-still, text-still}
+use Rattle.row_lines.proofs.cohort_lines.CohortLines.put_looked_up.Goals as goal
+
+-- the lines of the parent's cohort
+abbrev parents : LinesOf → ℕ → ℕ → LinesOf
+parents lines table born = record { plan = lines.plan; table = table; born = born; unit = lines.unit }
+
+-- the parent lies in the cohort of its birth
+lies : (lines : LinesOf) (table born ordinal : ℕ) → born ≡ birth (table_of lines.plan table).births (last_unit lines.plan) ordinal →
+    ordinal < born_count (table_of lines.plan table).births lines.unit → lines.unit ≤ last_unit lines.plan → LiesIn (table_of lines.plan table).births born ordinal
+lies lines table born ordinal born_is inside within =
+    subst (λ (unit : ℕ). LiesIn (table_of lines.plan table).births unit ordinal) (sym born_is)
+    ((LiesIn-birth (table_of lines.plan table).births (last_unit lines.plan) ordinal
+    (omega (arith, inside, born_count-le (table_of lines.plan table).births lines.unit (last_unit lines.plan) within))).1)
+
+pub new-fields-requires-clause-born : goal.new-fields-requires-clause-born
+new-fields-requires-clause-born g c =
+    let lines : LinesOf = c.args.self.now in
+    let known = AreLinesOf-view _ c.args.self.now c.self.inside.keys c.self.inside.lives c.self.inside.changes c.self.inside.births c.self.inside.columns.now c.self.inside.fields c.self.inside.delimiter c.self.view_is c.self.invariant in
+    omega (
+      arith,
+      c.unit-born.ensures,
+      ap (λ (draws : DrawsOf). draws.unit) c.requires.draws,
+      birth-within (table_of lines.plan c.args.lookup.now.parent).births (last_unit lines.plan) lines.unit c.args.parent known.unit c.requires.born,
+      ap (λ (of : LinesOf). of.unit) c.self.view_is,
+    )
+
+pub overflow_sub-index : goal.overflow_sub-index
+overflow_sub-index g c =
+    let lines : LinesOf = c.args.self.now in
+    let known = AreLinesOf-view _ c.args.self.now c.self.inside.keys c.self.inside.lives c.self.inside.changes c.self.inside.births c.self.inside.columns.now c.self.inside.fields c.self.inside.delimiter c.self.view_is c.self.invariant in
+    let here = lies lines c.args.lookup.now.parent c.unit-born.result c.args.parent (c.unit-born.ensures ∙ ap (λ (draws : DrawsOf). draws.unit) c.requires.draws) c.requires.born known.unit in
+    omega (
+      arith,
+      c.cohort.ensures.first,
+      here.begun,
+      ap (λ (of : LinesOf). first_ordinal (table_of of.plan c.args.lookup.now.parent).births c.unit-born.result) c.self.view_is,
+    )
+
+pub put-requires-clause-row : goal.put-requires-clause-row
+put-requires-clause-row g c =
+    let lines : LinesOf = c.args.self.now in
+    let known = AreLinesOf-view _ c.args.self.now c.self.inside.keys c.self.inside.lives c.self.inside.changes c.self.inside.births c.self.inside.columns.now c.self.inside.fields c.self.inside.delimiter c.self.view_is c.self.invariant in
+    let here = lies lines c.args.lookup.now.parent c.unit-born.result c.args.parent (c.unit-born.ensures ∙ ap (λ (draws : DrawsOf). draws.unit) c.requires.draws) c.requires.born known.unit in
+    let same : c.new-fields.result ≡ parents lines c.args.lookup.now.parent c.unit-born.result =
+    c.new-fields.ensures ∙ ap (λ (of : LinesOf). parents of c.args.lookup.now.parent c.unit-born.result) c.self.view_is in
+    subst (λ (of : LinesOf). c.args.parent - c.cohort.result.first < cohort_size (layout_for of).births of.born) (sym same)
+    (omega (
+      arith,
+      c.cohort.ensures.first,
+      here.begun,
+      here.not_ended,
+      ap (λ (of : LinesOf). first_ordinal (table_of of.plan c.args.lookup.now.parent).births c.unit-born.result) c.self.view_is,
+    ))
+
+-- the fields that are made are the schema's
+size_is : (fields lines : LinesOf) (column : ℕ) → fields ≡ lines → IsStillColumn (layout_for lines) column →
+    size_for fields column ≡ (bounds_at (layout_of lines.plan).delimiter (layout_of lines.plan).tables (layout_for lines) column).size
+size_is fields lines column same still = ap (λ (of : LinesOf). size_for of column) same ∙ size-still lines column still
+
+pub put-requires-clause-room : goal.put-requires-clause-room
+put-requires-clause-room g c =
+    let lines : LinesOf = c.args.self.now in
+    let same : c.new-fields.result ≡ parents lines c.args.lookup.now.parent c.unit-born.result =
+    c.new-fields.ensures ∙ ap (λ (of : LinesOf). parents of c.args.lookup.now.parent c.unit-born.result) c.self.view_is in
+    omega (arith, c.requires.room, size_is c.new-fields.result _ c.args.lookup.now.column same c.requires.column)
+
+-- an ordinal lies behind the first of its cohort by its index
+ordinal_is : (start first ordinal : ℕ) → first ≡ start → start ≤ ordinal → start + (ordinal - first) ≡ ordinal
+ordinal_is start first ordinal same begun = omega (arith, same, begun)
+
+text_is : (fields lines : LinesOf) (first ordinal changed column : ℕ) → fields ≡ lines → IsTableInLimits (last_unit lines.plan) (layout_for lines) →
+    first ≡ first_ordinal (layout_for lines).births lines.born → first_ordinal (layout_for lines).births lines.born ≤ ordinal → IsStillColumn (layout_for lines) column →
+    text_in_table fields (ordinal - first) changed column ≡ text_held lines.plan lines.table lines.unit ordinal column
+text_is fields lines first ordinal changed column same limits first_is begun still =
+    ap (λ (of : LinesOf). text_in_table of (ordinal - first) changed column) same
+    ∙ text-still lines (ordinal - first) changed ordinal column limits (ordinal_is _ _ _ first_is begun) still
+
+pub returns-clause-text : goal.returns-clause-text
+returns-clause-text g c =
+    let lines : LinesOf = c.args.self.now in
+    let known = AreLinesOf-view _ c.args.self.now c.self.inside.keys c.self.inside.lives c.self.inside.changes c.self.inside.births c.self.inside.columns.now c.self.inside.fields c.self.inside.delimiter c.self.view_is c.self.invariant in
+    let table : ℕ = c.args.lookup.now.parent in
+    let here = lies lines table c.unit-born.result c.args.parent (c.unit-born.ensures ∙ ap (λ (draws : DrawsOf). draws.unit) c.requires.draws) c.requires.born known.unit in
+    let same : c.new-fields.result ≡ parents lines table c.unit-born.result =
+    c.new-fields.ensures ∙ ap (λ (of : LinesOf). parents of table c.unit-born.result) c.self.view_is in
+    c.put.ensures.text
+    ∙ ap (λ (text : List ℕ). record { text = c.args.buf.now.text ++ text; room = c.args.buf.now.room })
+    (text_is c.new-fields.result (parents lines table c.unit-born.result) c.cohort.result.first c.args.parent c.new-values.result.changed c.args.lookup.now.column same
+    (subst (λ (of : LinesOf). IsTableInLimits (last_unit of.plan) (table_of of.plan table)) c.self.view_is c.table-limits.ensures.limits)
+    (c.cohort.ensures.first ∙ ap (λ (of : LinesOf). first_ordinal (table_of of.plan table).births c.unit-born.result) c.self.view_is) here.begun c.requires.column)
+
+pub returns-clause-size : goal.returns-clause-size
+returns-clause-size g c =
+    let lines : LinesOf = c.args.self.now in
+    let known = AreLinesOf-view _ c.args.self.now c.self.inside.keys c.self.inside.lives c.self.inside.changes c.self.inside.births c.self.inside.columns.now c.self.inside.fields c.self.inside.delimiter c.self.view_is c.self.invariant in
+    let table : ℕ = c.args.lookup.now.parent in
+    let here = lies lines table c.unit-born.result c.args.parent (c.unit-born.ensures ∙ ap (λ (draws : DrawsOf). draws.unit) c.requires.draws) c.requires.born known.unit in
+    let same : c.new-fields.result ≡ parents lines table c.unit-born.result =
+    c.new-fields.ensures ∙ ap (λ (of : LinesOf). parents of table c.unit-born.result) c.self.view_is in
+    omega (
+      arith,
+      c.put.ensures.size,
+      size_is c.new-fields.result _ c.args.lookup.now.column same c.requires.column,
+      ap (λ (text : List ℕ). length text)
+          (text_is c.new-fields.result (parents lines table c.unit-born.result) c.cohort.result.first c.args.parent c.new-values.result.changed c.args.lookup.now.column same
+          (subst (λ (of : LinesOf). IsTableInLimits (last_unit of.plan) (table_of of.plan table)) c.self.view_is c.table-limits.ensures.limits)
+          (c.cohort.ensures.first ∙ ap (λ (of : LinesOf). first_ordinal (table_of of.plan table).births c.unit-born.result) c.self.view_is) here.begun c.requires.column),
+    )
+
+pub returns-clause-steps : goal.returns-clause-steps
+returns-clause-steps g c =
+    let lines : LinesOf = c.args.self.now in
+    let table : ℕ = c.args.lookup.now.parent in
+    let same : c.new-fields.result ≡ parents lines table c.unit-born.result =
+    c.new-fields.ensures ∙ ap (λ (of : LinesOf). parents of table c.unit-born.result) c.self.view_is in
+    omega (
+      arith,
+      c.put.ensures.steps,
+      ap (λ (of : LinesOf). asked_for false of c.args.lookup.now.column) same,
+      asked-still (parents lines table c.unit-born.result) c.args.lookup.now.column c.requires.column,
+    )
