@@ -21,6 +21,7 @@ use Rattle.pdgf_run.specs.declared.job.JobRows.TheVariants as rows
 use Rattle.pdgf_run.specs.declared.job.JobPart.{JobPart}
 use Rattle.pdgf_run.specs.declared.job.FilesJob.{FilesJob}
 use Rattle.pdgf_run.specs.declared.job.Places.{Places}
+use Rattle.pdgf_run.specs.declared.job.TableLines.{TableLines}
 
 -- the places, in order
 abbrev pub places_of : Places → List ℕ
@@ -28,9 +29,9 @@ places_of places = range_with_len places.from places.count
 
 -- what some rows are of their table
 abbrev pub content_of : JobRows → Content
-content_of (rows.Snapshot orders candidates draws) = content.Snapshot
+content_of (rows.Snapshot lines) = content.Snapshot
 content_of (rows.Deleted ordinals) = content.Deleted
-content_of (rows.Updated ordinals) = content.Updated
+content_of (rows.Updated ordinals lines) = content.Updated
 content_of (rows.Inserted orders candidates draws) = content.Inserted
 
 -- what a part holds
@@ -56,13 +57,18 @@ due_of (Text bytes) = text_files bytes.items
 due_of (Page page) = text_files page.text
 due_of (Files job) = files_due job
 
+-- what the lines at a unit of the table at a place are made from
+pub record AreLinesAt (plan : Project) (unit place : ℕ) (lines : TableLines) : Type 0 where
+  pub orders : lines.orders.items ≡ table_orders plan place unit
+  pub candidates : lines.candidates.items ≡ table_candidates plan place unit
+  pub draws : lines.draws ≡ line_draws plan place unit
+
 -- the rows of a part, with what is made ready for them, are those of the table at a place at a unit
 abbrev pub AreRowsOf : Project → ℕ → ℕ → JobRows → Type 0
-AreRowsOf plan unit place (rows.Snapshot orders candidates draws) =
-    (orders.items ≡ table_orders plan place unit) × (candidates.items ≡ table_candidates plan place unit)
-    × (draws ≡ line_draws plan place unit)
+AreRowsOf plan unit place (rows.Snapshot lines) = AreLinesAt plan unit place lines
 AreRowsOf plan unit place (rows.Deleted kept) = (1 ≤ unit) × (kept.items ≡ ordinals (deleted (generator_of plan) place unit))
-AreRowsOf plan unit place (rows.Updated kept) = (1 ≤ unit) × (kept.items ≡ ordinals (updated (generator_of plan) place unit))
+AreRowsOf plan unit place (rows.Updated kept lines) =
+    (1 ≤ unit) × (kept.items ≡ ordinals (updated (generator_of plan) place unit)) × AreLinesAt plan unit place lines
 AreRowsOf plan unit place (rows.Inserted orders candidates draws) =
     (orders ≡ cohort_orders plan place unit) × (candidates ≡ cohort_candidates plan place unit)
     × (draws ≡ line_draws plan place unit)

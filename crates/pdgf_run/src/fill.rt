@@ -8,21 +8,21 @@ ghost use Rattle.schema_check.specs.TableFacts.{max_line, reach};
 ghost use Rattle.life_intervals.specs.CohortOrders.{cohort_orders, table_orders};
 ghost use Rattle.life_intervals.specs.CohortParents.{cohort_candidates, table_candidates};
 ghost use Rattle.life_intervals.specs.Generator.{generator_of, last_unit, rows_in_all, table_of};
-ghost use Rattle.life_intervals.specs.Intervals.{is_live};
+ghost use Rattle.life_intervals.specs.Intervals.{change_unit, is_live};
 ghost use Rattle.life_intervals.specs.Streams.{deleted as deleted_rows, updated as updated_rows};
-ghost use Rattle.row_lines.specs.CohortLines.{layout_for, living_line};
+ghost use Rattle.row_lines.specs.CohortLines.{change_for, is_live_for, layout_for, line_in_cohort, living_line};
 ghost use Rattle.row_lines.specs.LineDraws.{line_draws};
 ghost use Rattle.row_lines.specs.Lines.{cohort_text, key_line_of, line_of};
 ghost use Rattle.update_box.specs.UnitLists.{ordinals};
 ghost use Rattle.pdgf_run.specs.Appends.{Appends, Finishes};
 ghost use Rattle.pdgf_run.specs.DueFiles.{content_text, file_of, part_text, standard_output, texts_of};
 ghost use Rattle.pdgf_run.specs.KnownRows.{IsRowOf};
-ghost use Rattle.pdgf_run.specs.Jobs.{CanFill, CanWrite, IsPartOf, due_of, files_due, own_file, part_of};
+ghost use Rattle.pdgf_run.specs.Jobs.{AreLinesAt, CanFill, CanWrite, IsPartOf, due_of, files_due, own_file, part_of};
 
-use crate::job::{Content, FilesJob, Job, JobPart, JobRows};
-use life_intervals::{Candidates, CohortOrders, Survival, cohort};
+use crate::job::{Content, FilesJob, Job, JobPart, JobRows, TableLines};
+use life_intervals::{Candidates, CohortOrders, Survival, birth, cohort};
 use pd_outside::{Failed, PageBuf, Shelf, WriteFailed, write_all};
-use row_lines::{CohortLines, LineDraws, put_key, put_line};
+use row_lines::{CohortLines, LineDraws, put_key};
 use schema_check::Plan;
 use schema_model::Sequence;
 use std::marker::Brand;
@@ -260,19 +260,100 @@ fn write_deleted<S: Shelf, B: Ledger>(
     Ok(())
 }
 
-/// Writes the line of the row of a table that has this ordinal and is alive.
+/// Writes the line of a living row of a cohort, whose last change is at this unit.
 fn write_line<S: Shelf, B: Ledger>(
     shelf: &mut S,
     page: &mut PageBuf,
-    at: &TableAt<'_>,
+    lines: &CohortLines<'_>,
+    draws: &LineDraws,
+    index: u64,
+    changed: u64,
+    steps: &mut Steps<B>,
+) -> Result<(), WriteFailed>
+    requires begun { IsTrue (S.is_begun shelf.old) }
+    requires row { index < cohort_size (layout_for lines.now).births lines.now.born }
+    requires alive { is_live_for lines.now index ≡ true }
+    requires changed { changed ≡ change_for lines.now index }
+    requires draws { draws.now ≡ line_draws lines.now.plan lines.now.table lines.now.unit }
+    requires room { max_line (layout_of lines.now.plan) lines.now.table ≤ page.old.room }
+    ensures line { Appends result (line_in_cohort lines.now index) (S.held shelf.old) (S.held shelf.new) }
+    ensures cause { OnErr result (Rose (S.faults shelf.old) (S.faults shelf.new)) }
+    ensures no_fault { OnOk result (S.faults shelf.new ≡ S.faults shelf.old) }
+    ensures never_falls { S.faults shelf.old ≤ S.faults shelf.new }
+    ensures begun { IsTrue (S.is_begun shelf.new) }
+    ensures room { page.new.room ≡ page.old.room }
+{
+    let key = lines.key(index, steps);
+    page.clear();
+    lines.put_known_line(index, key, changed, draws, page, steps);
+    write_all(shelf, page.text())
+}
+
+/// The lines of the rows that are born at a unit.
+fn cohort_lines<'a>(at: &TableAt<'a>, from: &'a TableLines, born: u64) -> CohortLines<'a>
+    requires table { at.now.place < length at.now.plan.now.schema.tables }
+    requires unit { at.now.unit ≤ last_unit at.now.plan.now }
+    requires small { last_unit at.now.plan.now ≤ 10000 }
+    requires from { AreLinesAt at.now.plan.now at.now.unit at.now.place from.now }
+    requires born { born ≤ at.now.unit }
+    ensures { result ≡ record { plan = at.now.plan.now; table = at.now.place; born = born; unit = at.now.unit } }
+{
+    let orders = from.orders.as_slice();
+    let candidates = from.candidates.as_slice();
+    CohortLines::new(
+        at.plan,
+        at.place,
+        born,
+        at.unit,
+        &orders[born as usize],
+        candidates[born as usize].as_slice(),
+    )
+}
+
+/// Turns to the lines of the rows that are born at a unit, where they are those of another.
+#[inline(always)]
+fn turn_to<'a>(
+    at: &TableAt<'a>,
+    from: &'a TableLines,
+    unit: u64,
+    born: &mut u64,
+    lines: &mut CohortLines<'a>,
+)
+    requires table { at.now.place < length at.now.plan.now.schema.tables }
+    requires unit { at.now.unit ≤ last_unit at.now.plan.now }
+    requires small { last_unit at.now.plan.now ≤ 10000 }
+    requires from { AreLinesAt at.now.plan.now at.now.unit at.now.place from.now }
+    requires born { unit ≤ at.now.unit }
+    requires lines { lines.old ≡ record { plan = at.now.plan.now; table = at.now.place; born = born.old; unit = at.now.unit } }
+    ensures born { born.new ≡ unit }
+    ensures lines { lines.new ≡ record { plan = at.now.plan.now; table = at.now.place; born = unit; unit = at.now.unit } }
+{
+    if unit != *born {
+        *born = unit;
+        *lines = cohort_lines(at, from, unit);
+    }
+}
+
+/// Writes the line of a row of a table that the unit updates.
+fn write_updated_row<'a, S: Shelf, B: Ledger>(
+    shelf: &mut S,
+    page: &mut PageBuf,
+    at: &TableAt<'a>,
     ordinal: u64,
+    from: &'a TableLines,
+    born: &mut u64,
+    lines: &mut CohortLines<'a>,
     steps: &mut Steps<B>,
 ) -> Result<(), WriteFailed>
     requires begun { IsTrue (S.is_begun shelf.old) }
     requires table { at.now.place < length at.now.plan.now.schema.tables }
     requires unit { at.now.unit ≤ last_unit at.now.plan.now }
-    requires born { ordinal < born_count (table_of at.now.plan.now at.now.place).births at.now.unit }
+    requires small { last_unit at.now.plan.now ≤ 10000 }
+    requires row { ordinal < born_count (table_of at.now.plan.now at.now.place).births at.now.unit }
     requires alive { is_live (generator_of at.now.plan.now) at.now.place at.now.unit ordinal ≡ true }
+    requires changed { change_unit (generator_of at.now.plan.now) at.now.place at.now.unit ordinal ≡ at.now.unit }
+    requires from { AreLinesAt at.now.plan.now at.now.unit at.now.place from.now }
+    requires lines { lines.old ≡ record { plan = at.now.plan.now; table = at.now.place; born = born.old; unit = at.now.unit } }
     requires room { max_line (layout_of at.now.plan.now) at.now.place ≤ page.old.room }
     ensures line { Appends result (line_of (generator_of at.now.plan.now) at.now.unit at.now.place ordinal) (S.held shelf.old) (S.held shelf.new) }
     ensures cause { OnErr result (Rose (S.faults shelf.old) (S.faults shelf.new)) }
@@ -280,18 +361,21 @@ fn write_line<S: Shelf, B: Ledger>(
     ensures never_falls { S.faults shelf.old ≤ S.faults shelf.new }
     ensures begun { IsTrue (S.is_begun shelf.new) }
     ensures room { page.new.room ≡ page.old.room }
+    ensures lines { lines.new ≡ record { plan = at.now.plan.now; table = at.now.place; born = born.new; unit = at.now.unit } }
 {
-    page.clear();
-    put_line(at.plan, at.place, ordinal, at.unit, page, steps);
-    write_all(shelf, page.text())
+    let unit = birth(at.plan, at.place, ordinal);
+    turn_to(at, from, unit, born, lines);
+    let index = ordinal - cohort(at.plan, at.place, unit).first;
+    write_line(shelf, page, lines, &from.draws, index, at.unit, steps)
 }
 
 /// Writes the lines of the rows of a table that a unit updates, which these ordinals name.
-fn write_updated<S: Shelf, B: Ledger>(
+fn write_updated<'a, S: Shelf, B: Ledger>(
     shelf: &mut S,
     page: &mut PageBuf,
-    at: &TableAt<'_>,
+    at: &TableAt<'a>,
     updated: &[u64],
+    from: &'a TableLines,
     steps: &mut Steps<B>,
 ) -> Result<(), WriteFailed>
     requires begun { IsTrue (S.is_begun shelf.old) }
@@ -301,6 +385,7 @@ fn write_updated<S: Shelf, B: Ledger>(
     requires room { reach (layout_of at.now.plan.now) ≤ page.old.room }
     requires some { 1 ≤ at.now.unit }
     requires rows { updated.now ≡ ordinals (updated_rows (generator_of at.now.plan.now) at.now.place at.now.unit) }
+    requires from { AreLinesAt at.now.plan.now at.now.unit at.now.place from.now }
     ensures text { Appends result (content_text at.now.plan.now at.now.unit at.now.place Content.Updated) (S.held shelf.old) (S.held shelf.new) }
     ensures cause { OnErr result (Rose (S.faults shelf.old) (S.faults shelf.new)) }
     ensures no_fault { OnOk result (S.faults shelf.new ≡ S.faults shelf.old) }
@@ -309,8 +394,12 @@ fn write_updated<S: Shelf, B: Ledger>(
     ensures room { page.new.room ≡ page.old.room }
 {
     let _sound = at.plan.schema(); // so each of them is born before, and alive
+    let mut born = 0;
+    let mut lines = cohort_lines(at, from, born);
     for ordinal in updated {
-        match write_line(shelf, page, at, *ordinal, steps) {
+        match write_updated_row(
+            shelf, page, at, *ordinal, from, &mut born, &mut lines, steps,
+        ) {
             Ok(()) => {}
             Err(WriteFailed) => return Err(WriteFailed),
         }
@@ -375,17 +464,19 @@ fn write_part<S: Shelf, B: Ledger>(
         unit,
     };
     match &part.rows {
-        JobRows::Snapshot(orders, candidates, draws) => write_table(
+        JobRows::Snapshot(lines) => write_table(
             shelf,
             page,
             &at,
-            orders.as_slice(),
-            candidates.as_slice(),
-            draws,
+            lines.orders.as_slice(),
+            lines.candidates.as_slice(),
+            &lines.draws,
             steps,
         ),
         JobRows::Deleted(deleted) => write_deleted(shelf, page, &at, deleted.as_slice(), steps),
-        JobRows::Updated(updated) => write_updated(shelf, page, &at, updated.as_slice(), steps),
+        JobRows::Updated(updated, lines) => {
+            write_updated(shelf, page, &at, updated.as_slice(), lines, steps)
+        }
         JobRows::Inserted(orders, candidates, draws) => write_inserted(
             shelf,
             page,

@@ -7,7 +7,7 @@ ghost use Rattle.schema_check.specs.TableFacts.{reach};
 ghost use Rattle.life_intervals.specs.Generator.{last_unit};
 ghost use Rattle.pdgf_run.specs.declared.usage.Mode.TheVariants.{Snapshot, Unit};
 ghost use Rattle.pdgf_run.specs.DueFiles.{chosen, ending_of, parts_at, parts_of, table_files};
-ghost use Rattle.pdgf_run.specs.Jobs.{AreRowsOf, CanWrite, IsPartOf, content_of, file_name, files_due, named, places_of, with_name};
+ghost use Rattle.pdgf_run.specs.Jobs.{AreLinesAt, AreRowsOf, CanWrite, IsPartOf, content_of, file_name, files_due, named, places_of, with_name};
 
 use crate::check::name_of;
 use crate::usage::Mode;
@@ -66,15 +66,24 @@ pub(crate) struct JobPart {
     pub(crate) rows: JobRows,
 }
 
+/// What the lines at a unit of a table's rows are made from: the orders and the candidates of the cohorts up to the unit, and what the
+/// fields are drawn from.
+#[derive(Drop)]
+pub(crate) struct TableLines {
+    pub(crate) orders: Vec<CohortOrders>,
+    pub(crate) candidates: Vec<Sequence<Option<Candidates>>>,
+    pub(crate) draws: LineDraws,
+}
+
 /// The rows of a part, with what doesn't change from row to row.
 #[derive(Drop)]
 pub(crate) enum JobRows {
-    /// All at the unit, with the orders and the candidates of the cohorts up to it, and what their lines are drawn from.
-    Snapshot(Vec<CohortOrders>, Vec<Sequence<Option<Candidates>>>, LineDraws),
+    /// All at the unit.
+    Snapshot(TableLines),
     /// Those that the unit deletes, by their ordinals.
     Deleted(Vec<u64>),
     /// Those that it updates.
-    Updated(Vec<u64>),
+    Updated(Vec<u64>, TableLines),
     /// Its cohort, with the orders and the candidates of this, and what their lines are drawn from.
     Inserted(CohortOrders, Sequence<Option<Candidates>>, LineDraws),
 }
@@ -184,6 +193,26 @@ fn push_part(
     Ok(())
 }
 
+/// What the lines of a table are made from at a unit.
+fn table_lines(alloc: Global, plan: &Plan, place: u32, unit: u64) -> Result<TableLines, Memory>
+    requires place { place < length plan.now.schema.tables }
+    requires unit { unit ≤ last_unit plan.now }
+    ensures { IfOk result (λ lines. AreLinesAt plan.now unit place lines) }
+{
+    let Ok(orders) = table_orders(alloc, plan, place, unit) else {
+        return Err(Memory);
+    };
+    let Ok(candidates) = table_candidates(alloc, plan, place, unit) else {
+        return Err(Memory);
+    };
+    let draws = line_draws(alloc, plan, place, unit)?;
+    Ok(TableLines {
+        orders,
+        candidates,
+        draws,
+    })
+}
+
 /// Puts what a snapshot holds of a table behind others.
 fn push_snapshot(
     alloc: Global,
@@ -200,14 +229,8 @@ fn push_snapshot(
         ≡ map named parts.old.items ++ map (with_name plan.now unit out.now) (parts_at Snapshot place)) }
     ensures are { OnOk result (All (IsPartOf plan.now unit) parts.new.items) }
 {
-    let Ok(orders) = table_orders(alloc, plan, place, unit) else {
-        return Err(Memory);
-    };
-    let Ok(candidates) = table_candidates(alloc, plan, place, unit) else {
-        return Err(Memory);
-    };
-    let draws = line_draws(alloc, plan, place, unit)?;
-    let rows = JobRows::Snapshot(orders, candidates, draws);
+    let lines = table_lines(alloc, plan, place, unit)?;
+    let rows = JobRows::Snapshot(lines);
     push_part(alloc, plan, unit, place, rows, out, parts)
 }
 
@@ -234,6 +257,7 @@ fn push_changes<B: Ledger>(
         updated,
         ..
     } = table_rows(alloc, plan, place, unit, steps)?;
+    let lines = table_lines(alloc, plan, place, unit)?;
     let Ok(candidates) = cohort_candidates(alloc, plan, place, unit) else {
         return Err(Memory);
     };
@@ -253,7 +277,7 @@ fn push_changes<B: Ledger>(
         plan,
         unit,
         place,
-        JobRows::Updated(updated),
+        JobRows::Updated(updated, lines),
         out,
         parts,
     )?;

@@ -8,10 +8,10 @@ use Rattle.std.proofs.lemmas.List.{get_or_default, take_all}
 use Rattle.pd_outside.proofs.Appending.{append_nothing, prefix_after}
 use Rattle.pd_outside.specs.Shelf.{append_bytes}
 use Rattle.life_intervals.specs.Generator.{generator_of, table_of}
-use Rattle.life_intervals.specs.Intervals.{is_live}
+use Rattle.life_intervals.specs.Intervals.{change_unit, is_live}
 use Rattle.row_lines.specs.Lines.{line_of}
 use Rattle.pdgf_run.proofs.FillLemmas.{flat_map-at}
-use Rattle.pdgf_run.proofs.StreamTextLemmas.{updated-born, updated-live, updated_text-ordinals}
+use Rattle.pdgf_run.proofs.StreamTextLemmas.{updated-born, updated-changed, updated-live, updated_text-ordinals}
 use Rattle.pdgf_run.proofs.fill.write_updated.Goals as goal
 
 pub loop-ordinal-init : goal.loop-ordinal-init
@@ -20,6 +20,7 @@ loop-ordinal-init g c = record {
   begun = c.requires.begun;
   no_fault = refl;
   room = refl;
+  lines = c.cohort_lines-lines.ensures;
 }
 
 pub returns-in-Err-clause-text : goal.returns-in-Err-clause-text
@@ -38,22 +39,30 @@ returns-clause-text g c =
     (take_all c.loop-ordinal.ordinal-index c.args.updated.now (omega (arith, c.loop-ordinal-test.false)))
     ∙ ap (λ (bytes : List ℕ). option_map (append_bytes bytes) (g.S.Shelf.held c.args.shelf.now)) (sym (updated_text-ordinals c.args.at.now.plan.now c.schema-sound.ensures.limits c.args.at.now.place c.requires.table c.args.at.now.unit c.requires.unit ∙ ap (flat_map line) (sym c.requires.rows)))
 
-pub write_line-requires-clause-born : goal.write_line-requires-clause-born
-write_line-requires-clause-born g c =
+pub write_updated_row-requires-clause-row : goal.write_updated_row-requires-clause-row
+write_updated_row-requires-clause-row g c =
     let plan = c.args.at.now.plan.now in
     let born : All (λ j. j < born_count (table_of plan c.args.at.now.place).births c.args.at.now.unit) c.args.updated.now =
     subst (λ (js : List ℕ). All (λ j. j < born_count (table_of plan c.args.at.now.place).births c.args.at.now.unit) js) (sym c.requires.rows)
     (updated-born plan c.schema-sound.ensures.limits c.args.at.now.place c.requires.table c.args.at.now.unit c.requires.unit) in
     born c.loop-ordinal.ordinal-index 0 c.loop-ordinal-test.true
 
-pub write_line-requires-clause-alive : goal.write_line-requires-clause-alive
-write_line-requires-clause-alive g c =
+pub write_updated_row-requires-clause-alive : goal.write_updated_row-requires-clause-alive
+write_updated_row-requires-clause-alive g c =
     let plan = c.args.at.now.plan.now in
     let live : All (λ j. is_live (generator_of plan) c.args.at.now.place c.args.at.now.unit j ≡ true) c.args.updated.now =
     subst (λ (js : List ℕ). All (λ j. is_live (generator_of plan) c.args.at.now.place c.args.at.now.unit j ≡ true) js) (sym c.requires.rows)
     (updated-live plan c.schema-sound.ensures.limits c.args.at.now.place c.requires.table c.args.at.now.unit c.requires.unit) in
     live c.loop-ordinal.ordinal-index 0 c.loop-ordinal-test.true
 
-pub write_line-requires-clause-room : goal.write_line-requires-clause-room
-write_line-requires-clause-room g c =
+pub write_updated_row-requires-clause-room : goal.write_updated_row-requires-clause-room
+write_updated_row-requires-clause-room g c =
     omega (arith, max_line-reach (layout_of c.args.at.now.plan.now) c.args.at.now.place, c.loop-ordinal.invariant.room, c.requires.room)
+
+pub write_updated_row-requires-clause-changed : goal.write_updated_row-requires-clause-changed
+write_updated_row-requires-clause-changed g c =
+    let plan = c.args.at.now.plan.now in
+    let changed : All (λ j. change_unit (generator_of plan) c.args.at.now.place c.args.at.now.unit j ≡ c.args.at.now.unit) c.args.updated.now =
+    subst (λ (js : List ℕ). All (λ j. change_unit (generator_of plan) c.args.at.now.place c.args.at.now.unit j ≡ c.args.at.now.unit) js) (sym c.requires.rows)
+    (updated-changed plan c.schema-sound.ensures.limits c.args.at.now.place c.requires.table c.args.at.now.unit c.requires.unit) in
+    changed c.loop-ordinal.ordinal-index 0 c.loop-ordinal-test.true

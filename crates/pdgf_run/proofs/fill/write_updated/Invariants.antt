@@ -12,4 +12,5 @@ invariant-loop-ordinal g l = record {
   begun : g.S.Shelf.is_begun l.shelf ≡ true;
   no_fault : g.S.Shelf.faults l.shelf ≡ g.S.Shelf.faults l.fn.shelf;
   room : l.page.room ≡ l.fn.page.room;
+  lines : l.lines ≡ record { plan = l.at.plan.now; table = l.at.place; born = l.born; unit = l.at.unit };
 }
