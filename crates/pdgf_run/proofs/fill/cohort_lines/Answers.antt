@@ -1,4 +1,4 @@
-use Rattle.std.proofs.Common.{◌≡◌, ◌≤◌, ◌+◌, ℕ, List, Option, length, get_or, inr, ap, ◌∙◌, arith}
+use Rattle.std.proofs.Common.{List, Option, length, get_or, inr, ap, ◌∙◌, arith}
 use Rattle.life_intervals.specs.declared.candidates.Candidates.{Candidates}
 use Rattle.life_intervals.specs.declared.orders.CohortOrders.{CohortOrders}
 use Rattle.life_intervals.proofs.OrderLemmas.{length-table_orders, table_orders-at}

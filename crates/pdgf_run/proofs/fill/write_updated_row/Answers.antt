@@ -1,11 +1,11 @@
-use Rattle.std.proofs.Common.{◌≡◌, ◌<◌, ◌≤◌, ◌-◌, ◌+◌, ℕ, true, ap, arith, subst, sym, ◌∙◌}
+use Rattle.std.proofs.Common.{◌≡◌, ◌<◌, ◌-◌, ℕ, ap, arith, subst, sym, ◌∙◌}
 use Rattle.schema_check.specs.Cohorts.{cohort_size, first_ordinal}
 use Rattle.schema_check.specs.Layout.{layout_of}
 use Rattle.schema_check.specs.TableFacts.{max_line}
 use Rattle.life_intervals.specs.Generator.{generator_of, last_unit, table_of}
 use Rattle.life_intervals.specs.Intervals.{LiesIn, change_unit, is_live}
 use Rattle.life_intervals.proofs.CohortLemmas.{born_count-le}
-use Rattle.row_lines.specs.CohortLines.{LinesOf, change_for, is_live_for, layout_for, line_in_cohort, ordinal_of}
+use Rattle.row_lines.specs.CohortLines.{LinesOf, change_for, is_live_for, layout_for}
 use Rattle.row_lines.specs.LineDraws.{line_draws}
 use Rattle.row_lines.proofs.CohortLineLemmas.{line_in_cohort-line_of, ordinal_of-index}
 use Rattle.row_lines.proofs.LineLemmas.{birth-within}
