@@ -67,7 +67,7 @@ impl<'a> CitedNames<'a> {
     }
 
     /// The first names that the tables of a schema cite.
-    #[tactic(auto, unfolding(crate::specs::Citations::cited_names))]
+    #[tactic(auto, unfolding(schema_plan::specs::Citations::cited_names))]
     pub(crate) fn of(schema: &'a Schema) -> CitedNames<'a>
         ensures { result ≡ cited_names schema.now.tables }
     {

@@ -75,7 +75,7 @@ const ORDER: [Rule; 25] = [
 
 /// The first rule that a schema breaks with its dictionaries, at its first site: the whole before the tables, in their order, and
 /// a table before its columns, in their order.
-#[tactic(auto, unfolding(crate::specs::Rules::first_broken))]
+#[tactic(auto, unfolding(schema_plan::specs::Rules::first_broken))]
 pub(crate) fn first_broken(candidate: &Candidate<'_>) -> Option<Broken>
     ensures first { result ≡ first_broken candidate.now }
     ensures site { IfSome result (λ broken. IsSiteOf candidate.now.schema broken.site) }
