@@ -1,0 +1,184 @@
+"""The one interface of the loads: the words, the texts of the program, the steps from unit to unit."""
+
+import glob
+import os
+import shutil
+import subprocess
+import sys
+
+from .database import Database
+from .schema import Unreadable, read_schema
+from .server import Failed, Missing, end_by_signals, room
+from .tables import tables_as_sql
+
+USAGE = """usage: examples/load/{name} [--last] [--streams DIR] [--tables FILE] FOLDER|SCHEMA [COMMAND ..]
+
+Loads the tables of a schema into {title} as they stand at unit 0, does to them what each unit does, each as a
+transaction and with the foreign keys on, and compares them with the snapshot of each unit.
+
+FOLDER has the schema, which is its one file *.toml, and the word lists that it names; or SCHEMA is its path. The tables
+are made by FILE, else by FOLDER/{tables}, else they are those of examples/load/ddl. With --last they are
+compared after the last unit alone. With --streams the texts that are loaded lie in DIR, written before by the
+modes snapshot (unit 0) and unit. COMMAND runs at the end, if all is equal, with the database in its environment.
+
+{server}
+
+The status is 0 where all is equal, 1 where a table differs or a step fails, 2 for words that aren't known, and 3 where something
+that is needed isn't installed. The variable PDGF names another program than the repository's own.
+"""
+
+
+class Words(Exception):
+    """The words give no request."""
+
+
+class Request:
+    def __init__(self, words):
+        self.last = False
+        self.streams = None
+        self.tables = None
+        words = list(words)
+        while words and words[0].startswith("-"):
+            match words.pop(0):
+                case "--last":
+                    self.last = True
+                case "--streams" if words and os.path.isdir(words[0]):
+                    self.streams = os.path.abspath(words.pop(0))
+                case "--tables" if words and os.path.isfile(words[0]):
+                    self.tables = os.path.abspath(words.pop(0))
+                case _:
+                    raise Words
+        if not words:
+            raise Words
+        self.path, *self.command = words
+
+    def schema_path(self):
+        if not os.path.isdir(self.path):
+            return os.path.abspath(self.path)
+        found = glob.glob(f"{glob.escape(self.path)}/*.toml")
+        if len(found) != 1:
+            raise Failed(f"{self.path} has no schema, or several")
+        return os.path.abspath(found[0])
+
+
+class Program:
+    """The program pdgf, with a schema, in its folder."""
+
+    def __init__(self, path):
+        top = os.path.dirname(os.path.dirname(os.path.dirname(os.path.dirname(os.path.realpath(__file__)))))
+        named = os.environ.get("PDGF") or f"{top}/pdgf"
+        found = shutil.which(named)
+        if found is None:
+            raise Failed(f"there is no program {named}")
+        self.program = os.path.abspath(found)
+        self.folder, self.name = os.path.split(path)
+
+    def call(self, mode, *options):
+        ran = subprocess.run([self.program, mode, self.name, *options], cwd=self.folder, stdin=subprocess.DEVNULL, stdout=subprocess.DEVNULL)
+        if ran.returncode != 0:
+            raise Failed(f"pdgf {mode} {self.name} {' '.join(options)}: status {ran.returncode}")
+
+    def texts(self, mode, unit, folder):
+        """The folder, emptied, with what the mode writes at a unit."""
+        shutil.rmtree(folder, ignore_errors=True)
+        os.mkdir(folder)
+        self.call(mode, "--unit", str(unit), "--out", folder)
+        return folder
+
+
+def lines(path):
+    """How many lines a file has."""
+    try:
+        with open(path, "rb") as file:
+            return sum(block.count(b"\n") for block in iter(lambda: file.read(1 << 20), b""))
+    except FileNotFoundError:
+        raise Failed(f"there is no {path}") from None
+
+
+def tables_of(request, database, schema, folder):
+    """The statements that make the tables."""
+    for path in (request.tables, f"{folder}/{tables_file(type(database))}"):
+        if path and os.path.isfile(path):
+            with open(path, encoding="utf-8") as file:
+                return file.read()
+    return tables_as_sql(schema, database.dialect)
+
+
+def tables_file(database):
+    return "tables.sql" if database.dialect.name == "postgres" else f"tables_{database.dialect.name}.sql"
+
+
+def compare(program, database, unit, folder):
+    """Says that all is equal, or how it isn't."""
+    texts = program.texts("snapshot", unit, f"{folder}/wanted")
+    counts = []
+    for table in database.schema.tables:
+        path = f"{texts}/{table.name}.tbl"
+        if found := database.difference(table, path, lines):
+            say(f"unit {unit}: {table.name} differs: {found[0]}")
+            for it in found[1:]:
+                say(f"  {it}")
+            return False
+        counts.append(f"{table.name} {lines(path)}")
+    say(f"unit {unit}: {', '.join(counts)}: equal")
+    return True
+
+
+def say(text):
+    print(f"load: {text}", flush=True)
+
+
+def replay(request, program, database, folder):
+    """Whether all units give what they should."""
+    for unit in range(database.schema.units + 1):
+        mode = "unit" if unit else "snapshot"
+        texts = request.streams or program.texts(mode, unit, f"{folder}/texts")
+        try:
+            database.play(unit, texts, lines)
+        except Failed as error:
+            raise Failed(f"unit {unit}: {error}") from None
+        if unit == 0:
+            database.settle()
+        if unit == database.schema.units or not request.last:
+            if not compare(program, database, unit, folder):
+                return False
+    return True
+
+
+def load(words, kind):
+    request = Request(words)
+    path = request.schema_path()
+    program = Program(path)
+    program.call("check")
+    schema = read_schema(path)
+    with room() as folder, kind.opened(schema, folder, path) as database:
+        try:
+            database.make_tables(tables_of(request, database, schema, program.folder))
+        except Failed as error:
+            raise Failed(f"the tables can't be made: {error}") from None
+        if not replay(request, program, database, folder):
+            return 1
+        if request.command:
+            return subprocess.run(request.command, env=database.environment).returncode
+    return 0
+
+
+def main(words, kind: type[Database], server):
+    usage = USAGE.format(name=kind.dialect.name, title=kind.title, tables=tables_file(kind), server=server.strip())
+    if words[:1] == ["--help"]:
+        print(usage, end="")
+        return 0
+    end_by_signals()
+    try:
+        return load(words, kind)
+    except Words:
+        print(usage, end="", file=sys.stderr)
+        return 2
+    except Missing as error:
+        print(f"load: missing: {error}", file=sys.stderr)
+        return 3
+    except (Failed, Unreadable) as error:
+        print(f"load: {error}", file=sys.stderr)
+        return 1
+    except KeyboardInterrupt:
+        return 130
