@@ -115,7 +115,7 @@ class Database:
             raise Failed(f"{os.path.basename(path)} has {wanted} lines, and {given} were taken")
         if held == wanted and wrong == 0:
             return []
-        return [f"{held} rows, and {wanted} in the snapshot, of which {wrong} are absent or others", *self.examples(table, path)]
+        return [f"{held} rows, {wanted} in the snapshot, {wrong} of these absent or different", *self.examples(table, path)]
 
     def examples(self, table, path):
         """Some fields that differ, and rows that only one of both has."""

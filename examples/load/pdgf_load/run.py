@@ -10,6 +10,7 @@ from .database import Database
 from .schema import Unreadable, read_schema
 from .server import Failed, Missing, end_by_signals, room
 from .tables import tables_as_sql
+from .text import lines
 
 USAGE = """usage: examples/load/{name} [--last] [--streams DIR] [--tables FILE] FOLDER|SCHEMA [COMMAND ..]
 
@@ -86,15 +87,6 @@ class Program:
         return folder
 
 
-def lines(path):
-    """How many lines a file has."""
-    try:
-        with open(path, "rb") as file:
-            return sum(block.count(b"\n") for block in iter(lambda: file.read(1 << 20), b""))
-    except FileNotFoundError:
-        raise Failed(f"there is no {path}") from None
-
-
 def tables_of(request, database, schema, folder):
     """The statements that make the tables."""
     for path in (request.tables, f"{folder}/{tables_file(type(database))}"):
@@ -124,8 +116,11 @@ def compare(program, database, unit, folder):
     return True
 
 
-def say(text):
-    print(f"load: {text}", flush=True)
+def say_as(name):
+    return lambda text: print(f"{name}: {text}", flush=True)
+
+
+say = say_as("load")
 
 
 def replay(request, program, database, folder):
@@ -177,7 +172,7 @@ def main(words, kind: type[Database], server):
     except Missing as error:
         print(f"load: missing: {error}", file=sys.stderr)
         return 3
-    except (Failed, Unreadable) as error:
+    except (Failed, Unreadable, FileNotFoundError) as error:
         print(f"load: {error}", file=sys.stderr)
         return 1
     except KeyboardInterrupt:

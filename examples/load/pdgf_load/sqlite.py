@@ -2,41 +2,16 @@
 
 import contextlib
 import os
-import re
 
 from . import tables
 from .database import GIVEN, Database
 from .server import Failed, Missing
+from .text import rows
 
 try:
     import sqlite3
 except ModuleNotFoundError:
     sqlite3 = None
-
-ESCAPE = re.compile(r"\\(.)", re.S)
-CONTROLS = {"b": "\b", "t": "\t", "n": "\n", "v": "\v", "f": "\f", "r": "\r"}
-
-
-def field(text):
-    """What a field of a line holds."""
-    if "\\" not in text:
-        return text
-    if text == r"\N":
-        return None
-    return ESCAPE.sub(lambda found: CONTROLS.get(found[1], found[1]), text)
-
-
-def rows(path, delimiter):
-    """The fields of each line of a file. A delimiter in a text stands behind a backslash; a tab there is written `\\t`."""
-    between = "\t" if delimiter == "\t" else re.compile(r"((?:[^|\\]|\\.)*)(?:\||$)", re.S)
-    with open(path, encoding="utf-8", newline="\n") as file:
-        for line in file:
-            line = line.removesuffix("\n")
-            if delimiter == "\t" or "\\" not in line:
-                fields = line.split(delimiter)
-            else:
-                fields = between.findall(line + "|")[:-1]
-            yield [field(it) for it in fields] if "\\" in line else fields
 
 
 class Session:
