@@ -130,7 +130,9 @@ class Mariadb(Database):
             how = {"stdin": file, "stdout": subprocess.PIPE, "stderr": subprocess.PIPE, "env": self.environment, "errors": "replace"}
             ran = subprocess.run(self.client, **how)
         if ran.returncode != 0:
-            raise Failed(ran.stderr.strip())
+            # The client shows the statement too.
+            told = [it for it in ran.stderr.splitlines() if it.startswith("ERROR")]
+            raise Failed(" ".join(told) or ran.stderr.strip())
         return [it.split("\t") for it in ran.stdout.splitlines()]
 
     def make_tables(self, sql):

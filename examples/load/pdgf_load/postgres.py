@@ -9,6 +9,7 @@ import subprocess
 from . import tables
 from .database import GIVEN, Database, Script, as_text
 from .server import Failed, Owner, program
+from .text import holds_nul
 
 VARIABLES = ("PGHOST", "PGHOSTADDR", "PGPORT", "PGSERVICE", "PGDATABASE")
 
@@ -60,6 +61,8 @@ class Session(Script):
         self.execute("SET datestyle = 'ISO, YMD'")
 
     def copy(self, target, columns, path):
+        if holds_nul(path):
+            raise Failed(f"{os.path.basename(path)} has a NUL, which PostgreSQL takes in no text, and at which psql cuts a line off")
         delimiter = {"\t": r"E'\t'", "|": "'|'"}[self.database.schema.delimiter]
         quoted = self.database.quoted
         self.parts.append(f"\\copy {quoted(target)} ({quoted(*columns)}) FROM {as_text(path)} (DELIMITER {delimiter})\n")

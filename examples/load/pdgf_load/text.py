@@ -28,7 +28,15 @@ def rows(path, delimiter):
                 yield [field(it) for it in fields]
 
 
+def blocks(path):
+    with open(path, "rb") as file:
+        yield from iter(lambda: file.read(1 << 20), b"")
+
+
 def lines(path):
     """How many lines a file has."""
-    with open(path, "rb") as file:
-        return sum(block.count(b"\n") for block in iter(lambda: file.read(1 << 20), b""))
+    return sum(block.count(b"\n") for block in blocks(path))
+
+
+def holds_nul(path):
+    return any(b"\0" in block for block in blocks(path))
