@@ -27,8 +27,8 @@ class Database:
     def columns(self, table):
         return [it.name for it in table.columns]
 
-    def play(self, unit, texts, lines):
-        """Carries out a unit as one transaction, by the files of a folder: `lines(path)` counts those of one.
+    def play(self, unit, texts, lines, is_base):
+        """Carries out a unit as one transaction, by the files of a folder: `lines(path)` counts those of one. The base is a snapshot.
 
         A table stands behind those that it refers to. So rows are deleted from the last table on, and inserted from the first: a row
         that is deleted is one that no row refers to.
@@ -36,7 +36,7 @@ class Database:
         session = self.session()
         session.begin()
         tables = self.schema.tables
-        if unit == 0:
+        if is_base:
             for table in tables:
                 path = f"{texts}/{table.name}.tbl"
                 session.copy(table.name, self.columns(table), path)

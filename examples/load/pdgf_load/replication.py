@@ -88,7 +88,7 @@ def replicate(words):
         for it in (source, target):
             it.make_tables(sql)
         for unit in range(min(int(last), schema.units) + 1):
-            source.play(unit, program.texts("unit" if unit else "snapshot", unit, f"{first}/texts"), lines)
+            source.play(unit, program.texts("unit" if unit else "snapshot", unit, f"{first}/texts"), lines, is_base=unit == 0)
             if unit == 0:
                 source.settle()
                 publish(source, target, actions)

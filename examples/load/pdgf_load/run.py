@@ -12,15 +12,15 @@ from .server import Failed, Missing, end_by_signals, room
 from .tables import tables_as_sql
 from .text import lines
 
-USAGE = """usage: examples/load/{name} [--last] [--streams DIR] [--tables FILE] FOLDER|SCHEMA [COMMAND ..]
+USAGE = """usage: examples/load/{name} [--from T] [--last] [--streams DIR] [--tables FILE] FOLDER|SCHEMA [COMMAND ..]
 
-Loads the tables of a schema into {title} as they stand at unit 0, does to them what each unit does, each as a
-transaction and with the foreign keys on, and compares them with the snapshot of each unit.
+Loads the tables of a schema into {title} as they stand at unit 0, or at T, does to them what each later unit does, each
+as a transaction and with the foreign keys on, and compares them with the snapshot of each unit.
 
 FOLDER has the schema, which is its one file *.toml, and the word lists that it names; or SCHEMA is its path. The tables
 are made by FILE, else by FOLDER/{tables}, else they are those of examples/load/ddl. With --last they are
 compared after the last unit alone. With --streams the texts that are loaded lie in DIR, written before by the
-modes snapshot (unit 0) and unit. COMMAND runs at the end, if all is equal, with the database in its environment.
+modes snapshot (unit 0, or T) and unit. COMMAND runs at the end, if all is equal, with the database in its environment.
 
 {server}
 
@@ -35,12 +35,15 @@ class Words(Exception):
 
 class Request:
     def __init__(self, words):
+        self.first = 0
         self.last = False
         self.streams = None
         self.tables = None
         words = list(words)
         while words and words[0].startswith("-"):
             match words.pop(0):
+                case "--from" if words and words[0].isascii() and words[0].isdigit():
+                    self.first = int(words.pop(0))
                 case "--last":
                     self.last = True
                 case "--streams" if words and os.path.isdir(words[0]):
@@ -125,14 +128,17 @@ say = say_as("load")
 
 def replay(request, program, database, folder):
     """Whether all units give what they should."""
-    for unit in range(database.schema.units + 1):
-        mode = "unit" if unit else "snapshot"
+    first = request.first
+    if first > database.schema.units:
+        raise Failed(f"there is no unit {first}")
+    for unit in range(first, database.schema.units + 1):
+        mode = "unit" if unit > first else "snapshot"
         texts = request.streams or program.texts(mode, unit, f"{folder}/texts")
         try:
-            database.play(unit, texts, lines)
+            database.play(unit, texts, lines, is_base=unit == first)
         except Failed as error:
             raise Failed(f"unit {unit}: {error}") from None
-        if unit == 0:
+        if unit == first:
             database.settle()
         if unit == database.schema.units or not request.last:
             if not compare(program, database, unit, folder):

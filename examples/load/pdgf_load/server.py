@@ -61,14 +61,15 @@ class Owner:
         if self.user:
             os.chown(path, self.user.pw_uid, self.user.pw_gid)
 
-    def how(self):
+    def how(self, folder):
+        """What a program of the server's needs. Its temporary files are in its own folder: another may not be open to the user."""
         become = {}
         if self.user:
             become = {"user": self.user.pw_uid, "group": self.user.pw_gid, "extra_groups": []}
-        return {"stdin": subprocess.DEVNULL, "env": {**os.environ, "LC_ALL": "C"}, **become}
+        return {"stdin": subprocess.DEVNULL, "env": {**os.environ, "LC_ALL": "C", "TMPDIR": folder}, **become}
 
     def run(self, words, folder):
-        ran = subprocess.run(words, cwd=folder, stdout=subprocess.PIPE, stderr=subprocess.STDOUT, errors="replace", **self.how())
+        ran = subprocess.run(words, cwd=folder, stdout=subprocess.PIPE, stderr=subprocess.STDOUT, errors="replace", **self.how(folder))
         if ran.returncode != 0:
             raise Failed(f"{os.path.basename(words[0])} failed: {ending(ran.stdout)}")
 
@@ -77,7 +78,7 @@ class Owner:
         """Runs a server until the end. It gets the signal `stop` then, and also where this program is killed."""
         with open(f"{folder}/log", "wb") as log:
             server = subprocess.Popen(
-                words, cwd=folder, stdout=log, stderr=log, start_new_session=True, preexec_fn=lambda: ended_with_parent(stop), **self.how()
+                words, cwd=folder, stdout=log, stderr=log, start_new_session=True, preexec_fn=lambda: ended_with_parent(stop), **self.how(folder)
             )
         try:
             wait_for(is_ready, server, f"{folder}/log")
