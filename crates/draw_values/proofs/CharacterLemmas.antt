@@ -9,8 +9,8 @@ use Rattle.std.proofs.lemmas.List.Folds.{flat_map-map}
 use Rattle.std.proofs.lemmas.List.FromFn.{map-range_with_len_more}
 use Rattle.dictionaries.specs.WordList.{WordList}
 use Rattle.row_text.specs.Fields.{escaped, piece_text}
-use Rattle.schema_check.specs.ReadyWords.{written_words}
-use Rattle.schema_check.proofs.Lists.{map-map}
+use Rattle.schema_plan.specs.ReadyWords.{written_words}
+use Rattle.schema_plan.proofs.Lists.{map-map}
 use Rattle.draw_values.specs.ReadyValues.{chosen_texts}
 use Rattle.draw_values.specs.Values.{Draws, chosen_group, drawn_characters, drawn_words}
 use std.Path.{fun_ext}

@@ -1,9 +1,9 @@
 -- The draws of a row, by what is kept of its table at the units of its birth and of its last change.
 use Rattle.std.proofs.Common.{◌≡◌, ◌<◌, ℕ, Bool, true, false, if◌then◌else◌, List, get_or, length, ap, subst, sym, ◌∙◌}
 use Rattle.philox_seeds.specs.SeedTree.{column_seed, table_seed, unit_seed}
-use Rattle.schema_check.specs.declared.ready.ReadyColumn.{ReadyColumn}
-use Rattle.schema_check.specs.Layout.{Layout, table_at}
-use Rattle.schema_check.specs.Ready.{ready_columns}
+use Rattle.schema_plan.specs.declared.ready.ReadyColumn.{ReadyColumn}
+use Rattle.schema_plan.specs.Layout.{Layout, table_at}
+use Rattle.schema_plan.specs.Ready.{ready_columns}
 use Rattle.draw_values.specs.declared.values.RowAt.{RowAt}
 use Rattle.draw_values.specs.CohortValues.{AreValuesOf, ValuesOf}
 use Rattle.draw_values.specs.ReadyValues.{row_draws}

@@ -7,12 +7,12 @@ use Rattle.std.proofs.lemmas.List.Elements.{All-head, All-map, All-tail}
 use Rattle.weight_tables.proofs.PrefixSumLemmas.{sum-cons}
 use Rattle.weight_tables.proofs.SelectionLemmas.{Selects-selected}
 use Rattle.row_text.specs.Fields.{piece_text}
-use Rattle.schema_check.specs.declared.ready.ReadyColumn.{ReadyColumn}
-use Rattle.schema_check.specs.declared.ready.ReadyLeaf.{ReadyLeaf}
-use Rattle.schema_check.specs.FieldBounds.{bounds_of, leaf_size}
-use Rattle.schema_check.specs.Layout.{LeafLayout, int_leaf, fixed_leaf, date_leaf, pick_leaf, skew_leaf, dict_leaf, words_leaf, chars_leaf, KindLayout, key_kind, born_kind, changed_kind, leaf_kind, template_kind, case_kind, reference_kind, lookup_kind, ColumnLayout, Layout, TableLayout, column_at, no_column, table_at}
-use Rattle.schema_check.specs.Limits.{IsCase, IsKindInLimits, IsLeafInLimits, IsPickOf}
-use Rattle.schema_check.specs.Ready.{ready_column, ready_columns, ready_kind, ready_leaf}
+use Rattle.schema_plan.specs.declared.ready.ReadyColumn.{ReadyColumn}
+use Rattle.schema_plan.specs.declared.ready.ReadyLeaf.{ReadyLeaf}
+use Rattle.schema_plan.specs.FieldBounds.{bounds_of, leaf_size}
+use Rattle.schema_plan.specs.Layout.{LeafLayout, int_leaf, fixed_leaf, date_leaf, pick_leaf, skew_leaf, dict_leaf, words_leaf, chars_leaf, KindLayout, key_kind, born_kind, changed_kind, leaf_kind, template_kind, case_kind, reference_kind, lookup_kind, ColumnLayout, Layout, TableLayout, column_at, no_column, table_at}
+use Rattle.schema_plan.specs.Limits.{IsCase, IsKindInLimits, IsLeafInLimits, IsPickOf}
+use Rattle.schema_plan.specs.Ready.{ready_column, ready_columns, ready_kind, ready_leaf}
 use Rattle.draw_values.specs.declared.values.RowAt.{RowAt}
 use Rattle.draw_values.specs.ReadyValues.{IsReady, IsReadyKind, chooser_of, ready_branch, ready_entry, ready_field, ready_held_entry, ready_kind_size, ready_size, ready_text, ready_value}
 use Rattle.draw_values.specs.Values.{Draws, RowDraws, branch_at, chosen_group, entry_of, held_entry, is_null, is_own, leaf_value, own_field, own_value, unless_null}

@@ -2,11 +2,11 @@
 use Rattle.std.proofs.Common.{◌≡◌, ◌<◌, ◌≤◌, ℕ, true, max, List, [], length, get_or, option_map, Option, None, Some, ap, sym, ◌∙◌, subst, arith}
 use Rattle.std.specs.Prelude.{unwrap_or}
 use Rattle.row_text.specs.Fields.{field_text, piece_text}
-use Rattle.schema_check.specs.declared.ready.ReadyColumn.{ReadyColumn}
-use Rattle.schema_check.specs.declared.ready.ReadyKind.{ReadyKind}
-use Rattle.schema_check.specs.Layout.{ColumnLayout, Layout, column_at, table_at}
-use Rattle.schema_check.specs.Limits.{IsTableInLimits}
-use Rattle.schema_check.specs.Ready.{ready_column, ready_columns, ready_kind}
+use Rattle.schema_plan.specs.declared.ready.ReadyColumn.{ReadyColumn}
+use Rattle.schema_plan.specs.declared.ready.ReadyKind.{ReadyKind}
+use Rattle.schema_plan.specs.Layout.{ColumnLayout, Layout, column_at, table_at}
+use Rattle.schema_plan.specs.Limits.{IsTableInLimits}
+use Rattle.schema_plan.specs.Ready.{ready_column, ready_columns, ready_kind}
 use Rattle.draw_values.specs.declared.values.RowAt.{RowAt}
 use Rattle.draw_values.specs.ReadyValues.{IsReadyKind, chooser_of, ready_field, ready_kind_size}
 use Rattle.draw_values.specs.Values.{Draws, draws_at, is_own, put_of, size_at, value_at, written}

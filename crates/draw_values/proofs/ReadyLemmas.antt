@@ -8,10 +8,10 @@ use Rattle.std.proofs.Math.ListN.{get_or-map}
 use Rattle.weight_tables.specs.Harmonic.{harmonic_weights}
 use Rattle.weight_tables.proofs.HarmonicLemmas.{length-harmonic_weights}
 use Rattle.row_text.specs.Fields.{piece_text}
-use Rattle.schema_check.specs.FieldBounds.{entry_size, greatest_by, joined_size, leaf_size, written_size}
-use Rattle.schema_check.specs.Layout.{LeafLayout, int_leaf, fixed_leaf, date_leaf, pick_leaf, skew_leaf, dict_leaf, words_leaf, chars_leaf}
-use Rattle.schema_check.specs.Limits.{IsLeafInLimits}
-use Rattle.schema_check.specs.Ready.{ready_leaf}
+use Rattle.schema_plan.specs.FieldBounds.{entry_size, greatest_by, joined_size, leaf_size, written_size}
+use Rattle.schema_plan.specs.Layout.{LeafLayout, int_leaf, fixed_leaf, date_leaf, pick_leaf, skew_leaf, dict_leaf, words_leaf, chars_leaf}
+use Rattle.schema_plan.specs.Limits.{IsLeafInLimits}
+use Rattle.schema_plan.specs.Ready.{ready_leaf}
 use Rattle.draw_values.specs.Dates.{date_text}
 use Rattle.draw_values.specs.Digits.{signed_pointed}
 use Rattle.draw_values.specs.ReadyValues.{IsReady, ready_size, ready_text}

@@ -1,10 +1,10 @@
 -- The values of the rows of a table that are born at one unit and changed last at another, and what the code keeps of them.
 use Rattle.std.specs.Prelude.{◌≡◌, ℕ, List, Bool, Option}
-use Rattle.schema_check.specs.declared.ready.ReadyColumn.{ReadyColumn}
-use Rattle.schema_check.specs.Layout.{column_at, layout_of, table_at, TableLayout}
-use Rattle.schema_check.specs.Limits.{IsTableInLimits}
-use Rattle.schema_check.specs.Dictionaries.{Project}
-use Rattle.schema_check.specs.Ready.{ready_columns}
+use Rattle.schema_plan.specs.declared.ready.ReadyColumn.{ReadyColumn}
+use Rattle.schema_plan.specs.Layout.{column_at, layout_of, table_at, TableLayout}
+use Rattle.schema_plan.specs.Limits.{IsTableInLimits}
+use Rattle.schema_plan.specs.Dictionaries.{Project}
+use Rattle.schema_plan.specs.Ready.{ready_columns}
 use Rattle.draw_values.specs.declared.values.RowAt.{RowAt}
 use Rattle.draw_values.specs.UnitDraws.{DrawsOf, unit_draws}
 use Rattle.draw_values.specs.Values.{draws_at, is_null, size_at, value_at}

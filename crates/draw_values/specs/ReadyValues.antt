@@ -3,14 +3,14 @@ use Rattle.std.specs.Prelude.{◌≡◌, ◌≤◌, ℕ, pos, ◌+◌, ◌-◌, 
 use Rattle.std.specs.Fmt.{signed_decimal}
 use Rattle.std.specs.List.{range_with_len}
 use Rattle.philox_seeds.specs.SeedTree.{draw, row_seed}
-use Rattle.schema_check.specs.declared.ready.ReadyColumn.{ReadyColumn}
-use Rattle.schema_check.specs.declared.ready.ReadyKind.{ReadyKind}
-use Rattle.schema_check.specs.declared.ready.ReadyKind.TheVariants as kind
-use Rattle.schema_check.specs.declared.ready.ReadyLeaf.{ReadyLeaf}
-use Rattle.schema_check.specs.declared.ready.ReadyLeaf.TheVariants as leaf
-use Rattle.schema_check.specs.Choices.{choices}
-use Rattle.schema_check.specs.FieldBounds.{greatest_by, joined_size}
-use Rattle.schema_check.specs.Limits.{IsDateRange, IsRange}
+use Rattle.schema_plan.specs.declared.ready.ReadyColumn.{ReadyColumn}
+use Rattle.schema_plan.specs.declared.ready.ReadyKind.{ReadyKind}
+use Rattle.schema_plan.specs.declared.ready.ReadyKind.TheVariants as kind
+use Rattle.schema_plan.specs.declared.ready.ReadyLeaf.{ReadyLeaf}
+use Rattle.schema_plan.specs.declared.ready.ReadyLeaf.TheVariants as leaf
+use Rattle.schema_plan.specs.Choices.{choices}
+use Rattle.schema_plan.specs.FieldBounds.{greatest_by, joined_size}
+use Rattle.schema_plan.specs.Limits.{IsDateRange, IsRange}
 use Rattle.draw_values.specs.Dates.{date_text}
 use Rattle.draw_values.specs.Digits.{signed_pointed}
 use Rattle.draw_values.specs.WrittenUnits.{WrittenUnits}

@@ -2,10 +2,10 @@
 use Rattle.std.specs.Prelude.{◌≡◌, ◌<◌, ◌≤◌, ℕ, List, decimal, get_or, length, map}
 use Rattle.std.specs.List.{range_with_len}
 use Rattle.philox_seeds.specs.SeedTree.{column_seed, table_seed, unit_seed}
-use Rattle.pd_outside.specs.declared.piece.Piece.{Piece}
-use Rattle.pd_outside.specs.Pieces.{piece_text}
-use Rattle.schema_check.specs.Dictionaries.{Project}
-use Rattle.schema_check.specs.Layout.{layout_of, table_at}
+use Rattle.line_pages.specs.declared.piece.Piece.{Piece}
+use Rattle.line_pages.specs.Pieces.{piece_text}
+use Rattle.schema_plan.specs.Dictionaries.{Project}
+use Rattle.schema_plan.specs.Layout.{layout_of, table_at}
 
 -- the draws at a unit of the fields of a table with a seed, which has so many columns
 pub record DrawsOf : Type 0 where

@@ -1,6 +1,6 @@
 -- The units of a row, as they are written.
 use Rattle.std.specs.Prelude.{◌≤◌, List, ℕ, decimal, length}
-use Rattle.pd_outside.specs.Pieces.{piece_text}
+use Rattle.line_pages.specs.Pieces.{piece_text}
 use Rattle.draw_values.specs.declared.fields.Units.{Units}
 use Rattle.draw_values.specs.declared.values.RowAt.{RowAt}
 

@@ -2,12 +2,12 @@
 
 ghost use Rattle.std.specs.Prelude.{◌≡◌, ◌≤◌, ◌+◌, ◌*◌, ◌++◌, length};
 ghost use Rattle.philox_seeds.specs.SeedTree.{draw as draw_of};
-ghost use Rattle.schema_check.specs.FieldBounds.{greatest_by};
+ghost use Rattle.schema_plan.specs.FieldBounds.{greatest_by};
 ghost use Rattle.draw_values.specs.ReadyValues.{chosen_texts};
 
 use crate::weighted::put_entry;
 use fixed_divisors::FixedDivisor;
-use pd_outside::PageBuf;
+use line_pages::PageBuf;
 use philox_seeds::draw;
 use row_text::WrittenTexts;
 

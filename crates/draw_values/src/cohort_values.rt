@@ -3,7 +3,7 @@
 
 ghost use Rattle.std.specs.Prelude.{◌≡◌, ◌<◌, ◌≤◌, ℕ, ◌+◌, ◌++◌, true, length};
 ghost use Rattle.row_text.specs.Fields.{field_text};
-ghost use Rattle.schema_check.specs.Layout.{column_at, layout_of};
+ghost use Rattle.schema_plan.specs.Layout.{column_at, layout_of};
 ghost use Rattle.draw_values.specs.CohortValues.{is_null_for, layout_for, row_for, size_for, value_for};
 ghost use Rattle.draw_values.specs.ReadyValues.{row_draws};
 ghost use Rattle.draw_values.specs.UnitDraws.{unit_draws};
@@ -12,8 +12,8 @@ ghost use Rattle.draw_values.specs.Values.{draws_at, is_own, put_of, written};
 use crate::Put;
 use crate::draws::UnitDraws;
 use crate::fields::{Drawn, Units, chooser_of, is_null, put_field};
-use pd_outside::PageBuf;
-use schema_check::{Plan, ReadyColumn};
+use line_pages::PageBuf;
+use schema_plan::{Plan, ReadyColumn};
 use std::marker::Model;
 
 /// The values of the rows of a table that are born at one unit and changed last at another. A contract sees the plan, the table

@@ -1,12 +1,12 @@
 //! Dates onto a page.
 
 ghost use Rattle.std.specs.Prelude.{◌≡◌, ◌≤◌, ◌+◌, ◌++◌, length, neg_ℤ, pos, ◌≤ℤ◌};
-ghost use Rattle.pd_outside.specs.Pieces.{piece_text};
+ghost use Rattle.line_pages.specs.Pieces.{piece_text};
 ghost use Rattle.draw_values.specs.Dates.{date_digits, date_text};
 
 use crate::digits::prepend_digits;
 use jiff_core::civil::Date;
-use pd_outside::{PageBuf, Piece};
+use line_pages::{PageBuf, Piece};
 
 /// Appends the date of a day of the years 1 to 9999, counted from 1970-01-01, which is day 0: 10 bytes, which have to be free.
 #[inline(always)]

@@ -1,10 +1,10 @@
 //! Digits before a piece.
 
 ghost use Rattle.std.specs.Prelude.{◌≡◌, ◌≤◌, ◌+◌, ◌++◌, length};
-ghost use Rattle.pd_outside.specs.Pieces.{piece_text};
+ghost use Rattle.line_pages.specs.Pieces.{piece_text};
 ghost use Rattle.draw_values.specs.Digits.{last_digits};
 
-use pd_outside::Piece;
+use line_pages::Piece;
 
 /// The last digits of a number, as many as `count`, and then the piece. They fit.
 #[inline(always)]

@@ -2,13 +2,13 @@
 
 ghost use Rattle.std.specs.Prelude.{◌≡◌, ◌<◌, ◌≤◌, ◌+◌, IfOk, decimal, length};
 ghost use Rattle.philox_seeds.specs.SeedTree.{column_seed as column_seed_of, unit_seed as unit_seed_of};
-ghost use Rattle.pd_outside.specs.Pieces.{piece_text};
-ghost use Rattle.schema_check.specs.Layout.{layout_of};
+ghost use Rattle.line_pages.specs.Pieces.{piece_text};
+ghost use Rattle.schema_plan.specs.Layout.{layout_of};
 ghost use Rattle.draw_values.specs.UnitDraws.{draws_of_units, unit_draws};
 
-use pd_outside::{Memory, Piece};
+use line_pages::{Memory, Piece};
 use philox_seeds::{column_seed, table_seed, unit_seed};
-use schema_check::Plan;
+use schema_plan::Plan;
 use std::alloc::Global;
 use std::marker::Model;
 

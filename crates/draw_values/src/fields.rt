@@ -2,7 +2,7 @@
 
 ghost use Rattle.std.specs.Prelude.{◌≡◌, ◌<◌, ◌≤◌, ◌+◌, ◌++◌, [], All, IfSome, length, option_map, unwrap_or};
 ghost use Rattle.philox_seeds.specs.SeedTree.{draw as draw_of};
-ghost use Rattle.schema_check.specs.FieldBounds.{greatest_by};
+ghost use Rattle.schema_plan.specs.FieldBounds.{greatest_by};
 ghost use Rattle.draw_values.specs.ReadyValues.{IsReady, IsReadyKind, IsReadyPick, chooser_of, entry_count, ready_branch, ready_field, ready_held_entry, ready_kind_size, ready_size, ready_text, row_draws};
 ghost use Rattle.draw_values.specs.Values.{is_null, put_of};
 ghost use Rattle.draw_values.specs.WrittenUnits.{IsWritten, written_units};
@@ -10,9 +10,9 @@ ghost use Rattle.draw_values.specs.WrittenUnits.{IsWritten, written_units};
 use crate::Put;
 use crate::leaves::{FIRST_DRAW, put_leaf};
 use crate::weighted::chosen_group;
-use pd_outside::{PageBuf, Piece};
+use line_pages::{PageBuf, Piece};
 use philox_seeds::{draw, row_seed};
-use schema_check::{ReadyColumn, ReadyKind, ReadyLeaf};
+use schema_plan::{ReadyColumn, ReadyKind, ReadyLeaf};
 
 /// The draw that makes a field null.
 const NULL_DRAW: u32 = 0;

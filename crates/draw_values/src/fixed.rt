@@ -1,12 +1,12 @@
 //! Fixed numbers onto a page.
 
 ghost use Rattle.std.specs.Prelude.{◌≡◌, ◌≤◌, ◌+◌, ◌^◌, ◌∷◌, ◌++◌, length};
-ghost use Rattle.pd_outside.specs.Pieces.{piece_text};
+ghost use Rattle.line_pages.specs.Pieces.{piece_text};
 ghost use Rattle.draw_values.specs.Digits.{last_digits, pointed, signed_pointed};
 
 use crate::digits::prepend_digits;
 use fixed_divisors::FixedDivisor;
-use pd_outside::{PageBuf, Piece};
+use line_pages::{PageBuf, Piece};
 
 /// Appends a number whose last `decimals` digits, 0 to 9, stand after a point; `unit` is 10 to their number. 21 bytes have to be
 /// free.

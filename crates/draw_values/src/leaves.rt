@@ -10,9 +10,9 @@ use crate::fixed::put_fixed;
 use crate::numbers::{chosen, put_whole};
 use crate::weighted::{chosen_group, put_entry, skewed};
 use crate::words::{put_word, put_words};
-use pd_outside::PageBuf;
+use line_pages::PageBuf;
 use philox_seeds::draw;
-use schema_check::ReadyLeaf;
+use schema_plan::ReadyLeaf;
 
 /// The draw that a value begins with. Draw 0 is kept for null fields.
 pub(crate) const FIRST_DRAW: u32 = 1;

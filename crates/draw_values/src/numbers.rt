@@ -2,11 +2,11 @@
 
 ghost use Rattle.std.specs.Prelude.{◌≡◌, ◌≤◌, ◌+◌, ◌^◌, ◌++◌, length, pos, ◌-ℤ◌, ◌<ℤ◌, ◌≤ℤ◌};
 ghost use Rattle.std.specs.Fmt.{signed_decimal};
-ghost use Rattle.schema_check.specs.Choices.{choices as choices_of};
+ghost use Rattle.schema_plan.specs.Choices.{choices as choices_of};
 ghost use Rattle.draw_values.specs.Values.{chosen};
 
 use fixed_divisors::FixedDivisor;
-use pd_outside::PageBuf;
+use line_pages::PageBuf;
 
 /// Of the numbers from `lo` to `hi`, each `step` past the one before, the one that a draw chooses; `choices` is how many they
 /// are.

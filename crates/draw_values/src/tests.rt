@@ -3,8 +3,8 @@
 
 ghost use Rattle.std.specs.Prelude.{◌≡◌, ◌<◌, ◌≤◌, ◌+◌, ◌^◌, [], true, length, IfOk};
 ghost use Rattle.std.specs.Bool.{OnTrue};
-ghost use Rattle.schema_check.specs.Layout.{column_at, layout_of, table_at};
-ghost use Rattle.schema_check.specs.TableFacts.{max_line};
+ghost use Rattle.schema_plan.specs.Layout.{column_at, layout_of, table_at};
+ghost use Rattle.schema_plan.specs.TableFacts.{max_line};
 ghost use Rattle.draw_values.specs.Values.{is_own, size_at};
 
 use super::*;
@@ -13,7 +13,7 @@ use crate::fixed::put_fixed;
 use crate::numbers::{chosen, put_whole};
 use dictionaries::read_dictionary;
 use fixed_divisors::FixedDivisor;
-use pd_outside::PageBuf;
+use line_pages::PageBuf;
 use schema_check::{Dictionaries, Plan, ReadyKind, check};
 use schema_model::{
     Column, Columns, Delimiter, Kind, Leaf, Leaves, Longs, Memory, Schema, Table, Tables, Text,

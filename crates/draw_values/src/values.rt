@@ -2,14 +2,14 @@
 
 ghost use Rattle.std.specs.Prelude.{◌≡◌, ◌<◌, ◌≤◌, ◌+◌, ◌++◌, true, length};
 ghost use Rattle.row_text.specs.Fields.{field_text};
-ghost use Rattle.schema_check.specs.Layout.{column_at, layout_of, table_at};
+ghost use Rattle.schema_plan.specs.Layout.{column_at, layout_of, table_at};
 ghost use Rattle.draw_values.specs.ReadyValues.{row_draws};
 ghost use Rattle.draw_values.specs.Values.{draws_at, is_own, put_of, size_at, value_at, written};
 
 use crate::fields::{Drawn, Units, chooser_of, put_field};
-use pd_outside::{PageBuf, Piece};
+use line_pages::{PageBuf, Piece};
 use philox_seeds::{column_seed, table_seed, unit_seed};
-use schema_check::Plan;
+use schema_plan::Plan;
 
 /// A row, as far as its values ask for it.
 #[derive(Clone, Copy, Debug, PartialEq, Eq)]

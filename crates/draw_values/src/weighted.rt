@@ -1,11 +1,11 @@
 //! Groups that a draw chooses by their weights, and what they stand for.
 
 ghost use Rattle.std.specs.Prelude.{◌≡◌, ◌<◌, ◌≤◌, ◌+◌, ◌-◌, ◌^◌, [], ◌++◌, length, sum, slice_index_or, pos, ◌+ℤ◌, ◌<ℤ◌};
-ghost use Rattle.schema_check.specs.FieldBounds.{greatest_by};
+ghost use Rattle.schema_plan.specs.FieldBounds.{greatest_by};
 ghost use Rattle.draw_values.specs.Values.{chosen_group};
 
 use fixed_divisors::FixedDivisor;
-use pd_outside::PageBuf;
+use line_pages::PageBuf;
 use row_text::WrittenTexts;
 use weight_tables::Weights;
 

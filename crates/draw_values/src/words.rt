@@ -2,12 +2,12 @@
 
 ghost use Rattle.std.specs.Prelude.{◌≡◌, ◌<◌, ◌≤◌, ◌+◌, ◌==◌, ◌++◌, ◌∷◌, [], if◌then◌else◌, length, min, slice_index_or};
 ghost use Rattle.philox_seeds.specs.SeedTree.{draw as draw_of};
-ghost use Rattle.schema_check.specs.FieldBounds.{greatest_by, joined_size};
+ghost use Rattle.schema_plan.specs.FieldBounds.{greatest_by, joined_size};
 ghost use Rattle.draw_values.specs.Values.{chosen_group, drawn_words};
 
-use pd_outside::{PageBuf, Piece};
+use line_pages::{PageBuf, Piece};
 use philox_seeds::draw;
-use schema_check::ReadyWords;
+use schema_plan::ReadyWords;
 
 /// The draw of the first word. The one before it tells how many there are.
 const FIRST_WORD: u32 = 2;

@@ -2,12 +2,12 @@
 use Rattle.std.proofs.Common.{◌≡◌, ℕ, ◌<◌, ◌≤◌, Option, Some, None, List, length, ap, arith, refl}
 use Rattle.std.specs.Prelude.{All, IfSome}
 use Rattle.std.proofs.lemmas.List.{length-map}
-use Rattle.schema_check.specs.declared.layout.Span.{Span}
-use Rattle.schema_check.specs.Counts.{count}
-use Rattle.schema_check.specs.Dictionaries.{Project}
-use Rattle.schema_check.specs.Layout.{TableLayout, no_table, table_at, table_layout}
-use Rattle.schema_check.specs.Limits.{IsInLimits, IsLife, IsSpan, IsTableInLimits, IsUpdatePeriod}
-use Rattle.schema_check.specs.References.{IsReferenceInLimits, Reference, references_of}
+use Rattle.schema_plan.specs.declared.layout.Span.{Span}
+use Rattle.schema_plan.specs.Counts.{count}
+use Rattle.schema_plan.specs.Dictionaries.{Project}
+use Rattle.schema_plan.specs.Layout.{TableLayout, no_table, table_at, table_layout}
+use Rattle.schema_plan.specs.Limits.{IsInLimits, IsLife, IsSpan, IsTableInLimits, IsUpdatePeriod}
+use Rattle.schema_plan.specs.References.{IsReferenceInLimits, Reference, references_of}
 use Rattle.life_intervals.specs.Generator.{Generator, generator_of, last_unit, table_of}
 use Rattle.life_intervals.specs.Intervals.{birth, change_unit, index_at, row_at}
 use Rattle.life_intervals.specs.Changes.{change_by}

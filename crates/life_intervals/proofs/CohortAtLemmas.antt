@@ -4,12 +4,12 @@ use Rattle.std.specs.Option.{option_map_or}
 use Rattle.std.proofs.lemmas.Bool.{cases_Bool, cases_lt, le-ltb, lt-ltb}
 use Rattle.id_permutation.specs.Order.{Arrangement, place_in}
 use Rattle.philox_seeds.specs.SeedTree.{update_column}
-use Rattle.schema_check.specs.declared.layout.Births.{Births}
-use Rattle.schema_check.specs.declared.layout.Span.{Span}
-use Rattle.schema_check.specs.Cohorts.{born_count, cohort_size, first_ordinal}
-use Rattle.schema_check.specs.Layout.{TableLayout, layout_of, table_at}
-use Rattle.schema_check.specs.Limits.{IsInLimits}
-use Rattle.schema_check.specs.Lineage.{lesser_life, longest_life, sure_life}
+use Rattle.schema_plan.specs.declared.layout.Births.{Births}
+use Rattle.schema_plan.specs.declared.layout.Span.{Span}
+use Rattle.schema_plan.specs.Cohorts.{born_count, cohort_size, first_ordinal}
+use Rattle.schema_plan.specs.Layout.{TableLayout, layout_of, table_at}
+use Rattle.schema_plan.specs.Limits.{IsInLimits}
+use Rattle.schema_plan.specs.Lineage.{lesser_life, longest_life, sure_life}
 use Rattle.life_intervals.specs.declared.lives.Survival.TheVariants.{Sure, Over}
 use Rattle.life_intervals.specs.CohortKeys.{CohortOf}
 use Rattle.life_intervals.specs.Changes.{change_by, first_due, last_due}

@@ -8,20 +8,20 @@ use Rattle.std.proofs.lemmas.List.FromFn.{get_or-map-range_with_len, length-map-
 use Rattle.std.proofs.lemmas.List.Sums.{sum_by-cons, sum_by_push}
 use Rattle.philox_seeds.specs.SeedTree.{reference_order_seed}
 use Rattle.id_permutation.specs.Order.{place_in}
-use Rattle.schema_check.specs.declared.layout.Births.{Births}
-use Rattle.schema_check.specs.declared.layout.Span.{Span}
-use Rattle.schema_check.specs.declared.lineage.Lineage.{Lineage}
-use Rattle.schema_check.specs.declared.ready.ReadyColumn.{ReadyColumn}
-use Rattle.schema_check.specs.declared.ready.ReadyReference.{ReadyReference}
-use Rattle.schema_check.specs.declared.ready.ReadyKind.TheVariants as kind
-use Rattle.schema_check.specs.Cohorts.{born_count, cohort_size}
-use Rattle.schema_check.specs.Dictionaries.{Project}
-use Rattle.schema_check.specs.Layout.{KindLayout, reference_kind, ColumnLayout, TableLayout, column_at, layout_of, no_column, no_table, table_at}
-use Rattle.schema_check.specs.Limits.{IsInLimits}
-use Rattle.schema_check.specs.Lineage.{death_cost, endless, lesser_life, lineage_at, lineages, one_if, own_lineage, sure_life, with_kind}
-use Rattle.schema_check.specs.Ready.{ready_column, ready_columns, ready_kind}
-use Rattle.schema_check.specs.References.{IsReferenceInLimits, Reference, count_in_window, first_in_window, reference_at, references_of}
-use Rattle.schema_check.proofs.LineageLemmas.{lineage_at-lineages}
+use Rattle.schema_plan.specs.declared.layout.Births.{Births}
+use Rattle.schema_plan.specs.declared.layout.Span.{Span}
+use Rattle.schema_plan.specs.declared.lineage.Lineage.{Lineage}
+use Rattle.schema_plan.specs.declared.ready.ReadyColumn.{ReadyColumn}
+use Rattle.schema_plan.specs.declared.ready.ReadyReference.{ReadyReference}
+use Rattle.schema_plan.specs.declared.ready.ReadyKind.TheVariants as kind
+use Rattle.schema_plan.specs.Cohorts.{born_count, cohort_size}
+use Rattle.schema_plan.specs.Dictionaries.{Project}
+use Rattle.schema_plan.specs.Layout.{KindLayout, reference_kind, ColumnLayout, TableLayout, column_at, layout_of, no_column, no_table, table_at}
+use Rattle.schema_plan.specs.Limits.{IsInLimits}
+use Rattle.schema_plan.specs.Lineage.{death_cost, endless, lesser_life, lineage_at, lineages, one_if, own_lineage, sure_life, with_kind}
+use Rattle.schema_plan.specs.Ready.{ready_column, ready_columns, ready_kind}
+use Rattle.schema_plan.specs.References.{IsReferenceInLimits, Reference, count_in_window, first_in_window, reference_at, references_of}
+use Rattle.schema_plan.proofs.LineageLemmas.{lineage_at-lineages}
 use Rattle.life_intervals.specs.declared.candidates.Candidates.{Candidates}
 use Rattle.life_intervals.specs.CohortKeys.{CohortOf}
 use Rattle.life_intervals.specs.CohortOrders.{do_lives_differ}

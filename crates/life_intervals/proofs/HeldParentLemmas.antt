@@ -4,11 +4,11 @@ use Rattle.std.specs.Prelude.{All}
 use Rattle.std.specs.List.{AllByRecursion}
 use Rattle.std.proofs.lemmas.Bool.{cases_lt, false≢true}
 use Rattle.std.proofs.lemmas.List.Elements.{All-from_recursion}
-use Rattle.schema_check.specs.declared.layout.Births.{Births}
-use Rattle.schema_check.specs.Cohorts.{born_count}
-use Rattle.schema_check.specs.Layout.{table_at}
-use Rattle.schema_check.specs.Lineage.{sure_life}
-use Rattle.schema_check.specs.References.{Reference, references_of}
+use Rattle.schema_plan.specs.declared.layout.Births.{Births}
+use Rattle.schema_plan.specs.Cohorts.{born_count}
+use Rattle.schema_plan.specs.Layout.{table_at}
+use Rattle.schema_plan.specs.Lineage.{sure_life}
+use Rattle.schema_plan.specs.References.{Reference, references_of}
 use Rattle.life_intervals.specs.Generator.{Generator}
 use Rattle.life_intervals.specs.Intervals.{Known, birth, death, first_death, index_at, is_after, is_live, known_tables, own_death, parent_of}
 use Rattle.life_intervals.specs.Simulation.{holds_row, rows_at}

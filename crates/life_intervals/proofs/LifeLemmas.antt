@@ -3,14 +3,14 @@ use Rattle.std.proofs.Common.{◌≡◌, ℕ, ◌+◌, ◌-◌, ◌%◌, ◌<◌
 use Rattle.std.specs.List.{AllByRecursion}
 use Rattle.std.proofs.lemmas.List.Elements.{All-from_recursion}
 use Rattle.philox_seeds.specs.SeedTree.{update_column}
-use Rattle.schema_check.specs.declared.layout.Births.{Births}
-use Rattle.schema_check.specs.Cohorts.{born_count, first_ordinal}
-use Rattle.schema_check.specs.Layout.{TableLayout, table_at}
-use Rattle.schema_check.specs.Lineage.{sure_life}
+use Rattle.schema_plan.specs.declared.layout.Births.{Births}
+use Rattle.schema_plan.specs.Cohorts.{born_count, first_ordinal}
+use Rattle.schema_plan.specs.Layout.{TableLayout, table_at}
+use Rattle.schema_plan.specs.Lineage.{sure_life}
 use Rattle.life_intervals.specs.Changes.{first_due, last_due}
 use Rattle.life_intervals.specs.Generator.{Generator}
 use Rattle.life_intervals.specs.Intervals.{Known, birth, change_unit, death, death_by, first_death, index_at, known_at, known_of, known_tables, own_death, own_death_by, parent_death_by, parent_of}
-use Rattle.schema_check.specs.References.{Reference, reference_at, references_of}
+use Rattle.schema_plan.specs.References.{Reference, reference_at, references_of}
 use Rattle.life_intervals.specs.Sound.{AreSound}
 use Rattle.life_intervals.proofs.ChangeLemmas.{change-le}
 use Rattle.life_intervals.proofs.CohortLemmas.{birth-later, birth-le, index_at-below}

@@ -6,15 +6,15 @@ use Rattle.std.proofs.lemmas.Bool.{cases_Bool, false≢true}
 use Rattle.std.proofs.lemmas.List.{get_or-take}
 use Rattle.std.proofs.lemmas.Nat.{mod_below}
 use Rattle.philox_seeds.specs.SeedTree.{life_column}
-use Rattle.schema_check.specs.declared.layout.Births.{Births}
-use Rattle.schema_check.specs.declared.layout.Span.{Span}
-use Rattle.schema_check.specs.declared.lineage.Lineage.{Lineage}
-use Rattle.schema_check.specs.Cohorts.{cohort_size}
-use Rattle.schema_check.specs.Layout.{KindLayout, reference_kind, ColumnLayout, TableLayout, table_at}
-use Rattle.schema_check.specs.Limits.{IsSpan}
-use Rattle.schema_check.specs.Lineage.{endless, lineage_at, lineages, longest_life, own_lineage, sure_life, with_kind}
-use Rattle.schema_check.specs.References.{Reference, references_of}
-use Rattle.schema_check.proofs.LineageLemmas.{lineage_at-lineages}
+use Rattle.schema_plan.specs.declared.layout.Births.{Births}
+use Rattle.schema_plan.specs.declared.layout.Span.{Span}
+use Rattle.schema_plan.specs.declared.lineage.Lineage.{Lineage}
+use Rattle.schema_plan.specs.Cohorts.{cohort_size}
+use Rattle.schema_plan.specs.Layout.{KindLayout, reference_kind, ColumnLayout, TableLayout, table_at}
+use Rattle.schema_plan.specs.Limits.{IsSpan}
+use Rattle.schema_plan.specs.Lineage.{endless, lineage_at, lineages, longest_life, own_lineage, sure_life, with_kind}
+use Rattle.schema_plan.specs.References.{Reference, references_of}
+use Rattle.schema_plan.proofs.LineageLemmas.{lineage_at-lineages}
 use Rattle.life_intervals.specs.Generator.{Generator}
 use Rattle.life_intervals.specs.Intervals.{Known, birth, death_by, first_death, index_at, is_after, known_at, known_of, known_tables, own_death_by, parent_by, parent_death_by}
 use Rattle.life_intervals.specs.Rows.{life_by}

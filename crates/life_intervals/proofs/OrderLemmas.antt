@@ -7,11 +7,11 @@ use Rattle.std.proofs.lemmas.List.FromFn.{get_or-map-range_with_len, length-map-
 use Rattle.philox_seeds.specs.SeedTree.{key_order_seed, life_column, life_order_seed, update_column, update_order_seed}
 use Rattle.id_permutation.specs.Order.{order_steps, place_by, place_in, steps_by}
 use Rattle.id_permutation.specs.Placement as placement
-use Rattle.schema_check.specs.declared.layout.Span.{Span}
-use Rattle.schema_check.specs.Cohorts.{cohort_size}
-use Rattle.schema_check.specs.Dictionaries.{Project}
-use Rattle.schema_check.specs.Layout.{layout_of}
-use Rattle.schema_check.specs.Lineage.{one_if}
+use Rattle.schema_plan.specs.declared.layout.Span.{Span}
+use Rattle.schema_plan.specs.Cohorts.{cohort_size}
+use Rattle.schema_plan.specs.Dictionaries.{Project}
+use Rattle.schema_plan.specs.Layout.{layout_of}
+use Rattle.schema_plan.specs.Lineage.{one_if}
 use Rattle.life_intervals.specs.declared.orders.CohortOrders.{CohortOrders}
 use Rattle.life_intervals.specs.Changes.{first_due}
 use Rattle.life_intervals.specs.CohortOrders.{cohort_orders, do_lives_differ, do_updates_differ, key_order, life_order, table_orders, update_order}

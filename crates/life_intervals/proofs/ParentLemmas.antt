@@ -6,15 +6,15 @@ use Rattle.std.proofs.lemmas.Nat.{mod_below}
 use Rattle.std.proofs.lemmas.List.{get_or-map, map-append}
 use Rattle.std.proofs.lemmas.List.Elements.{filter_map-append, filter-append}
 use Rattle.std.proofs.lemmas.List.FromFn.{get_or-range_with_len, length-range_with_len}
-use Rattle.schema_check.specs.declared.layout.Births.{Births}
-use Rattle.schema_check.specs.Cohorts.{born_count, cohort_size, first_ordinal}
+use Rattle.schema_plan.specs.declared.layout.Births.{Births}
+use Rattle.schema_plan.specs.Cohorts.{born_count, cohort_size, first_ordinal}
 use Rattle.life_intervals.specs.Generator.{Order}
 use Rattle.life_intervals.specs.Intervals.{Known, LiesIn, birth, death_by, first_death, index_at, is_after, known_at, nothing_known, parent_by, parent_death_by, row_by}
-use Rattle.schema_check.specs.References.{Reference, count_in_window, first_in_window, window_start}
+use Rattle.schema_plan.specs.References.{Reference, count_in_window, first_in_window, window_start}
 use Rattle.life_intervals.specs.References.{choice}
 use Rattle.life_intervals.specs.Rows.{Row, candidates, is_in_window, parent_choice}
 use Rattle.life_intervals.specs.Simulation.{hold_parents, holds_row}
-use Rattle.schema_check.specs.References.{IsWithinLife}
+use Rattle.schema_plan.specs.References.{IsWithinLife}
 use Rattle.life_intervals.proofs.CohortLemmas.{LiesIn-birth, birth-before, birth-from, birth-later, born_count-le}
 use Rattle.life_intervals.proofs.DeathLemmas.{is_after-lesser_from, is_after-lesser_life}
 use Rattle.life_intervals.proofs.Ranges.{range_with_len-add}

@@ -4,16 +4,16 @@ use Rattle.std.specs.Prelude.{IfSome, if◌then◌else◌}
 use Rattle.std.specs.List.{range_with_len}
 use Rattle.std.proofs.lemmas.Bool.{cases_Bool}
 use Rattle.philox_seeds.specs.SeedTree.{life_column, update_column}
-use Rattle.schema_check.specs.declared.layout.Span.{Span}
-use Rattle.schema_check.specs.Cohorts.{born_count, cohort_size, first_ordinal}
-use Rattle.schema_check.specs.Layout.{TableLayout}
+use Rattle.schema_plan.specs.declared.layout.Span.{Span}
+use Rattle.schema_plan.specs.Cohorts.{born_count, cohort_size, first_ordinal}
+use Rattle.schema_plan.specs.Layout.{TableLayout}
 use Rattle.life_intervals.specs.Changes.{change_by, first_due, wait_by}
 use Rattle.life_intervals.specs.Generator.{Order}
 use Rattle.life_intervals.specs.Intervals.{Known, birth, death_by, first_death, index_at, is_after, known_by, own_death_by, parent_by, parent_death_by, row_by}
-use Rattle.schema_check.specs.References.{Reference, references_of}
+use Rattle.schema_plan.specs.References.{Reference, references_of}
 use Rattle.life_intervals.specs.Rows.{Row, State, first_age_by, life_by, new_row, parent_choice}
 use Rattle.life_intervals.specs.Simulation.{hold_parents, is_due, is_over, kept, one_less, waited}
-use Rattle.schema_check.specs.Limits.{IsSpan}
+use Rattle.schema_plan.specs.Limits.{IsSpan}
 use Rattle.life_intervals.proofs.ChangeLemmas.{NextChange, NextChange-update, change-born, wait-born}
 use Rattle.life_intervals.proofs.CohortLemmas.{birth-early, birth-first_ordinal}
 use Rattle.life_intervals.proofs.DeathLemmas.{is_after-lesser_from, is_after-lesser_life, is_after-lesser_parts, is_after-suc, is_over-left, one_less-left}

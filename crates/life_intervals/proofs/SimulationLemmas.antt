@@ -6,16 +6,16 @@ use Rattle.std.proofs.lemmas.Bool.{cases_lt}
 use Rattle.std.proofs.lemmas.List.{append-nil, get_or-map, get_or_past, length-map}
 use Rattle.std.proofs.lemmas.List.Elements.{filter_map-append}
 use Rattle.std.proofs.lemmas.List.FromFn.{fill_by_all}
-use Rattle.schema_check.specs.Cohorts.{born_count, cohort_size, first_ordinal}
-use Rattle.schema_check.specs.InTurn.{in_turn}
-use Rattle.schema_check.specs.Layout.{TableLayout, no_table, table_at}
-use Rattle.schema_check.specs.Lineage.{sure_life}
+use Rattle.schema_plan.specs.Cohorts.{born_count, cohort_size, first_ordinal}
+use Rattle.schema_plan.specs.InTurn.{in_turn}
+use Rattle.schema_plan.specs.Layout.{TableLayout, no_table, table_at}
+use Rattle.schema_plan.specs.Lineage.{sure_life}
 use Rattle.life_intervals.specs.Generator.{Generator, Order}
 use Rattle.life_intervals.specs.Intervals.{Known, birth, index_at, interval_state, is_live, known_by, known_of, known_tables, nothing_known, row_at, rows_of}
-use Rattle.schema_check.specs.References.{references_of}
+use Rattle.schema_plan.specs.References.{references_of}
 use Rattle.life_intervals.specs.Rows.{Row, State, cohort, new_row}
 use Rattle.life_intervals.specs.Simulation.{kept, rows_at, simulation, step, waited, with_changes, with_cohort, with_deletions, with_insertions, with_updates, without_dead}
-use Rattle.schema_check.specs.Limits.{IsSpan}
+use Rattle.schema_plan.specs.Limits.{IsSpan}
 use Rattle.life_intervals.specs.Sound.{AreSound}
 use Rattle.life_intervals.proofs.CohortLemmas.{birth-le, born_count-by_units, born_count-next, index_at-below}
 use Rattle.life_intervals.proofs.FilterMaps.{filter_map-filter_map, filter_map-range_same, map-filter, map-filter_map, map-filter_map_range}

@@ -1,13 +1,13 @@
 -- What sound tables come to: the candidates of each reference, and change units.
 use Rattle.std.proofs.Common.{◌≡◌, ℕ, ◌<◌, ◌≤◌, Some, List, length, ap, arith, ◌∙◌}
 use Rattle.std.specs.List.{range_with_len}
-use Rattle.schema_check.specs.Cohorts.{born_count, cohort_size}
-use Rattle.schema_check.specs.Layout.{TableLayout, table_at}
-use Rattle.schema_check.specs.Lineage.{sure_life}
+use Rattle.schema_plan.specs.Cohorts.{born_count, cohort_size}
+use Rattle.schema_plan.specs.Layout.{TableLayout, table_at}
+use Rattle.schema_plan.specs.Lineage.{sure_life}
 use Rattle.life_intervals.specs.Changes.{IsLastDue, first_due}
 use Rattle.life_intervals.specs.Generator.{Generator}
 use Rattle.life_intervals.specs.Intervals.{Known, birth, change_unit, index_at, known_of}
-use Rattle.schema_check.specs.References.{Reference, count_in_window, first_in_window}
+use Rattle.schema_plan.specs.References.{Reference, count_in_window, first_in_window}
 use Rattle.life_intervals.specs.Rows.{candidates}
 use Rattle.life_intervals.specs.Simulation.{rows_at}
 use Rattle.life_intervals.specs.Sound.{AreSound, IsSoundReference}

@@ -6,13 +6,13 @@ use Rattle.std.proofs.lemmas.Bool.{cases_Bool}
 use Rattle.std.proofs.lemmas.List.{get_or-map, length-map}
 use Rattle.std.proofs.lemmas.Option.{none-some}
 use Rattle.std.proofs.lemmas.List.Elements.{filter-append, filter_map-append}
-use Rattle.schema_check.specs.Cohorts.{born_count, cohort_size, first_ordinal}
-use Rattle.schema_check.specs.Layout.{TableLayout, table_at}
-use Rattle.schema_check.specs.Lineage.{sure_life}
+use Rattle.schema_plan.specs.Cohorts.{born_count, cohort_size, first_ordinal}
+use Rattle.schema_plan.specs.Layout.{TableLayout, table_at}
+use Rattle.schema_plan.specs.Lineage.{sure_life}
 use Rattle.life_intervals.specs.Changes.{change_by, first_due}
 use Rattle.life_intervals.specs.Generator.{Generator, Order}
 use Rattle.life_intervals.specs.Intervals.{Known, birth, change_unit, changing, death, death_by, dying, index_at, is_after, is_at, is_live, known_by, known_of, known_tables, newborn, nothing_known, row_at, row_by}
-use Rattle.schema_check.specs.References.{references_of}
+use Rattle.schema_plan.specs.References.{references_of}
 use Rattle.life_intervals.specs.Rows.{Row, State, cohort, new_row}
 use Rattle.life_intervals.specs.Simulation.{hold_parents, is_due, kept, rows_at, simulation, waited, with_deletions}
 use Rattle.life_intervals.specs.Sound.{AreSound}

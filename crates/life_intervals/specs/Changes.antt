@@ -2,7 +2,7 @@
 use Rattle.std.specs.Prelude.{◌≡◌, ℕ, ◌+◌, ◌-◌, ◌*◌, ◌%◌, ◌<◌, ◌≤◌, ◌⊎◌, if◌then◌else◌, nat_lt, Option}
 use Rattle.std.specs.Option.{option_map, option_map_or}
 use Rattle.philox_seeds.specs.SeedTree.{update_column}
-use Rattle.schema_check.specs.Layout.{TableLayout}
+use Rattle.schema_plan.specs.Layout.{TableLayout}
 use Rattle.life_intervals.specs.Generator.{Order}
 
 -- the last up to a unit of the units `first`, `first` + `period`, and so on; `born` where the first of them is past it

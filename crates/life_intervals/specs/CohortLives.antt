@@ -2,12 +2,12 @@
 use Rattle.std.specs.Prelude.{◌≡◌, ◌<◌, ◌≤◌, ℕ, ◌+◌, length, Bool, if◌then◌else◌, IfSome, Option}
 use Rattle.std.specs.Option.{option_map}
 use Rattle.id_permutation.specs.Order.{Arrangement}
-use Rattle.schema_check.specs.declared.layout.Span.{Span}
-use Rattle.schema_check.specs.Cohorts.{cohort_size, first_ordinal}
-use Rattle.schema_check.specs.Dictionaries.{Project}
-use Rattle.schema_check.specs.Limits.{IsInLimits, IsLife, IsUpdatePeriod}
-use Rattle.schema_check.specs.Layout.{layout_of}
-use Rattle.schema_check.specs.Lineage.{longest_life, sure_life}
+use Rattle.schema_plan.specs.declared.layout.Span.{Span}
+use Rattle.schema_plan.specs.Cohorts.{cohort_size, first_ordinal}
+use Rattle.schema_plan.specs.Dictionaries.{Project}
+use Rattle.schema_plan.specs.Limits.{IsInLimits, IsLife, IsUpdatePeriod}
+use Rattle.schema_plan.specs.Layout.{layout_of}
+use Rattle.schema_plan.specs.Lineage.{longest_life, sure_life}
 use Rattle.life_intervals.specs.declared.lives.Survival.{Survival}
 use Rattle.life_intervals.specs.declared.lives.Survival.TheVariants.{Sure, Drawn, Over}
 use Rattle.life_intervals.specs.CohortKeys.{CohortOf}

@@ -4,10 +4,10 @@ use Rattle.std.specs.List.{range_with_len}
 use Rattle.std.specs.Option.{option_map_or}
 use Rattle.philox_seeds.specs.SeedTree.{key_order_seed, life_order_seed, update_order_seed}
 use Rattle.id_permutation.specs.Order.{Arrangement}
-use Rattle.schema_check.specs.declared.layout.Span.{Span}
-use Rattle.schema_check.specs.Cohorts.{cohort_size}
-use Rattle.schema_check.specs.Dictionaries.{Project}
-use Rattle.schema_check.specs.Layout.{layout_of}
+use Rattle.schema_plan.specs.declared.layout.Span.{Span}
+use Rattle.schema_plan.specs.Cohorts.{cohort_size}
+use Rattle.schema_plan.specs.Dictionaries.{Project}
+use Rattle.schema_plan.specs.Layout.{layout_of}
 use Rattle.life_intervals.specs.declared.orders.CohortOrders.{CohortOrders}
 use Rattle.life_intervals.specs.Generator.{table_of}
 

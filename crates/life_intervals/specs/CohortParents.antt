@@ -3,16 +3,16 @@ use Rattle.std.specs.Prelude.{◌≡◌, ◌<◌, ◌≤◌, ◌⊎◌, ℕ, ◌
 use Rattle.std.specs.List.{list_any, range_with_len}
 use Rattle.std.specs.Option.{option_map}
 use Rattle.philox_seeds.specs.SeedTree.{reference_order_seed}
-use Rattle.schema_check.specs.declared.ready.ReadyColumn.{ReadyColumn}
-use Rattle.schema_check.specs.declared.ready.ReadyReference.{ReadyReference}
-use Rattle.schema_check.specs.declared.ready.ReadyKind.{ReadyKind}
-use Rattle.schema_check.specs.declared.ready.ReadyKind.TheVariants as kind
-use Rattle.schema_check.specs.Dictionaries.{Project}
-use Rattle.schema_check.specs.Layout.{TableLayout, column_at, layout_of, table_at}
-use Rattle.schema_check.specs.Limits.{IsInLimits}
-use Rattle.schema_check.specs.Lineage.{death_cost, one_if}
-use Rattle.schema_check.specs.Ready.{ready_columns, ready_kind}
-use Rattle.schema_check.specs.References.{Reference, count_in_window, first_in_window, reference_at, references_of}
+use Rattle.schema_plan.specs.declared.ready.ReadyColumn.{ReadyColumn}
+use Rattle.schema_plan.specs.declared.ready.ReadyReference.{ReadyReference}
+use Rattle.schema_plan.specs.declared.ready.ReadyKind.{ReadyKind}
+use Rattle.schema_plan.specs.declared.ready.ReadyKind.TheVariants as kind
+use Rattle.schema_plan.specs.Dictionaries.{Project}
+use Rattle.schema_plan.specs.Layout.{TableLayout, column_at, layout_of, table_at}
+use Rattle.schema_plan.specs.Limits.{IsInLimits}
+use Rattle.schema_plan.specs.Lineage.{death_cost, one_if}
+use Rattle.schema_plan.specs.Ready.{ready_columns, ready_kind}
+use Rattle.schema_plan.specs.References.{Reference, count_in_window, first_in_window, reference_at, references_of}
 use Rattle.life_intervals.specs.declared.candidates.Candidates.{Candidates}
 use Rattle.life_intervals.specs.CohortKeys.{CohortOf}
 use Rattle.life_intervals.specs.CohortOrders.{do_lives_differ, order_by}

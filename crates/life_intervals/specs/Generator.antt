@@ -2,9 +2,9 @@
 use Rattle.std.specs.Prelude.{ℕ, List}
 use Rattle.philox_seeds.specs.SeedTree.{field_draw, permutation_seed}
 use Rattle.id_permutation.specs.Placement as placement
-use Rattle.schema_check.specs.Cohorts.{born_count, cohort_size}
-use Rattle.schema_check.specs.Dictionaries.{Project}
-use Rattle.schema_check.specs.Layout.{Layout, layout_of, TableLayout, table_at}
+use Rattle.schema_plan.specs.Cohorts.{born_count, cohort_size}
+use Rattle.schema_plan.specs.Dictionaries.{Project}
+use Rattle.schema_plan.specs.Layout.{Layout, layout_of, TableLayout, table_at}
 
 -- the place of an index, for a table, a purpose, a unit and an index in the unit's cohort
 abbrev pub Order : Type 0

@@ -3,14 +3,14 @@ use Rattle.std.specs.Prelude.{ℕ, zero, suc, ◌+◌, ◌-◌, ◌<◌, ◌≤�
 use Rattle.std.specs.List.{range_with_len}
 use Rattle.std.specs.Option.{option_map}
 use Rattle.philox_seeds.specs.SeedTree.{life_column}
-use Rattle.schema_check.specs.declared.layout.Births.{Births}
-use Rattle.schema_check.specs.Cohorts.{born_count, cohort_size, first_ordinal}
-use Rattle.schema_check.specs.InTurn.{in_turn}
-use Rattle.schema_check.specs.Layout.{TableLayout, no_table, table_at}
-use Rattle.schema_check.specs.Lineage.{lesser_life}
+use Rattle.schema_plan.specs.declared.layout.Births.{Births}
+use Rattle.schema_plan.specs.Cohorts.{born_count, cohort_size, first_ordinal}
+use Rattle.schema_plan.specs.InTurn.{in_turn}
+use Rattle.schema_plan.specs.Layout.{TableLayout, no_table, table_at}
+use Rattle.schema_plan.specs.Lineage.{lesser_life}
 use Rattle.life_intervals.specs.Changes.{change_by, wait_by}
 use Rattle.life_intervals.specs.Generator.{Generator, Order}
-use Rattle.schema_check.specs.References.{Reference, count_in_window, first_in_window, references_of}
+use Rattle.schema_plan.specs.References.{Reference, count_in_window, first_in_window, references_of}
 use Rattle.life_intervals.specs.References.{choice}
 use Rattle.life_intervals.specs.Rows.{Row, State, life_by}
 

@@ -1,8 +1,8 @@
 -- Customers, their orders and the lines of these, worked out by hand for orders in which each index is its own place.
 use Rattle.std.specs.Prelude.{ℕ, [], ◌∷◌, Some, None}
 use Rattle.philox_seeds.specs.SeedTree.{field_draw}
-use Rattle.schema_check.specs.Layout.{layout_of}
-use Rattle.schema_check.specs.Worked.{sales}
+use Rattle.schema_plan.specs.Layout.{layout_of}
+use Rattle.schema_plan.specs.Worked.{sales}
 use Rattle.life_intervals.specs.Generator.{Generator, in_place}
 use Rattle.life_intervals.specs.Rows.{Row}
 

@@ -1,13 +1,13 @@
 //! How many rows are born, and when.
 
 ghost use Rattle.std.specs.Prelude.{◌≡◌, ◌<◌, ◌≤◌, ◌^◌, length};
-ghost use Rattle.schema_check.specs.Cohorts.{born_count};
+ghost use Rattle.schema_plan.specs.Cohorts.{born_count};
 ghost use Rattle.life_intervals.specs.CohortKeys.{IsCohort};
 ghost use Rattle.life_intervals.specs.Generator.{last_unit, rows_in_all, table_of};
 ghost use Rattle.life_intervals.specs.Intervals.{LiesIn, birth};
 
 use crate::cohorts::Cohort;
-use schema_check::Plan;
+use schema_plan::Plan;
 
 /// How many rows of a table are born in the units 0 to `t`.
 pub fn born(plan: &Plan, table: u32, t: u64) -> u64

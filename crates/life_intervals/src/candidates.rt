@@ -2,8 +2,8 @@
 
 ghost use Rattle.std.specs.Prelude.{◌≡◌, ◌+◌, ◌-◌, ◌<◌, ◌≤◌, ◌^◌, IfOk, length, max, sum};
 ghost use Rattle.id_permutation.specs.Order.{order_steps, place_in};
-ghost use Rattle.schema_check.specs.Cohorts.{born_count};
-ghost use Rattle.schema_check.specs.References.{IsSpread, count_in_window, first_in_window};
+ghost use Rattle.schema_plan.specs.Cohorts.{born_count};
+ghost use Rattle.schema_plan.specs.References.{IsSpread, count_in_window, first_in_window};
 ghost use Rattle.life_intervals.specs.CohortParents.{IsReferenceOf, candidates_by, cohort_candidates, has_references, is_reference, reference_by, table_candidates};
 ghost use Rattle.life_intervals.specs.Generator.{last_unit, table_of};
 ghost use Rattle.life_intervals.specs.References.{choice};
@@ -14,7 +14,7 @@ use crate::orders::reference_order;
 use crate::wanted::MOST_ENTRIES;
 use fixed_divisors::FixedDivisor;
 use id_permutation::Order;
-use schema_check::{Plan, ReadyColumn, ReadyKind, ReadyReference};
+use schema_plan::{Plan, ReadyColumn, ReadyKind, ReadyReference};
 use schema_model::Sequence;
 use std::alloc::Global;
 use std::sync::ledger::Ledger;

@@ -1,9 +1,9 @@
 //! Which rows of a cohort are alive at a unit, and when they changed last, with what doesn't change from row to row taken once.
 
 ghost use Rattle.std.specs.Prelude.{◌≡◌, ◌+◌, ◌<◌, ◌≤◌, ◌⊎◌, ℕ, IfSome, false, length, min, true};
-ghost use Rattle.schema_check.specs.Lineage.{one_if};
+ghost use Rattle.schema_plan.specs.Lineage.{one_if};
 ghost use Rattle.life_intervals.specs.CohortLives.{change_in, cohort_of, death_in, is_live_in, own_death_in, size_of, survival_of};
-ghost use Rattle.schema_check.specs.Cohorts.{born_count};
+ghost use Rattle.schema_plan.specs.Cohorts.{born_count};
 ghost use Rattle.life_intervals.specs.CohortParents.{AreCandidates, IsReferenceOf, asked_for_death, parent_in, reference_by};
 ghost use Rattle.life_intervals.specs.CohortOrders.{do_lives_differ, do_updates_differ, life_order, update_order};
 ghost use Rattle.life_intervals.specs.Generator.{last_unit, table_of};
@@ -12,7 +12,7 @@ use crate::candidates::Candidates;
 use crate::lives::{Survival, last_due, lifetime, survival_at};
 use crate::parents::{CohortParents, earlier};
 use id_permutation::Order;
-use schema_check::{Plan, ReadyReference, Span};
+use schema_plan::{Plan, ReadyReference, Span};
 use std::marker::Model;
 use std::sync::ledger::Ledger;
 use step_count::Steps;

@@ -5,18 +5,18 @@
 
 ghost use Rattle.std.specs.Prelude.{◌≡◌, ℕ, ◌+◌, ◌*◌, ◌/◌, ◌-◌, ◌<◌, ◌≤◌, All, if◌then◌else◌, length, map, nat_lt, take, false, true, List, [], ◌∷◌, Some};
 ghost use Rattle.std.specs.List.{range_with_len};
-ghost use Rattle.schema_check.specs.declared.layout.Births.{Births};
-ghost use Rattle.schema_check.specs.Cohorts.{born_count, cohort_size, first_ordinal};
-ghost use Rattle.schema_check.specs.Dictionaries.{Project};
-ghost use Rattle.schema_check.specs.Layout.{TableLayout, layout_of, table_at};
-ghost use Rattle.schema_check.specs.Limits.{IsInLimits};
-ghost use Rattle.schema_check.specs.Lineage.{death_cost, longest_life, sure_life};
+ghost use Rattle.schema_plan.specs.declared.layout.Births.{Births};
+ghost use Rattle.schema_plan.specs.Cohorts.{born_count, cohort_size, first_ordinal};
+ghost use Rattle.schema_plan.specs.Dictionaries.{Project};
+ghost use Rattle.schema_plan.specs.Layout.{TableLayout, layout_of, table_at};
+ghost use Rattle.schema_plan.specs.Limits.{IsInLimits};
+ghost use Rattle.schema_plan.specs.Lineage.{death_cost, longest_life, sure_life};
 ghost use Rattle.life_intervals.specs.Changes.{IsLastDue, first_due};
 ghost use Rattle.life_intervals.specs.CohortParents.{asked_for_death};
 ghost use Rattle.life_intervals.specs.Generator.{Generator, generator_of, last_unit, table_of};
 ghost use Rattle.life_intervals.specs.Intervals.{LiesIn, birth, change_unit, changing, death, dying, first_death, index_at, interval_state, is_after, known_of, newborn, own_death, parent_of, row_at, rows_of};
 ghost use Rattle.life_intervals.specs.Keys.{OrdersCohorts, key_in_cohort, key_of};
-ghost use Rattle.schema_check.specs.References.{count_in_window, first_in_window, references_of};
+ghost use Rattle.schema_plan.specs.References.{count_in_window, first_in_window, references_of};
 ghost use Rattle.life_intervals.specs.References.{choice};
 ghost use Rattle.life_intervals.specs.Rows.{candidates, cohort};
 ghost use Rattle.life_intervals.specs.Simulation.{holds_row, rows_at, simulation};

@@ -2,8 +2,8 @@
 
 ghost use Rattle.std.specs.Prelude.{◌≡◌, ◌+◌, ◌<◌, ◌≤◌, Some, length};
 ghost use Rattle.std.specs.Option.{option_map};
-ghost use Rattle.schema_check.specs.Cohorts.{born_count};
-ghost use Rattle.schema_check.specs.Lineage.{one_if};
+ghost use Rattle.schema_plan.specs.Cohorts.{born_count};
+ghost use Rattle.schema_plan.specs.Lineage.{one_if};
 ghost use Rattle.life_intervals.specs.Changes.{last_due};
 ghost use Rattle.life_intervals.specs.CohortLives.{survival_at};
 ghost use Rattle.life_intervals.specs.CohortOrders.{do_lives_differ, do_updates_differ};
@@ -13,7 +13,7 @@ ghost use Rattle.life_intervals.specs.Rows.{life_by};
 
 use crate::births::{birth, cohort};
 use crate::orders::{life_order, update_order};
-use schema_check::{Plan, Span};
+use schema_plan::{Plan, Span};
 use std::sync::ledger::Ledger;
 use step_count::Steps;
 

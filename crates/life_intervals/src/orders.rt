@@ -2,7 +2,7 @@
 
 ghost use Rattle.std.specs.Prelude.{◌≡◌, ◌<◌, ◌≤◌, IfOk, length, true};
 ghost use Rattle.philox_seeds.specs.SeedTree.{reference_order_seed};
-ghost use Rattle.schema_check.specs.Layout.{layout_of};
+ghost use Rattle.schema_plan.specs.Layout.{layout_of};
 ghost use Rattle.life_intervals.specs.CohortOrders.{cohort_orders, do_lives_differ, do_updates_differ, key_order, life_order, order_by, table_orders, update_order};
 ghost use Rattle.life_intervals.specs.Generator.{last_unit};
 
@@ -12,7 +12,7 @@ use crate::memory::Memory;
 use crate::wanted::{MOST_ENTRIES, Wanted};
 use id_permutation::Order;
 use philox_seeds::{key_order_seed, life_order_seed, reference_order_seed, update_order_seed};
-use schema_check::{Plan, Span};
+use schema_plan::{Plan, Span};
 use std::alloc::Global;
 
 /// The orders of a cohort's rows. An order is a permutation where what its places decide is drawn, else each row has its own place.

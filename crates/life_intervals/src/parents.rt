@@ -1,10 +1,10 @@
 //! The parents of rows, and when the first of a row's parents dies.
 
 ghost use Rattle.std.specs.Prelude.{◌≡◌, ◌+◌, ◌<◌, ◌≤◌, Some, is_some, length, true};
-ghost use Rattle.schema_check.specs.Cohorts.{born_count, cohort_size};
-ghost use Rattle.schema_check.specs.Layout.{layout_of};
-ghost use Rattle.schema_check.specs.Lineage.{death_cost, lesser_life};
-ghost use Rattle.schema_check.specs.References.{Reference, reference_at};
+ghost use Rattle.schema_plan.specs.Cohorts.{born_count, cohort_size};
+ghost use Rattle.schema_plan.specs.Layout.{layout_of};
+ghost use Rattle.schema_plan.specs.Lineage.{death_cost, lesser_life};
+ghost use Rattle.schema_plan.specs.References.{Reference, reference_at};
 ghost use Rattle.life_intervals.specs.CohortParents.{AreCandidates, IsReferenceOf, candidates_by, parent_in, parents_death_in, reference_by, references_cost};
 ghost use Rattle.life_intervals.specs.Generator.{generator_of, last_unit, rows_in_all, table_of};
 ghost use Rattle.life_intervals.specs.Intervals.{death, parent_of};
@@ -12,7 +12,7 @@ ghost use Rattle.life_intervals.specs.Intervals.{death, parent_of};
 use crate::births::{birth, cohort};
 use crate::candidates::Candidates;
 use crate::lives::own_death;
-use schema_check::{Plan, ReadyKind, ReadyReference};
+use schema_plan::{Plan, ReadyKind, ReadyReference};
 use std::marker::Model;
 use std::sync::ledger::Ledger;
 use step_count::Steps;

@@ -2,8 +2,8 @@
 //! independent program gave, written in Python from the rules, with no shared code (docs/SECOND_PROGRAM.md).
 
 ghost use Rattle.std.specs.Prelude.{◌≡◌, ◌<◌, ◌≤◌, is_some, length, true};
-ghost use Rattle.schema_check.specs.Cohorts.{cohort_size};
-ghost use Rattle.schema_check.specs.References.{reference_at};
+ghost use Rattle.schema_plan.specs.Cohorts.{cohort_size};
+ghost use Rattle.schema_plan.specs.References.{reference_at};
 ghost use Rattle.life_intervals.specs.Generator.{last_unit, table_of};
 ghost use Rattle.life_intervals.specs.CohortOrders.{cohort_orders, table_orders};
 ghost use Rattle.life_intervals.specs.CohortParents.{AreCandidates, table_candidates};

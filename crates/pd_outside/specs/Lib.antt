@@ -6,7 +6,5 @@ pub mod Library
 pub mod MemLibrary
 pub mod MemShelf
 pub mod NamedCall
-pub mod Pages
-pub mod Pieces
 pub mod Shelf
 pub mod StatedFails

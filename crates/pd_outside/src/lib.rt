@@ -1,5 +1,5 @@
-//! The outside as the program sees it: files that are read, outputs that are written, a gate that packages pass, and
-//! the buffers that stand between. Each has a trait, whose clauses hold for every implementation, and a form in memory.
+//! The outside as the program sees it: files that are read, outputs that are written, and a gate that packages
+//! pass. Each has a trait, whose clauses hold for every implementation, and a form in memory.
 #![tactic(auto)]
 
 mod fails;
@@ -10,9 +10,6 @@ mod library;
 mod mem_library;
 mod mem_shelf;
 mod message;
-mod numbers;
-mod page_buf;
-mod piece;
 mod shelf;
 mod whole;
 
@@ -24,8 +21,6 @@ pub use library::Library;
 pub use mem_library::MemLibrary;
 pub use mem_shelf::MemShelf;
 pub use message::Message;
-pub use page_buf::PageBuf;
-pub use piece::Piece;
 pub use shelf::Shelf;
 pub use whole::{read_whole, write_all};
 

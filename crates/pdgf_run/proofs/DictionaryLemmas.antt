@@ -14,7 +14,7 @@ use Rattle.pd_outside.specs.Files.{File, bytes_of}
 use Rattle.pd_outside.specs.Library.{Content, ask, AskedAtMost, AskedPrefixOf}
 use Rattle.pd_outside.specs.declared.faults.ReadFault.{ReadFault}
 use Rattle.pd_outside.specs.declared.faults.ReadFault.TheVariants as reading
-use Rattle.schema_check.specs.Dictionaries.{Dictionary}
+use Rattle.schema_plan.specs.Dictionaries.{Dictionary}
 use Rattle.pdgf_run.specs.DictionaryFiles.{fault_at, named, with_dictionaries, with_dictionary, words_in, words_of}
 use Rattle.pdgf_run.specs.Limits.{dictionary_limit}
 use Rattle.pdgf_run.specs.ReadingList.{up_to_fault, AskedNone, AsksNames}

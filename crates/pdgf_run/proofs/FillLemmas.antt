@@ -9,7 +9,7 @@ use Rattle.std.proofs.lemmas.List.Folds.{flat_map-map}
 use Rattle.pd_outside.proofs.Appending.{append_both, files_then_prefix, nothing_begun, nothing_done}
 use Rattle.pd_outside.specs.Files.{File}
 use Rattle.pd_outside.specs.Shelf.{Held, append_bytes, finish_files, HoldsPrefixOf, IsPrefixOfNext}
-use Rattle.schema_check.specs.Dictionaries.{Project}
+use Rattle.schema_plan.specs.Dictionaries.{Project}
 use Rattle.life_intervals.proofs.Ranges.{flat_map-range_with_len_more}
 use Rattle.pdgf_run.specs.DueFiles.{Part, check_line, check_lines, part_text, texts_of}
 

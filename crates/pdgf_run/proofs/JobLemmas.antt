@@ -5,7 +5,7 @@ use Rattle.std.proofs.lemmas.List.{append-nil, map-append}
 use Rattle.std.proofs.lemmas.List.Concat.{flat_map-append}
 use Rattle.std.proofs.lemmas.Simd.{map-map}
 use Rattle.pd_outside.specs.Files.{File}
-use Rattle.schema_check.specs.Dictionaries.{Project}
+use Rattle.schema_plan.specs.Dictionaries.{Project}
 use Rattle.life_intervals.proofs.Ranges.{range_with_len-add}
 use Rattle.pdgf_run.specs.DueFiles.{Part, file_of, part_file, parts_at, parts_of, standard_output, table_files}
 use Rattle.pdgf_run.specs.Jobs.{Named, files_by, named, own_file, part_of, with_name}

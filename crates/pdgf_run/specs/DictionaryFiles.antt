@@ -4,7 +4,7 @@ use Rattle.dictionaries.specs.Grammar.{dictionary_of}
 use Rattle.dictionaries.specs.WordList.{WordList}
 use Rattle.pd_outside.specs.Files.{File, bytes_of}
 use Rattle.pd_outside.specs.declared.faults.ReadFault.TheVariants.{TooLong}
-use Rattle.schema_check.specs.Dictionaries.{Dictionary}
+use Rattle.schema_plan.specs.Dictionaries.{Dictionary}
 use Rattle.pdgf_run.specs.Limits.{dictionary_limit}
 use Rattle.pdgf_run.specs.Stages.{in_stage, on_ok}
 use Rattle.pdgf_run.specs.declared.refusal.DictionaryCause.{DictionaryCause}

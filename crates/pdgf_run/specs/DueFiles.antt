@@ -5,11 +5,11 @@ use Rattle.std.specs.Option.{option_map}
 use Rattle.pd_outside.specs.Files.{File}
 use Rattle.schema_model.specs.declared.table.Schema.{Schema}
 use Rattle.schema_model.specs.declared.table.Table.{Table}
-use Rattle.schema_check.specs.Dictionaries.{Project}
-use Rattle.schema_check.specs.Layout.{layout_of}
-use Rattle.schema_check.specs.Lineage.{sure_life}
-use Rattle.schema_check.specs.Planned.{table_named}
-use Rattle.schema_check.specs.TableFacts.{cost, max_line}
+use Rattle.schema_plan.specs.Dictionaries.{Project}
+use Rattle.schema_plan.specs.Layout.{layout_of}
+use Rattle.schema_plan.specs.Lineage.{sure_life}
+use Rattle.schema_plan.specs.Planned.{table_named}
+use Rattle.schema_plan.specs.TableFacts.{cost, max_line}
 use Rattle.life_intervals.specs.Generator.{generator_of, last_unit, rows_in_all}
 use Rattle.life_intervals.specs.Rows.{Row as HeldRow}
 use Rattle.life_intervals.specs.Streams.{deleted, inserted, updated}

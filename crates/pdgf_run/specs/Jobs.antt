@@ -2,9 +2,9 @@
 use Rattle.std.specs.Prelude.{◌≡◌, ◌<◌, ◌≤◌, ℕ, if◌then◌else◌, List, [], ◌∷◌, length, map, All, Bool, Option, Some, None, ⊤}
 use Rattle.std.specs.List.{range_with_len}
 use Rattle.pd_outside.specs.Files.{File}
-use Rattle.schema_check.specs.Dictionaries.{Project}
-use Rattle.schema_check.specs.Layout.{layout_of}
-use Rattle.schema_check.specs.TableFacts.{reach}
+use Rattle.schema_plan.specs.Dictionaries.{Project}
+use Rattle.schema_plan.specs.Layout.{layout_of}
+use Rattle.schema_plan.specs.TableFacts.{reach}
 use Rattle.life_intervals.specs.CohortOrders.{cohort_orders, table_orders}
 use Rattle.life_intervals.specs.CohortParents.{cohort_candidates, table_candidates}
 use Rattle.life_intervals.specs.Generator.{generator_of, last_unit}

@@ -4,10 +4,10 @@ use Rattle.std.specs.Option.{option_and_then, option_map}
 use Rattle.pd_outside.specs.Files.{File, bytes_of}
 use Rattle.pd_outside.specs.Library.{Content, left}
 use Rattle.pd_outside.specs.declared.faults.ReadFault.TheVariants.{TooLong}
-use Rattle.schema_check.specs.Citations.{cited_names}
-use Rattle.schema_check.specs.Dictionaries.{Dictionary, Project, project_of}
+use Rattle.schema_plan.specs.Citations.{cited_names}
+use Rattle.schema_plan.specs.Dictionaries.{Dictionary, Project, project_of}
 use Rattle.schema_check.specs.Faults.{citation_refusal, refusal_of}
-use Rattle.schema_check.specs.Planned.{table_named}
+use Rattle.schema_plan.specs.Planned.{table_named}
 use Rattle.schema_check.specs.declared.checker.CheckFault.{CheckFault}
 use Rattle.schema_model.specs.declared.table.Schema.{Schema}
 use Rattle.schema_read.specs.Schema.{schema_of}

@@ -5,8 +5,8 @@ ghost use Rattle.pdgf_run.specs.DueFiles.{check_line, check_lines, life_text, na
 
 use itoa::Buffer;
 use life_intervals::born;
-use pd_outside::Memory;
-use schema_check::Plan;
+use line_pages::Memory;
+use schema_plan::Plan;
 use std::alloc::Global;
 
 /// Appends a number in decimal, and a byte behind it.

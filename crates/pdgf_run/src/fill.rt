@@ -2,9 +2,9 @@
 
 ghost use Rattle.std.specs.Prelude.{◌≡◌, ◌<◌, ◌≤◌, ◌∷◌, [], All, false, true, IsTrue, OnErr, OnOk, length, map};
 ghost use Rattle.pd_outside.specs.Faults.{Rose};
-ghost use Rattle.schema_check.specs.Cohorts.{born_count, cohort_size};
-ghost use Rattle.schema_check.specs.Layout.{layout_of};
-ghost use Rattle.schema_check.specs.TableFacts.{max_line, reach};
+ghost use Rattle.schema_plan.specs.Cohorts.{born_count, cohort_size};
+ghost use Rattle.schema_plan.specs.Layout.{layout_of};
+ghost use Rattle.schema_plan.specs.TableFacts.{max_line, reach};
 ghost use Rattle.life_intervals.specs.CohortOrders.{cohort_orders, table_orders};
 ghost use Rattle.life_intervals.specs.CohortParents.{cohort_candidates, table_candidates};
 ghost use Rattle.life_intervals.specs.Generator.{generator_of, last_unit, rows_in_all, table_of};
@@ -21,9 +21,10 @@ ghost use Rattle.pdgf_run.specs.Jobs.{AreLinesAt, CanFill, CanWrite, IsPartOf, d
 
 use crate::job::{Content, FilesJob, Job, JobPart, JobRows, TableLines};
 use life_intervals::{Candidates, CohortOrders, Survival, birth, cohort};
-use pd_outside::{Failed, PageBuf, Shelf, WriteFailed, write_all};
+use line_pages::PageBuf;
+use pd_outside::{Failed, Shelf, WriteFailed, write_all};
 use row_lines::{CohortLines, LineDraws, put_key};
-use schema_check::Plan;
+use schema_plan::Plan;
 use schema_model::Sequence;
 use std::marker::Brand;
 use std::sync::ledger::{Blank, Ledger};

@@ -2,8 +2,8 @@
 
 ghost use Rattle.std.specs.Prelude.{◌≡◌, ◌<◌, ◌≤◌, ◌+◌, ◌∷◌, ◌++◌, [], All, IfOk, IfSome, OnOk, length, map};
 ghost use Rattle.std.specs.Option.{option_map};
-ghost use Rattle.schema_check.specs.Layout.{layout_of};
-ghost use Rattle.schema_check.specs.TableFacts.{reach};
+ghost use Rattle.schema_plan.specs.Layout.{layout_of};
+ghost use Rattle.schema_plan.specs.TableFacts.{reach};
 ghost use Rattle.life_intervals.specs.Generator.{last_unit};
 ghost use Rattle.pdgf_run.specs.declared.usage.Mode.TheVariants.{Snapshot, Unit};
 ghost use Rattle.pdgf_run.specs.DueFiles.{chosen, ending_of, parts_at, parts_of, table_files};
@@ -15,9 +15,9 @@ use itoa::Buffer;
 use life_intervals::{
     Candidates, CohortOrders, cohort_candidates, cohort_orders, table_candidates, table_orders,
 };
-use pd_outside::{Memory, PageBuf};
+use line_pages::{Memory, PageBuf};
 use row_lines::{LineDraws, line_draws};
-use schema_check::Plan;
+use schema_plan::Plan;
 use schema_model::{Sequence, Text as Name};
 use std::alloc::Global;
 use std::sync::ledger::{Blank, Ledger};

@@ -11,7 +11,8 @@ ghost use Rattle.pdgf_run.specs.declared.refusal.Refusal.TheVariants as refusal;
 use crate::message::{line, put_refusal};
 use crate::usage::{OptionName, UsageFault};
 use dictionaries::DictFault;
-use pd_outside::{Memory, Message, ReadFault};
+use line_pages::Memory;
+use pd_outside::{Message, ReadFault};
 use schema_check::CheckFault;
 use schema_read::ReadSchemaFault;
 
@@ -252,10 +253,10 @@ impl From<DictFault> for DictionaryCause {
     }
 }
 
-impl From<schema_check::Memory> for DictionaryCause {
+impl From<schema_plan::Memory> for DictionaryCause {
     ghost from_gives = { λ fault made. made ≡ dictionary_cause.Memory };
 
-    fn from(_: schema_check::Memory) -> DictionaryCause {
+    fn from(_: schema_plan::Memory) -> DictionaryCause {
         DictionaryCause::Memory
     }
 }

@@ -2,14 +2,14 @@
 
 ghost use Rattle.std.specs.Prelude.{◌≡◌, ◌<◌, ◌≤◌, IfOk, length};
 ghost use Rattle.std.specs.Option.{option_and_then, option_map};
-ghost use Rattle.pd_outside.specs.Pages.{Page};
-ghost use Rattle.schema_check.specs.Planned.{table_named};
+ghost use Rattle.line_pages.specs.Pages.{Page};
+ghost use Rattle.schema_plan.specs.Planned.{table_named};
 ghost use Rattle.life_intervals.specs.Generator.{last_unit};
 ghost use Rattle.row_lines.specs.Reports.{report_on};
 
-use pd_outside::{Memory, PageBuf};
+use line_pages::{Memory, PageBuf};
 use row_lines::row_report;
-use schema_check::Plan;
+use schema_plan::Plan;
 use schema_model::Text;
 use std::alloc::Global;
 use std::sync::ledger::{Blank, Ledger};

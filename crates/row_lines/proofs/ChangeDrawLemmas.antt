@@ -3,11 +3,11 @@ use Rattle.std.proofs.Common.{◌≡◌, ℕ, ◌+◌, ◌-◌, ◌<◌, ◌≤�
 use Rattle.std.specs.Prelude.{IfSome}
 use Rattle.std.specs.Option.{option_map_or}
 use Rattle.std.proofs.lemmas.List.FromFn.{get_or-map-range_with_len, length-map-range_with_len}
-use Rattle.schema_check.specs.declared.ready.ReadyColumn.{ReadyColumn}
-use Rattle.schema_check.specs.declared.layout.Births.{Births}
-use Rattle.schema_check.specs.Cohorts.{cohort_size}
-use Rattle.schema_check.specs.Dictionaries.{Project}
-use Rattle.schema_check.specs.Limits.{IsUpdatePeriod}
+use Rattle.schema_plan.specs.declared.ready.ReadyColumn.{ReadyColumn}
+use Rattle.schema_plan.specs.declared.layout.Births.{Births}
+use Rattle.schema_plan.specs.Cohorts.{cohort_size}
+use Rattle.schema_plan.specs.Dictionaries.{Project}
+use Rattle.schema_plan.specs.Limits.{IsUpdatePeriod}
 use Rattle.draw_values.specs.UnitDraws.{DrawsOf, unit_draws}
 use Rattle.life_intervals.specs.Changes.{first_due, last_due}
 use Rattle.life_intervals.specs.CohortKeys.{CohortOf}

@@ -3,16 +3,16 @@ use Rattle.std.proofs.Common.{◌≡◌, ◌<◌, ◌≤◌, ◌^◌, ℕ, zero,
 use Rattle.std.proofs.lemmas.List.{get_or-map, length-map}
 use Rattle.row_text.specs.Fields.{field_text}
 use Rattle.row_text.proofs.DigitLemmas.{piece_text-decimal}
-use Rattle.schema_check.specs.declared.ready.ReadyColumn.{ReadyColumn}
-use Rattle.schema_check.specs.declared.ready.ReadyKind.TheVariants.{Key, Reference, Template}
-use Rattle.schema_check.specs.declared.ready.ReadyPart.{ReadyPart}
-use Rattle.schema_check.specs.declared.ready.ReadyReference.{ReadyReference}
-use Rattle.schema_check.specs.Cohorts.{cohort_size, first_ordinal}
-use Rattle.schema_check.specs.FieldBounds.{bounds_of}
-use Rattle.schema_check.specs.Layout.{ColumnLayout, KindLayout, born_kind, case_kind, changed_kind, column_at, key_kind, layout_of, leaf_kind, no_column, reference_kind, template_kind}
-use Rattle.schema_check.specs.Limits.{is_lookup_kind}
-use Rattle.schema_check.specs.Lineage.{one_if}
-use Rattle.schema_check.specs.Ready.{ready_column, ready_columns, ready_kind}
+use Rattle.schema_plan.specs.declared.ready.ReadyColumn.{ReadyColumn}
+use Rattle.schema_plan.specs.declared.ready.ReadyKind.TheVariants.{Key, Reference, Template}
+use Rattle.schema_plan.specs.declared.ready.ReadyPart.{ReadyPart}
+use Rattle.schema_plan.specs.declared.ready.ReadyReference.{ReadyReference}
+use Rattle.schema_plan.specs.Cohorts.{cohort_size, first_ordinal}
+use Rattle.schema_plan.specs.FieldBounds.{bounds_of}
+use Rattle.schema_plan.specs.Layout.{ColumnLayout, KindLayout, born_kind, case_kind, changed_kind, column_at, key_kind, layout_of, leaf_kind, no_column, reference_kind, template_kind}
+use Rattle.schema_plan.specs.Limits.{is_lookup_kind}
+use Rattle.schema_plan.specs.Lineage.{one_if}
+use Rattle.schema_plan.specs.Ready.{ready_column, ready_columns, ready_kind}
 use Rattle.draw_values.specs.CohortValues.{ValuesOf, value_for}
 use Rattle.draw_values.specs.declared.values.Put.TheVariants.{Text, Null}
 use Rattle.draw_values.specs.Values.{is_own, put_of, written}

@@ -3,9 +3,9 @@ use Rattle.std.proofs.Common.{◌≡◌, ◌<◌, ◌≤◌, ◌^◌, ℕ, ◌%�
 use Rattle.std.proofs.lemmas.Bool.Decides.{nat_tests}
 use Rattle.std.proofs.lemmas.Fmt.{length-decimal-le}
 use Rattle.row_text.specs.Fields.{field_text}
-use Rattle.schema_check.specs.Cohorts.{born_count}
-use Rattle.schema_check.specs.Layout.{ColumnLayout, KindLayout, LeafLayout, PartLayout, born_kind, case_kind, changed_kind, cited_part, column_at, key_kind, leaf_kind, lookup_kind, reference_kind, table_at, template_kind}
-use Rattle.schema_check.specs.Limits.{is_cited, is_lookup_kind}
+use Rattle.schema_plan.specs.Cohorts.{born_count}
+use Rattle.schema_plan.specs.Layout.{ColumnLayout, KindLayout, LeafLayout, PartLayout, born_kind, case_kind, changed_kind, cited_part, column_at, key_kind, leaf_kind, lookup_kind, reference_kind, table_at, template_kind}
+use Rattle.schema_plan.specs.Limits.{is_cited, is_lookup_kind}
 use Rattle.draw_values.specs.Values.{Draws, is_own, leaf_value, own_field, own_value, unless_null}
 use Rattle.life_intervals.specs.Generator.{Generator}
 use Rattle.life_intervals.specs.Intervals.{row_at}

@@ -2,16 +2,16 @@
 use Rattle.std.proofs.Common.{◌≡◌, ◌<◌, ◌≤◌, ℕ, ◌+◌, true, false, Bool, List, length, codes, Option, Some, None, if◌then◌else◌, refl, ap, subst, sym, ◌∙◌, arith}
 use Rattle.std.specs.Option.{option_and_then}
 use Rattle.row_text.specs.Fields.{field_text}
-use Rattle.schema_check.specs.declared.layout.Births.{Births}
-use Rattle.schema_check.specs.declared.ready.ReadyKind.TheVariants as kind
-use Rattle.schema_check.specs.declared.ready.ReadyLookup.{ReadyLookup}
-use Rattle.schema_check.specs.declared.ready.ReadyReference.{ReadyReference}
-use Rattle.schema_check.specs.Cohorts.{born_count, cohort_size}
-use Rattle.schema_check.specs.FieldBounds.{bounds_at, bounds_in_table, bounds_of}
-use Rattle.schema_check.specs.Layout.{KindLayout, TableLayout, born_kind, case_kind, changed_kind, column_at, key_kind, layout_of, leaf_kind, lookup_kind, reference_kind, table_at, template_kind}
-use Rattle.schema_check.specs.Limits.{IsInLimits, IsLookup, IsLookupInLimits, IsReferenceTo, IsTableInLimits, is_lookup_kind}
-use Rattle.schema_check.specs.Ready.{ready_kind, ready_reference}
-use Rattle.schema_check.specs.References.{Reference, reference_at}
+use Rattle.schema_plan.specs.declared.layout.Births.{Births}
+use Rattle.schema_plan.specs.declared.ready.ReadyKind.TheVariants as kind
+use Rattle.schema_plan.specs.declared.ready.ReadyLookup.{ReadyLookup}
+use Rattle.schema_plan.specs.declared.ready.ReadyReference.{ReadyReference}
+use Rattle.schema_plan.specs.Cohorts.{born_count, cohort_size}
+use Rattle.schema_plan.specs.FieldBounds.{bounds_at, bounds_in_table, bounds_of}
+use Rattle.schema_plan.specs.Layout.{KindLayout, TableLayout, born_kind, case_kind, changed_kind, column_at, key_kind, layout_of, leaf_kind, lookup_kind, reference_kind, table_at, template_kind}
+use Rattle.schema_plan.specs.Limits.{IsInLimits, IsLookup, IsLookupInLimits, IsReferenceTo, IsTableInLimits, is_lookup_kind}
+use Rattle.schema_plan.specs.Ready.{ready_kind, ready_reference}
+use Rattle.schema_plan.specs.References.{Reference, reference_at}
 use Rattle.draw_values.specs.CohortValues.{ValuesOf, is_null_for}
 use Rattle.draw_values.specs.Values.{is_null, unless_null}
 use Rattle.life_intervals.specs.CohortParents.{IsReferenceOf, parent_in, reference_by}

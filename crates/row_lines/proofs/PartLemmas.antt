@@ -7,14 +7,14 @@ use Rattle.std.proofs.lemmas.List.Elements.{All-map}
 use Rattle.std.proofs.lemmas.List.Folds.{flat_map-map, fold-map}
 use Rattle.row_text.specs.Fields.{escaped, field_text, piece_text}
 use Rattle.row_text.proofs.DigitLemmas.{piece_text-decimal}
-use Rattle.schema_check.specs.declared.ready.ReadyKind.TheVariants.{Key, Reference, Template}
-use Rattle.schema_check.specs.declared.ready.ReadyPart.{ReadyPart}
-use Rattle.schema_check.specs.declared.ready.ReadyReference.{ReadyReference}
-use Rattle.schema_check.specs.Cohorts.{cohort_size}
-use Rattle.schema_check.specs.FieldBounds.{bounds_alone, bounds_of, bounds_of_part}
-use Rattle.schema_check.specs.Layout.{KindLayout, PartLayout, TableLayout, born_kind, changed_kind, cited_part, column_at, key_kind, layout_of, leaf_kind, literal_part, reference_kind, template_kind}
-use Rattle.schema_check.specs.Limits.{AreParts, IsKindInLimits, IsPart, is_cited}
-use Rattle.schema_check.specs.Ready.{ready_kind, ready_part}
+use Rattle.schema_plan.specs.declared.ready.ReadyKind.TheVariants.{Key, Reference, Template}
+use Rattle.schema_plan.specs.declared.ready.ReadyPart.{ReadyPart}
+use Rattle.schema_plan.specs.declared.ready.ReadyReference.{ReadyReference}
+use Rattle.schema_plan.specs.Cohorts.{cohort_size}
+use Rattle.schema_plan.specs.FieldBounds.{bounds_alone, bounds_of, bounds_of_part}
+use Rattle.schema_plan.specs.Layout.{KindLayout, PartLayout, TableLayout, born_kind, changed_kind, cited_part, column_at, key_kind, layout_of, leaf_kind, literal_part, reference_kind, template_kind}
+use Rattle.schema_plan.specs.Limits.{AreParts, IsKindInLimits, IsPart, is_cited}
+use Rattle.schema_plan.specs.Ready.{ready_kind, ready_part}
 use Rattle.draw_values.specs.CohortValues.{ValuesOf, is_null_for, value_for}
 use Rattle.draw_values.specs.Values.{is_null, is_own, written}
 use Rattle.life_intervals.specs.Generator.{Generator, generator_of}

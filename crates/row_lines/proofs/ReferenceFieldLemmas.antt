@@ -5,15 +5,15 @@ use Rattle.std.specs.List.{cons_option}
 use Rattle.std.specs.Option.{option_map_or}
 use Rattle.row_text.specs.Fields.{field_text}
 use Rattle.row_text.proofs.DigitLemmas.{piece_text-decimal}
-use Rattle.schema_check.specs.declared.layout.Births.{Births}
-use Rattle.schema_check.specs.declared.ready.ReadyReference.{ReadyReference}
-use Rattle.schema_check.specs.Cohorts.{born_count, cohort_size, first_ordinal}
-use Rattle.schema_check.specs.Dictionaries.{Project}
-use Rattle.schema_check.specs.FieldBounds.{bounds_of}
-use Rattle.schema_check.specs.Layout.{ColumnLayout, KindLayout, TableLayout, column_at, layout_of, reference_kind, table_at}
-use Rattle.schema_check.specs.Limits.{IsInLimits, IsTableInLimits}
-use Rattle.schema_check.specs.Lineage.{one_if}
-use Rattle.schema_check.specs.References.{Reference, reference_at, reference_of, references_of}
+use Rattle.schema_plan.specs.declared.layout.Births.{Births}
+use Rattle.schema_plan.specs.declared.ready.ReadyReference.{ReadyReference}
+use Rattle.schema_plan.specs.Cohorts.{born_count, cohort_size, first_ordinal}
+use Rattle.schema_plan.specs.Dictionaries.{Project}
+use Rattle.schema_plan.specs.FieldBounds.{bounds_of}
+use Rattle.schema_plan.specs.Layout.{ColumnLayout, KindLayout, TableLayout, column_at, layout_of, reference_kind, table_at}
+use Rattle.schema_plan.specs.Limits.{IsInLimits, IsTableInLimits}
+use Rattle.schema_plan.specs.Lineage.{one_if}
+use Rattle.schema_plan.specs.References.{Reference, reference_at, reference_of, references_of}
 use Rattle.life_intervals.specs.CohortParents.{IsReferenceOf, parent_in, reference_by}
 use Rattle.life_intervals.specs.Generator.{Generator, generator_of, last_unit, table_of}
 use Rattle.life_intervals.specs.Intervals.{birth, index_at, parent_of, row_at}

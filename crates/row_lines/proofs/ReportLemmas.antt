@@ -3,16 +3,16 @@ use Rattle.std.proofs.Common.{◌≡◌, ℕ, ◌+◌, ◌-◌, ◌<◌, ◌≤�
 use Rattle.std.specs.Prelude.{IfSome, nat_le}
 use Rattle.std.proofs.lemmas.Bool.{and_parts, cases_lt, le-leb, leb-true, lt-leb}
 use Rattle.std.proofs.lemmas.Option.{same_Some}
-use Rattle.pd_outside.specs.Pages.{Page}
+use Rattle.line_pages.specs.Pages.{Page}
 use Rattle.philox_seeds.specs.SeedTree.{life_column}
-use Rattle.schema_check.specs.declared.layout.Births.{Births}
-use Rattle.schema_check.specs.declared.layout.Span.{Span}
-use Rattle.schema_check.specs.Cohorts.{born_count}
-use Rattle.schema_check.specs.Dictionaries.{Project}
-use Rattle.schema_check.specs.Layout.{table_at}
-use Rattle.schema_check.specs.Limits.{IsInLimits, IsSpan}
-use Rattle.schema_check.specs.Lineage.{sure_life}
-use Rattle.schema_check.specs.References.{references_of}
+use Rattle.schema_plan.specs.declared.layout.Births.{Births}
+use Rattle.schema_plan.specs.declared.layout.Span.{Span}
+use Rattle.schema_plan.specs.Cohorts.{born_count}
+use Rattle.schema_plan.specs.Dictionaries.{Project}
+use Rattle.schema_plan.specs.Layout.{table_at}
+use Rattle.schema_plan.specs.Limits.{IsInLimits, IsSpan}
+use Rattle.schema_plan.specs.Lineage.{sure_life}
+use Rattle.schema_plan.specs.References.{references_of}
 use Rattle.life_intervals.specs.Generator.{Generator, generator_of, last_unit, rows_in_all}
 use Rattle.life_intervals.specs.Intervals.{Known, change_unit, death, index_at, is_after, is_live, known_tables, row_at}
 use Rattle.life_intervals.specs.Keys.{key_of}

@@ -2,8 +2,8 @@
 use Rattle.std.proofs.Common.{◌≡◌, ◌<◌, ◌≤◌, ℕ, ◌||◌, Bool, true, false, List, [], ◌∷◌, ◌++◌, flat_map, length, All, Option, Some, unwrap_or, refl, ap, sym, ◌∙◌, arith}
 use Rattle.std.specs.Option.{option_and_then}
 use Rattle.std.proofs.lemmas.List.Elements.{All-head, All-tail}
-use Rattle.schema_check.specs.Layout.{ColumnLayout, KindLayout, PartLayout, born_kind, case_kind, changed_kind, cited_part, column_at, key_kind, leaf_kind, literal_part, lookup_kind, reference_kind, table_at, template_kind}
-use Rattle.schema_check.specs.Limits.{CitesStill, IsKindInLimits, IsPart, IsStillPart, IsTableInLimits, is_change_unit, moves}
+use Rattle.schema_plan.specs.Layout.{ColumnLayout, KindLayout, PartLayout, born_kind, case_kind, changed_kind, cited_part, column_at, key_kind, leaf_kind, literal_part, lookup_kind, reference_kind, table_at, template_kind}
+use Rattle.schema_plan.specs.Limits.{CitesStill, IsKindInLimits, IsPart, IsStillPart, IsTableInLimits, is_change_unit, moves}
 use Rattle.draw_values.specs.Values.{Draws, branch_at, held_entry, leaf_value, unless_null}
 use Rattle.life_intervals.specs.Generator.{Generator}
 use Rattle.life_intervals.specs.Rows.{Row}

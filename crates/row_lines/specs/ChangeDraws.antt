@@ -1,7 +1,7 @@
 -- The draws at the units at which the rows of a table may have changed last.
 use Rattle.std.specs.Prelude.{ℕ, ◌+◌, ◌-◌, min, List, Option}
 use Rattle.std.specs.Option.{option_map_or}
-use Rattle.schema_check.specs.Dictionaries.{Project}
+use Rattle.schema_plan.specs.Dictionaries.{Project}
 use Rattle.life_intervals.specs.Generator.{table_of}
 use Rattle.draw_values.specs.UnitDraws.{DrawsOf, draws_of_units}
 

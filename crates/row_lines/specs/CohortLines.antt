@@ -1,13 +1,13 @@
 -- The lines of one cohort, and what the code keeps of them.
 use Rattle.std.specs.Prelude.{◌≡◌, ◌<◌, ◌≤◌, ℕ, ◌+◌, Bool, List, if◌then◌else◌, length, sum_by, true}
 use Rattle.row_text.specs.Fields.{field_text}
-use Rattle.schema_check.specs.Cohorts.{first_ordinal}
-use Rattle.schema_check.specs.FieldBounds.{bounds_alone, bounds_of}
-use Rattle.schema_check.specs.Layout.{PartLayout, literal_part, cited_part, KindLayout, key_kind, template_kind, lookup_kind, ColumnLayout, column_at, layout_of, TableLayout}
-use Rattle.schema_check.specs.Limits.{IsInLimits, IsTableInLimits}
-use Rattle.schema_check.specs.Dictionaries.{Project}
-use Rattle.schema_check.specs.declared.ready.ReadyColumn.{ReadyColumn}
-use Rattle.schema_check.specs.Ready.{ready_columns}
+use Rattle.schema_plan.specs.Cohorts.{first_ordinal}
+use Rattle.schema_plan.specs.FieldBounds.{bounds_alone, bounds_of}
+use Rattle.schema_plan.specs.Layout.{PartLayout, literal_part, cited_part, KindLayout, key_kind, template_kind, lookup_kind, ColumnLayout, column_at, layout_of, TableLayout}
+use Rattle.schema_plan.specs.Limits.{IsInLimits, IsTableInLimits}
+use Rattle.schema_plan.specs.Dictionaries.{Project}
+use Rattle.schema_plan.specs.declared.ready.ReadyColumn.{ReadyColumn}
+use Rattle.schema_plan.specs.Ready.{ready_columns}
 use Rattle.draw_values.specs.CohortValues.{ValuesOf}
 use Rattle.draw_values.specs.UnitDraws.{DrawsOf, unit_draws}
 use Rattle.life_intervals.specs.CohortKeys.{CohortOf}
@@ -16,7 +16,7 @@ use Rattle.life_intervals.specs.Generator.{generator_of, last_unit, table_of}
 use Rattle.life_intervals.specs.Intervals.{change_unit, is_live, row_at}
 use Rattle.life_intervals.specs.Keys.{key_in_cohort, key_of}
 use Rattle.life_intervals.specs.CohortParents.{parent_in}
-use Rattle.schema_check.specs.References.{Reference}
+use Rattle.schema_plan.specs.References.{Reference}
 use Rattle.life_intervals.specs.Rows.{Row}
 use Rattle.row_lines.specs.Lines.{field, field_in_table, line_if_live, line_of}
 

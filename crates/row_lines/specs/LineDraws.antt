@@ -1,12 +1,12 @@
 -- What the lines of a table's rows are drawn from at a unit, as far as it is taken once for all rows.
 use Rattle.std.specs.Prelude.{ℕ, ◌+◌, ◌==◌, Bool, false, List, [], if◌then◌else◌, length, map}
 use Rattle.std.specs.List.{list_any, range_with_len}
-use Rattle.schema_check.specs.declared.ready.ReadyColumn.{ReadyColumn}
-use Rattle.schema_check.specs.declared.ready.ReadyKind.{ReadyKind}
-use Rattle.schema_check.specs.declared.ready.ReadyKind.TheVariants as kind
-use Rattle.schema_check.specs.Dictionaries.{Project}
-use Rattle.schema_check.specs.Layout.{layout_of}
-use Rattle.schema_check.specs.Ready.{ready_columns}
+use Rattle.schema_plan.specs.declared.ready.ReadyColumn.{ReadyColumn}
+use Rattle.schema_plan.specs.declared.ready.ReadyKind.{ReadyKind}
+use Rattle.schema_plan.specs.declared.ready.ReadyKind.TheVariants as kind
+use Rattle.schema_plan.specs.Dictionaries.{Project}
+use Rattle.schema_plan.specs.Layout.{layout_of}
+use Rattle.schema_plan.specs.Ready.{ready_columns}
 use Rattle.draw_values.specs.UnitDraws.{DrawsOf, draws_of_units}
 use Rattle.row_lines.specs.ChangeDraws.{change_draws}
 

@@ -3,9 +3,9 @@ use Rattle.std.specs.Prelude.{ℕ, ◌==◌, List, [], ◌++◌, filter, find, m
 use Rattle.std.specs.List.{join_with_byte, range_with_len}
 use Rattle.std.specs.Option.{option_and_then, option_map_or}
 use Rattle.row_text.specs.Fields.{field_text}
-use Rattle.schema_check.specs.Cohorts.{cohort_size, first_ordinal}
-use Rattle.schema_check.specs.Layout.{PartLayout, literal_part, cited_part, KindLayout, key_kind, template_kind, reference_kind, lookup_kind, TableLayout, table_at, column_at}
-use Rattle.schema_check.specs.References.{Reference, references_of}
+use Rattle.schema_plan.specs.Cohorts.{cohort_size, first_ordinal}
+use Rattle.schema_plan.specs.Layout.{PartLayout, literal_part, cited_part, KindLayout, key_kind, template_kind, reference_kind, lookup_kind, TableLayout, table_at, column_at}
+use Rattle.schema_plan.specs.References.{Reference, references_of}
 use Rattle.draw_values.specs.declared.values.RowAt.{RowAt}
 use Rattle.draw_values.specs.Values.{RowDraws, draw_unit, own_value, unless_null}
 use Rattle.life_intervals.specs.Generator.{Generator}

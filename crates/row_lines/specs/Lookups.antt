@@ -1,12 +1,12 @@
 -- What lookups show of parents.
 use Rattle.std.specs.Prelude.{◌≡◌, ◌<◌, ℕ, List, false, length}
 use Rattle.row_text.specs.Fields.{field_text}
-use Rattle.schema_check.specs.declared.ready.ReadyKind.TheVariants as kind
-use Rattle.schema_check.specs.declared.ready.ReadyLookup.{ReadyLookup}
-use Rattle.schema_check.specs.Dictionaries.{Project}
-use Rattle.schema_check.specs.Layout.{TableLayout, column_at, layout_of}
-use Rattle.schema_check.specs.Limits.{is_lookup_kind, moves}
-use Rattle.schema_check.specs.Ready.{ready_kind}
+use Rattle.schema_plan.specs.declared.ready.ReadyKind.TheVariants as kind
+use Rattle.schema_plan.specs.declared.ready.ReadyLookup.{ReadyLookup}
+use Rattle.schema_plan.specs.Dictionaries.{Project}
+use Rattle.schema_plan.specs.Layout.{TableLayout, column_at, layout_of}
+use Rattle.schema_plan.specs.Limits.{is_lookup_kind, moves}
+use Rattle.schema_plan.specs.Ready.{ready_kind}
 use Rattle.life_intervals.specs.Generator.{generator_of}
 use Rattle.life_intervals.specs.Intervals.{row_at}
 use Rattle.row_lines.specs.CohortLines.{LinesOf, layout_for}

@@ -1,10 +1,10 @@
 -- The parts of templates, as they are written by what a plan keeps of them.
 use Rattle.std.specs.Prelude.{◌≡◌, ◌<◌, ℕ, Bool, true, List, Option, length, ⊤}
-use Rattle.schema_check.specs.declared.ready.ReadyPart.{ReadyPart}
-use Rattle.schema_check.specs.declared.ready.ReadyPart.TheVariants as part
-use Rattle.schema_check.specs.FieldBounds.{bounds_alone}
-use Rattle.schema_check.specs.Layout.{layout_of, column_at}
-use Rattle.schema_check.specs.Limits.{is_cited}
+use Rattle.schema_plan.specs.declared.ready.ReadyPart.{ReadyPart}
+use Rattle.schema_plan.specs.declared.ready.ReadyPart.TheVariants as part
+use Rattle.schema_plan.specs.FieldBounds.{bounds_alone}
+use Rattle.schema_plan.specs.Layout.{layout_of, column_at}
+use Rattle.schema_plan.specs.Limits.{is_cited}
 use Rattle.draw_values.specs.Values.{written}
 use Rattle.life_intervals.specs.Generator.{generator_of}
 use Rattle.row_lines.specs.CohortLines.{LinesOf, asked_alone, layout_for, row_changed}

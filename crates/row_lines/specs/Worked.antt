@@ -1,6 +1,6 @@
 -- Small generators, whose tables can be worked out by hand.
 use Rattle.std.specs.Prelude.{ℕ, ◌-◌, Bool, false, true, List, [], ◌∷◌, Some, None, codes}
-use Rattle.schema_check.specs.Layout.{literal_part, cited_part, KindLayout, key_kind, born_kind, template_kind, reference_kind, lookup_kind, ColumnLayout, TableLayout}
+use Rattle.schema_plan.specs.Layout.{literal_part, cited_part, KindLayout, key_kind, born_kind, template_kind, reference_kind, lookup_kind, ColumnLayout, TableLayout}
 use Rattle.life_intervals.specs.Generator.{Order, Draw, in_place, Generator}
 use Rattle.life_intervals.specs.Rows.{Row}
 

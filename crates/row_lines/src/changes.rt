@@ -5,8 +5,8 @@ ghost use Rattle.life_intervals.specs.Generator.{last_unit, table_of};
 ghost use Rattle.row_lines.specs.ChangeDraws.{change_count, change_draws};
 
 use draw_values::{UnitDraws, unit_draws};
-use pd_outside::Memory;
-use schema_check::Plan;
+use line_pages::Memory;
+use schema_plan::Plan;
 use std::alloc::Global;
 
 /// Of the units 1 to `unit`, how many of the last ones each row that has changed by it has its last change in.

@@ -1,12 +1,12 @@
 //! The fields of the rows of a cohort, but for lookups, with what doesn't change from row to row taken once.
 
 ghost use Rattle.std.specs.Prelude.{◌≡◌, ◌<◌, ◌≤◌, ◌+◌, ◌++◌, All, IfSome, false, flat_map, if◌then◌else◌, is_some, length, sum_by, true};
-ghost use Rattle.schema_check.specs.declared.ready.ReadyKind.TheVariants.{Template};
-ghost use Rattle.schema_check.specs.Cohorts.{born_count, cohort_size};
-ghost use Rattle.schema_check.specs.Layout.{column_at, layout_of};
-ghost use Rattle.schema_check.specs.Limits.{IsTableInLimits, is_lookup_kind};
-ghost use Rattle.schema_check.specs.Lineage.{one_if};
-ghost use Rattle.schema_check.specs.Ready.{ready_kind};
+ghost use Rattle.schema_plan.specs.declared.ready.ReadyKind.TheVariants.{Template};
+ghost use Rattle.schema_plan.specs.Cohorts.{born_count, cohort_size};
+ghost use Rattle.schema_plan.specs.Layout.{column_at, layout_of};
+ghost use Rattle.schema_plan.specs.Limits.{IsTableInLimits, is_lookup_kind};
+ghost use Rattle.schema_plan.specs.Lineage.{one_if};
+ghost use Rattle.schema_plan.specs.Ready.{ready_kind};
 ghost use Rattle.draw_values.specs.Values.{is_own};
 ghost use Rattle.life_intervals.specs.CohortParents.{AreCandidates, IsReferenceOf, reference_by};
 ghost use Rattle.life_intervals.specs.Generator.{last_unit, table_of};
@@ -15,9 +15,9 @@ ghost use Rattle.row_lines.specs.Parts.{IsCitable, IsPartOf, cited_asked, cited_
 
 use draw_values::{CohortValues, Put};
 use life_intervals::{Candidates, CohortParents, cohort, key as key_of};
-use pd_outside::PageBuf;
+use line_pages::PageBuf;
 use row_text::put_null;
-use schema_check::{Plan, ReadyColumn, ReadyKind, ReadyPart, ReadyReference};
+use schema_plan::{Plan, ReadyColumn, ReadyKind, ReadyPart, ReadyReference};
 use std::marker::Model;
 use std::sync::ledger::Ledger;
 use step_count::Steps;

@@ -1,12 +1,12 @@
 //! The lines of the rows of a cohort, with what doesn't change from row to row taken once.
 
 ghost use Rattle.std.specs.Prelude.{◌≡◌, ◌≢◌, ◌<◌, ◌≤◌, ℕ, ◌+◌, ◌*◌, ◌==◌, get_or, [], ◌∷◌, ◌++◌, if◌then◌else◌, false, true, IfSome, length, min};
-ghost use Rattle.schema_check.specs.Cohorts.{born_count, cohort_size};
-ghost use Rattle.schema_check.specs.Delimiters.{delimiter_byte as byte_of};
-ghost use Rattle.schema_check.specs.FieldBounds.{bounds_at};
-ghost use Rattle.schema_check.specs.Layout.{layout_of};
-ghost use Rattle.schema_check.specs.Lineage.{one_if};
-ghost use Rattle.schema_check.specs.TableFacts.{line_cost, max_line};
+ghost use Rattle.schema_plan.specs.Cohorts.{born_count, cohort_size};
+ghost use Rattle.schema_plan.specs.Delimiters.{delimiter_byte as byte_of};
+ghost use Rattle.schema_plan.specs.FieldBounds.{bounds_at};
+ghost use Rattle.schema_plan.specs.Layout.{layout_of};
+ghost use Rattle.schema_plan.specs.Lineage.{one_if};
+ghost use Rattle.schema_plan.specs.TableFacts.{line_cost, max_line};
 ghost use Rattle.draw_values.specs.UnitDraws.{unit_draws};
 ghost use Rattle.life_intervals.specs.CohortLives.{survival_at};
 ghost use Rattle.life_intervals.specs.CohortOrders.{cohort_orders, do_updates_differ};
@@ -23,9 +23,9 @@ use draw_values::{CohortValues, UnitDraws};
 use life_intervals::{
     Candidates, CohortChanges, CohortKeys, CohortLives, CohortOrders, Survival, birth, cohort,
 };
-use pd_outside::{PageBuf, Piece};
+use line_pages::{PageBuf, Piece};
 use row_text::put_null;
-use schema_check::{Plan, ReadyColumn, ReadyKind, ReadyLookup};
+use schema_plan::{Plan, ReadyColumn, ReadyKind, ReadyLookup};
 use schema_model::Delimiter;
 use std::marker::Model;
 use std::sync::ledger::Ledger;

@@ -2,15 +2,15 @@
 
 ghost use Rattle.std.specs.Prelude.{◌≡◌, ◌<◌, ◌≤◌, [], Some, IfOk, length, slice_get, slice_index_or};
 ghost use Rattle.std.specs.List.{list_any};
-ghost use Rattle.schema_check.specs.Layout.{layout_of};
-ghost use Rattle.schema_check.specs.Ready.{ready_columns};
+ghost use Rattle.schema_plan.specs.Layout.{layout_of};
+ghost use Rattle.schema_plan.specs.Ready.{ready_columns};
 ghost use Rattle.life_intervals.specs.Generator.{last_unit};
 ghost use Rattle.row_lines.specs.LineDraws.{line_draws, looks_up, parent_draws};
 
 use crate::changes::change_draws;
 use draw_values::{UnitDraws, unit_draws};
-use pd_outside::Memory;
-use schema_check::{Plan, ReadyColumn, ReadyKind};
+use line_pages::Memory;
+use schema_plan::{Plan, ReadyColumn, ReadyKind};
 use std::alloc::Global;
 use std::marker::Model;
 

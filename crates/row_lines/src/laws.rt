@@ -7,12 +7,12 @@
 
 ghost use Rattle.std.specs.Prelude.{◌≡◌, ℕ, ◌+◌, ◌<◌, ◌≤◌, ◌++◌, [], List, None, Some, codes, decimal, flat_map, if◌then◌else◌, false, length, true, unwrap_or};
 ghost use Rattle.row_text.specs.Fields.{field_text, piece_text};
-ghost use Rattle.schema_check.specs.Cohorts.{born_count, cohort_size, first_ordinal};
-ghost use Rattle.schema_check.specs.Layout.{LeafLayout, PartLayout, born_kind, changed_kind, cited_part, column_at, key_kind, leaf_kind, literal_part, lookup_kind, table_at, template_kind};
-ghost use Rattle.schema_check.specs.Limits.{is_cited, is_lookup_kind};
+ghost use Rattle.schema_plan.specs.Cohorts.{born_count, cohort_size, first_ordinal};
+ghost use Rattle.schema_plan.specs.Layout.{LeafLayout, PartLayout, born_kind, changed_kind, cited_part, column_at, key_kind, leaf_kind, literal_part, lookup_kind, table_at, template_kind};
+ghost use Rattle.schema_plan.specs.Limits.{is_cited, is_lookup_kind};
 ghost use Rattle.draw_values.specs.Values.{leaf_value, unless_null};
 ghost use Rattle.life_intervals.specs.Generator.{Generator};
-ghost use Rattle.schema_check.specs.References.{Reference, reference_at};
+ghost use Rattle.schema_plan.specs.References.{Reference, reference_at};
 ghost use Rattle.life_intervals.specs.Intervals.{is_live, living, parent_of, row_at};
 ghost use Rattle.life_intervals.specs.Keys.{key_of};
 ghost use Rattle.life_intervals.specs.Rows.{Row};

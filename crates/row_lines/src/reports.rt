@@ -1,10 +1,10 @@
 //! The report on one row.
 
 ghost use Rattle.std.specs.Prelude.{◌≡◌, ◌<◌, ◌≤◌, ◌+◌, ◌++◌, ◌&&◌, Some, [], codes, decimal, is_some, length, nat_le, true, unwrap_or};
-ghost use Rattle.schema_check.specs.Cohorts.{born_count};
-ghost use Rattle.schema_check.specs.Layout.{layout_of};
-ghost use Rattle.schema_check.specs.Lineage.{death_cost};
-ghost use Rattle.schema_check.specs.TableFacts.{cost, line_cost, max_line};
+ghost use Rattle.schema_plan.specs.Cohorts.{born_count};
+ghost use Rattle.schema_plan.specs.Layout.{layout_of};
+ghost use Rattle.schema_plan.specs.Lineage.{death_cost};
+ghost use Rattle.schema_plan.specs.TableFacts.{cost, line_cost, max_line};
 ghost use Rattle.life_intervals.specs.Generator.{generator_of, last_unit, rows_in_all, table_of};
 ghost use Rattle.life_intervals.specs.Intervals.{is_after, is_live, row_at};
 ghost use Rattle.life_intervals.specs.Keys.{key_of};
@@ -12,8 +12,8 @@ ghost use Rattle.row_lines.specs.Reports.{gone_at, gone_text, held_text, report_
 
 use crate::cohort_lines::CohortLines;
 use life_intervals::{birth, cohort, cohort_orders, death, last_change, row_of_key};
-use pd_outside::PageBuf;
-use schema_check::Plan;
+use line_pages::PageBuf;
+use schema_plan::Plan;
 use std::sync::ledger::Ledger;
 use step_count::Steps;
 

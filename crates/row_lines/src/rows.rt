@@ -1,10 +1,10 @@
 //! The line and the key line of one row.
 
 ghost use Rattle.std.specs.Prelude.{◌≡◌, ◌<◌, ◌≤◌, ◌+◌, ◌++◌, true, length};
-ghost use Rattle.schema_check.specs.Cohorts.{born_count};
-ghost use Rattle.schema_check.specs.Layout.{layout_of};
-ghost use Rattle.schema_check.specs.Lineage.{death_cost, one_if};
-ghost use Rattle.schema_check.specs.TableFacts.{line_cost, max_line};
+ghost use Rattle.schema_plan.specs.Cohorts.{born_count};
+ghost use Rattle.schema_plan.specs.Layout.{layout_of};
+ghost use Rattle.schema_plan.specs.Lineage.{death_cost, one_if};
+ghost use Rattle.schema_plan.specs.TableFacts.{line_cost, max_line};
 ghost use Rattle.life_intervals.specs.Generator.{generator_of, last_unit, rows_in_all, table_of};
 ghost use Rattle.life_intervals.specs.Intervals.{is_live};
 ghost use Rattle.life_intervals.specs.Simulation.{holds_row, rows_at};
@@ -12,8 +12,8 @@ ghost use Rattle.row_lines.specs.Lines.{key_line_of, line_of};
 
 use crate::cohort_lines::CohortLines;
 use life_intervals::{birth, born, cohort, cohort_orders, death, key};
-use pd_outside::{PageBuf, Piece};
-use schema_check::Plan;
+use line_pages::{PageBuf, Piece};
+use schema_plan::Plan;
 use std::sync::ledger::Ledger;
 use step_count::Steps;
 

@@ -2,12 +2,12 @@
 //! Python from the rules of cohorts, keys and lines, with no shared code (docs/SECOND_PROGRAM.md).
 
 ghost use Rattle.std.specs.Prelude.{◌≡◌, ℕ, ◌<◌, ◌≤◌, IfOk, is_some, length, true};
-ghost use Rattle.schema_check.specs.References.{reference_at};
+ghost use Rattle.schema_plan.specs.References.{reference_at};
 ghost use Rattle.life_intervals.specs.Generator.{last_unit, table_of};
 
 use super::*;
 use life_intervals::{Survival, born, cohort, cohort_orders, key, parent};
-use pd_outside::{Memory, PageBuf};
+use line_pages::{Memory, PageBuf};
 use schema_check::{Dictionaries, Plan, ReadyKind, check};
 use schema_model::{
     Column, Columns, Delimiter, Kind, Life, Longs, Part, Parts, Schema, Table, Tables, Text, Window,

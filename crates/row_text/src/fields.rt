@@ -4,7 +4,7 @@ ghost use Rattle.std.specs.Prelude.{◌≡◌, ◌≤◌, ◌+◌, ◌++◌, len
 ghost use Rattle.row_text.specs.Fields.{IsDelimiter, field_text, piece_text};
 
 use crate::escapes::{escape_count, has_escape, letter_of};
-use pd_outside::PageBuf;
+use line_pages::PageBuf;
 
 /// Appends a text, or a piece of one, as it is written. As many bytes as that takes have to be free.
 pub fn put_piece(buf: &mut PageBuf, bytes: &[u8], delimiter: u8)

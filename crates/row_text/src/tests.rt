@@ -4,7 +4,7 @@ ghost use Rattle.std.specs.Prelude.{◌≡◌, [], IfOk};
 ghost use Rattle.row_text.specs.Fields.{IsDelimiter};
 
 use super::*;
-use pd_outside::{Memory, PageBuf};
+use line_pages::{Memory, PageBuf};
 use std::alloc::Global;
 use std::process::Abort;
 use std::test::Fail;

@@ -13,13 +13,13 @@ use Rattle.schema_model.specs.declared.column.Leaf.{Leaf}
 use Rattle.schema_model.specs.declared.column.Leaf.TheVariants as drawn
 use Rattle.schema_model.specs.declared.column.Part.{Part}
 use Rattle.schema_model.specs.declared.column.Part.TheVariants as part
-use Rattle.schema_check.specs.Citations.{leaves_of}
-use Rattle.schema_check.specs.Counts.{count}
-use Rattle.schema_check.specs.Dictionaries.{AreWordLists, Dictionary, Project}
-use Rattle.schema_check.specs.Layout.{ColumnLayout, column_at, column_layout, kind_layout, leaf_layout, no_column, part_layout, place_of_column}
-use Rattle.schema_check.specs.Limits.{AreParts, CitesStill, IsCase, IsKindInLimits, IsLeafInLimits, IsPart, IsPickOf, IsStillPart, can_change, is_change_unit, is_cited, moves}
-use Rattle.schema_check.specs.References.{Reference, reference_of}
-use Rattle.schema_check.specs.Rules.{are_supplied, changes_at, cites_still, is_between, is_case, is_change, is_changed, is_citable, is_date_range, is_key_in_range, is_length_range, is_null_share, is_number_range, is_part, is_pick_of, is_skew_range, is_spread, is_still_kind, is_still_part, is_template, is_weighted, kind_at, may_change, moves_at, null_at}
+use Rattle.schema_plan.specs.Citations.{leaves_of}
+use Rattle.schema_plan.specs.Counts.{count}
+use Rattle.schema_plan.specs.Dictionaries.{AreWordLists, Dictionary, Project}
+use Rattle.schema_plan.specs.Layout.{ColumnLayout, column_at, column_layout, kind_layout, leaf_layout, no_column, part_layout, place_of_column}
+use Rattle.schema_plan.specs.Limits.{AreParts, CitesStill, IsCase, IsKindInLimits, IsLeafInLimits, IsPart, IsPickOf, IsStillPart, can_change, is_change_unit, is_cited, moves}
+use Rattle.schema_plan.specs.References.{Reference, reference_of}
+use Rattle.schema_plan.specs.Rules.{are_supplied, changes_at, cites_still, is_between, is_case, is_change, is_changed, is_citable, is_date_range, is_key_in_range, is_length_range, is_null_share, is_number_range, is_part, is_pick_of, is_skew_range, is_spread, is_still_kind, is_still_part, is_template, is_weighted, kind_at, may_change, moves_at, null_at}
 use Rattle.schema_check.proofs.FromTests.{limit_from_test, passes_each}
 use Rattle.schema_check.proofs.LeafLimits.{leaf_in_limits, leaves_in_limits}
 use Rattle.schema_check.proofs.ReferenceLimits.{spread_from_test}

@@ -1,13 +1,13 @@
 -- The site of a broken rule is the first at which it is broken.
 use Rattle.std.proofs.Common.{◌≡◌, ◌⊎◌, inl, inr, ℕ, suc, ◌<◌, if◌then◌else◌, Bool, true, false, length, List, slice_get, Option, Some, None, refl, ap, ◌∙◌, subst, arith}
 use Rattle.std.specs.Option.{option_or, option_map}
-use Rattle.schema_check.specs.declared.broken.Broken.{Broken}
-use Rattle.schema_check.specs.declared.rules.Rule.{Rule}
-use Rattle.schema_check.specs.declared.site.Site.{Site}
-use Rattle.schema_check.specs.declared.site.Site.TheVariants.{Whole, OfTable, OfColumn}
-use Rattle.schema_check.specs.Dictionaries.{Project}
-use Rattle.schema_check.specs.Rules.{holds, first_found, break_at, break_in_table, first_break, broken_rule, IsFirstBreak, Keeps}
-use Rattle.schema_check.specs.Sites.{columns_at, IsSiteOf, table_number, column_number}
+use Rattle.schema_plan.specs.declared.broken.Broken.{Broken}
+use Rattle.schema_plan.specs.declared.rules.Rule.{Rule}
+use Rattle.schema_plan.specs.declared.site.Site.{Site}
+use Rattle.schema_plan.specs.declared.site.Site.TheVariants.{Whole, OfTable, OfColumn}
+use Rattle.schema_plan.specs.Dictionaries.{Project}
+use Rattle.schema_plan.specs.Rules.{holds, first_found, break_at, break_in_table, first_break, broken_rule, IsFirstBreak, Keeps}
+use Rattle.schema_plan.specs.Sites.{columns_at, IsSiteOf, table_number, column_number}
 use Rattle.schema_check.proofs.Kept.{table_holds, found_at_first_place, holds_from_none, one_of_some, keeps_from_none, FoundAt}
 
 broken_from_some : (rule : Rule) (project : Project) (at site : Site) → break_at rule project at ≡ Some site → (holds rule project at ≡ false) × (at ≡ site)

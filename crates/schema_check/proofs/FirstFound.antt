@@ -3,7 +3,7 @@ use Rattle.std.proofs.Common.{◌≡◌, ℕ, suc, ◌+◌, ◌-◌, ◌<◌, Li
 use Rattle.std.specs.List.{range_with_len}
 use Rattle.std.specs.Option.{option_or}
 use Rattle.std.proofs.Math.Seq.{drop-cons}
-use Rattle.schema_check.specs.Rules.{first_found}
+use Rattle.schema_plan.specs.Rules.{first_found}
 
 -- one place further: what is found at the place itself, or else behind it
 pub first_found-range : {B : Type 0} (look : ℕ → Option B) (i n : ℕ) → i < n → first_found look (range_with_len i (n - i)) ≡ option_or (look i) (first_found look (range_with_len (i + 1) (n - (i + 1))))

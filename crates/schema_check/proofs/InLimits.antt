@@ -9,20 +9,20 @@ use Rattle.schema_model.specs.declared.table.Life.{Life}
 use Rattle.schema_model.specs.declared.column.Column.{Column}
 use Rattle.schema_model.specs.declared.column.Kind.{Kind}
 use Rattle.schema_model.specs.declared.column.Kind.TheVariants.{Key}
-use Rattle.schema_check.specs.declared.rules.Rule.{Rule}
-use Rattle.schema_check.specs.declared.rules.Rule.TheVariants.{Dictionaries, SeedAndUnits, TableCount, Columns, KeyColumn, RowCount, LifeRange, UpdatePeriod, NumberRange, DateRange, PickEntries, SkewRange, LengthRange, TemplateParts, CaseBranches, StillCitations, ReferenceTargets, ReferenceWindows, ParentRows, SpreadWeights, LookupColumns, RowCost, LineSize, ChangesAndNulls}
-use Rattle.schema_check.specs.declared.site.Site.TheVariants.{Whole, OfTable, OfColumn}
-use Rattle.schema_check.specs.Cohorts.{born_count}
-use Rattle.schema_check.specs.Counts.{count}
-use Rattle.schema_check.specs.Dictionaries.{AreWordLists, Dictionary, Project}
-use Rattle.schema_check.specs.Layout.{ColumnLayout, TableLayout, births_of, column_at, column_layout, key_kind, keys_of_kind, kind_layout, layout_of, span_of, table_at, table_layout}
-use Rattle.schema_check.specs.Limits.{IsKindInLimits, IsLife, IsLookupInLimits, IsTableInLimits, IsInLimits, IsUpdatePeriod}
-use Rattle.schema_check.specs.References.{IsReferenceInLimits, reference_of, references_of}
-use Rattle.schema_check.specs.Rules.{broken_rule, first_broken, number_of, rules, changes_at, cites_still, is_between, is_change, is_key, is_key_in_range, is_key_first, is_life, is_null_share, is_one_to_64, is_update_period, kind_at, null_at, references_before, schema_table, IsAccepted, Keeps}
-use Rattle.schema_check.specs.Sites.{columns_at}
-use Rattle.schema_check.specs.TableFacts.{cost, max_line}
+use Rattle.schema_plan.specs.declared.rules.Rule.{Rule}
+use Rattle.schema_plan.specs.declared.rules.Rule.TheVariants.{Dictionaries, SeedAndUnits, TableCount, Columns, KeyColumn, RowCount, LifeRange, UpdatePeriod, NumberRange, DateRange, PickEntries, SkewRange, LengthRange, TemplateParts, CaseBranches, StillCitations, ReferenceTargets, ReferenceWindows, ParentRows, SpreadWeights, LookupColumns, RowCost, LineSize, ChangesAndNulls}
+use Rattle.schema_plan.specs.declared.site.Site.TheVariants.{Whole, OfTable, OfColumn}
+use Rattle.schema_plan.specs.Cohorts.{born_count}
+use Rattle.schema_plan.specs.Counts.{count}
+use Rattle.schema_plan.specs.Dictionaries.{AreWordLists, Dictionary, Project}
+use Rattle.schema_plan.specs.Layout.{ColumnLayout, TableLayout, births_of, column_at, column_layout, key_kind, keys_of_kind, kind_layout, layout_of, span_of, table_at, table_layout}
+use Rattle.schema_plan.specs.Limits.{IsKindInLimits, IsLife, IsLookupInLimits, IsTableInLimits, IsInLimits, IsUpdatePeriod}
+use Rattle.schema_plan.specs.References.{IsReferenceInLimits, reference_of, references_of}
+use Rattle.schema_plan.specs.Rules.{broken_rule, first_broken, number_of, rules, changes_at, cites_still, is_between, is_change, is_key, is_key_in_range, is_key_first, is_life, is_null_share, is_one_to_64, is_update_period, kind_at, null_at, references_before, schema_table, IsAccepted, Keeps}
+use Rattle.schema_plan.specs.Sites.{columns_at}
+use Rattle.schema_plan.specs.TableFacts.{cost, max_line}
 use Rattle.schema_check.proofs.ColumnLimits.{cites_still_columns, columns_layout, key_never_null, kind_at-layout, kind_in_limits, null_at-layout, null_limit, reference_never_null, unchanged}
-use Rattle.schema_check.proofs.FactsLemmas.{table_at-is}
+use Rattle.schema_plan.proofs.FactsLemmas.{table_at-is}
 use Rattle.schema_check.proofs.FirstBreak.{none_of_rule}
 use Rattle.schema_check.proofs.FromTests.{count_from_test, least_from_test, limit_from_test}
 use Rattle.schema_check.proofs.Kept.{keeps_from_none, none_at}

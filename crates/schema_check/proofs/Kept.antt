@@ -4,12 +4,12 @@ use Rattle.std.specs.List.{range_with_len}
 use Rattle.std.specs.Option.{option_or}
 use Rattle.std.proofs.lemmas.List.FromFn.{length-range_with_len, get_or-range_with_len}
 use Rattle.std.proofs.lemmas.Option.{slice_get_within, slice_get-get_or}
-use Rattle.schema_check.specs.declared.rules.Rule.{Rule}
-use Rattle.schema_check.specs.declared.site.Site.{Site}
-use Rattle.schema_check.specs.declared.site.Site.TheVariants.{Whole, OfTable, OfColumn}
-use Rattle.schema_check.specs.Dictionaries.{Project}
-use Rattle.schema_check.specs.Rules.{holds, first_found, break_at, break_in_table, first_break, Keeps}
-use Rattle.schema_check.specs.Sites.{columns_at, IsSiteOf, table_number}
+use Rattle.schema_plan.specs.declared.rules.Rule.{Rule}
+use Rattle.schema_plan.specs.declared.site.Site.{Site}
+use Rattle.schema_plan.specs.declared.site.Site.TheVariants.{Whole, OfTable, OfColumn}
+use Rattle.schema_plan.specs.Dictionaries.{Project}
+use Rattle.schema_plan.specs.Rules.{holds, first_found, break_at, break_in_table, first_break, Keeps}
+use Rattle.schema_plan.specs.Sites.{columns_at, IsSiteOf, table_number}
 
 pub one_of_some : {A : Type 0} (a b : A) → Some a ≡ Some b → a ≡ b
 one_of_some a b h = cc

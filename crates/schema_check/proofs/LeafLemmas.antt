@@ -3,7 +3,7 @@ use Rattle.std.proofs.Common.{◌≡◌, ◌∙◌, ◌^◌, ◌-◌, ℤ, pos, 
 use Rattle.std.specs.Option.{SomeIff}
 use Rattle.std.proofs.lemmas.Bool.{false_from_ne_true, le-leb, leb-true}
 use Rattle.std.proofs.lemmas.Int.{ints}
-use Rattle.schema_check.specs.Rules.{is_range}
+use Rattle.schema_plan.specs.Rules.{is_range}
 use Rattle.schema_check.proofs.FromTests.{le_from_test}
 
 -- a number that isn't below the least of 64 bits is one of them where it isn't past the greatest

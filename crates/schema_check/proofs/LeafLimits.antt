@@ -9,13 +9,13 @@ use Rattle.std.proofs.lemmas.List.{get_or-map, length-map}
 use Rattle.dictionaries.specs.WordList.{WordList, IsWordList}
 use Rattle.schema_model.specs.declared.column.Leaf.{Leaf}
 use Rattle.schema_model.specs.declared.column.Leaf.TheVariants as drawn
-use Rattle.schema_check.specs.Citations.{cited_names, may_cite}
-use Rattle.schema_check.specs.Counts.{count}
-use Rattle.schema_check.specs.Dictionaries.{AreWordLists, Dictionary, Project, dictionary_named, no_words, words_named}
-use Rattle.schema_check.specs.Layout.{leaf_layout}
-use Rattle.schema_check.specs.Limits.{IsAlphabet, IsDateRange, IsLeafInLimits, IsLengthRange, IsRange, IsSkew, IsWeighted}
-use Rattle.schema_check.specs.Names.{same_text}
-use Rattle.schema_check.specs.Rules.{are_supplied, is_between, is_date_range, is_length_between, is_length_range, is_number_range, is_range, is_skew_range, is_supplied, is_weighted}
+use Rattle.schema_plan.specs.Citations.{cited_names, may_cite}
+use Rattle.schema_plan.specs.Counts.{count}
+use Rattle.schema_plan.specs.Dictionaries.{AreWordLists, Dictionary, Project, dictionary_named, no_words, words_named}
+use Rattle.schema_plan.specs.Layout.{leaf_layout}
+use Rattle.schema_plan.specs.Limits.{IsAlphabet, IsDateRange, IsLeafInLimits, IsLengthRange, IsRange, IsSkew, IsWeighted}
+use Rattle.schema_plan.specs.Names.{same_text}
+use Rattle.schema_plan.specs.Rules.{are_supplied, is_between, is_date_range, is_length_between, is_length_range, is_number_range, is_range, is_skew_range, is_supplied, is_weighted}
 use Rattle.schema_check.proofs.FromTests.{le_from_test, least_from_test, limit_from_test, passes_each}
 
 range_from_test : (lo hi : ℤ) → is_range lo hi ≡ true → IsRange lo hi

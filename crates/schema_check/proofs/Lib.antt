@@ -1,14 +1,7 @@
-pub mod Lists
-pub mod PlaceLemmas
-pub mod Capping
 pub mod FirstFound
 pub mod FromTests
 pub mod Kept
 pub mod FirstBreak
-pub mod CohortLemmas
-pub mod LineageLemmas
-pub mod BoundsLemmas
-pub mod FactsLemmas
 pub mod RuleLemmas
 pub mod ReferenceLemmas
 pub mod LeafLemmas
@@ -17,6 +10,3 @@ pub mod ReferenceLimits
 pub mod ColumnLimits
 pub mod LookupLimits
 pub mod InLimits
-pub mod ReadyLemmas
-pub mod PlannedLemmas
-pub mod WordListLemmas

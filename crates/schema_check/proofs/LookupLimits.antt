@@ -6,10 +6,10 @@ use Rattle.schema_model.specs.declared.table.Table.{Table}
 use Rattle.schema_model.specs.declared.column.Column.{Column}
 use Rattle.schema_model.specs.declared.column.Kind.{Kind}
 use Rattle.schema_model.specs.declared.column.Kind.TheVariants as kind
-use Rattle.schema_check.specs.Dictionaries.{Dictionary}
-use Rattle.schema_check.specs.Layout.{ColumnLayout, column_at, column_layout, columns_of, kind_layout, parent_of, place_of_column, table_at, table_layout, table_layouts}
-use Rattle.schema_check.specs.Limits.{IsLookupInLimits, IsReferenceTo, is_lookup_kind as is_lookup_layout, moves}
-use Rattle.schema_check.specs.Rules.{has_still_column, is_lookup, is_lookup_kind, is_looked_up, kind_at, moves_at}
+use Rattle.schema_plan.specs.Dictionaries.{Dictionary}
+use Rattle.schema_plan.specs.Layout.{ColumnLayout, column_at, column_layout, columns_of, kind_layout, parent_of, place_of_column, table_at, table_layout, table_layouts}
+use Rattle.schema_plan.specs.Limits.{IsLookupInLimits, IsReferenceTo, is_lookup_kind as is_lookup_layout, moves}
+use Rattle.schema_plan.specs.Rules.{has_still_column, is_lookup, is_lookup_kind, is_looked_up, kind_at, moves_at}
 use Rattle.schema_check.proofs.ColumnLimits.{columns_layout, kind_at-layout, still_from_test}
 
 is_lookup-layout : (dictionaries : List Dictionary) (tables : List Table) (columns : List Column) (kind : Kind) → is_lookup_layout (kind_layout dictionaries tables columns kind) ≡ is_lookup_kind kind

@@ -7,21 +7,21 @@ use Rattle.std.proofs.lemmas.Bool.Decides.{nat_tests}
 use Rattle.std.proofs.lemmas.List.{get_or_past, length-map}
 use Rattle.std.proofs.lemmas.List.FromFn.{get_or-map-range_with_len, get_or-range_with_len, length-map-range_with_len, length-range_with_len}
 use Rattle.std.proofs.lemmas.List.Sums.{list_all-from_AllPass}
-use Rattle.schema_check.specs.declared.facts.TableFacts.{TableFacts}
-use Rattle.schema_check.specs.declared.layout.Births.{Births}
-use Rattle.schema_check.specs.declared.lineage.Lineage.{Lineage}
-use Rattle.schema_check.specs.Capped.{capped_facts, capped_lineage, first_facts}
-use Rattle.schema_check.specs.Cohorts.{first_ordinal}
-use Rattle.schema_check.specs.Dictionaries.{Project}
-use Rattle.schema_check.specs.Layout.{TableLayout, layout_of, table_layout}
-use Rattle.schema_check.specs.Lineage.{endless, lineage_at, lineages, sure_life}
-use Rattle.schema_check.specs.References.{window_start}
-use Rattle.schema_check.specs.Rules.{has_parent_row, has_parent_rows}
-use Rattle.schema_check.specs.TableFacts.{facts_at}
-use Rattle.schema_check.proofs.CohortLemmas.{born_count-is, first_ordinal-suc}
+use Rattle.schema_plan.specs.declared.facts.TableFacts.{TableFacts}
+use Rattle.schema_plan.specs.declared.layout.Births.{Births}
+use Rattle.schema_plan.specs.declared.lineage.Lineage.{Lineage}
+use Rattle.schema_plan.specs.Capped.{capped_facts, capped_lineage, first_facts}
+use Rattle.schema_plan.specs.Cohorts.{first_ordinal}
+use Rattle.schema_plan.specs.Dictionaries.{Project}
+use Rattle.schema_plan.specs.Layout.{TableLayout, layout_of, table_layout}
+use Rattle.schema_plan.specs.Lineage.{endless, lineage_at, lineages, sure_life}
+use Rattle.schema_plan.specs.References.{window_start}
+use Rattle.schema_plan.specs.Rules.{has_parent_row, has_parent_rows}
+use Rattle.schema_plan.specs.TableFacts.{facts_at}
+use Rattle.schema_plan.proofs.CohortLemmas.{born_count-is, first_ordinal-suc}
 use Rattle.schema_check.proofs.FromTests.{passes_each}
-use Rattle.schema_check.proofs.LineageLemmas.{length-lineages}
-use Rattle.schema_check.proofs.Lists.{map-map}
+use Rattle.schema_plan.proofs.LineageLemmas.{length-lineages}
+use Rattle.schema_plan.proofs.Lists.{map-map}
 
 -- ---- the sure life of the first tables
 

@@ -6,21 +6,20 @@ use Rattle.std.proofs.lemmas.Bool.Decides.{nat_tests}
 use Rattle.std.proofs.lemmas.List.{get_or-map, length-map}
 use Rattle.std.proofs.lemmas.List.Elements.{All-cons}
 use Rattle.std.proofs.lemmas.List.FromFn.{get_or-range_with_len, length-range_with_len}
-use Rattle.std.proofs.lemmas.List.Sums.{sum_by-le}
 use Rattle.schema_model.specs.declared.column.Column.{Column}
 use Rattle.schema_model.specs.declared.column.Kind.{Kind}
 use Rattle.schema_model.specs.declared.column.Kind.TheVariants as kind
 use Rattle.schema_model.specs.declared.column.Window.{Window}
 use Rattle.schema_model.specs.declared.column.Window.TheVariants as window
-use Rattle.schema_check.specs.declared.layout.Births.{Births}
-use Rattle.schema_check.specs.Cohorts.{born_count, cohort_size}
-use Rattle.schema_check.specs.Counts.{count}
-use Rattle.schema_check.specs.Dictionaries.{Project}
-use Rattle.schema_check.specs.Layout.{ColumnLayout, TableLayout, births_of, column_at, kind_layout, layout_of, place_of_table, table_at, window_layout}
-use Rattle.schema_check.specs.Lineage.{sure_life}
-use Rattle.schema_check.specs.References.{IsReferenceInLimits, IsSpread, IsSpreadWeight, IsWithinLife, Reference, first_in_window, reference_at, reference_of, references_of}
-use Rattle.schema_check.specs.Rules.{has_parent_row, has_parent_rows, has_parents, is_between, is_spread, is_target, is_window, is_within_life, schema_table}
-use Rattle.schema_check.proofs.FactsLemmas.{table_at-is}
+use Rattle.schema_plan.specs.declared.layout.Births.{Births}
+use Rattle.schema_plan.specs.Cohorts.{born_count, cohort_size}
+use Rattle.schema_plan.specs.Counts.{count}
+use Rattle.schema_plan.specs.Dictionaries.{Project}
+use Rattle.schema_plan.specs.Layout.{ColumnLayout, TableLayout, births_of, column_at, kind_layout, layout_of, place_of_table, table_at, window_layout}
+use Rattle.schema_plan.specs.Lineage.{sure_life}
+use Rattle.schema_plan.specs.References.{IsReferenceInLimits, IsSpread, IsSpreadWeight, IsWithinLife, Reference, first_in_window, reference_at, reference_of, references_of}
+use Rattle.schema_plan.specs.Rules.{has_parent_row, has_parent_rows, has_parents, is_between, is_spread, is_target, is_window, is_within_life, schema_table}
+use Rattle.schema_plan.proofs.FactsLemmas.{table_at-is}
 use Rattle.schema_check.proofs.FromTests.{least_from_test, limit_from_test, passes_each}
 use Rattle.schema_check.proofs.Kept.{one_of_some}
 
@@ -44,12 +43,6 @@ spread_from_test spread h =
       group_limit = omega (arith, length-map spread count, leb-true (length spread) 64 w.1);
       each = weights_from_test spread v.1;
     }
-
--- the sum of a spread's weights is at most 64,000
-pub spread_sum : (weights : List ℕ) → IsSpread weights → sum weights ≤ 64000
-spread_sum weights spread =
-    let most : sum weights ≤ length weights * 1000 = sum_by-le (λ (weight : ℕ). weight) 1000 weights (λ i d h. (spread.each i d h).weight_limit) in
-    omega (arith, spread.group_limit)
 
 -- ---- the references of a table
 

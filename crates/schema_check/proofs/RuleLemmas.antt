@@ -7,22 +7,22 @@ use Rattle.std.proofs.lemmas.List.{get_or-map}
 use Rattle.std.proofs.lemmas.List.FromFn.{length-map-range_with_len, get_or-map-range_with_len}
 use Rattle.schema_model.specs.declared.table.Schema.{Schema}
 use Rattle.schema_model.specs.declared.table.Table.{Table}
-use Rattle.schema_check.specs.declared.facts.TableFacts.{TableFacts}
-use Rattle.schema_check.specs.declared.rules.Rule.{Rule}
-use Rattle.schema_check.specs.declared.rules.Rule.TheVariants.{RowCost, LineSize}
-use Rattle.schema_check.specs.declared.site.Site.{Site}
-use Rattle.schema_check.specs.declared.site.Site.TheVariants.{OfTable}
-use Rattle.schema_check.specs.Capped.{capped, capped_facts, first_facts, is_known_at_most}
-use Rattle.schema_check.specs.Cohorts.{born_count}
-use Rattle.schema_check.specs.Counts.{count}
-use Rattle.schema_check.specs.Dictionaries.{Project}
-use Rattle.schema_check.specs.Layout.{births_of, layout_of}
-use Rattle.schema_check.specs.Names.{same_text, is_name}
-use Rattle.schema_check.specs.Rules.{holds, is_new_name, is_new_at, is_row_count}
-use Rattle.schema_check.specs.Sites.{columns_at}
-use Rattle.schema_check.specs.TableFacts.{cost, facts_at, max_line}
-use Rattle.schema_check.proofs.CohortLemmas.{born_count-is}
-use Rattle.schema_check.proofs.Lists.{list_any-map, map-map}
+use Rattle.schema_plan.specs.declared.facts.TableFacts.{TableFacts}
+use Rattle.schema_plan.specs.declared.rules.Rule.{Rule}
+use Rattle.schema_plan.specs.declared.rules.Rule.TheVariants.{RowCost, LineSize}
+use Rattle.schema_plan.specs.declared.site.Site.{Site}
+use Rattle.schema_plan.specs.declared.site.Site.TheVariants.{OfTable}
+use Rattle.schema_plan.specs.Capped.{capped, capped_facts, first_facts, is_known_at_most}
+use Rattle.schema_plan.specs.Cohorts.{born_count}
+use Rattle.schema_plan.specs.Counts.{count}
+use Rattle.schema_plan.specs.Dictionaries.{Project}
+use Rattle.schema_plan.specs.Layout.{births_of, layout_of}
+use Rattle.schema_plan.specs.Names.{same_text, is_name}
+use Rattle.schema_plan.specs.Rules.{holds, is_new_name, is_new_at, is_row_count}
+use Rattle.schema_plan.specs.Sites.{columns_at}
+use Rattle.schema_plan.specs.TableFacts.{cost, facts_at, max_line}
+use Rattle.schema_plan.proofs.CohortLemmas.{born_count-is}
+use Rattle.schema_plan.proofs.Lists.{list_any-map, map-map}
 
 take-map : {A B : Type 0} (f : A → B) (i : ℕ) (xs : List A) → take i (map f xs) ≡ map f (take i xs)
 take-map f zero xs = refl

@@ -2,13 +2,13 @@
 use Rattle.std.specs.Prelude.{◌≡◌, [], Option, Some}
 use Rattle.std.specs.Option.{option_map}
 use Rattle.schema_model.specs.declared.table.Schema.{Schema}
-use Rattle.schema_check.specs.declared.broken.Broken.{Broken}
+use Rattle.schema_plan.specs.declared.broken.Broken.{Broken}
 use Rattle.schema_check.specs.declared.checker.CheckFault.{CheckFault}
-use Rattle.schema_check.specs.declared.rules.Rule.TheVariants.{CitedNames}
+use Rattle.schema_plan.specs.declared.rules.Rule.TheVariants.{CitedNames}
 use Rattle.schema_check.specs.declared.checker.CheckFault.TheVariants.{Rule, Memory}
-use Rattle.schema_check.specs.Dictionaries.{Project, project_of}
-use Rattle.schema_check.specs.Rules.{broken_rule, first_broken, number_of, IsAccepted}
-use Rattle.schema_check.specs.Sites.{table_number, column_number}
+use Rattle.schema_plan.specs.Dictionaries.{Project, project_of}
+use Rattle.schema_plan.specs.Rules.{broken_rule, first_broken, number_of, IsAccepted}
+use Rattle.schema_plan.specs.Sites.{table_number, column_number}
 
 -- a broken rule as it is told: its number and its place
 abbrev pub told : Broken → CheckFault

@@ -1,22 +1,18 @@
 //! The check of a schema.
 
 ghost use Rattle.std.specs.Prelude.{◌≡◌, ◌≢◌, ◌≤◌, None, Some, IfErr, IfOk, IfSome, OnOk};
-ghost use Rattle.schema_check.specs.Capped.{first_facts};
-ghost use Rattle.schema_check.specs.Citations.{cited_names};
-ghost use Rattle.schema_check.specs.Dictionaries.{project_of};
+ghost use Rattle.schema_plan.specs.Capped.{first_facts};
+ghost use Rattle.schema_plan.specs.Citations.{cited_names};
+ghost use Rattle.schema_plan.specs.Dictionaries.{project_of};
 ghost use Rattle.schema_check.specs.Faults.{citation_refusal, refusal_of, told, Tells};
-ghost use Rattle.schema_check.specs.Rules.{IsAccepted};
-ghost use Rattle.schema_check.specs.Sites.{column_number, IsSiteOf};
+ghost use Rattle.schema_plan.specs.Rules.{IsAccepted};
+ghost use Rattle.schema_plan.specs.Sites.{column_number, IsSiteOf};
 
-use crate::broken::Broken;
 use crate::candidate::Candidate;
 use crate::cited_names::{CitedNames, copied_names};
-use crate::facts::{NO_FACTS, TableFacts, fill_facts};
-use crate::plan::Plan;
-use crate::rules::{MAX_ITEMS, Rule, columns_at, first_break, first_broken};
-use crate::site::Site;
-use crate::word_lists::Dictionaries;
+use crate::rules::{MAX_ITEMS, columns_at, first_break, first_broken};
 use schema_model::{Schema, Texts};
+use schema_plan::{Broken, Dictionaries, NO_FACTS, Plan, Rule, Site, TableFacts, fill_facts};
 use std::alloc::Global;
 
 /// Why a schema has no plan.
@@ -69,6 +65,7 @@ pub fn check(alloc: Global, schema: Schema, dictionaries: Dictionaries) -> Resul
     if let Some(fault) = first_fault(&schema, &dictionaries, &facts[..count]) {
         return Err(fault);
     }
+    let _lists = dictionaries.len(); // each is a word list
     match Plan::of_accepted(alloc, schema, dictionaries, &facts[..count]) {
         Ok(plan) => Ok(plan),
         Err(_) => Err(CheckFault::Memory),

@@ -2,15 +2,15 @@
 
 ghost use Rattle.std.specs.Prelude.{◌≡◌, IfOk, is_some};
 ghost use Rattle.std.specs.List.{list_all, list_any};
-ghost use Rattle.schema_check.specs.Citations.{cited_names, may_cite, may_cite_all};
-ghost use Rattle.schema_check.specs.Dictionaries.{dictionary_named};
-ghost use Rattle.schema_check.specs.Names.{same_text};
-ghost use Rattle.schema_check.specs.Rules.{are_supplied, is_supplied};
+ghost use Rattle.schema_plan.specs.Citations.{cited_names, may_cite, may_cite_all};
+ghost use Rattle.schema_plan.specs.Dictionaries.{dictionary_named};
+ghost use Rattle.schema_plan.specs.Names.{same_text};
+ghost use Rattle.schema_plan.specs.Rules.{are_supplied, is_supplied};
 
 use crate::candidate::Candidate;
 use crate::leaf_rules::leaves_of;
-use crate::memory::Memory;
 use schema_model::{Column, Leaf, Schema, Table, Text, Texts};
+use schema_plan::Memory;
 use std::alloc::Global;
 use std::marker::Model;
 
@@ -40,7 +40,7 @@ impl<'a> Model for CitedNames<'a> {
 impl<'a> CitedNames<'a> {
     ghost use Rattle.std.specs.Prelude.{◌≡◌, ℕ, ◌<◌, List, [], ◌∷◌, ◌++◌, flat_map, length, map, take};
     ghost use Rattle.std.specs.List.{fold};
-    ghost use Rattle.schema_check.specs.Citations.{cited_names, has_name, leaves_of, names_in_columns, names_in_leaf, with_name};
+    ghost use Rattle.schema_plan.specs.Citations.{cited_names, has_name, leaves_of, names_in_columns, names_in_leaf, with_name};
 
     /// No name.
     fn none() -> CitedNames<'a>
@@ -67,7 +67,7 @@ impl<'a> CitedNames<'a> {
     }
 
     /// The first names that the tables of a schema cite.
-    #[tactic(auto, unfolding(crate::specs::Citations::cited_names))]
+    #[tactic(auto, unfolding(schema_plan::specs::Citations::cited_names))]
     pub(crate) fn of(schema: &'a Schema) -> CitedNames<'a>
         ensures { result ≡ cited_names schema.now.tables }
     {

@@ -1,16 +1,10 @@
 //! Laws of the definitions that the contracts cite, each the contract of a function without a body.
 
-ghost use Rattle.std.specs.Prelude.{◌≡◌, ℕ, ◌+◌, ◌*◌, ◌<◌, ◌↔◌, ◌∷◌, [], Some, None, map, slice_get};
-ghost use Rattle.schema_check.specs.declared.broken.Broken.{Broken};
-ghost use Rattle.schema_check.specs.declared.layout.Births.{Births};
-ghost use Rattle.schema_check.specs.declared.rules.Rule.{Rule};
-ghost use Rattle.schema_check.specs.Cohorts.{born_count};
-ghost use Rattle.schema_check.specs.Dictionaries.{Project};
-ghost use Rattle.schema_check.specs.Layout.{layout_of};
-ghost use Rattle.schema_check.specs.Lineage.{longest_life, sure_life};
-ghost use Rattle.schema_check.specs.Rules.{first_broken, IsAccepted, IsFirstBreak, Keeps, rules};
-ghost use Rattle.schema_check.specs.TableFacts.{cost, max_line, reach};
-ghost use Rattle.schema_check.specs.Worked.{people, places, sales, sizes_of};
+ghost use Rattle.std.specs.Prelude.{◌≡◌, ℕ, ◌<◌, ◌↔◌, Some, slice_get};
+ghost use Rattle.schema_plan.specs.declared.broken.Broken.{Broken};
+ghost use Rattle.schema_plan.specs.declared.rules.Rule.{Rule};
+ghost use Rattle.schema_plan.specs.Dictionaries.{Project};
+ghost use Rattle.schema_plan.specs.Rules.{first_broken, IsAccepted, IsFirstBreak, Keeps, rules};
 
 /// A schema is accepted exactly where it keeps each rule.
 pub fn accepted_schemas_keep_each_rule()
@@ -24,42 +18,4 @@ pub fn first_broken_is_the_first_rule_at_its_first_site()
     ensures { (project : Project) (broken : Broken) → first_broken project ≡ Some broken →
         (i : ℕ) × (slice_get rules i ≡ Some broken.rule) × IsFirstBreak broken.rule project broken.site
         × ((k : ℕ) (other : Rule) → k < i → slice_get rules k ≡ Some other → Keeps other project) }
-{}
-
-/// The rows of a table are those of unit 0 and as many more for each unit after it.
-pub fn tables_grow_by_their_inserts()
-    ensures { (births : Births) (unit : ℕ) → born_count births unit ≡ births.rows + unit * births.insert }
-{}
-
-/// Lives worked out by hand: orders may name a customer who is two units older, lines an order of their own unit, and
-/// rows of tables without lives and parents have no end.
-pub fn worked_lives()
-    ensures customer { sure_life (layout_of sales).tables 0 ≡ Some 3 }
-    ensures orders { sure_life (layout_of sales).tables 1 ≡ Some 1 }
-    ensures lines { sure_life (layout_of sales).tables 2 ≡ Some 1 }
-    ensures customer_at_most { longest_life (layout_of sales).tables 0 ≡ Some 3 }
-    ensures orders_at_most { longest_life (layout_of sales).tables 1 ≡ Some 3 }
-    ensures lines_at_most { longest_life (layout_of sales).tables 2 ≡ Some 3 }
-    ensures city { sure_life (layout_of places).tables 0 ≡ None }
-    ensures house { sure_life (layout_of places).tables 1 ≡ None }
-    ensures house_at_most { longest_life (layout_of places).tables 1 ≡ None }
-{}
-
-/// Costs worked out by hand.
-pub fn worked_costs()
-    ensures customer { cost (layout_of sales) 0 ≡ 3 }
-    ensures orders { cost (layout_of sales) 1 ≡ 5 }
-    ensures lines { cost (layout_of sales) 2 ≡ 6 }
-    ensures city { cost (layout_of places) 0 ≡ 2 }
-    ensures house { cost (layout_of places) 1 ≡ 9 }
-{}
-
-/// Sizes worked out by hand: a tab and a backslash are written as two bytes; the words of a text have spaces between.
-pub fn worked_sizes()
-    ensures customer { max_line (layout_of sales) 0 ≡ 33 }
-    ensures orders { max_line (layout_of sales) 1 ≡ 42 }
-    ensures most { reach (layout_of sales) ≡ 42 }
-    ensures fields { map (sizes_of (layout_of places)) (layout_of places).tables
-        ≡ (20 ∷ 6 ∷ 6 ∷ 15 ∷ []) ∷ (20 ∷ 20 ∷ 6 ∷ 40 ∷ []) ∷ [] }
-    ensures words { map (sizes_of (layout_of people)) (layout_of people).tables ≡ (20 ∷ 5 ∷ 17 ∷ []) ∷ [] }
 {}

@@ -3,13 +3,13 @@
 ghost use Rattle.std.specs.Prelude.{◌≡◌, ◌-◌, ◌^◌, ◌&&◌, ◌+ℤ◌, ◌-ℤ◌, ◌≤ℤ◌, int_le, length, map, nat_le, pos, sum};
 ghost use Rattle.std.specs.List.{list_all};
 ghost use Rattle.std.specs.Str.{chars};
-ghost use Rattle.schema_check.specs.Capped.{capped};
-ghost use Rattle.schema_check.specs.Citations.{leaves_of};
-ghost use Rattle.schema_check.specs.Counts.{count};
-ghost use Rattle.schema_check.specs.Rules.{is_date_range, is_length_between, is_length_range, is_number_range, is_range, is_skew_range, is_weighted};
+ghost use Rattle.schema_plan.specs.Capped.{capped};
+ghost use Rattle.schema_plan.specs.Citations.{leaves_of};
+ghost use Rattle.schema_plan.specs.Counts.{count};
+ghost use Rattle.schema_plan.specs.Rules.{is_date_range, is_length_between, is_length_range, is_number_range, is_range, is_skew_range, is_weighted};
 
-use crate::counts::count;
 use schema_model::{Kind, Leaf};
+use schema_plan::count;
 use std::slice;
 
 /// The most digits after a point.

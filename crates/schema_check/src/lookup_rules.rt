@@ -1,11 +1,11 @@
 //! What the rules ask of lookups.
 
 ghost use Rattle.std.specs.Prelude.{◌≡◌, ◌<◌, length};
-ghost use Rattle.schema_check.specs.Rules.{has_still_column, is_looked_up, is_lookup, is_lookup_kind, kind_at};
+ghost use Rattle.schema_plan.specs.Rules.{has_still_column, is_looked_up, is_lookup, is_lookup_kind, kind_at};
 
 use crate::column_rules::moves;
-use crate::places::{columns_of, place_of_column, place_of_table};
 use schema_model::{Column, Kind, Table, Text};
+use schema_plan::{columns_of, place_of_column, place_of_table};
 
 /// Whether the column at a place, where it is a lookup, names an earlier reference and a column of the parent's table that doesn't
 /// move and is no lookup.

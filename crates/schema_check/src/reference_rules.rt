@@ -2,19 +2,15 @@
 
 ghost use Rattle.std.specs.Prelude.{◌≡◌, ◌==◌, ◌<◌, ◌≤◌, ◌&&◌, ◌||◌, length, nat_lt};
 ghost use Rattle.std.specs.List.{list_all};
-ghost use Rattle.schema_check.specs.Counts.{count};
-ghost use Rattle.schema_check.specs.Layout.{births_of, place_of_table, window_layout};
-ghost use Rattle.schema_check.specs.References.{window_start};
-ghost use Rattle.schema_check.specs.Rules.{has_parent_rows, has_parents, is_between, is_reference, is_spread, is_target, is_window, is_within_life, kind_at, references_before, schema_table};
+ghost use Rattle.schema_plan.specs.Counts.{count};
+ghost use Rattle.schema_plan.specs.Layout.{births_of, place_of_table, window_layout};
+ghost use Rattle.schema_plan.specs.References.{window_start};
+ghost use Rattle.schema_plan.specs.Rules.{has_parent_rows, has_parents, is_between, is_reference, is_spread, is_target, is_window, is_within_life, kind_at, references_before, schema_table};
 
 use crate::candidate::Candidate;
-use crate::counts::count;
-use crate::facts::births_of;
-use crate::layout::Births;
-use crate::lineage::lineage_at;
-use crate::places::place_of_table;
 use crate::rules::MAX_ITEMS;
 use schema_model::{Column, Kind, Schema, Table, Text, Window};
+use schema_plan::{Births, births_of, count, lineage_at, place_of_table};
 
 /// The most references of a table.
 const MAX_REFERENCES: usize = 8;

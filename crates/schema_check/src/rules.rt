@@ -2,26 +2,23 @@
 
 ghost use Rattle.std.specs.Prelude.{◌≡◌, ◌<◌, ◌+◌, ◌*◌, ◌&&◌, IfSome, int_le, length, map, pos};
 ghost use Rattle.std.specs.List.{list_any};
-ghost use Rattle.schema_check.specs.Capped.{capped, is_known_at_most};
-ghost use Rattle.schema_check.specs.Counts.{count};
-ghost use Rattle.schema_check.specs.Names.{same_text};
-ghost use Rattle.schema_check.specs.Rules.{break_in_table, first_break, first_broken, holds, is_between, is_key_first, is_life, is_new_at, is_one_to_64, is_row_count, is_update_period, number_of};
-ghost use Rattle.schema_check.specs.Sites.{columns_at, IsSiteOf};
+ghost use Rattle.schema_plan.specs.Capped.{capped, is_known_at_most};
+ghost use Rattle.schema_plan.specs.Counts.{count};
+ghost use Rattle.schema_plan.specs.Names.{same_text};
+ghost use Rattle.schema_plan.specs.Rules.{break_in_table, first_break, first_broken, holds, is_between, is_key_first, is_life, is_new_at, is_one_to_64, is_row_count, is_update_period};
+ghost use Rattle.schema_plan.specs.Sites.{columns_at, IsSiteOf};
 
-use crate::broken::Broken;
 use crate::candidate::Candidate;
 use crate::cited_names::{are_citable, are_supplied};
 use crate::column_rules::{cites_still, is_case, is_change, is_null_share, is_template};
-use crate::counts::count;
-use crate::facts::TableFacts;
 use crate::leaf_rules::{
     are_date_ranges, are_length_ranges, are_number_ranges, are_skew_ranges, are_weighted, leaves_of,
 };
 use crate::lookup_rules::is_lookup;
 use crate::names::is_name;
 use crate::reference_rules::{has_parents, is_spread, is_target, is_window};
-use crate::site::Site;
 use schema_model::{Column, Kind, Life, Schema, Table, Text};
+use schema_plan::{Broken, Rule, Site, TableFacts, count};
 
 /// The greatest last unit.
 const MAX_UNITS: i64 = 10_000;
@@ -46,63 +43,6 @@ const MAX_COST: u64 = 4_096;
 
 /// The most bytes of a line.
 const MAX_LINE: u64 = 65_536;
-
-/// A rule of a schema, with its number in messages.
-#[derive(Clone, Copy, Debug, PartialEq, Eq)]
-pub(crate) enum Rule {
-    /// V13
-    Dictionaries,
-    /// V13 as far as a schema alone tells it.
-    CitedNames,
-    /// V1
-    SeedAndUnits,
-    /// V2
-    TableCount,
-    /// V3
-    TableNames,
-    /// V4
-    Columns,
-    /// V5
-    KeyColumn,
-    /// V6
-    RowCount,
-    /// V7
-    LifeRange,
-    /// V8
-    UpdatePeriod,
-    /// V9
-    NumberRange,
-    /// V10
-    DateRange,
-    /// V11
-    PickEntries,
-    /// V12
-    SkewRange,
-    /// V14
-    LengthRange,
-    /// V15
-    TemplateParts,
-    /// V16
-    CaseBranches,
-    /// V17
-    StillCitations,
-    /// V18
-    ReferenceTargets,
-    /// V19
-    ReferenceWindows,
-    /// V20
-    ParentRows,
-    /// V21
-    SpreadWeights,
-    /// V22
-    LookupColumns,
-    /// V23
-    RowCost,
-    /// V24
-    LineSize,
-    /// V25
-    ChangesAndNulls,
-}
 
 /// The rules in the order in which they are tried.
 const ORDER: [Rule; 25] = [
@@ -135,7 +75,7 @@ const ORDER: [Rule; 25] = [
 
 /// The first rule that a schema breaks with its dictionaries, at its first site: the whole before the tables, in their order, and
 /// a table before its columns, in their order.
-#[tactic(auto, unfolding(crate::specs::Rules::first_broken))]
+#[tactic(auto, unfolding(schema_plan::specs::Rules::first_broken))]
 pub(crate) fn first_broken(candidate: &Candidate<'_>) -> Option<Broken>
     ensures first { result ≡ first_broken candidate.now }
     ensures site { IfSome result (λ broken. IsSiteOf candidate.now.schema broken.site) }
@@ -153,7 +93,7 @@ pub(crate) fn first_break(rule: Rule, candidate: &Candidate<'_>) -> Option<Site>
     ensures first { result ≡ first_break rule candidate.now }
     ensures site { IfSome result (IsSiteOf candidate.now.schema) }
 {
-    if !rule.holds(candidate, Site::Whole) {
+    if !holds(rule, candidate, Site::Whole) {
         return Some(Site::Whole);
     }
     for table in 0..candidate.schema().tables.len() {
@@ -170,124 +110,89 @@ fn break_in_table(rule: Rule, candidate: &Candidate<'_>, table: usize) -> Option
     ensures first { result ≡ break_in_table rule candidate.now table }
     ensures site { IfSome result (IsSiteOf candidate.now.schema) }
 {
-    if !rule.holds(candidate, Site::OfTable(table)) {
+    if !holds(rule, candidate, Site::OfTable(table)) {
         return Some(Site::OfTable(table));
     }
     for column in 0..columns_at(candidate.schema(), table).len() {
         let site = Site::OfColumn(table, column);
-        if !rule.holds(candidate, site) {
+        if !holds(rule, candidate, site) {
             return Some(site);
         }
     }
     None
 }
 
-impl Rule {
-    /// The number in messages, 1 for V1.
-    pub(crate) fn number(self) -> u32
-        ensures { result ≡ number_of self }
-    {
-        match self {
-            Rule::Dictionaries | Rule::CitedNames => 13,
-            Rule::SeedAndUnits => 1,
-            Rule::TableCount => 2,
-            Rule::TableNames => 3,
-            Rule::Columns => 4,
-            Rule::KeyColumn => 5,
-            Rule::RowCount => 6,
-            Rule::LifeRange => 7,
-            Rule::UpdatePeriod => 8,
-            Rule::NumberRange => 9,
-            Rule::DateRange => 10,
-            Rule::PickEntries => 11,
-            Rule::SkewRange => 12,
-            Rule::LengthRange => 14,
-            Rule::TemplateParts => 15,
-            Rule::CaseBranches => 16,
-            Rule::StillCitations => 17,
-            Rule::ReferenceTargets => 18,
-            Rule::ReferenceWindows => 19,
-            Rule::ParentRows => 20,
-            Rule::SpreadWeights => 21,
-            Rule::LookupColumns => 22,
-            Rule::RowCost => 23,
-            Rule::LineSize => 24,
-            Rule::ChangesAndNulls => 25,
-        }
+/// Whether the rule holds at a site. Where it asks nothing there, it holds.
+fn holds(rule: Rule, candidate: &Candidate<'_>, site: Site) -> bool
+    requires { IsSiteOf candidate.now.schema site }
+    ensures { result ≡ holds rule candidate.now site }
+{
+    match site {
+        Site::Whole => holds_of_whole(rule, candidate),
+        Site::OfTable(table) => holds_of_table(rule, candidate, table),
+        Site::OfColumn(table, column) => holds_of_column(rule, candidate, table, column),
     }
+}
 
-    /// Whether the rule holds at a site. Where it asks nothing there, it holds.
-    fn holds(self, candidate: &Candidate<'_>, site: Site) -> bool
-        requires { IsSiteOf candidate.now.schema site }
-        ensures { result ≡ holds self candidate.now site }
-    {
-        match site {
-            Site::Whole => self.holds_of_whole(candidate),
-            Site::OfTable(table) => self.holds_of_table(candidate, table),
-            Site::OfColumn(table, column) => self.holds_of_column(candidate, table, column),
-        }
+/// Whether it holds of a schema as a whole.
+fn holds_of_whole(rule: Rule, candidate: &Candidate<'_>) -> bool
+    ensures { result ≡ holds rule candidate.now Site.Whole }
+{
+    let schema = candidate.schema();
+    match rule {
+        Rule::SeedAndUnits => is_seed_and_units(schema),
+        Rule::TableCount => is_one_to_64(schema.tables.len()),
+        _ => true,
     }
+}
 
-    /// Whether it holds of a schema as a whole.
-    fn holds_of_whole(self, candidate: &Candidate<'_>) -> bool
-        ensures { result ≡ holds self candidate.now Site.Whole }
-    {
-        let schema = candidate.schema();
-        match self {
-            Rule::SeedAndUnits => is_seed_and_units(schema),
-            Rule::TableCount => is_one_to_64(schema.tables.len()),
-            _ => true,
-        }
+/// Whether it holds of the table at a place.
+fn holds_of_table(rule: Rule, candidate: &Candidate<'_>, table: usize) -> bool
+    requires { table < length candidate.now.schema.tables }
+    ensures { result ≡ holds rule candidate.now (Site.OfTable table) }
+{
+    let schema = candidate.schema();
+    let tables = schema.tables.as_slice();
+    match rule {
+        Rule::TableNames => is_new_table(tables, table),
+        Rule::Columns => is_one_to_64(columns_at(schema, table).len()),
+        Rule::RowCount => is_row_count(schema.units, &tables[table]),
+        Rule::LifeRange => is_life(tables[table].life),
+        Rule::UpdatePeriod => is_update_period(tables[table].update),
+        Rule::RowCost => is_row_cost(candidate.facts(), table),
+        Rule::LineSize => is_line_size(candidate.facts(), table),
+        _ => true,
     }
+}
 
-    /// Whether it holds of the table at a place.
-    fn holds_of_table(self, candidate: &Candidate<'_>, table: usize) -> bool
-        requires { table < length candidate.now.schema.tables }
-        ensures { result ≡ holds self candidate.now (Site.OfTable table) }
-    {
-        let schema = candidate.schema();
-        let tables = schema.tables.as_slice();
-        match self {
-            Rule::TableNames => is_new_table(tables, table),
-            Rule::Columns => is_one_to_64(columns_at(schema, table).len()),
-            Rule::RowCount => is_row_count(schema.units, &tables[table]),
-            Rule::LifeRange => is_life(tables[table].life),
-            Rule::UpdatePeriod => is_update_period(tables[table].update),
-            Rule::RowCost => is_row_cost(candidate.facts(), table),
-            Rule::LineSize => is_line_size(candidate.facts(), table),
-            _ => true,
-        }
-    }
-
-    /// Whether it holds of the column at a place in the table at a place.
-    fn holds_of_column(self, candidate: &Candidate<'_>, table: usize, column: usize) -> bool
-        requires { IsSiteOf candidate.now.schema (Site.OfColumn table column) }
-        ensures { result ≡ holds self candidate.now (Site.OfColumn table column) }
-    {
-        let schema = candidate.schema();
-        let columns = columns_at(schema, table);
-        let leaves = leaves_of(&columns[column].kind);
-        match self {
-            Rule::Dictionaries => are_supplied(candidate, leaves),
-            Rule::CitedNames => are_citable(candidate.names(), leaves),
-            Rule::Columns => is_new_column(columns, column),
-            Rule::KeyColumn => is_key_first(column, &columns[column].kind),
-            Rule::NumberRange => are_number_ranges(leaves),
-            Rule::DateRange => are_date_ranges(leaves),
-            Rule::PickEntries => are_weighted(leaves),
-            Rule::SkewRange => are_skew_ranges(leaves),
-            Rule::LengthRange => are_length_ranges(leaves),
-            Rule::TemplateParts => is_template(columns, column),
-            Rule::CaseBranches => is_case(columns, column),
-            Rule::StillCitations => cites_still(columns, column),
-            Rule::ReferenceTargets => is_target(schema.tables.as_slice(), table, columns, column),
-            Rule::ReferenceWindows => is_window(candidate, &columns[column].kind),
-            Rule::ParentRows => has_parents(schema, table, &columns[column].kind),
-            Rule::SpreadWeights => is_spread(&columns[column].kind),
-            Rule::LookupColumns => is_lookup(schema.tables.as_slice(), columns, column),
-            Rule::ChangesAndNulls => is_null_share(&columns[column]) && is_change(&columns[column]),
-            _ => true,
-        }
+/// Whether it holds of the column at a place in the table at a place.
+fn holds_of_column(rule: Rule, candidate: &Candidate<'_>, table: usize, column: usize) -> bool
+    requires { IsSiteOf candidate.now.schema (Site.OfColumn table column) }
+    ensures { result ≡ holds rule candidate.now (Site.OfColumn table column) }
+{
+    let schema = candidate.schema();
+    let columns = columns_at(schema, table);
+    let leaves = leaves_of(&columns[column].kind);
+    match rule {
+        Rule::Dictionaries => are_supplied(candidate, leaves),
+        Rule::CitedNames => are_citable(candidate.names(), leaves),
+        Rule::Columns => is_new_column(columns, column),
+        Rule::KeyColumn => is_key_first(column, &columns[column].kind),
+        Rule::NumberRange => are_number_ranges(leaves),
+        Rule::DateRange => are_date_ranges(leaves),
+        Rule::PickEntries => are_weighted(leaves),
+        Rule::SkewRange => are_skew_ranges(leaves),
+        Rule::LengthRange => are_length_ranges(leaves),
+        Rule::TemplateParts => is_template(columns, column),
+        Rule::CaseBranches => is_case(columns, column),
+        Rule::StillCitations => cites_still(columns, column),
+        Rule::ReferenceTargets => is_target(schema.tables.as_slice(), table, columns, column),
+        Rule::ReferenceWindows => is_window(candidate, &columns[column].kind),
+        Rule::ParentRows => has_parents(schema, table, &columns[column].kind),
+        Rule::SpreadWeights => is_spread(&columns[column].kind),
+        Rule::LookupColumns => is_lookup(schema.tables.as_slice(), columns, column),
+        Rule::ChangesAndNulls => is_null_share(&columns[column]) && is_change(&columns[column]),
+        _ => true,
     }
 }
 

@@ -4,9 +4,9 @@ use Rattle.std.specs.Prelude.{if◌then◌else◌}
 use Rattle.std.specs.List.{range_with_len}
 use Rattle.std.proofs.lemmas.Bool.{false≢true, le-ltb, ltb-false}
 use Rattle.std.proofs.lemmas.List.{append-nil}
-use Rattle.schema_check.specs.Cohorts.{cohort_size, first_ordinal}
-use Rattle.schema_check.specs.Dictionaries.{Project}
-use Rattle.schema_check.specs.Limits.{IsInLimits}
+use Rattle.schema_plan.specs.Cohorts.{cohort_size, first_ordinal}
+use Rattle.schema_plan.specs.Dictionaries.{Project}
+use Rattle.schema_plan.specs.Limits.{IsInLimits}
 use Rattle.life_intervals.specs.declared.cohorts.Cohort.{Cohort}
 use Rattle.life_intervals.specs.declared.lives.Survival.TheVariants.{Over, Sure}
 use Rattle.life_intervals.specs.CohortLives.{CohortAt, survival_at}

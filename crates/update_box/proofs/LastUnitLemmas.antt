@@ -2,10 +2,10 @@
 use Rattle.std.proofs.Common.{◌≡◌, ℕ, ◌-◌, ◌<◌, ◌≤◌, List, ◌++◌, codes, decimal, flat_map, length, map, Some, ap, arith, sym, ◌∙◌}
 use Rattle.std.proofs.lemmas.List.Folds.{flat_map-map}
 use Rattle.row_text.specs.Fields.{field_text}
-use Rattle.schema_check.specs.Cohorts.{born_count, first_ordinal}
-use Rattle.schema_check.specs.Dictionaries.{Project}
-use Rattle.schema_check.specs.Layout.{table_at}
-use Rattle.schema_check.specs.Limits.{IsInLimits}
+use Rattle.schema_plan.specs.Cohorts.{born_count, first_ordinal}
+use Rattle.schema_plan.specs.Dictionaries.{Project}
+use Rattle.schema_plan.specs.Layout.{table_at}
+use Rattle.schema_plan.specs.Limits.{IsInLimits}
 use Rattle.life_intervals.specs.Generator.{Generator, generator_of, last_unit, table_of}
 use Rattle.life_intervals.specs.Intervals.{death, dying, is_at, row_at}
 use Rattle.life_intervals.specs.Rows.{Row}

@@ -1,7 +1,7 @@
 -- What a unit does to a row, and the lists of a scan that has come to an ordinal.
 use Rattle.std.specs.Prelude.{ℕ, ◌==◌, Bool, ◌&&◌, if◌then◌else◌, [], ◌∷◌, ◌++◌, filter}
 use Rattle.std.specs.List.{range_with_len}
-use Rattle.schema_check.specs.Dictionaries.{Project}
+use Rattle.schema_plan.specs.Dictionaries.{Project}
 use Rattle.life_intervals.specs.Generator.{generator_of}
 use Rattle.life_intervals.specs.Intervals.{change_unit, death, is_at, is_live}
 use Rattle.update_box.specs.declared.scan.Fate.{Fate}

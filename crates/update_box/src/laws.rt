@@ -5,10 +5,10 @@
 
 ghost use Rattle.std.specs.Prelude.{◌≡◌, ℕ, ℤ, ◌-◌, ◌<◌, ◌≤◌, ◌==◌, ◌&&◌, All, Some, filter, flat_map, length, not, slice_index_or, true};
 ghost use Rattle.std.specs.List.{range_with_len};
-ghost use Rattle.schema_check.specs.Cohorts.{first_ordinal};
-ghost use Rattle.schema_check.specs.Dictionaries.{Project};
-ghost use Rattle.schema_check.specs.Limits.{IsInLimits};
-ghost use Rattle.schema_check.specs.References.{Reference, reference_at, references_of};
+ghost use Rattle.schema_plan.specs.Cohorts.{first_ordinal};
+ghost use Rattle.schema_plan.specs.Dictionaries.{Project};
+ghost use Rattle.schema_plan.specs.Limits.{IsInLimits};
+ghost use Rattle.schema_plan.specs.References.{Reference, reference_at, references_of};
 ghost use Rattle.life_intervals.specs.Generator.{generator_of, last_unit, table_of};
 ghost use Rattle.life_intervals.specs.Intervals.{change_unit, is_live, parent_of};
 ghost use Rattle.life_intervals.specs.Rows.{Row};

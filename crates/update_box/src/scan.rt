@@ -1,7 +1,7 @@
 //! The rows of one table that a unit changes, found by a scan of its cohorts.
 
 ghost use Rattle.std.specs.Prelude.{◌≡◌, ◌+◌, ◌<◌, ◌≤◌, IfOk, length, true};
-ghost use Rattle.schema_check.specs.Cohorts.{first_ordinal};
+ghost use Rattle.schema_plan.specs.Cohorts.{first_ordinal};
 ghost use Rattle.life_intervals.specs.CohortLives.{ordinal_in, size_of};
 ghost use Rattle.life_intervals.specs.CohortOrders.{cohort_orders};
 ghost use Rattle.life_intervals.specs.CohortParents.{AreCandidates};
@@ -14,8 +14,8 @@ use life_intervals::{
     Candidates, Cohort, CohortChanges, CohortLives, CohortOrders, Survival, cohort, survival_at,
     table_candidates, table_orders,
 };
-use pd_outside::Memory;
-use schema_check::Plan;
+use line_pages::Memory;
+use schema_plan::Plan;
 use std::alloc::Global;
 use std::sync::ledger::Ledger;
 use step_count::Steps;

@@ -7,8 +7,8 @@ ghost use Rattle.update_box.specs.UnitLists.{unit_lists};
 
 use crate::scan::{TableRows, table_rows};
 use life_intervals::Cohort;
-use pd_outside::Memory;
-use schema_check::Plan;
+use line_pages::Memory;
+use schema_plan::Plan;
 use std::alloc::Global;
 use std::marker::Model;
 use std::sync::ledger::Ledger;

@@ -1,5 +1,5 @@
 use Rattle.std.proofs.Common.{◌≡◌, ◌+◌, ◌-◌, ◌++◌, length}
-use Rattle.pd_outside.specs.Pieces.{piece_text}
+use Rattle.line_pages.specs.Pieces.{piece_text}
 use Rattle.draw_values.specs.Digits.{last_digits}
 use Rattle.draw_values.proofs.digits.prepend_digits.Given as goal
 

@@ -1,5 +1,5 @@
 use Rattle.std.proofs.Common.{◌/◌, ℕ, decimal, length, length-append, ap, arith}
-use Rattle.pd_outside.specs.Pages.{Page}
+use Rattle.line_pages.specs.Pages.{Page}
 use Rattle.draw_values.proofs.DigitLemmas.{length-before_point, length-pointed}
 use Rattle.draw_values.proofs.fixed.put_pointed.Goals as goal
 

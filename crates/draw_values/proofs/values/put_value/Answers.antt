@@ -1,7 +1,7 @@
 use Rattle.std.proofs.Common.{◌≡◌, ℕ, ◌++◌, List, decimal, length, option_map, ap, ◌∙◌, arith}
-use Rattle.pd_outside.specs.Pieces.{piece_text}
+use Rattle.line_pages.specs.Pieces.{piece_text}
 use Rattle.row_text.specs.Fields.{piece_text as written_text}
-use Rattle.schema_check.specs.Layout.{layout_of}
+use Rattle.schema_plan.specs.Layout.{layout_of}
 use Rattle.draw_values.specs.ReadyValues.{ready_field, ready_kind_size, row_draws}
 use Rattle.draw_values.specs.Values.{value_at}
 use Rattle.draw_values.specs.WrittenUnits.{units_at}

@@ -2,7 +2,7 @@ use Rattle.std.proofs.Common.{◌≡◌, ◌≤◌, ℕ, zero, suc, ◌+◌, ◌
 use Rattle.std.specs.Prelude.{slice_index_or}
 use Rattle.std.proofs.lemmas.Bool.Decides.{nat_tests}
 use Rattle.philox_seeds.specs.SeedTree.{draw}
-use Rattle.pd_outside.specs.Pages.{Page}
+use Rattle.line_pages.specs.Pages.{Page}
 use Rattle.draw_values.specs.Values.{chosen_group, drawn_words}
 use Rattle.draw_values.proofs.JoinLemmas.{join_with_byte-range_more}
 use Rattle.draw_values.proofs.words.put_words.Goals as goal

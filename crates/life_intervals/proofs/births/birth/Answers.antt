@@ -1,6 +1,6 @@
 use Rattle.std.proofs.Common.{◌≡◌, ◌<◌, ℕ, ◌+◌, ◌-◌, ◌/◌, max, ap, arith, sym, subst, ◌∙◌}
-use Rattle.schema_check.specs.declared.layout.Births.{Births}
-use Rattle.schema_check.specs.Cohorts.{born_count}
+use Rattle.schema_plan.specs.declared.layout.Births.{Births}
+use Rattle.schema_plan.specs.Cohorts.{born_count}
 use Rattle.life_intervals.specs.Generator.{last_unit, table_of}
 use Rattle.life_intervals.specs.Intervals.{LiesIn, birth}
 use Rattle.life_intervals.proofs.CohortLemmas.{birth-only, LiesIn-early, LiesIn-late, some_insert}

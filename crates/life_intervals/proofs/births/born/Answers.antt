@@ -1,6 +1,6 @@
 use Rattle.std.proofs.Common.{◌^◌, ap, arith, ◌∙◌}
-use Rattle.schema_check.specs.declared.layout.Births.{Births}
-use Rattle.schema_check.specs.Cohorts.{born_count}
+use Rattle.schema_plan.specs.declared.layout.Births.{Births}
+use Rattle.schema_plan.specs.Cohorts.{born_count}
 use Rattle.life_intervals.specs.Generator.{last_unit, table_of}
 use Rattle.life_intervals.proofs.CohortLemmas.{born_count-sum, born_count-limit}
 use Rattle.life_intervals.proofs.births.born.Goals as goal

@@ -1,6 +1,6 @@
 use Rattle.std.proofs.Common.{◌≡◌, ◌+◌, ◌-◌, ◌*◌, ◌^◌, ap, arith, sym, ◌∙◌}
-use Rattle.schema_check.specs.declared.layout.Births.{Births}
-use Rattle.schema_check.specs.Cohorts.{born_count, cohort_size, first_ordinal}
+use Rattle.schema_plan.specs.declared.layout.Births.{Births}
+use Rattle.schema_plan.specs.Cohorts.{born_count, cohort_size, first_ordinal}
 use Rattle.life_intervals.specs.Generator.{last_unit, table_of}
 use Rattle.life_intervals.proofs.CohortLemmas.{born_count-sum, born_count-limit, cohort_size-add_one, cohort-within}
 use Rattle.life_intervals.proofs.births.cohort.Goals as goal

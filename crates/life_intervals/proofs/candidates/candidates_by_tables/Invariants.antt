@@ -1,6 +1,6 @@
 use Rattle.std.proofs.Common.{◌≡◌, map, option_map}
 use Rattle.std.specs.List.{range_with_len}
-use Rattle.schema_check.specs.References.{reference_at}
+use Rattle.schema_plan.specs.References.{reference_at}
 use Rattle.life_intervals.specs.CohortParents.{candidates_by}
 use Rattle.life_intervals.specs.Generator.{table_of}
 use Rattle.life_intervals.proofs.candidates.candidates_by_tables.Given as goal

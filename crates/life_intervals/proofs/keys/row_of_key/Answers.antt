@@ -1,7 +1,7 @@
 use Rattle.std.proofs.Common.{◌≡◌, ◌≢◌, ◌<◌, ◌≤◌, ◌+◌, ◌-◌, ℕ, Some, refl, ap, arith, sym, subst, ◌∙◌}
-use Rattle.schema_check.specs.declared.layout.Keys.{Keys}
-use Rattle.schema_check.specs.Cohorts.{born_count, cohort_size}
-use Rattle.schema_check.specs.Layout.{table_at}
+use Rattle.schema_plan.specs.declared.layout.Keys.{Keys}
+use Rattle.schema_plan.specs.Cohorts.{born_count, cohort_size}
+use Rattle.schema_plan.specs.Layout.{table_at}
 use Rattle.life_intervals.specs.CohortKeys.{CohortOf}
 use Rattle.life_intervals.specs.Generator.{Generator, generator_of, last_unit, rows_in_all, table_of}
 use Rattle.life_intervals.specs.Intervals.{birth}

@@ -1,6 +1,6 @@
 use Rattle.std.proofs.Common.{◌≡◌, ℕ, zero, suc, ◌+◌, ◌-◌, ◌<◌, All, [], ◌∷◌, arith, refl}
-use Rattle.schema_check.specs.Cohorts.{born_count, first_ordinal}
-use Rattle.schema_check.specs.Lineage.{lineages}
+use Rattle.schema_plan.specs.Cohorts.{born_count, first_ordinal}
+use Rattle.schema_plan.specs.Lineage.{lineages}
 use Rattle.life_intervals.specs.Sound.{IsSoundReference}
 use Rattle.life_intervals.specs.Worked.{sales_in_place}
 use Rattle.life_intervals.proofs.laws.worked_soundness.Goals as goal

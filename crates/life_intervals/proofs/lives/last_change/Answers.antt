@@ -2,9 +2,9 @@ use Rattle.std.proofs.Common.{◌≡◌, ◌<◌, ◌≤◌, ◌-◌, ◌%◌, �
 use Rattle.std.specs.Prelude.{IfSome}
 use Rattle.id_permutation.specs.Order.{Arrangement, place_in}
 use Rattle.philox_seeds.specs.SeedTree.{update_column}
-use Rattle.schema_check.specs.declared.layout.Births.{Births}
-use Rattle.schema_check.specs.Cohorts.{cohort_size, first_ordinal}
-use Rattle.schema_check.specs.Limits.{IsUpdatePeriod}
+use Rattle.schema_plan.specs.declared.layout.Births.{Births}
+use Rattle.schema_plan.specs.Cohorts.{cohort_size, first_ordinal}
+use Rattle.schema_plan.specs.Limits.{IsUpdatePeriod}
 use Rattle.life_intervals.specs.Generator.{generator_of, last_unit, table_of}
 use Rattle.life_intervals.proofs.CohortLemmas.{birth-later, birth-le, born_count-le}
 use Rattle.life_intervals.proofs.LifeLemmas.{change_unit-le, change_unit-none, change_unit-some}

@@ -1,12 +1,12 @@
 use Rattle.std.proofs.Common.{◌≡◌, ◌<◌, ◌-◌, ℕ, List, length, map, sum_by, ap, ap₂, arith, subst, sym, ◌∙◌}
-use Rattle.schema_check.specs.declared.ready.ReadyReference.{ReadyReference}
-use Rattle.schema_check.specs.declared.layout.Births.{Births}
-use Rattle.schema_check.specs.Cohorts.{first_ordinal}
-use Rattle.schema_check.specs.Dictionaries.{Project}
-use Rattle.schema_check.specs.Layout.{layout_of}
-use Rattle.schema_check.specs.Lineage.{death_cost, lesser_life}
-use Rattle.schema_check.specs.Ready.{ready_columns}
-use Rattle.schema_check.specs.References.{Reference}
+use Rattle.schema_plan.specs.declared.ready.ReadyReference.{ReadyReference}
+use Rattle.schema_plan.specs.declared.layout.Births.{Births}
+use Rattle.schema_plan.specs.Cohorts.{first_ordinal}
+use Rattle.schema_plan.specs.Dictionaries.{Project}
+use Rattle.schema_plan.specs.Layout.{layout_of}
+use Rattle.schema_plan.specs.Lineage.{death_cost, lesser_life}
+use Rattle.schema_plan.specs.Ready.{ready_columns}
+use Rattle.schema_plan.specs.References.{Reference}
 use Rattle.life_intervals.specs.CohortKeys.{CohortOf}
 use Rattle.life_intervals.specs.CohortParents.{parents_death_in, references_cost}
 use Rattle.life_intervals.specs.Generator.{generator_of, last_unit, rows_in_all, table_of}

@@ -1,8 +1,8 @@
 use Rattle.std.proofs.Common.{ap, arith, subst, sym, ◌∙◌}
-use Rattle.schema_check.proofs.PlannedLemmas.{max_line-reach}
-use Rattle.schema_check.specs.Cohorts.{cohort_size}
-use Rattle.schema_check.specs.Layout.{layout_of}
-use Rattle.schema_check.specs.TableFacts.{max_line}
+use Rattle.schema_plan.proofs.PlannedLemmas.{max_line-reach}
+use Rattle.schema_plan.specs.Cohorts.{cohort_size}
+use Rattle.schema_plan.specs.Layout.{layout_of}
+use Rattle.schema_plan.specs.TableFacts.{max_line}
 use Rattle.life_intervals.specs.Generator.{generator_of}
 use Rattle.row_lines.specs.LineDraws.{line_draws}
 use Rattle.row_lines.specs.CohortLines.{LinesOf, layout_for}

@@ -1,7 +1,7 @@
 use Rattle.std.proofs.Common.{◌≡◌, ◌<◌, ℕ, List, All, true, slice_index_or, refl, ap, subst, sym, ◌∙◌, arith}
-use Rattle.schema_check.proofs.PlannedLemmas.{max_line-reach}
-use Rattle.schema_check.specs.Cohorts.{born_count}
-use Rattle.schema_check.specs.Layout.{layout_of}
+use Rattle.schema_plan.proofs.PlannedLemmas.{max_line-reach}
+use Rattle.schema_plan.specs.Cohorts.{born_count}
+use Rattle.schema_plan.specs.Layout.{layout_of}
 use Rattle.std.specs.List.{flat_map}
 use Rattle.std.specs.Option.{option_map}
 use Rattle.std.proofs.lemmas.List.{get_or_default, take_all}

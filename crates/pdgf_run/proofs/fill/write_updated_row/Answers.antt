@@ -1,7 +1,7 @@
 use Rattle.std.proofs.Common.{◌≡◌, ◌<◌, ◌-◌, ℕ, ap, arith, subst, sym, ◌∙◌}
-use Rattle.schema_check.specs.Cohorts.{cohort_size, first_ordinal}
-use Rattle.schema_check.specs.Layout.{layout_of}
-use Rattle.schema_check.specs.TableFacts.{max_line}
+use Rattle.schema_plan.specs.Cohorts.{cohort_size, first_ordinal}
+use Rattle.schema_plan.specs.Layout.{layout_of}
+use Rattle.schema_plan.specs.TableFacts.{max_line}
 use Rattle.life_intervals.specs.Generator.{generator_of, last_unit, table_of}
 use Rattle.life_intervals.specs.Intervals.{LiesIn, change_unit, is_live}
 use Rattle.life_intervals.proofs.CohortLemmas.{born_count-le}

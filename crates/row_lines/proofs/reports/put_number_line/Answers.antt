@@ -1,5 +1,5 @@
 use Rattle.std.proofs.Common.{◌++◌, ap, arith, codes, decimal, length, length-append}
-use Rattle.pd_outside.specs.Pages.{Page}
+use Rattle.line_pages.specs.Pages.{Page}
 use Rattle.row_lines.proofs.FieldLemmas.{length-decimal-le_20}
 use Rattle.row_lines.proofs.reports.put_number_line.Goals as goal
 

@@ -1,6 +1,6 @@
 use Rattle.std.proofs.Common.{◌≡◌, ◌++◌, ◌<◌, ◌^◌, ℕ, List, Some, sym, ap, arith, decimal, length, length-append, append_assoc, ◌∙◌, codes}
-use Rattle.pd_outside.specs.Pages.{Page}
-use Rattle.pd_outside.specs.Pieces.{piece_text}
+use Rattle.line_pages.specs.Pages.{Page}
+use Rattle.line_pages.specs.Pieces.{piece_text}
 use Rattle.row_text.specs.Fields.{field_text}
 use Rattle.row_text.proofs.DigitLemmas.{piece_text-decimal}
 use Rattle.life_intervals.specs.Generator.{Generator, generator_of, last_unit}

@@ -1,6 +1,6 @@
 use Rattle.std.proofs.Common.{◌≤◌, ◌-◌, ◌++◌, ℕ, List, length, ap, arith, subst, ◌∙◌}
-use Rattle.schema_check.specs.Layout.{layout_of}
-use Rattle.schema_check.specs.TableFacts.{max_line}
+use Rattle.schema_plan.specs.Layout.{layout_of}
+use Rattle.schema_plan.specs.TableFacts.{max_line}
 use Rattle.life_intervals.specs.Generator.{generator_of, last_unit, table_of}
 use Rattle.life_intervals.specs.Intervals.{is_live}
 use Rattle.life_intervals.proofs.CohortLemmas.{born_count-le}

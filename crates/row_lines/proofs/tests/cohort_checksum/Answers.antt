@@ -1,5 +1,5 @@
 use Rattle.std.proofs.Common.{◌<◌, arith, subst, sym}
-use Rattle.schema_check.specs.Cohorts.{cohort_size}
+use Rattle.schema_plan.specs.Cohorts.{cohort_size}
 use Rattle.row_lines.specs.CohortLines.{LinesOf, layout_for}
 use Rattle.row_lines.proofs.tests.cohort_checksum.Goals as goal
 

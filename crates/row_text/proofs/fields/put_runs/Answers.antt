@@ -1,6 +1,6 @@
 use Rattle.std.proofs.Common.{◌+◌, ◌++◌, ℕ, [], ◌∷◌, length, ap, ◌∙◌, arith, length-append}
 use Rattle.std.specs.List.{slice_range}
-use Rattle.pd_outside.specs.Pages.{Page}
+use Rattle.line_pages.specs.Pages.{Page}
 use Rattle.row_text.specs.Fields.{escaped}
 use Rattle.row_text.proofs.PieceLemmas.{run_longer, run_fits, last_run_fits, escape_written}
 use Rattle.row_text.proofs.fields.put_runs.Goals as goal

@@ -1,4 +1,4 @@
-use Rattle.schema_check.specs.Rules.{rules, broken_rule, first_broken}
+use Rattle.schema_plan.specs.Rules.{rules, broken_rule, first_broken}
 use Rattle.schema_check.proofs.Kept.{keeps_from_none, none_from_keeps, none_at, none_found}
 use Rattle.schema_check.proofs.FirstBreak.{none_of_rule, none_for_rule}
 use Rattle.schema_check.proofs.laws.accepted_schemas_keep_each_rule.Goals as goal

@@ -1,4 +1,4 @@
-use Rattle.schema_check.specs.Rules.{rules, broken_rule, first_broken}
+use Rattle.schema_plan.specs.Rules.{rules, broken_rule, first_broken}
 use Rattle.schema_check.proofs.Kept.{found_at}
 use Rattle.schema_check.proofs.FirstBreak.{first_rule}
 use Rattle.schema_check.proofs.laws.first_broken_is_the_first_rule_at_its_first_site.Goals as goal

@@ -1,9 +1,9 @@
 use Rattle.std.proofs.Common.{◌≡◌, ℕ, ◌==◌, ◌&&◌, ◌||◌, true, false, nat_lt, w64, ap, ◌∙◌, arith}
 use Rattle.std.proofs.lemmas.Bool.Decides.{nat_tests}
 use Rattle.std.proofs.lemmas.Int.{to_z-of_z}
-use Rattle.schema_check.specs.Counts.{count}
-use Rattle.schema_check.specs.Layout.{window_layout}
-use Rattle.schema_check.specs.References.{window_start}
+use Rattle.schema_plan.specs.Counts.{count}
+use Rattle.schema_plan.specs.Layout.{window_layout}
+use Rattle.schema_plan.specs.References.{window_start}
 use Rattle.schema_check.proofs.ReferenceLemmas.{has_parent_rows-later, later_row}
 use Rattle.schema_check.proofs.reference_rules.has_parent_rows.Goals as goal
 use Rattle.schema_check.proofs.reference_rules.has_parent_rows.Goals.{then-child-eq0, else-child-eq0}

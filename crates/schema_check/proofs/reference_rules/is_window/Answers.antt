@@ -1,5 +1,5 @@
 use Rattle.std.proofs.Common.{sym, ap, ◌∙◌}
-use Rattle.schema_check.specs.Rules.{is_window}
+use Rattle.schema_plan.specs.Rules.{is_window}
 use Rattle.schema_check.proofs.reference_rules.is_window.Goals as goal
 
 pub returns-in-Ref : goal.returns-in-Ref

@@ -1,7 +1,7 @@
 use Rattle.std.proofs.Common.{◌≡◌, ◌≤◌, take}
 use Rattle.std.specs.List.{count_by}
 use Rattle.schema_model.specs.declared.column.Column.{Column}
-use Rattle.schema_check.specs.Rules.{is_reference}
+use Rattle.schema_plan.specs.Rules.{is_reference}
 use Rattle.schema_check.proofs.reference_rules.references_before.Given as goal
 
 abbrev pub invariant-loop-column : goal.invariant-loop-column

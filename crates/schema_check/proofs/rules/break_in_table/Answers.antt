@@ -1,9 +1,9 @@
 use Rattle.std.proofs.Common.{ℕ, length, sym, ap, ◌∙◌, ◌<◌, arith}
 use Rattle.std.specs.Option.{option_or}
 use Rattle.schema_model.specs.declared.table.Schema.{Schema}
-use Rattle.schema_check.specs.declared.site.Site.TheVariants.{OfTable, OfColumn}
-use Rattle.schema_check.specs.Rules.{break_at, first_found}
-use Rattle.schema_check.specs.Sites.{columns_at}
+use Rattle.schema_plan.specs.declared.site.Site.TheVariants.{OfTable, OfColumn}
+use Rattle.schema_plan.specs.Rules.{break_at, first_found}
+use Rattle.schema_plan.specs.Sites.{columns_at}
 use Rattle.std.specs.List.{range_with_len}
 use Rattle.schema_check.proofs.FirstFound.{found_at_place, found_past_place}
 use Rattle.schema_check.proofs.Kept.{none_from_holds, some_from_broken}

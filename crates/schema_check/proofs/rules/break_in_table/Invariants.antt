@@ -1,8 +1,8 @@
 use Rattle.std.proofs.Common.{◌≡◌, ℕ, ◌-◌, length}
 use Rattle.std.specs.List.{range_with_len}
-use Rattle.schema_check.specs.declared.site.Site.TheVariants.{OfColumn}
-use Rattle.schema_check.specs.Rules.{break_at, first_found}
-use Rattle.schema_check.specs.Sites.{columns_at}
+use Rattle.schema_plan.specs.declared.site.Site.TheVariants.{OfColumn}
+use Rattle.schema_plan.specs.Rules.{break_at, first_found}
+use Rattle.schema_plan.specs.Sites.{columns_at}
 use Rattle.schema_check.proofs.rules.break_in_table.Given as goal
 
 abbrev pub invariant-loop-column : goal.invariant-loop-column

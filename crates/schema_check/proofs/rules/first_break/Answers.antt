@@ -2,8 +2,8 @@ use Rattle.std.proofs.Common.{length, sym, ap, ◌∙◌, ◌<◌, arith}
 use Rattle.std.specs.List.{range_with_len}
 use Rattle.std.specs.Option.{option_or}
 use Rattle.schema_model.specs.declared.table.Schema.{Schema}
-use Rattle.schema_check.specs.declared.site.Site.TheVariants.{Whole}
-use Rattle.schema_check.specs.Rules.{break_in_table, first_found}
+use Rattle.schema_plan.specs.declared.site.Site.TheVariants.{Whole}
+use Rattle.schema_plan.specs.Rules.{break_in_table, first_found}
 use Rattle.schema_check.proofs.FirstFound.{found_at_place, found_past_place}
 use Rattle.schema_check.proofs.Kept.{none_from_holds}
 use Rattle.schema_check.proofs.rules.first_break.Goals as goal

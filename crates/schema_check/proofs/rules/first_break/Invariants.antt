@@ -1,6 +1,6 @@
 use Rattle.std.proofs.Common.{◌≡◌, ◌-◌, length}
 use Rattle.std.specs.List.{range_with_len}
-use Rattle.schema_check.specs.Rules.{break_in_table, first_found}
+use Rattle.schema_plan.specs.Rules.{break_in_table, first_found}
 use Rattle.schema_check.proofs.rules.first_break.Given as goal
 
 abbrev pub invariant-loop-table : goal.invariant-loop-table

@@ -1,5 +1,5 @@
 use Rattle.std.proofs.Common.{◌∙◌, sym}
-use Rattle.schema_check.specs.Rules.{broken_rule, first_broken, rules}
+use Rattle.schema_plan.specs.Rules.{broken_rule, first_broken, rules}
 use Rattle.schema_check.proofs.FirstBreak.{none_for_rule, some_for_rule}
 use Rattle.schema_check.proofs.FirstFound.{found_at_item, found_past_item}
 use Rattle.schema_check.proofs.rules.first_broken.Goals as goal

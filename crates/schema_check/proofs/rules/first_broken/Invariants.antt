@@ -1,5 +1,5 @@
 use Rattle.std.proofs.Common.{◌≡◌, drop}
-use Rattle.schema_check.specs.Rules.{broken_rule, first_found, rules}
+use Rattle.schema_plan.specs.Rules.{broken_rule, first_found, rules}
 use Rattle.schema_check.proofs.rules.first_broken.Given as goal
 
 abbrev pub invariant-loop-rule : goal.invariant-loop-rule

@@ -1,6 +1,6 @@
 use Rattle.std.proofs.Common.{◌≡◌, ℕ, false, not, is_some, Option, Some, None, ap, refl, sym, ◌∙◌}
 use Rattle.std.proofs.lemmas.Bool.{false≢true}
-use Rattle.schema_check.specs.Cohorts.{cohort_size, first_ordinal}
+use Rattle.schema_plan.specs.Cohorts.{cohort_size, first_ordinal}
 use Rattle.life_intervals.specs.Generator.{table_of}
 use Rattle.life_intervals.proofs.CohortLemmas.{born_count-next}
 use Rattle.update_box.specs.Fates.{lists_before}

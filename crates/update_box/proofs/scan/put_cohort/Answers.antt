@@ -1,5 +1,5 @@
 use Rattle.std.proofs.Common.{◌≡◌, ◌+◌, ℕ, ap, arith, sym, ◌∙◌}
-use Rattle.schema_check.specs.Cohorts.{first_ordinal}
+use Rattle.schema_plan.specs.Cohorts.{first_ordinal}
 use Rattle.life_intervals.specs.CohortLives.{CohortAt, ordinal_in}
 use Rattle.life_intervals.specs.Generator.{table_of}
 use Rattle.life_intervals.proofs.CohortLemmas.{born_count-next}

@@ -1,5 +1,5 @@
 use Rattle.std.proofs.Common.{length, ap, arith}
-use Rattle.schema_check.specs.Layout.{layout_of}
+use Rattle.schema_plan.specs.Layout.{layout_of}
 use Rattle.draw_values.proofs.ColumnLemmas.{length-ready_columns}
 use Rattle.draw_values.proofs.draws.UnitDraws.new.Goals as goal
 

@@ -1,7 +1,7 @@
 use Rattle.std.proofs.Common.{◌≡◌, ◌<◌, ◌≤◌, ◌+◌, ◌%◌, ℕ, Option, ap, arith, sym, subst, ◌∙◌}
 use Rattle.std.specs.Prelude.{IfSome}
 use Rattle.id_permutation.specs.Order.{Arrangement, place_in}
-use Rattle.schema_check.specs.Limits.{IsUpdatePeriod}
+use Rattle.schema_plan.specs.Limits.{IsUpdatePeriod}
 use Rattle.life_intervals.specs.Changes.{last_due}
 use Rattle.life_intervals.specs.CohortLives.{CohortAt, change_in, size_of}
 use Rattle.life_intervals.proofs.CohortAtLemmas.{change_in-birth, change_in-none, change_in-some}

@@ -1,6 +1,6 @@
 use Rattle.std.proofs.Common.{ap, ap₂, arith, ◌∙◌}
-use Rattle.schema_check.specs.Layout.{layout_of}
-use Rattle.schema_check.specs.Lineage.{lesser_life}
+use Rattle.schema_plan.specs.Layout.{layout_of}
+use Rattle.schema_plan.specs.Lineage.{lesser_life}
 use Rattle.life_intervals.specs.CohortKeys.{CohortOf}
 use Rattle.life_intervals.specs.CohortLives.{CohortAt}
 use Rattle.life_intervals.specs.CohortParents.{parents_death_in, references_cost}

@@ -1,6 +1,6 @@
 use Rattle.std.proofs.Common.{◌≡◌, ◌<◌, ◌+◌, ℕ, Option, Some, None, option_map, ap, sym, subst, ◌∙◌}
 use Rattle.id_permutation.specs.Order.{Arrangement, place_in}
-use Rattle.schema_check.specs.declared.layout.Span.{Span}
+use Rattle.schema_plan.specs.declared.layout.Span.{Span}
 use Rattle.life_intervals.specs.CohortLives.{CohortAt, own_death_in, size_of}
 use Rattle.life_intervals.specs.CohortOrders.{life_order}
 use Rattle.life_intervals.specs.Generator.{table_of}

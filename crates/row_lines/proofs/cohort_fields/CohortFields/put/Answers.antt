@@ -1,8 +1,8 @@
 use Rattle.std.proofs.Common.{◌≡◌, ◌<◌, ◌^◌, ◌++◌, ℕ, List, ap, sym, ◌∙◌, arith, decimal, is_some, length}
-use Rattle.schema_check.specs.Layout.{column_at, key_kind, layout_of}
-use Rattle.schema_check.specs.declared.ready.ReadyColumn.{ReadyColumn}
-use Rattle.schema_check.specs.declared.ready.ReadyKind.TheVariants.{Key, Reference}
-use Rattle.schema_check.specs.declared.ready.ReadyReference.{ReadyReference}
+use Rattle.schema_plan.specs.Layout.{column_at, key_kind, layout_of}
+use Rattle.schema_plan.specs.declared.ready.ReadyColumn.{ReadyColumn}
+use Rattle.schema_plan.specs.declared.ready.ReadyKind.TheVariants.{Key, Reference}
+use Rattle.schema_plan.specs.declared.ready.ReadyReference.{ReadyReference}
 use Rattle.life_intervals.specs.CohortParents.{IsReferenceOf, reference_by}
 use Rattle.row_lines.specs.CohortLines.{LinesOf, key_for, layout_for, parent_key_for, text_in_table}
 use Rattle.row_lines.proofs.CohortFieldLemmas.{AreFieldsOf-view, asked_by-key, key_from_ready, key_never_null, own_from_ready, ready_at, size-key, text-key}

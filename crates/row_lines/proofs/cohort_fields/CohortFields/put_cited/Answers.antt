@@ -1,9 +1,9 @@
 use Rattle.std.proofs.Common.{◌≡◌, ◌<◌, ◌^◌, ◌++◌, ℕ, List, Some, true, ap, sym, ◌∙◌, arith, decimal, is_some, length}
-use Rattle.schema_check.specs.Layout.{column_at, key_kind, layout_of}
-use Rattle.schema_check.specs.declared.ready.ReadyColumn.{ReadyColumn}
-use Rattle.schema_check.specs.declared.ready.ReadyKind.TheVariants.{Key, Reference}
-use Rattle.schema_check.specs.declared.ready.ReadyReference.{ReadyReference}
-use Rattle.schema_check.specs.Ready.{ready_column}
+use Rattle.schema_plan.specs.Layout.{column_at, key_kind, layout_of}
+use Rattle.schema_plan.specs.declared.ready.ReadyColumn.{ReadyColumn}
+use Rattle.schema_plan.specs.declared.ready.ReadyKind.TheVariants.{Key, Reference}
+use Rattle.schema_plan.specs.declared.ready.ReadyReference.{ReadyReference}
+use Rattle.schema_plan.specs.Ready.{ready_column}
 use Rattle.life_intervals.specs.CohortParents.{IsReferenceOf, reference_by}
 use Rattle.draw_values.specs.CohortValues.{ValuesOf, layout_for as layout_of_values, size_for, value_for}
 use Rattle.draw_values.specs.Values.{is_own, written}

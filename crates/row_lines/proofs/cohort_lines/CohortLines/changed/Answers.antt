@@ -1,5 +1,5 @@
 use Rattle.std.proofs.Common.{◌<◌, ◌≤◌, ◌+◌, ap, subst, sym, ◌∙◌}
-use Rattle.schema_check.specs.Lineage.{one_if}
+use Rattle.schema_plan.specs.Lineage.{one_if}
 use Rattle.life_intervals.specs.CohortLives.{CohortAt, change_in, size_of}
 use Rattle.life_intervals.specs.CohortOrders.{do_updates_differ}
 use Rattle.life_intervals.specs.Generator.{table_of}

@@ -1,5 +1,5 @@
 use Rattle.std.proofs.Common.{◌+◌, ap, ◌∙◌}
-use Rattle.schema_check.specs.Lineage.{one_if}
+use Rattle.schema_plan.specs.Lineage.{one_if}
 use Rattle.life_intervals.specs.CohortKeys.{CohortOf}
 use Rattle.life_intervals.specs.Generator.{generator_of, table_of}
 use Rattle.life_intervals.specs.Keys.{key_in_cohort}

@@ -1,6 +1,6 @@
 use Rattle.std.proofs.Common.{ap, ◌∙◌}
 use Rattle.schema_model.specs.declared.table.Schema.{Schema}
-use Rattle.schema_check.specs.Delimiters.{delimiter_byte}
+use Rattle.schema_plan.specs.Delimiters.{delimiter_byte}
 use Rattle.life_intervals.specs.declared.orders.CohortOrders.{CohortOrders}
 use Rattle.row_lines.proofs.cohort_lines.CohortLines.new.Goals as goal
 

@@ -1,5 +1,5 @@
 use Rattle.std.proofs.Common.{◌≡◌, ◌<◌, ◌≤◌, ◌+◌, ◌*◌, ℕ, length, get_or}
-use Rattle.schema_check.specs.Lineage.{one_if}
+use Rattle.schema_plan.specs.Lineage.{one_if}
 use Rattle.life_intervals.specs.CohortOrders.{do_updates_differ}
 use Rattle.row_lines.specs.CohortLines.{change_for, layout_for}
 use Rattle.row_lines.proofs.cohort_lines.CohortLines.put_changes.Given as goal

@@ -2,8 +2,8 @@ use Rattle.std.proofs.Common.{◌≡◌, ◌<◌, ◌==◌, ◌++◌, if◌then�
 use Rattle.std.specs.List.{join_with_byte, range_with_len}
 use Rattle.std.proofs.lemmas.List.{append_assoc}
 use Rattle.std.proofs.lemmas.List.Sums.{sum_by-take-le, sum_by_more, sum_by_more_le}
-use Rattle.schema_check.specs.Layout.{ColumnLayout, layout_of, no_column}
-use Rattle.pd_outside.specs.Pages.{Page}
+use Rattle.schema_plan.specs.Layout.{ColumnLayout, layout_of, no_column}
+use Rattle.line_pages.specs.Pages.{Page}
 use Rattle.row_lines.specs.CohortLines.{LinesOf, layout_for, text_in_cohort}
 use Rattle.row_lines.proofs.CohortLineLemmas.{AreLinesOf-view, asked_for_line-is, asked_in, length-delimiter, line_in_cohort-fields, max_line-columns, room_in}
 use Rattle.draw_values.proofs.JoinLemmas.{join_with_byte-range_more}

@@ -1,5 +1,5 @@
 use Rattle.std.proofs.Common.{◌≡◌, ◌<◌, ◌≤◌, ◌+◌, ◌*◌, ℕ, length, get_or}
-use Rattle.schema_check.specs.Lineage.{one_if}
+use Rattle.schema_plan.specs.Lineage.{one_if}
 use Rattle.row_lines.specs.CohortLines.{key_for, layout_for}
 use Rattle.row_lines.proofs.cohort_lines.CohortLines.put_keys.Given as goal
 

@@ -2,7 +2,7 @@ use Rattle.std.proofs.Common.{◌≡◌, ◌-◌, ℕ, List, length, get_or, ap,
 use Rattle.draw_values.specs.UnitDraws.{DrawsOf, unit_draws}
 use Rattle.row_lines.specs.ChangeDraws.{change_count, change_draws}
 use Rattle.row_lines.specs.LineDraws.{LineDrawsOf, line_draws}
-use Rattle.schema_check.specs.Dictionaries.{Project}
+use Rattle.schema_plan.specs.Dictionaries.{Project}
 use Rattle.life_intervals.specs.Generator.{table_of}
 use Rattle.row_lines.specs.CohortLines.{LinesOf, layout_for}
 use Rattle.row_lines.proofs.ChangeDrawLemmas.{IsRecent, change_draws-at, change_for-recent, length-change_draws}

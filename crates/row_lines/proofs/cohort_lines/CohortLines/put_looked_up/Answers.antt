@@ -1,8 +1,8 @@
 use Rattle.std.proofs.Common.{◌≡◌, ◌<◌, ◌≤◌, ◌+◌, ◌-◌, ◌++◌, ℕ, List, false, length, ap, arith, subst, sym, ◌∙◌}
-use Rattle.schema_check.specs.Cohorts.{born_count, cohort_size, first_ordinal}
-use Rattle.schema_check.specs.FieldBounds.{bounds_at}
-use Rattle.schema_check.specs.Layout.{layout_of}
-use Rattle.schema_check.specs.Limits.{IsTableInLimits}
+use Rattle.schema_plan.specs.Cohorts.{born_count, cohort_size, first_ordinal}
+use Rattle.schema_plan.specs.FieldBounds.{bounds_at}
+use Rattle.schema_plan.specs.Layout.{layout_of}
+use Rattle.schema_plan.specs.Limits.{IsTableInLimits}
 use Rattle.draw_values.specs.UnitDraws.{DrawsOf}
 use Rattle.life_intervals.specs.Generator.{last_unit, table_of}
 use Rattle.life_intervals.specs.Intervals.{LiesIn, birth}

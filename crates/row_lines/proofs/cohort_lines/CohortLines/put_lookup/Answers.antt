@@ -1,12 +1,12 @@
 use Rattle.std.proofs.Common.{◌≡◌, ◌<◌, ◌≤◌, ◌+◌, ◌++◌, ℕ, List, [], Bool, IfSome, false, true, length, get_or, slice_get, ap, arith, subst, sym, ◌∙◌}
-use Rattle.schema_check.specs.declared.ready.ReadyColumn.{ReadyColumn}
-use Rattle.schema_check.specs.declared.ready.ReadyKind.TheVariants.{Reference}
-use Rattle.schema_check.specs.declared.ready.ReadyLookup.{ReadyLookup}
-use Rattle.schema_check.specs.declared.ready.ReadyReference.{ReadyReference}
-use Rattle.schema_check.specs.Cohorts.{born_count, cohort_size}
-use Rattle.schema_check.specs.Layout.{column_at, layout_of}
-use Rattle.schema_check.specs.Limits.{IsInLimits}
-use Rattle.schema_check.specs.Ready.{ready_columns}
+use Rattle.schema_plan.specs.declared.ready.ReadyColumn.{ReadyColumn}
+use Rattle.schema_plan.specs.declared.ready.ReadyKind.TheVariants.{Reference}
+use Rattle.schema_plan.specs.declared.ready.ReadyLookup.{ReadyLookup}
+use Rattle.schema_plan.specs.declared.ready.ReadyReference.{ReadyReference}
+use Rattle.schema_plan.specs.Cohorts.{born_count, cohort_size}
+use Rattle.schema_plan.specs.Layout.{column_at, layout_of}
+use Rattle.schema_plan.specs.Limits.{IsInLimits}
+use Rattle.schema_plan.specs.Ready.{ready_columns}
 use Rattle.draw_values.specs.CohortValues.{ValuesOf, is_null_for}
 use Rattle.draw_values.specs.UnitDraws.{DrawsOf, unit_draws}
 use Rattle.draw_values.specs.Values.{is_null}

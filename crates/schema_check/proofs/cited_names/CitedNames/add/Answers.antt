@@ -1,6 +1,6 @@
 use Rattle.std.proofs.Common.{◌∙◌, ap, sym, length, arith, ◌++◌, ◌∷◌, []}
-use Rattle.schema_check.specs.Citations.{has_name}
-use Rattle.schema_check.proofs.WordListLemmas.{name_joins, name_known, names_full}
+use Rattle.schema_plan.specs.Citations.{has_name}
+use Rattle.schema_plan.proofs.WordListLemmas.{name_joins, name_known, names_full}
 use Rattle.schema_check.proofs.cited_names.CitedNames.add.Goals as goal
 use Rattle.schema_check.proofs.cited_names.CitedNames.add.Goals.{else-len-lt-MAX_NAMES-via-then-len-lt-MAX_NAMES+else-not-has, else-len-lt-MAX_NAMES-via-else-len-lt-MAX_NAMES}
 

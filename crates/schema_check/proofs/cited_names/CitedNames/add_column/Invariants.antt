@@ -1,6 +1,6 @@
 use Rattle.std.proofs.Common.{◌≡◌, ℕ, List, flat_map, take}
 use Rattle.std.specs.List.{fold}
-use Rattle.schema_check.specs.Citations.{names_in_leaf, with_name}
+use Rattle.schema_plan.specs.Citations.{names_in_leaf, with_name}
 use Rattle.schema_check.proofs.cited_names.CitedNames.add_column.Given as goal
 
 abbrev pub invariant-loop-leaf : goal.invariant-loop-leaf

@@ -1,6 +1,6 @@
 use Rattle.std.proofs.Common.{◌≡◌, ℕ, List, take}
 use Rattle.std.specs.List.{fold}
-use Rattle.schema_check.specs.Citations.{names_in_columns, with_name}
+use Rattle.schema_plan.specs.Citations.{names_in_columns, with_name}
 use Rattle.schema_check.proofs.cited_names.CitedNames.add_table.Given as goal
 
 abbrev pub invariant-loop-column : goal.invariant-loop-column

@@ -1,7 +1,7 @@
 use Rattle.std.proofs.Common.{◌∙◌, ap, sym, ℕ, List}
-use Rattle.schema_check.specs.Citations.{has_name}
-use Rattle.schema_check.specs.Names.{same_text}
-use Rattle.schema_check.proofs.Lists.{list_any-map}
+use Rattle.schema_plan.specs.Citations.{has_name}
+use Rattle.schema_plan.specs.Names.{same_text}
+use Rattle.schema_plan.proofs.Lists.{list_any-map}
 use Rattle.schema_check.proofs.cited_names.CitedNames.has.Goals as goal
 
 pub returns : goal.returns

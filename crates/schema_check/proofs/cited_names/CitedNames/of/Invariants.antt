@@ -1,6 +1,6 @@
 use Rattle.std.proofs.Common.{◌≡◌, [], take}
 use Rattle.std.specs.List.{fold}
-use Rattle.schema_check.specs.Citations.{names_in_tables, with_name}
+use Rattle.schema_plan.specs.Citations.{names_in_tables, with_name}
 use Rattle.schema_check.proofs.cited_names.CitedNames.of.Given as goal
 
 abbrev pub invariant-loop-table : goal.invariant-loop-table

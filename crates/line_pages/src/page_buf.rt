@@ -1,0 +1,86 @@
+//! A buffer of a fixed room.
+
+ghost use Rattle.std.specs.Prelude.{◌≡◌, ◌≤◌, ◌+◌, ◌-◌, [], ◌++◌, length, IfOk};
+ghost use Rattle.line_pages.specs.Pieces.{piece_text};
+
+use crate::{Memory, Piece};
+use std::alloc::Global;
+use std::marker::Model;
+
+/// Bytes that grow up to a room which is set when the buffer is made. No call but `with_room` takes memory.
+#[derive(Drop)]
+pub struct PageBuf {
+    /// The text, and behind it what no call tells.
+    bytes: Vec<u8>,
+    len: usize,
+    room: usize,
+}
+
+impl Model for PageBuf {
+    ghost use Rattle.std.specs.Prelude.{length, take};
+    ghost use Rattle.line_pages.specs.Pages.{Page, Fits};
+
+    ghost Value = { Page };
+
+    ghost view = { λ p. record { text = take p.len p.bytes.items; room = p.room } };
+
+    ghost invariant = { λ p. Fits p.len p.room (length p.bytes.items) };
+}
+
+impl PageBuf {
+    /// The bytes behind the room, so that a piece of any length is written as `Piece::ROOM` bytes.
+    const SLACK: usize = Piece::ROOM;
+
+    /// An empty buffer of this room, in bytes.
+    pub fn with_room(alloc: Global, room: usize) -> Result<PageBuf, Memory>
+        ensures { IfOk result (λ page. page ≡ record { text = []; room = room }) }
+    {
+        let size = room.checked_add(PageBuf::SLACK).ok_or(Memory)?;
+        let bytes = Vec::from_elem(alloc, 0, size)?;
+        Ok(PageBuf {
+            bytes,
+            len: 0,
+            room,
+        })
+    }
+
+    /// Appends the bytes. They fit in what is free.
+    pub fn put(&mut self, bytes: &[u8])
+        requires { length self.old.text + length bytes.now ≤ self.old.room }
+        ensures { self.new ≡ record self.old { text = self.old.text ++ bytes.now } }
+    {
+        let end = self.len + bytes.len();
+        self.bytes[self.len..end].copy_from_slice(bytes);
+        self.len = end;
+    }
+
+    /// Appends the piece. It fits in what is free.
+    #[inline(always)]
+    pub fn put_piece(&mut self, piece: &Piece)
+        requires { length self.old.text + length (piece_text piece.now) ≤ self.old.room }
+        ensures { self.new ≡ record self.old { text = self.old.text ++ piece_text piece.now } }
+    {
+        self.len = piece.paste(self.bytes.as_mut_slice(), self.len);
+    }
+
+    /// The bytes so far.
+    pub fn text(&self) -> &[u8]
+        ensures { result.now ≡ self.now.text }
+    {
+        &self.bytes[..self.len]
+    }
+
+    /// Empties the buffer.
+    pub fn clear(&mut self)
+        ensures { self.new ≡ record self.old { text = [] } }
+    {
+        self.len = 0;
+    }
+
+    /// The number of bytes that still fit.
+    pub fn free(&self) -> usize
+        ensures free { length self.now.text + result ≡ self.now.room }
+    {
+        self.room - self.len
+    }
+}

@@ -1,0 +1,131 @@
+//! Short texts in a word.
+
+ghost use Rattle.std.specs.Prelude.{◌≡◌, ◌<◌, ◌≤◌, ◌+◌, ◌^◌, [], ◌∷◌, ◌++◌, length, take, decimal};
+ghost use Rattle.std.specs.Fmt.{signed_decimal};
+
+/// A text of at most `Piece::ROOM` bytes, which is copied as fast as a number.
+#[derive(Clone, Copy)]
+pub struct Piece {
+    /// The bytes, the first one lowest.
+    word: u128,
+    len: u64,
+    ghost short: { len ≤ 16 },
+    ghost fits: { word < 256 ^ len },
+}
+
+impl Piece {
+    ghost use Rattle.line_pages.specs.Pieces.{piece_text};
+
+    /// The most bytes of a piece: a number of 15 digits, say, and a delimiter.
+    pub const ROOM: usize = 16;
+
+    /// No byte.
+    #[inline(always)]
+    pub fn new() -> Piece
+        ensures { piece_text result ≡ [] }
+    {
+        Piece { word: 0, len: 0 }
+    }
+
+    /// These bytes. They fit.
+    #[inline]
+    pub fn of(bytes: &[u8]) -> Piece
+        requires { length bytes.now ≤ Piece.ROOM }
+        ensures { piece_text result ≡ bytes.now }
+    {
+        let mut piece = Piece::new();
+        for i in 0..bytes.len() {
+            piece = piece.prepend(bytes[bytes.len() - 1 - i]);
+        }
+        piece
+    }
+
+    /// This byte.
+    #[inline(always)]
+    pub fn of_byte(byte: u8) -> Piece
+        ensures { piece_text result ≡ byte ∷ [] }
+    {
+        Piece::new().prepend(byte)
+    }
+
+    /// This number in decimal, which has at most 15 digits.
+    #[inline(always)]
+    pub fn of_number(number: u64) -> Piece
+        requires { number < 10 ^ 15 }
+        ensures { piece_text result ≡ decimal number }
+    {
+        Piece::new().prepend_number(number)
+    }
+
+    /// This number in decimal, with a minus sign where it is negative. It fits.
+    #[inline(always)]
+    pub fn of_signed(number: i64) -> Piece
+        requires { length (signed_decimal number) ≤ Piece.ROOM }
+        ensures { piece_text result ≡ signed_decimal number }
+    {
+        Piece::new().prepend_signed(number)
+    }
+
+    /// The number of bytes.
+    #[inline(always)]
+    pub fn len(&self) -> usize
+        ensures len { result ≡ length (piece_text self.now) }
+        ensures within { result ≤ Piece.ROOM }
+    {
+        self.len as usize
+    }
+
+    /// The byte, and then the piece. Both fit.
+    #[inline(always)]
+    pub fn prepend(self, byte: u8) -> Piece
+        requires { length (piece_text self) < Piece.ROOM }
+        ensures { piece_text result ≡ byte ∷ piece_text self }
+    {
+        Piece {
+            word: self.word * 256 + u128::from(byte),
+            len: self.len + 1,
+        }
+    }
+
+    /// The number in decimal, and then the piece. Both fit.
+    #[inline(always)]
+    pub fn prepend_number(self, number: u64) -> Piece
+        requires { length (decimal number) + length (piece_text self) ≤ Piece.ROOM }
+        ensures { piece_text result ≡ decimal number ++ piece_text self }
+    {
+        let mut piece = self;
+        let mut rest = number;
+        while rest >= 10 {
+            piece = piece.prepend(b'0' + (rest % 10) as u8);
+            rest /= 10;
+        }
+        piece.prepend(b'0' + rest as u8)
+    }
+
+    /// The number in decimal, with a minus sign where it is negative, and then the piece. Both fit.
+    #[inline(always)]
+    pub fn prepend_signed(self, number: i64) -> Piece
+        requires { length (signed_decimal number) + length (piece_text self) ≤ Piece.ROOM }
+        ensures { piece_text result ≡ signed_decimal number ++ piece_text self }
+    {
+        if number < 0 {
+            self.prepend_number(number.unsigned_abs()).prepend(b'-')
+        } else {
+            self.prepend_number(number.unsigned_abs())
+        }
+    }
+
+    /// Writes the piece from a place on, over 16 bytes whatever its length, and tells where it ends.
+    #[inline(always)]
+    pub(crate) fn paste(&self, bytes: &mut [u8], at: usize) -> usize
+        requires { at + 16 ≤ length bytes.old }
+        ensures end { result ≡ at + length (piece_text self.now) }
+        ensures text { take result bytes.new ≡ take at bytes.old ++ piece_text self.now }
+    {
+        let low = (self.word % (1 << 64)) as u64;
+        let high = (self.word >> 64) as u64;
+        bytes[at..at + 8].copy_from_slice(&low.to_le_bytes());
+        bytes[at + 8..at + 16].copy_from_slice(&high.to_le_bytes());
+        at + self.len as usize
+    }
+}

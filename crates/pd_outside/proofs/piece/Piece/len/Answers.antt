@@ -1,6 +1,0 @@
-use Rattle.std.proofs.Common.{sym}
-use Rattle.pd_outside.proofs.LowBytes.{length-low_bytes}
-use Rattle.pd_outside.proofs.piece.Piece.len.Goals as goal
-
-pub returns-clause-len : goal.returns-clause-len
-returns-clause-len c = sym (length-low_bytes c.args.self.now.len c.args.self.now.word)

@@ -1,6 +1,0 @@
-use Rattle.std.proofs.Common.{◌≡◌, ◌-◌, drop, length}
-use Rattle.pd_outside.specs.Pieces.{piece_text}
-use Rattle.pd_outside.proofs.piece.Piece.of.Given as goal
-
-abbrev pub invariant-loop-i : goal.invariant-loop-i
-invariant-loop-i l = piece_text l.piece ≡ drop (length l.bytes - l.i) l.bytes

@@ -1,8 +1,0 @@
-use Rattle.std.proofs.Common.{map, sum, ◌∙◌, arith, ap}
-use Rattle.schema_check.specs.Counts.{count}
-use Rattle.schema_check.proofs.ReferenceLimits.{spread_sum}
-use Rattle.schema_check.proofs.ready_columns.ready_reference.Goals as goal
-
-pub new-requires-clause-small : goal.new-requires-clause-small
-new-requires-clause-small c =
-    omega (arith, ap sum (c.deref.ensures.value ∙ c.in_ok-counts.ensures), spread_sum (map count c.args.spread.now) c.requires)

@@ -1,6 +1,0 @@
-use Rattle.std.proofs.Common.{◌≡◌, encode_utf8, map}
-use Rattle.row_text.specs.Fields.{piece_text}
-use Rattle.schema_check.proofs.ready_leaves.written_characters.Given as goal
-
-abbrev pub invariant-loop-c : goal.invariant-loop-c
-invariant-loop-c l = l.written ≡ map (λ c. piece_text l.delimiter (encode_utf8 c)) l.yielded

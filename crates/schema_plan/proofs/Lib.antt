@@ -1,0 +1,11 @@
+pub mod Lists
+pub mod PlaceLemmas
+pub mod Capping
+pub mod CohortLemmas
+pub mod LineageLemmas
+pub mod BoundsLemmas
+pub mod FactsLemmas
+pub mod SpreadLemmas
+pub mod ReadyLemmas
+pub mod PlannedLemmas
+pub mod WordListLemmas

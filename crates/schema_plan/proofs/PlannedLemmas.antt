@@ -1,0 +1,76 @@
+-- What a plan keeps of the table at a place.
+use Rattle.std.proofs.Common.{◌≡◌, ℕ, zero, suc, ◌<◌, ◌≤◌, min, max, List, [], ◌∷◌, length, map, get_or, refl, sym, ap, ◌∙◌, arith}
+use Rattle.std.specs.List.{fold, range_with_len}
+use Rattle.std.proofs.lemmas.List.{length-map}
+use Rattle.std.proofs.lemmas.List.FromFn.{fill_by_all, get_or-map-range_with_len, length-map-range_with_len}
+use Rattle.std.proofs.lemmas.List.Folds.{fold-map}
+use Rattle.schema_plan.specs.declared.facts.TableFacts.{TableFacts}
+use Rattle.schema_plan.specs.Capped.{capped, capped_facts, first_facts}
+use Rattle.schema_plan.specs.Dictionaries.{Project}
+use Rattle.schema_plan.specs.FieldBounds.{greatest_by}
+use Rattle.schema_plan.specs.Layout.{Layout, TableLayout, layout_of, no_table, table_at, table_layout}
+use Rattle.schema_plan.specs.Limits.{IsInLimits}
+use Rattle.schema_plan.specs.TableFacts.{facts_at, line_of_table, max_line, reach}
+use Rattle.schema_plan.proofs.Lists.{map-map, map-same}
+
+-- no fact of an accepted schema is past the end of 64 bits
+not_capped : (project : Project) → IsInLimits project → (place : ℕ) → place < length project.schema.tables → capped_facts (facts_at (layout_of project) place) ≡ facts_at (layout_of project) place
+not_capped project limits place h =
+    let facts = facts_at (layout_of project) place in
+    let cost : capped facts.cost ≡ facts.cost = omega (arith, limits.costs place h) in
+    let death : capped facts.lineage.death_cost ≡ facts.lineage.death_cost = omega (arith, limits.costs place h) in
+    let line : capped facts.max_line ≡ facts.max_line = omega (arith, limits.lines place h) in
+    ap (λ n. record facts { lineage = record facts.lineage { death_cost = n }; cost = capped facts.cost; max_line = capped facts.max_line }) death
+    ∙ ap (λ n. record facts { cost = n; max_line = capped facts.max_line }) cost
+    ∙ ap (λ n. record facts { max_line = n }) line
+
+pub facts_whole : (project : Project) → IsInLimits project → first_facts project ≡ map (facts_at (layout_of project)) (range_with_len 0 (length project.schema.tables))
+facts_whole project limits =
+    let all : min (length project.schema.tables) 64 ≡ length project.schema.tables = omega (arith, limits.table_limit) in
+    ap (λ n. map (λ place. capped_facts (facts_at (layout_of project) place)) (range_with_len 0 n)) all
+    ∙ map-same (λ place. capped_facts (facts_at (layout_of project) place)) (facts_at (layout_of project)) (length project.schema.tables) (λ k h. not_capped project limits k h)
+
+-- the reach is the greatest of the lines
+pub reach-is : (project : Project) → greatest_by (λ (fact : TableFacts). fact.max_line) (map (facts_at (layout_of project)) (range_with_len 0 (length project.schema.tables))) ≡ reach (layout_of project)
+unfolding max_line reach
+reach-is project =
+    let layout = layout_of project in
+    let places = range_with_len 0 (length project.schema.tables) in
+    let in_row : layout.tables ≡ map (table_at layout.tables) places = fill_by_all (table_at layout.tables) layout.tables (length project.schema.tables) no_table (length-map project.schema.tables (table_layout project.dictionaries project.schema.tables)) (λ k h. refl) in
+    fold-map (λ most (fact : TableFacts). max most fact.max_line) (facts_at layout) 0 places
+    ∙ sym (ap (greatest_by (line_of_table layout)) in_row
+    ∙ fold-map (λ most (table : TableLayout). max most (line_of_table layout table)) (table_at layout.tables) 0 places)
+
+-- the greatest of a number is at least what it began from, and at least that of each item
+greatest_from : {A : Type 0} (number : A → ℕ) (xs : List A) (a : ℕ) → a ≤ fold (λ most x. max most (number x)) a xs
+greatest_from number [] a = omega arith
+greatest_from number (x ∷ xs) a = omega (arith, greatest_from number xs (max a (number x)))
+
+greatest_at : {A : Type 0} (number : A → ℕ) (xs : List A) (a : ℕ) (i : ℕ) (d : A) → number d ≤ a → number (get_or xs i d) ≤ fold (λ most x. max most (number x)) a xs
+greatest_at number [] a i d h = h
+greatest_at number (x ∷ xs) a zero d h = omega (arith, greatest_from number xs (max a (number x)))
+greatest_at number (x ∷ xs) a (suc i) d h = greatest_at number xs (max a (number x)) i d (omega arith)
+
+-- no line is longer than the reach
+pub max_line-reach : (layout : Layout) (place : ℕ) → max_line layout place ≤ reach layout
+unfolding max_line reach
+max_line-reach layout place =
+    let none : line_of_table layout no_table ≡ 0 = refl in
+    greatest_at (line_of_table layout) layout.tables 0 place no_table (omega (arith, none))
+
+-- what is kept of the tables, one for each
+pub length-kept : {A : Type 0} (of : ℕ → A) (tables : ℕ) (kept : List A) → kept ≡ map of (range_with_len 0 tables) → length kept ≡ tables
+length-kept of tables kept is = ap length is ∙ length-map-range_with_len of 0 tables
+
+pub get_or-kept : {A : Type 0} (of : ℕ → A) (tables : ℕ) (kept : List A) → kept ≡ map of (range_with_len 0 tables) → (place : ℕ) (d : A) → place < tables → get_or kept place d ≡ of place
+get_or-kept of tables kept is place d h = ap (λ all. get_or all place d) is ∙ get_or-map-range_with_len of 0 tables place place d h (omega arith)
+
+-- the births of a unit of the table at a place, to divide by
+abbrev pub divisor_at : Layout → ℕ → ℕ
+divisor_at layout place = max 1 (table_at layout.tables place).births.insert
+
+-- the divisors that are kept of the tables
+pub divisors_are : (project : Project) (kept : List TableFacts) (inserts : List ℕ) → kept ≡ map (facts_at (layout_of project)) (range_with_len 0 (length project.schema.tables)) → inserts ≡ map (λ (fact : TableFacts). max 1 fact.births.insert) kept → inserts ≡ map (divisor_at (layout_of project)) (range_with_len 0 (length project.schema.tables))
+divisors_are project kept inserts facts divisors =
+    let divisor = λ (fact : TableFacts). max 1 fact.births.insert in
+    divisors ∙ ap (map divisor) facts ∙ map-map divisor (facts_at (layout_of project)) (range_with_len 0 (length project.schema.tables))

@@ -1,0 +1,14 @@
+use Rattle.std.proofs.Common.{◌∙◌, ap, map}
+use Rattle.schema_plan.specs.declared.facts.TableFacts.{TableFacts}
+use Rattle.schema_plan.specs.Capped.{capped_lineage}
+use Rattle.schema_plan.proofs.LineageLemmas.{no_parent, parent_added}
+use Rattle.schema_plan.proofs.lineage.with_kind.Goals as goal
+
+pub returns-in-Ref : goal.returns-in-Ref
+returns-in-Ref c = λ dictionaries given before columns premise own.
+    parent_added given (map (λ (facts : TableFacts). facts.lineage) c.args.earlier.now) before c.args.own c.lineage_at-parent.result c.with_parent.result dictionaries c.args.tables.now columns c.args.kind.now c.in-Ref.table c.in-Ref.window _ c.place_of_table.result
+    c.in-Ref.is premise own c.place_of_table.ensures.place c.lineage_at-parent.ensures c.with_parent.ensures
+
+pub returns-in_default : goal.returns-in_default
+returns-in_default c = λ dictionaries given before columns premise own.
+    own ∙ ap capped_lineage (no_parent given before dictionaries c.args.tables.now columns c.args.kind.now c.in_default.not-Ref)

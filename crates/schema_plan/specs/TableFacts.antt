@@ -1,0 +1,55 @@
+-- What doesn't change from row to row in a table.
+use Rattle.std.specs.Prelude.{ℕ, ◌+◌, List, is_some, sum_by}
+use Rattle.schema_plan.specs.Layout.{Layout, TableLayout, table_at}
+use Rattle.schema_plan.specs.Lineage.{one_if, death_cost, lineages, lineage_at}
+use Rattle.schema_plan.specs.FieldBounds.{greatest_by, bounds_of_fields}
+use Rattle.schema_plan.specs.declared.facts.TableFacts.{TableFacts}
+use Rattle.schema_plan.specs.declared.field_bounds.FieldBounds.{FieldBounds}
+
+-- the greatest size of a line, by what its fields take: a delimiter or the line feed stands behind each
+abbrev pub line_size : List FieldBounds → ℕ
+line_size fields = sum_by (λ (field : FieldBounds). field.size + 1) fields
+
+-- how many permutations a line asks, by what its fields take
+abbrev pub line_permutations : List FieldBounds → ℕ
+line_permutations fields = sum_by (λ (field : FieldBounds). field.permutations) fields
+
+-- what a line takes, by what its fields take
+abbrev pub line_bounds : List FieldBounds → FieldBounds
+line_bounds fields = record { size = line_size fields; permutations = line_permutations fields }
+
+-- the greatest size of a line of a table, in bytes
+abbrev pub line_of_table : Layout → TableLayout → ℕ
+line_of_table layout table = line_size (bounds_of_fields layout.delimiter layout.tables table)
+
+-- the greatest size of a line of the table at a place, in bytes
+unfoldable pub max_line : Layout → ℕ → ℕ
+max_line layout place = line_of_table layout (table_at layout.tables place)
+
+-- the greatest size of a line of any table, in bytes
+unfoldable pub reach : Layout → ℕ
+reach layout = greatest_by (line_of_table layout) layout.tables
+
+-- how many permutations the fields of a row ask
+abbrev pub fields_cost : Layout → TableLayout → ℕ
+fields_cost layout table = line_permutations (bounds_of_fields layout.delimiter layout.tables table)
+
+-- how many permutations the line of a row asks at most, with the change unit that it is drawn by
+unfoldable pub line_cost : Layout → ℕ → ℕ
+line_cost layout place =
+    one_if (is_some (table_at layout.tables place).update) + fields_cost layout (table_at layout.tables place)
+
+-- the cost of a row of the table at a place, which bounds the permutations of its report: one that finds the row by its key, and
+-- those of its death and of its line
+abbrev pub cost : Layout → ℕ → ℕ
+cost layout place = 1 + death_cost layout.tables place + line_cost layout place
+
+-- what doesn't change from row to row in the table at a place
+abbrev pub facts_at : Layout → ℕ → TableFacts
+facts_at layout place = record {
+  births = (table_at layout.tables place).births;
+  keys = (table_at layout.tables place).key;
+  lineage = lineage_at (lineages layout.tables) place;
+  cost = cost layout place;
+  max_line = max_line layout place;
+}

@@ -1,0 +1,118 @@
+-- Schemas whose lives, costs and sizes are worked out by hand.
+use Rattle.std.specs.Prelude.{ℕ, pos, true, false, List, [], ◌∷◌, map, Some, None, codes}
+use Rattle.schema_model.specs.declared.table.Table.{Table}
+use Rattle.schema_model.specs.declared.table.Delimiter.TheVariants.{Tab}
+use Rattle.schema_model.specs.declared.column.Column.{Column}
+use Rattle.schema_model.specs.declared.column.Kind.{Kind}
+use Rattle.schema_model.specs.declared.column.Kind.TheVariants.{Key, Born, Changed, Leaf as Drawn, Template, Ref, Lookup}
+use Rattle.schema_model.specs.declared.column.Leaf.TheVariants.{Pick, Dict, Words, Chars}
+use Rattle.schema_model.specs.declared.column.Part.TheVariants.{Literal, Cited}
+use Rattle.schema_plan.specs.declared.field_bounds.FieldBounds.{FieldBounds}
+use Rattle.schema_plan.specs.Dictionaries.{Project, project_of}
+use Rattle.schema_plan.specs.FieldBounds.{bounds_of_fields}
+use Rattle.schema_plan.specs.Layout.{Layout, TableLayout}
+use Rattle.schema_model.specs.declared.column.Window.TheVariants.{Units}
+
+-- a column that neither changes nor is null
+abbrev pub plain : List ℕ → Kind → Column
+plain name kind = record { name = name; kind = kind; changes = false; null = pos 0 }
+
+abbrev pub key : Column
+key = plain (codes "id") (Key (pos 1) false)
+
+-- a reference to the rows of a table that were born in a window of units
+abbrev pub reference : List ℕ → ℕ → Column
+reference table units = plain table (Ref table (Units (pos units)) (pos 1 ∷ []))
+
+-- customers live three units and change every two
+abbrev pub customer : Table
+customer = record {
+  name = codes "customer";
+  rows = pos 1;
+  insert = pos 1;
+  life = Some (record { lo = pos 3; hi = pos 3 });
+  update = Some (pos 2);
+  columns = key ∷ plain (codes "born") Born ∷ plain (codes "changed") Changed ∷ [];
+}
+
+-- orders live nine units, or as long as their customer, who may be two units older
+abbrev pub orders : Table
+orders = record {
+  name = codes "orders";
+  rows = pos 1;
+  insert = pos 1;
+  life = Some (record { lo = pos 9; hi = pos 9 });
+  update = None;
+  columns = key ∷ reference (codes "customer") 2 ∷ [];
+}
+
+-- lines live as long as their order
+abbrev pub lines : Table
+lines = record {
+  name = codes "lines";
+  rows = pos 1;
+  insert = pos 1;
+  life = None;
+  update = None;
+  columns = key ∷ reference (codes "orders") 0 ∷ [];
+}
+
+abbrev pub sales : Project
+sales = project_of (record { seed = pos 7; units = pos 5; delimiter = Tab; tables = customer ∷ orders ∷ lines ∷ [] }) []
+
+-- cities with a scrambled key, a picked name and a text made of it
+abbrev pub city : Table
+city = record {
+  name = codes "city";
+  rows = pos 3;
+  insert = pos 0;
+  life = None;
+  update = None;
+  columns =
+      plain (codes "id") (Key (pos 1) true)
+      ∷ plain (codes "name") (Drawn (Pick (codes "Oslo" ∷ codes "Li\tma" ∷ []) (pos 5 ∷ pos 3 ∷ [])))
+      ∷ plain (codes "mark") (Drawn (Chars (codes "a\\b") (pos 0) (pos 3)))
+      ∷ plain (codes "label") (Template (Literal (codes "in ") ∷ Cited (codes "name") ∷ Cited (codes "name") ∷ []))
+      ∷ [];
+}
+
+-- houses with the key and the name of their city
+abbrev pub house : Table
+house = record {
+  name = codes "house";
+  rows = pos 9;
+  insert = pos 0;
+  life = None;
+  update = None;
+  columns =
+      key ∷ reference (codes "city") 0
+      ∷ plain (codes "where") (Lookup (codes "city") (codes "name"))
+      ∷ plain (codes "again") (Template (Cited (codes "city") ∷ Cited (codes "city") ∷ []))
+      ∷ [];
+}
+
+abbrev pub places : Project
+places = project_of (record { seed = pos 1; units = pos 0; delimiter = Tab; tables = city ∷ house ∷ [] }) []
+
+-- people with a name of the dictionary `n`, and up to three of its words
+abbrev pub person : Table
+person = record {
+  name = codes "person";
+  rows = pos 2;
+  insert = pos 0;
+  life = None;
+  update = None;
+  columns = key ∷ plain (codes "name") (Drawn (Dict (codes "n"))) ∷ plain (codes "remark") (Drawn (Words (codes "n") (pos 0) (pos 3))) ∷ [];
+}
+
+abbrev pub people : Project
+people = project_of
+    (record { seed = pos 1; units = pos 0; delimiter = Tab; tables = person ∷ [] })
+    (record { name = codes "m"; words = record { entries = codes "Methuselah" ∷ []; weights = 1 ∷ [] } }
+    ∷ record { name = codes "n"; words = record { entries = codes "Bo" ∷ codes "An\tn" ∷ []; weights = 1 ∷ 3 ∷ [] } }
+    ∷ [])
+
+-- the greatest sizes of a table's fields
+abbrev pub sizes_of : Layout → TableLayout → List ℕ
+sizes_of layout table =
+    map (λ (field : FieldBounds). field.size) (bounds_of_fields layout.delimiter layout.tables table)

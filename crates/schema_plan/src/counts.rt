@@ -1,0 +1,11 @@
+//! The numbers of a schema that count something.
+
+ghost use Rattle.std.specs.Prelude.{◌≡◌};
+ghost use Rattle.schema_plan.specs.Counts.{count};
+
+/// The count that a number of a schema stands for; a number below 0 counts as 0.
+pub fn count(number: i64) -> u64
+    ensures { result ≡ count number }
+{
+    if number < 0 { 0 } else { number as u64 }
+}

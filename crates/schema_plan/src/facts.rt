@@ -1,0 +1,133 @@
+//! What doesn't change from row to row in a table.
+
+ghost use Rattle.std.specs.Prelude.{◌≡◌, ◌<◌, length, map, min};
+ghost use Rattle.std.specs.List.{range_with_len};
+ghost use Rattle.schema_plan.specs.Capped.{capped_bounds, capped_facts, first_facts};
+ghost use Rattle.schema_plan.specs.Delimiters.{delimiter_byte as byte_of};
+ghost use Rattle.schema_plan.specs.Dictionaries.{project_of};
+ghost use Rattle.schema_plan.specs.FieldBounds.{bounds_of_fields, greatest_by};
+ghost use Rattle.schema_plan.specs.Layout.{births_of, layout_of, table_layout, table_layouts};
+ghost use Rattle.schema_plan.specs.TableFacts.{facts_at, line_bounds};
+
+use crate::counts::count;
+use crate::field_bounds::{FieldBounds, bounds_of};
+use crate::layout::{Births, Keys};
+use crate::lineage::{ENDLESS, Lineage, lineage_of};
+use crate::places::keys_of;
+use crate::word_lists::Dictionaries;
+use schema_model::{Delimiter, Schema, Table};
+
+/// What doesn't change from row to row in a table.
+#[derive(Clone, Copy, Debug, PartialEq, Eq)]
+pub struct TableFacts {
+    pub births: Births,
+    pub keys: Keys,
+    pub lineage: Lineage,
+    /// The cost of a row, which bounds the permutations of its report.
+    pub cost: u64,
+    /// The greatest length of a line, in bytes.
+    pub max_line: u64,
+}
+
+/// Of a table without rows and columns.
+pub const NO_FACTS: TableFacts = TableFacts {
+    births: Births { rows: 0, insert: 0 },
+    keys: Keys {
+        base: 0,
+        scramble: false,
+    },
+    lineage: ENDLESS,
+    cost: 0,
+    max_line: 0,
+};
+
+/// Puts the facts of the first tables of a schema in place, one for each place that is given. No memory is taken.
+pub fn fill_facts(schema: &Schema, dictionaries: &Dictionaries, facts: &mut [TableFacts])
+    requires { length facts.old ≡ min (length schema.now.tables) 64 }
+    ensures { facts.new ≡ first_facts (project_of schema.now dictionaries.now) }
+{
+    for place in 0..facts.len() {
+        facts[place] = facts_of(schema, dictionaries, &facts[..place], place);
+    }
+}
+
+/// The facts of the table at a place, by those of the tables before it.
+fn facts_of(
+    schema: &Schema,
+    dictionaries: &Dictionaries,
+    earlier: &[TableFacts],
+    place: usize,
+) -> TableFacts
+    requires place { place < length schema.now.tables }
+    requires earlier { earlier.now ≡ map (λ p. capped_facts (facts_at (layout_of (project_of schema.now dictionaries.now)) p)) (range_with_len 0 place) }
+    ensures { result ≡ capped_facts (facts_at (layout_of (project_of schema.now dictionaries.now)) place) }
+{
+    let tables = schema.tables.as_slice();
+    let table = &tables[place];
+    let lineage = lineage_of(tables, earlier, table);
+    let line = line_bounds(
+        delimiter_byte(schema.delimiter),
+        dictionaries,
+        tables,
+        table,
+    );
+    let death = lineage.death_cost.saturating_add(1);
+    let change = u64::from(table.update.is_some());
+    TableFacts {
+        births: births_of(table),
+        keys: keys_of(table.columns.as_slice()),
+        lineage,
+        cost: death.saturating_add(line.permutations.saturating_add(change)),
+        max_line: line.size,
+    }
+}
+
+/// What the line of a table's rows takes: the sizes of its fields and one byte behind each, and their permutations.
+fn line_bounds(
+    delimiter: u8,
+    dictionaries: &Dictionaries,
+    tables: &[Table],
+    table: &Table,
+) -> FieldBounds
+    ensures { result ≡ capped_bounds (line_bounds (bounds_of_fields delimiter (table_layouts dictionaries.now tables.now) (table_layout dictionaries.now tables.now table.now))) }
+{
+    let mut size: u64 = 0;
+    let mut permutations: u64 = 0;
+    for column in table.columns.as_slice() {
+        let taken = bounds_of(delimiter, dictionaries, tables, table, &column.kind);
+        size = size.saturating_add(taken.size.saturating_add(1));
+        permutations = permutations.saturating_add(taken.permutations);
+    }
+    FieldBounds { size, permutations }
+}
+
+/// The births of a table.
+pub fn births_of(table: &Table) -> Births
+    ensures { result ≡ births_of table.now }
+{
+    Births {
+        rows: count(table.rows),
+        insert: count(table.insert),
+    }
+}
+
+/// The byte between two fields.
+pub(crate) fn delimiter_byte(delimiter: Delimiter) -> u8
+    ensures { result ≡ byte_of delimiter }
+{
+    match delimiter {
+        Delimiter::Tab => b'\t',
+        Delimiter::Bar => b'|',
+    }
+}
+
+/// The greatest line of all, in bytes.
+pub(crate) fn greatest_line(facts: &[TableFacts]) -> u64
+    ensures { result ≡ greatest_by (λ fact. fact.max_line) facts.now }
+{
+    let mut most = 0;
+    for fact in facts {
+        most = most.max(fact.max_line);
+    }
+    most
+}

@@ -1,0 +1,39 @@
+//! The layout of a schema, its facts, and the plan of an accepted one.
+//!
+//! A schema names tables, columns and word lists; its layout has their places in the names' stead. Facts of a table, as the cost of
+//! a row, follow from the layout and from the facts of the tables before it. A plan is made of a schema that keeps all rules, and holds what
+//! doesn't change from row to row. Which schemas keep the rules is defined here, and tried by the crate that stands on this one.
+#![tactic(auto)]
+
+mod broken;
+mod counts;
+mod facts;
+mod field_bounds;
+pub mod laws;
+mod layout;
+mod lineage;
+mod memory;
+mod places;
+mod plan;
+mod ready;
+mod ready_columns;
+mod ready_leaves;
+mod ready_parts;
+mod ready_words;
+mod rules;
+mod site;
+mod word_lists;
+
+pub use broken::Broken;
+pub use counts::count;
+pub use facts::{NO_FACTS, TableFacts, births_of, fill_facts};
+pub use layout::{Births, Keys, Span};
+pub use lineage::{Lineage, lineage_at};
+pub use memory::Memory;
+pub use places::{columns_of, parent_via, place_of_column, place_of_table};
+pub use plan::Plan;
+pub use ready::{ReadyColumn, ReadyKind, ReadyLeaf, ReadyLookup, ReadyPart, ReadyReference};
+pub use ready_words::ReadyWords;
+pub use rules::Rule;
+pub use site::Site;
+pub use word_lists::Dictionaries;

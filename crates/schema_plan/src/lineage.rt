@@ -1,0 +1,125 @@
+//! What the rows of a table take over from the tables that they refer to.
+
+ghost use Rattle.std.specs.Prelude.{◌≡◌, List, length, map};
+ghost use Rattle.schema_plan.specs.Capped.{capped_lineage};
+ghost use Rattle.schema_plan.specs.Dictionaries.{Dictionary};
+ghost use Rattle.schema_plan.specs.Layout.{kind_layout, span_of, table_layout, table_layouts, window_layout};
+ghost use Rattle.schema_plan.specs.Lineage.{lesser_life, lineage_at, lineage_of, own_lineage, with_kind, with_parent};
+ghost use Rattle.std.specs.Option.{option_map};
+ghost use Rattle.schema_model.specs.declared.column.Column.{Column};
+ghost use Rattle.schema_plan.specs.declared.lineage.Lineage.{Lineage};
+
+use crate::counts::count;
+use crate::facts::TableFacts;
+use crate::layout::Span;
+use crate::places::place_of_table;
+use schema_model::{Kind, Life, Table, Window};
+
+/// For how long the rows of a table live, and what their death costs.
+#[derive(Clone, Copy, Debug, PartialEq, Eq)]
+pub struct Lineage {
+    /// For how many units at least; None where that is unbounded.
+    pub sure_life: Option<u64>,
+    /// For how many units at most; None where that is unbounded.
+    pub longest_life: Option<u64>,
+    /// How many permutations are asked at most to find the unit of a row's death.
+    pub death_cost: u64,
+}
+
+/// A table that nothing ends.
+pub(crate) const ENDLESS: Lineage = Lineage {
+    sure_life: None,
+    longest_life: None,
+    death_cost: 0,
+};
+
+/// The lineage of a table, by what is known of the tables before it.
+pub(crate) fn lineage_of(tables: &[Table], earlier: &[TableFacts], table: &Table) -> Lineage
+    ensures { (dictionaries : List Dictionary) (given : List Lineage) → map (λ facts. facts.lineage) earlier.now ≡ map capped_lineage given →
+        result ≡ capped_lineage (lineage_of given (table_layout dictionaries tables.now table.now)) }
+{
+    let mut lineage = own_lineage(table.life);
+    for column in table.columns.as_slice() {
+        lineage = with_kind(tables, earlier, lineage, &column.kind);
+    }
+    lineage
+}
+
+/// The lineage of a table's own life.
+fn own_lineage(life: Option<Life>) -> Lineage
+    ensures { result ≡ own_lineage (option_map span_of life) }
+{
+    match life {
+        None => ENDLESS,
+        Some(life) => Lineage {
+            sure_life: Some(count(life.lo)),
+            longest_life: Some(count(life.hi)),
+            death_cost: 1,
+        },
+    }
+}
+
+/// For how many units a row lives.
+pub(crate) fn span_of(life: Life) -> Span
+    ensures { result ≡ span_of life }
+{
+    Span {
+        least: count(life.lo),
+        most: count(life.hi),
+    }
+}
+
+/// A lineage with what a column of this kind adds: a reference has a parent, and no other kind has.
+fn with_kind(tables: &[Table], earlier: &[TableFacts], own: Lineage, kind: &Kind) -> Lineage
+    ensures { (dictionaries : List Dictionary) (given : List Lineage) (before : Lineage) (columns : List Column) →
+        map (λ facts. facts.lineage) earlier.now ≡ map capped_lineage given → own ≡ capped_lineage before →
+        result ≡ capped_lineage (with_kind given before (kind_layout dictionaries tables.now columns kind.now)) }
+{
+    match kind {
+        Kind::Ref { table, window, .. } => {
+            let parent = lineage_at(earlier, place_of_table(tables, table));
+            with_parent(own, parent, *window)
+        }
+        _ => own,
+    }
+}
+
+/// The lineage of the table at a place among those before.
+pub fn lineage_at(earlier: &[TableFacts], place: usize) -> Lineage
+    ensures { result ≡ lineage_at (map (λ facts. facts.lineage) earlier.now) place }
+{
+    if place < earlier.len() {
+        earlier[place].lineage
+    } else {
+        ENDLESS
+    }
+}
+
+/// A lineage with a parent.
+fn with_parent(own: Lineage, parent: Lineage, window: Window) -> Lineage
+    ensures { result ≡ capped_lineage (with_parent own parent (window_layout window)) }
+{
+    let older = match window {
+        Window::Units(units) => count(units),
+        Window::All => 0,
+    };
+    let sure_life = parent.sure_life.map(|life| life.saturating_sub(older));
+    Lineage {
+        sure_life: lesser_life(own.sure_life, sure_life),
+        longest_life: lesser_life(own.longest_life, parent.longest_life),
+        death_cost: own
+            .death_cost
+            .saturating_add(parent.death_cost.saturating_add(1)),
+    }
+}
+
+/// The lesser of two lives; None is a life without a bound.
+fn lesser_life(life: Option<u64>, other: Option<u64>) -> Option<u64>
+    ensures { result ≡ lesser_life life other }
+{
+    match (life, other) {
+        (None, other) => other,
+        (Some(life), None) => Some(life),
+        (Some(life), Some(other)) => Some(life.min(other)),
+    }
+}

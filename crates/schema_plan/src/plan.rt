@@ -1,0 +1,265 @@
+//! The plan of an accepted schema.
+
+ghost use Rattle.std.specs.Prelude.{◌≡◌, ◌<◌, ◌≤◌, false, true, All, Some, length, map, max, slice_get, IfOk, IfSome};
+ghost use Rattle.std.specs.List.{position};
+ghost use Rattle.std.specs.Option.{option_copied};
+ghost use Rattle.schema_plan.specs.Capped.{first_facts};
+ghost use Rattle.schema_plan.specs.Dictionaries.{dictionary_named, project_of};
+ghost use Rattle.schema_plan.specs.Layout.{layout_of, table_at, table_layout};
+ghost use Rattle.schema_plan.specs.Limits.{IsInLimits, IsLife, IsTableInLimits, IsUpdatePeriod};
+ghost use Rattle.schema_plan.specs.Lineage.{longest_life, sure_life};
+ghost use Rattle.schema_plan.specs.Names.{same_text};
+ghost use Rattle.schema_plan.specs.Planned.{table_named};
+ghost use Rattle.schema_plan.specs.Ready.{ready_columns};
+ghost use Rattle.schema_plan.specs.Rules.{IsAccepted};
+ghost use Rattle.schema_plan.specs.TableFacts.{cost, facts_at, max_line, reach};
+
+use crate::counts::count;
+use crate::facts::{TableFacts, greatest_line};
+use crate::layout::{Births, Keys, Span};
+use crate::lineage::span_of;
+use crate::memory::Memory;
+use crate::ready::ReadyColumn;
+use crate::ready_columns::ready_tables;
+use crate::word_lists::Dictionaries;
+use dictionaries::Dictionary;
+use fixed_divisors::FixedDivisor;
+use schema_model::{Schema, Sequence, Table};
+use std::alloc::Global;
+use std::marker::Model;
+
+/// An accepted schema with its dictionaries, and what doesn't change from row to row. A contract sees the two.
+///
+/// A table is named by its place in the schema, counted from 0. Lives are in units, sizes in bytes.
+#[derive(Drop)]
+pub struct Plan {
+    schema: Schema,
+    dictionaries: Dictionaries,
+    facts: Vec<TableFacts>,
+    ready: Vec<Sequence<ReadyColumn>>,
+    inserts: Vec<FixedDivisor>,
+    reach: u64,
+}
+
+impl Model for Plan {
+    ghost use Rattle.schema_plan.specs.Dictionaries.{Project, project_of};
+    ghost use Rattle.schema_plan.specs.Planned.{IsPlan};
+
+    ghost Value = { Project };
+
+    ghost view = { λ p. project_of p.schema p.dictionaries };
+
+    ghost invariant = { λ p. IsPlan (project_of p.schema p.dictionaries) p.facts.items p.ready.items p.inserts.items p.reach };
+}
+
+impl Plan {
+    /// The plan of a schema that keeps all rules with its dictionaries, and so is within their limits, by the facts of its tables.
+    pub fn of_accepted(
+        alloc: Global,
+        schema: Schema,
+        dictionaries: Dictionaries,
+        facts: &[TableFacts],
+    ) -> Result<Plan, Memory>
+        requires accepted { IsAccepted (project_of schema dictionaries) }
+        requires limits { IsInLimits (project_of schema dictionaries) }
+        requires facts { facts.now ≡ first_facts (project_of schema dictionaries) }
+        ensures { IfOk result (λ plan. plan ≡ project_of schema dictionaries) }
+    {
+        let reach = greatest_line(facts);
+        let inserts = insert_divisors(alloc, facts)?;
+        let facts = Vec::from_slice(alloc, facts)?;
+        let ready = ready_tables(alloc, &schema, &dictionaries)?;
+        Ok(Plan {
+            schema,
+            dictionaries,
+            facts,
+            ready,
+            inserts,
+            reach,
+        })
+    }
+
+    /// The schema.
+    pub fn schema(&self) -> &Schema
+        ensures value { result.now ≡ self.now.schema }
+        ensures accepted { IsAccepted self.now }
+        ensures limits { IsInLimits self.now }
+    {
+        &self.schema
+    }
+
+    /// The number that all draws begin from.
+    pub fn seed(&self) -> u64
+        ensures { result ≡ (layout_of self.now).seed }
+    {
+        self.schema.seed as u64
+    }
+
+    /// The last unit.
+    pub fn units(&self) -> u64
+        ensures { result ≡ (layout_of self.now).units }
+    {
+        self.schema.units as u64
+    }
+
+    /// The number of tables.
+    pub fn tables(&self) -> u32
+        ensures { result ≡ length self.now.schema.tables }
+    {
+        self.schema.tables.len() as u32
+    }
+
+    /// The table with a name; None exactly where no table has it.
+    pub fn table_named(&self, name: &str) -> Option<u32>
+        ensures { result ≡ table_named self.now.schema name.now }
+    {
+        match place_of(self.schema.tables.as_slice(), name) {
+            Some(place) => Some(place as u32),
+            None => None,
+        }
+    }
+
+    /// The words of the first dictionary with a name that was handed in; None exactly where none has it.
+    pub fn dictionary(&self, name: &str) -> Option<&Dictionary>
+        ensures { option_copied result ≡ dictionary_named self.now.dictionaries name.now }
+    {
+        self.dictionaries.named(name)
+    }
+
+    /// The table at a place, as the schema has it.
+    pub fn table(&self, table: u32) -> &Table
+        requires { table < length self.now.schema.tables }
+        ensures found { slice_get self.now.schema.tables table ≡ Some result.now }
+        ensures layout { table_layout self.now.dictionaries self.now.schema.tables result.now ≡ table_at (layout_of self.now).tables table }
+        ensures limits { IsTableInLimits (layout_of self.now).units (table_at (layout_of self.now).tables table) }
+    {
+        self.schema.tables.get(table as usize)
+    }
+
+    /// The columns of a table, ready for rows.
+    #[inline]
+    pub fn columns(&self, table: u32) -> &[ReadyColumn]
+        requires { table < length self.now.schema.tables }
+        ensures columns { result.now ≡ ready_columns (layout_of self.now) table }
+        ensures limits { IsTableInLimits (layout_of self.now).units (table_at (layout_of self.now).tables table) }
+        ensures units { (layout_of self.now).units ≤ 10000 }
+    {
+        self.ready[table as usize].as_slice()
+    }
+
+    /// How many rows of a table are born at each unit.
+    pub fn births(&self, table: u32) -> Births
+        requires { table < length self.now.schema.tables }
+        ensures { result ≡ (table_at (layout_of self.now).tables table).births }
+    {
+        self.facts_of(table).births
+    }
+
+    /// The number of rows that are born at each unit from 1 on, to divide by; 1 where none are born.
+    #[inline]
+    pub fn insert_divisor(&self, table: u32) -> FixedDivisor
+        requires { table < length self.now.schema.tables }
+        ensures { result ≡ max 1 (table_at (layout_of self.now).tables table).births.insert }
+    {
+        self.inserts[table as usize]
+    }
+
+    /// The keys of a table.
+    pub fn keys(&self, table: u32) -> Keys
+        requires { table < length self.now.schema.tables }
+        ensures { result ≡ (table_at (layout_of self.now).tables table).key }
+    {
+        self.facts_of(table).keys
+    }
+
+    /// For how many units a row of a table lives, by a life of the table's own; None exactly where it has none.
+    pub fn life(&self, table: u32) -> Option<Span>
+        requires { table < length self.now.schema.tables }
+        ensures life { result ≡ (table_at (layout_of self.now).tables table).life }
+        ensures limits { IfSome result IsLife }
+    {
+        match self.table(table).life {
+            Some(life) => Some(span_of(life)),
+            None => None,
+        }
+    }
+
+    /// The number of units from one change of a row of a table to its next; None exactly where its rows never change.
+    pub fn update(&self, table: u32) -> Option<u64>
+        requires { table < length self.now.schema.tables }
+        ensures update { result ≡ (table_at (layout_of self.now).tables table).update }
+        ensures limits { IfSome result IsUpdatePeriod }
+    {
+        match self.table(table).update {
+            Some(units) => Some(count(units)),
+            None => None,
+        }
+    }
+
+    /// For how many units the rows of a table live at least; None exactly where that is unbounded.
+    pub fn sure_life(&self, table: u32) -> Option<u64>
+        requires { table < length self.now.schema.tables }
+        ensures { result ≡ sure_life (layout_of self.now).tables table }
+    {
+        self.facts_of(table).lineage.sure_life
+    }
+
+    /// For how many units the rows of a table live at most; None exactly where that is unbounded.
+    pub fn longest_life(&self, table: u32) -> Option<u64>
+        requires { table < length self.now.schema.tables }
+        ensures { result ≡ longest_life (layout_of self.now).tables table }
+    {
+        self.facts_of(table).lineage.longest_life
+    }
+
+    /// The cost of a row of a table. It bounds the permutations that the report of a row asks: one to find the row by its key,
+    /// and those of its death and of its line.
+    pub fn cost(&self, table: u32) -> u64
+        requires { table < length self.now.schema.tables }
+        ensures { result ≡ cost (layout_of self.now) table }
+    {
+        self.facts_of(table).cost
+    }
+
+    /// The greatest length of a line of a table, in bytes, with its line feed.
+    pub fn max_line(&self, table: u32) -> u64
+        requires { table < length self.now.schema.tables }
+        ensures size { result ≡ max_line (layout_of self.now) table }
+        ensures within_reach { result ≤ reach (layout_of self.now) }
+    {
+        self.facts_of(table).max_line
+    }
+
+    /// The greatest length of a line of any table, in bytes.
+    pub fn reach(&self) -> u64
+        ensures { result ≡ reach (layout_of self.now) }
+    {
+        self.reach
+    }
+
+    fn facts_of(&self, table: u32) -> &TableFacts
+        requires { table < length self.now.schema.tables }
+        ensures facts { result.now ≡ facts_at (layout_of self.now) table }
+        ensures within_reach { result.now.max_line ≤ reach (layout_of self.now) }
+    {
+        &self.facts[table as usize]
+    }
+}
+
+/// For each of some tables, how many of its rows are born at a unit from 1 on, to divide by; 1 where none are born.
+fn insert_divisors(alloc: Global, facts: &[TableFacts]) -> Result<Vec<FixedDivisor>, Memory>
+    ensures { IfOk result (λ divisors. divisors.items ≡ map (λ fact. max 1 fact.births.insert) facts.now) }
+{
+    let mut divisors = Vec::with_capacity(alloc, facts.len())?;
+    for fact in facts {
+        divisors.push(FixedDivisor::new(fact.births.insert.max(1)))?;
+    }
+    Ok(divisors)
+}
+
+/// The place of the first of some tables that has a name.
+fn place_of(tables: &[Table], name: &str) -> Option<usize>
+    ensures { result ≡ position (λ table. same_text table.name name.now) tables.now }
+{
+    tables.iter().position(|table| table.name.as_str() == name)
+}

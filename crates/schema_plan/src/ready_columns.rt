@@ -1,0 +1,184 @@
+//! The columns of tables, made ready for rows.
+
+ghost use Rattle.std.specs.Prelude.{◌≡◌, ◌≤◌, ℕ, List, All, IfOk, length, map, sum};
+ghost use Rattle.std.specs.List.{range_with_len};
+ghost use Rattle.schema_plan.specs.Counts.{count};
+ghost use Rattle.schema_plan.specs.Dictionaries.{Dictionary, project_of};
+ghost use Rattle.schema_plan.specs.Layout.{column_layout, kind_layout, layout_of, leaf_layout, window_layout};
+ghost use Rattle.schema_plan.specs.Limits.{CanBeReady, IsInLimits, IsLeafInLimits};
+ghost use Rattle.schema_plan.specs.Ready.{ready_column, ready_columns, ready_kind, ready_leaf, ready_reference};
+ghost use Rattle.schema_plan.specs.References.{IsSpread};
+
+use crate::counts::count;
+use crate::facts::delimiter_byte;
+use crate::memory::Memory;
+use crate::places::{columns_of, parent_via, place_of_column, place_of_table};
+use crate::ready::{ReadyColumn, ReadyKind, ReadyLeaf, ReadyLookup, ReadyReference};
+use crate::ready_leaves::{counts, ready_leaf};
+use crate::ready_parts::ready_parts;
+use crate::ready_words::Lexicon;
+use crate::word_lists::Dictionaries;
+use fixed_divisors::FixedDivisor;
+use schema_model::{Column, Kind, Leaf, Schema, Sequence, Table, Text, Window};
+use std::alloc::Global;
+use weight_tables::Weights;
+
+/// The columns of each table of a schema within its limits, in order.
+pub(crate) fn ready_tables(
+    alloc: Global,
+    schema: &Schema,
+    dictionaries: &Dictionaries,
+) -> Result<Vec<Sequence<ReadyColumn>>, Memory>
+    requires { IsInLimits (project_of schema.now dictionaries.now) }
+    ensures { IfOk result (λ ready. ready.items
+        ≡ map (ready_columns (layout_of (project_of schema.now dictionaries.now))) (range_with_len 0 (length schema.now.tables))) }
+{
+    let lexicon = Lexicon::new(alloc, delimiter_byte(schema.delimiter), dictionaries)?;
+    let tables = schema.tables.as_slice();
+    let mut ready = Vec::with_capacity(alloc, tables.len())?;
+    for table in tables {
+        let columns = table.columns.as_slice();
+        ready.push(ready_columns(alloc, &lexicon, tables, columns)?)?;
+    }
+    Ok(ready)
+}
+
+/// The columns of one of some tables, in order. What is made ready of them is within its limits.
+fn ready_columns(
+    alloc: Global,
+    lexicon: &Lexicon<'_>,
+    tables: &[Table],
+    columns: &[Column],
+) -> Result<Sequence<ReadyColumn>, Memory>
+    requires tables { length tables.now ≤ 64 }
+    requires columns { All (λ column. CanBeReady lexicon.now.dictionaries column.kind) columns.now }
+    ensures { IfOk result (λ ready. ready
+        ≡ map (λ column. ready_column lexicon.now.delimiter (column_layout lexicon.now.dictionaries tables.now columns.now column)) columns.now) }
+{
+    let mut ready = Sequence::new(alloc);
+    for column in columns {
+        ready.push(ready_column(alloc, lexicon, tables, columns, column)?)?;
+    }
+    Ok(ready)
+}
+
+/// One of some columns. What is made ready of it is within its limits.
+fn ready_column(
+    alloc: Global,
+    lexicon: &Lexicon<'_>,
+    tables: &[Table],
+    columns: &[Column],
+    column: &Column,
+) -> Result<ReadyColumn, Memory>
+    requires tables { length tables.now ≤ 64 }
+    requires kind { CanBeReady lexicon.now.dictionaries column.now.kind }
+    ensures { IfOk result (λ ready. ready ≡ ready_column lexicon.now.delimiter (column_layout lexicon.now.dictionaries tables.now columns.now column.now)) }
+{
+    let kind = ready_kind(alloc, lexicon, tables, columns, &column.kind)?;
+    Ok(ReadyColumn {
+        kind,
+        changes: column.changes,
+        null: count(column.null),
+    })
+}
+
+/// What one of some columns holds. What is made ready of it is within its limits.
+fn ready_kind(
+    alloc: Global,
+    lexicon: &Lexicon<'_>,
+    tables: &[Table],
+    columns: &[Column],
+    kind: &Kind,
+) -> Result<ReadyKind, Memory>
+    requires tables { length tables.now ≤ 64 }
+    requires kind { CanBeReady lexicon.now.dictionaries kind.now }
+    ensures { IfOk result (λ ready. ready ≡ ready_kind lexicon.now.delimiter (kind_layout lexicon.now.dictionaries tables.now columns.now kind.now)) }
+{
+    match kind {
+        Kind::Key { .. } => Ok(ReadyKind::Key),
+        Kind::Born => Ok(ReadyKind::Born),
+        Kind::Changed => Ok(ReadyKind::Changed),
+        Kind::Leaf(leaf) => Ok(ReadyKind::Drawn(ready_leaf(alloc, lexicon, leaf)?)),
+        Kind::Template { parts } => {
+            let parts = ready_parts(alloc, lexicon.delimiter(), columns, parts.as_slice())?;
+            Ok(ReadyKind::Template { parts })
+        }
+        Kind::Case { on, branches } => {
+            let on = place_of_column(columns, on) as u64;
+            let branches = ready_branches(alloc, lexicon, branches.as_slice())?;
+            Ok(ReadyKind::Case { on, branches })
+        }
+        Kind::Ref {
+            table,
+            window,
+            spread,
+        } => {
+            let parent = place_of_table(tables, table) as u32;
+            let reference = ready_reference(alloc, parent, *window, spread.as_slice())?;
+            Ok(ReadyKind::Reference(reference))
+        }
+        Kind::Lookup { via, column } => {
+            Ok(ReadyKind::Lookup(ready_lookup(tables, columns, via, column)))
+        }
+    }
+}
+
+/// A reference to the table at a place.
+fn ready_reference(
+    alloc: Global,
+    parent: u32,
+    window: Window,
+    spread: &[i64],
+) -> Result<ReadyReference, Memory>
+    requires { IsSpread (map count spread.now) }
+    ensures { IfOk result (λ ready. ready ≡ ready_reference parent (window_layout window) (map count spread.now)) }
+{
+    let weights = Weights::new(alloc, &counts(alloc, spread)?)?;
+    let total = FixedDivisor::new(weights.total());
+    Ok(ReadyReference {
+        parent,
+        window: units_of(window),
+        spread: weights,
+        groups: spread.len() as u64,
+        total,
+    })
+}
+
+/// A lookup of one of some columns: by the reference with a name, of the parent's column with another.
+fn ready_lookup(tables: &[Table], columns: &[Column], via: &Text, column: &Text) -> ReadyLookup
+    requires { length tables.now ≤ 64 }
+    ensures { (delimiter : ℕ) (dictionaries : List Dictionary) → ReadyKind.Lookup result ≡ ready_kind delimiter (kind_layout dictionaries tables.now columns.now (Kind.Lookup via.now column.now)) }
+{
+    let parent = parent_via(tables, columns, via);
+    ReadyLookup {
+        via: place_of_column(columns, via) as u64,
+        parent: parent as u32,
+        column: place_of_column(columns_of(tables, parent), column) as u64,
+    }
+}
+
+/// By how many units a parent may be older; None where by any.
+fn units_of(window: Window) -> Option<u64>
+    ensures { result ≡ window_layout window }
+{
+    match window {
+        Window::Units(units) => Some(count(units)),
+        Window::All => None,
+    }
+}
+
+/// The branches of a case, in order, each within its limits.
+fn ready_branches(
+    alloc: Global,
+    lexicon: &Lexicon<'_>,
+    branches: &[Leaf],
+) -> Result<Sequence<ReadyLeaf>, Memory>
+    requires { All (λ leaf. IsLeafInLimits (leaf_layout lexicon.now.dictionaries leaf)) branches.now }
+    ensures { IfOk result (λ ready. ready ≡ map (λ leaf. ready_leaf lexicon.now.delimiter (leaf_layout lexicon.now.dictionaries leaf)) branches.now) }
+{
+    let mut ready = Sequence::new(alloc);
+    for branch in branches {
+        ready.push(ready_leaf(alloc, lexicon, branch)?)?;
+    }
+    Ok(ready)
+}

@@ -1,0 +1,67 @@
+//! The parts of templates, made ready for rows.
+
+ghost use Rattle.std.specs.Prelude.{◌≡◌, IfOk, map};
+ghost use Rattle.row_text.specs.Fields.{piece_text};
+ghost use Rattle.schema_plan.specs.Layout.{part_layout};
+ghost use Rattle.schema_plan.specs.Ready.{ready_part};
+
+use crate::memory::Memory;
+use crate::places::place_of_column;
+use crate::ready::ReadyPart;
+use row_text::WrittenTexts;
+use schema_model::{Column, Part, Sequence};
+use std::alloc::Global;
+
+/// The parts of a template of a table with these columns, in order.
+pub(crate) fn ready_parts(
+    alloc: Global,
+    delimiter: u8,
+    columns: &[Column],
+    parts: &[Part],
+) -> Result<Sequence<ReadyPart>, Memory>
+    ensures { IfOk result (λ ready. ready ≡ map (λ part. ready_part delimiter (part_layout columns.now part)) parts.now) }
+{
+    let mut ready = Sequence::new(alloc);
+    for part in parts {
+        ready.push(ready_part(alloc, delimiter, columns, part)?)?;
+    }
+    Ok(ready)
+}
+
+fn ready_part(
+    alloc: Global,
+    delimiter: u8,
+    columns: &[Column],
+    part: &Part,
+) -> Result<ReadyPart, Memory>
+    ensures { IfOk result (λ ready. ready ≡ ready_part delimiter (part_layout columns.now part.now)) }
+{
+    match part {
+        Part::Literal(text) => Ok(ReadyPart::Literal(written_text(
+            alloc,
+            delimiter,
+            text.as_str().as_bytes(),
+        )?)),
+        Part::Cited(name) => Ok(ReadyPart::Cited(place_of_column(columns, name) as u64)),
+    }
+}
+
+/// A text as it is written.
+fn written_text(alloc: Global, delimiter: u8, text: &[u8]) -> Result<Sequence<u8>, Memory>
+    ensures { IfOk result (λ written. written ≡ piece_text delimiter text.now) }
+{
+    let mut texts = WrittenTexts::new(alloc);
+    texts.push(text, delimiter)?;
+    kept_bytes(alloc, texts.get(0))
+}
+
+/// These bytes.
+fn kept_bytes(alloc: Global, bytes: &[u8]) -> Result<Sequence<u8>, Memory>
+    ensures { IfOk result (λ kept. kept ≡ bytes.now) }
+{
+    let mut kept = Sequence::new(alloc);
+    for byte in bytes {
+        kept.push(*byte)?;
+    }
+    Ok(kept)
+}

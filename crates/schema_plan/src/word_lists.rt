@@ -1,0 +1,214 @@
+//! Dictionaries: word lists with names.
+
+ghost use Rattle.std.specs.Prelude.{◌≡◌, length};
+ghost use Rattle.schema_plan.specs.FieldBounds.{entry_size};
+
+use crate::field_bounds::written_size;
+use crate::memory::Memory;
+use dictionaries::Dictionary;
+use schema_model::Text;
+use std::alloc::Global;
+use std::marker::Model;
+use std::sync::Arc;
+
+/// A word list with its name, and the sizes of its greatest entry as it is written.
+#[derive(Drop)]
+pub(crate) struct NamedWords {
+    name: Text,
+    words: Arc<Dictionary, Global>,
+    /// Between tabs, in bytes.
+    between_tabs: u64,
+    /// Between bars, in bytes.
+    between_bars: u64,
+}
+
+impl Model for NamedWords {
+    ghost use Rattle.std.specs.Prelude.{◌≡◌};
+    ghost use Rattle.std.specs.Arc.{arc_value};
+    ghost use Rattle.schema_plan.specs.Dictionaries.{Dictionary};
+    ghost use Rattle.schema_plan.specs.FieldBounds.{entry_size};
+
+    ghost Value = { Dictionary };
+
+    ghost view = { λ n. record { name = n.name; words = arc_value n.words } };
+
+    ghost invariant = { λ n. (n.between_tabs ≡ entry_size 9 (arc_value n.words)) × (n.between_bars ≡ entry_size 124 (arc_value n.words)) };
+}
+
+impl NamedWords {
+    ghost use Rattle.std.specs.Prelude.{◌≡◌, IfOk};
+    ghost use Rattle.schema_plan.specs.FieldBounds.{entry_size};
+
+    /// A word list with this name.
+    fn new(alloc: Global, name: &str, words: Dictionary) -> Result<NamedWords, Memory>
+        ensures { IfOk result (λ named. named ≡ record { name = name.now; words = words }) }
+    {
+        let between_tabs = greatest_entry(b'\t', &words);
+        let between_bars = greatest_entry(b'|', &words);
+        let name = Text::of(alloc, name)?;
+        let words = Arc::new(alloc, words)?;
+        Ok(NamedWords {
+            name,
+            words,
+            between_tabs,
+            between_bars,
+        })
+    }
+
+    /// The word list.
+    pub(crate) fn words(&self) -> &Dictionary
+        ensures { result.now ≡ self.now.words }
+    {
+        &self.words
+    }
+
+    /// The same word list once more.
+    pub(crate) fn shared(&self) -> Result<Arc<Dictionary, Global>, Memory>
+        ensures { IfOk result (λ words. words.value ≡ self.now.words) }
+    {
+        Ok(Arc::try_clone(&self.words)?)
+    }
+
+    /// The size of the greatest entry as it is written, in bytes.
+    fn entry_size(&self, delimiter: u8) -> u64
+        ensures { result ≡ entry_size delimiter self.now.words }
+    {
+        match delimiter {
+            b'\t' => self.between_tabs,
+            b'|' => self.between_bars,
+            _ => greatest_entry(delimiter, &self.words),
+        }
+    }
+}
+
+/// The size of the greatest entry as it is written, in bytes.
+fn greatest_entry(delimiter: u8, words: &Dictionary) -> u64
+    ensures { result ≡ entry_size delimiter words.now }
+{
+    let mut most = 0;
+    for i in 0..words.len() {
+        most = most.max(written_size(delimiter, words.entry(i).as_bytes()));
+    }
+    most
+}
+
+/// Dictionaries in order. A contract sees the list of their names with their words.
+#[derive(Drop)]
+pub struct Dictionaries {
+    alloc: Global,
+    items: Vec<NamedWords>,
+}
+
+impl Model for Dictionaries {
+    ghost use Rattle.std.specs.Prelude.{List};
+    ghost use Rattle.schema_plan.specs.Dictionaries.{AreWordLists, Dictionary};
+
+    ghost Value = { List Dictionary };
+
+    ghost view = { λ d. d.items.items };
+
+    ghost invariant = { λ d. AreWordLists d.items.items };
+}
+
+impl Dictionaries {
+    ghost use Rattle.std.specs.Prelude.{◌≡◌, ◌==◌, [], ◌∷◌, ◌++◌, OnErr, OnOk, find, is_some, length};
+    ghost use Rattle.std.specs.List.{position, position_or_len};
+    ghost use Rattle.std.specs.Option.{option_copied};
+    ghost use Rattle.schema_plan.specs.Dictionaries.{AreWordLists, dictionary_named, words_named};
+    ghost use Rattle.schema_plan.specs.FieldBounds.{entry_size};
+    ghost use Rattle.schema_plan.specs.Names.{same_text};
+
+    /// No dictionary, which takes no memory.
+    pub fn new(alloc: Global) -> Dictionaries
+        ensures { result ≡ [] }
+    {
+        Dictionaries {
+            alloc,
+            items: Vec::new(alloc),
+        }
+    }
+
+    /// Puts a dictionary with its name behind the others. At `Memory` the others stay as they were, and the dictionary is
+    /// dropped.
+    pub fn push(&mut self, name: &str, dictionary: Dictionary) -> Result<(), Memory>
+        ensures appended { OnOk result (self.new ≡ self.old ++ record { name = name.now; words = dictionary } ∷ []) }
+        ensures unchanged { OnErr result (self.new ≡ self.old) }
+    {
+        let _limits = dictionary.len(); // it is a word list
+        let named = NamedWords::new(self.alloc, name, dictionary)?;
+        self.items.push(named)?;
+        Ok(())
+    }
+
+    /// The number of dictionaries.
+    pub fn len(&self) -> usize
+        ensures count { result ≡ length self.now }
+        ensures lists { AreWordLists self.now }
+    {
+        self.items.len()
+    }
+
+    /// Whether there is no dictionary.
+    pub fn is_empty(&self) -> bool
+        ensures { result ≡ (length self.now == 0) }
+    {
+        self.items.is_empty()
+    }
+
+    /// The words of the first dictionary with a name; None exactly where none has it.
+    pub fn named(&self, name: &str) -> Option<&Dictionary>
+        ensures { option_copied result ≡ dictionary_named self.now name.now }
+    {
+        match self.find(name) {
+            Some(named) => Some(named.words()),
+            None => None,
+        }
+    }
+
+    /// Whether one has a name.
+    pub fn has(&self, name: &str) -> bool
+        ensures { result ≡ is_some (dictionary_named self.now name.now) }
+    {
+        self.named(name).is_some()
+    }
+
+    /// The first dictionary with a name.
+    fn find(&self, name: &str) -> Option<&NamedWords>
+        ensures { option_copied result ≡ find (λ named. same_text named.name name.now) self.now }
+    {
+        self.items.iter().find(|named| named.name.as_str() == name)
+    }
+
+    /// The place of the first dictionary with a name, counted from 0; that past the last one where none has it.
+    pub(crate) fn place_of(&self, name: &str) -> usize
+        ensures { result ≡ position_or_len (λ named. same_text named.name name.now) self.now }
+    {
+        self.position(name).unwrap_or(self.len())
+    }
+
+    /// The place of the first dictionary with a name.
+    fn position(&self, name: &str) -> Option<usize>
+        ensures { result ≡ position (λ named. same_text named.name name.now) self.now }
+    {
+        self.items
+            .iter()
+            .position(|named| named.name.as_str() == name)
+    }
+
+    /// The size of the greatest entry of a named dictionary as it is written, in bytes; 0 where none has the name.
+    pub(crate) fn entry_size(&self, delimiter: u8, name: &str) -> u64
+        ensures { result ≡ entry_size delimiter (words_named self.now name.now) }
+    {
+        match self.find(name) {
+            Some(named) => named.entry_size(delimiter),
+            None => 0,
+        }
+    }
+
+    /// The dictionaries, in order.
+    pub(crate) fn as_slice(&self) -> &[NamedWords]
+        ensures { result.now ≡ self.now }
+    {
+        self.items.as_slice()
+    }
+}
