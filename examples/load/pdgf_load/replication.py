@@ -80,7 +80,7 @@ def replicate(words):
         raise Words
     path = request.schema_path()
     program = Program(path)
-    program.call("check")
+    program.check()
     schema = read_schema(path)
     with room() as first, room() as second, served(first, "wal_level = logical\n") as there, served(second) as here:
         source, target = Postgres(schema, first, there), Postgres(schema, second, here)

@@ -69,8 +69,8 @@ class Program:
     """The program pdgf, with a schema, in its folder."""
 
     def __init__(self, path):
-        top = os.path.dirname(os.path.dirname(os.path.dirname(os.path.dirname(os.path.realpath(__file__)))))
-        named = os.environ.get("PDGF") or f"{top}/pdgf"
+        self.top = os.path.dirname(os.path.dirname(os.path.dirname(os.path.dirname(os.path.realpath(__file__)))))
+        named = os.environ.get("PDGF") or f"{self.top}/pdgf"
         found = shutil.which(named)
         if found is None:
             raise Failed(f"there is no program {named}")
@@ -81,6 +81,13 @@ class Program:
         ran = subprocess.run([self.program, mode, self.name, *options], cwd=self.folder, stdin=subprocess.DEVNULL, stdout=subprocess.DEVNULL)
         if ran.returncode != 0:
             raise Failed(f"pdgf {mode} {self.name} {' '.join(options)}: status {ran.returncode}")
+
+    def check(self):
+        """Tries the schema. The repository's script has built the program then, and isn't asked again whether it has."""
+        self.call("check")
+        built = f"{self.top}/crates/pdgf_main/out/pdgf_main"
+        if self.program == f"{self.top}/pdgf" and os.access(built, os.X_OK):
+            self.program = built
 
     def texts(self, mode, unit, folder):
         """The folder, emptied, with what the mode writes at a unit."""
@@ -150,7 +157,7 @@ def load(words, kind):
     request = Request(words)
     path = request.schema_path()
     program = Program(path)
-    program.call("check")
+    program.check()
     schema = read_schema(path)
     with room() as folder, kind.opened(schema, folder, path) as database:
         try:
