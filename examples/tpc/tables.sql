@@ -1,71 +1,84 @@
--- The tables of tpc.toml. A line shows the part and the supplier of its offer: its last foreign key takes all three from one row.
-CREATE TABLE region (
-    id bigint PRIMARY KEY,
-    name text NOT NULL
+-- The tables of tpc.toml for PostgreSQL, as `examples/load/ddl examples/tpc/tpc.toml` makes them.
+CREATE TABLE "region" (
+    "id" bigint PRIMARY KEY,
+    "name" text NOT NULL
 );
 
-CREATE TABLE nation (
-    id bigint PRIMARY KEY,
-    name text NOT NULL,
-    region bigint NOT NULL REFERENCES region
+CREATE TABLE "nation" (
+    "id" bigint PRIMARY KEY,
+    "name" text NOT NULL,
+    "region" bigint NOT NULL,
+    FOREIGN KEY ("region") REFERENCES "region" ("id") ON DELETE CASCADE
+);
+CREATE INDEX ON "nation" ("region");
+
+CREATE TABLE "supplier" (
+    "id" bigint PRIMARY KEY,
+    "name" text NOT NULL,
+    "nation" bigint NOT NULL,
+    "balance" numeric(6, 2) NOT NULL,
+    FOREIGN KEY ("nation") REFERENCES "nation" ("id") ON DELETE CASCADE
+);
+CREATE INDEX ON "supplier" ("nation");
+
+CREATE TABLE "part" (
+    "id" bigint PRIMARY KEY,
+    "name" text NOT NULL,
+    "maker" bigint NOT NULL,
+    "sort" text NOT NULL,
+    "measure" text NOT NULL
 );
 
-CREATE TABLE supplier (
-    id bigint PRIMARY KEY,
-    name text NOT NULL,
-    nation bigint NOT NULL REFERENCES nation,
-    balance numeric(8, 2) NOT NULL
+CREATE TABLE "partsupp" (
+    "id" bigint PRIMARY KEY,
+    "part" bigint NOT NULL,
+    "supplier" bigint NOT NULL,
+    "cost" numeric(5, 2) NOT NULL,
+    "stock" bigint NOT NULL,
+    UNIQUE ("id", "part", "supplier"),
+    FOREIGN KEY ("part") REFERENCES "part" ("id") ON DELETE CASCADE,
+    FOREIGN KEY ("supplier") REFERENCES "supplier" ("id") ON DELETE CASCADE
 );
+CREATE INDEX ON "partsupp" ("part");
+CREATE INDEX ON "partsupp" ("supplier");
 
-CREATE TABLE part (
-    id bigint PRIMARY KEY,
-    name text NOT NULL,
-    maker integer NOT NULL,
-    sort text NOT NULL,
-    measure text NOT NULL
+CREATE TABLE "customer" (
+    "id" bigint PRIMARY KEY,
+    "name" text NOT NULL,
+    "nation" bigint NOT NULL,
+    "phone" text,
+    "branch" text NOT NULL,
+    "balance" numeric(6, 2) NOT NULL,
+    FOREIGN KEY ("nation") REFERENCES "nation" ("id") ON DELETE CASCADE
 );
+CREATE INDEX ON "customer" ("nation");
 
-CREATE TABLE partsupp (
-    id bigint PRIMARY KEY,
-    part bigint NOT NULL REFERENCES part,
-    supplier bigint NOT NULL REFERENCES supplier,
-    cost numeric(7, 2) NOT NULL,
-    stock integer NOT NULL,
-    UNIQUE (id, part, supplier)
+CREATE TABLE "orders" (
+    "id" bigint PRIMARY KEY,
+    "customer" bigint NOT NULL,
+    "state" text NOT NULL,
+    "placed" date NOT NULL,
+    "urgency" bigint NOT NULL,
+    "remark" text,
+    FOREIGN KEY ("customer") REFERENCES "customer" ("id") ON DELETE CASCADE
 );
+CREATE INDEX ON "orders" ("customer");
 
-CREATE TABLE customer (
-    id bigint PRIMARY KEY,
-    name text NOT NULL,
-    nation bigint NOT NULL REFERENCES nation,
-    phone text,
-    branch text NOT NULL,
-    balance numeric(8, 2) NOT NULL
+CREATE TABLE "lineitem" (
+    "id" bigint PRIMARY KEY,
+    "order_id" bigint NOT NULL,
+    "offer" bigint NOT NULL,
+    "part" bigint NOT NULL,
+    "supplier" bigint NOT NULL,
+    "quantity" bigint NOT NULL,
+    "price" numeric(6, 2) NOT NULL,
+    "discount" numeric(3, 2) NOT NULL,
+    "sent" date,
+    "way" text NOT NULL,
+    "remark" text NOT NULL,
+    FOREIGN KEY ("order_id") REFERENCES "orders" ("id") ON DELETE CASCADE,
+    FOREIGN KEY ("offer") REFERENCES "partsupp" ("id") ON DELETE CASCADE,
+    FOREIGN KEY ("offer", "part", "supplier") REFERENCES "partsupp" ("id", "part", "supplier") ON DELETE CASCADE
 );
-
-CREATE TABLE orders (
-    id bigint PRIMARY KEY,
-    customer bigint NOT NULL REFERENCES customer,
-    state text NOT NULL,
-    placed date NOT NULL,
-    urgency integer NOT NULL,
-    remark text
-);
-CREATE INDEX ON orders (customer);
-
-CREATE TABLE lineitem (
-    id bigint PRIMARY KEY,
-    order_id bigint NOT NULL REFERENCES orders,
-    offer bigint NOT NULL,
-    part bigint NOT NULL REFERENCES part,
-    supplier bigint NOT NULL REFERENCES supplier,
-    quantity integer NOT NULL,
-    price numeric(7, 2) NOT NULL,
-    discount numeric(3, 2) NOT NULL,
-    sent date,
-    way text NOT NULL,
-    remark text NOT NULL,
-    FOREIGN KEY (offer, part, supplier) REFERENCES partsupp (id, part, supplier)
-);
-CREATE INDEX ON lineitem (order_id);
-CREATE INDEX ON lineitem (offer);
+CREATE INDEX ON "lineitem" ("order_id");
+CREATE INDEX ON "lineitem" ("offer");

@@ -1,0 +1,178 @@
+"""The tables of a schema, as databases and pictures need them. The schema's text is read and not judged: `pdgf check` does that."""
+
+import dataclasses
+import functools
+import tomllib
+
+
+class Unreadable(Exception):
+    """The text is no schema that `pdgf check` accepts."""
+
+
+@dataclasses.dataclass(frozen=True)
+class Type:
+    """What fields hold: `form` is `whole`, `fixed`, `date` or `text`."""
+
+    form: str
+    digits: int  # of the greatest number of the forms `whole` and `fixed`
+    decimals: int  # of those, how many stand after the point
+    size: int  # the most bytes of a field, in UTF-8 and without escapes
+
+
+@dataclasses.dataclass(frozen=True)
+class Column:
+    name: str
+    type: Type
+    may_be_null: bool
+
+
+@dataclasses.dataclass(frozen=True)
+class Reference:
+    column: str
+    parent: str
+    on_delete: str  # CASCADE or SET NULL
+    lookups: tuple  # pairs: the column that shows, and the column of the parent that is shown
+
+
+@dataclasses.dataclass(frozen=True)
+class Table:
+    name: str
+    columns: tuple
+    references: tuple
+
+    @property
+    def key(self):
+        return self.columns[0].name
+
+    def column(self, name):
+        return next(it for it in self.columns if it.name == name)
+
+
+@dataclasses.dataclass(frozen=True)
+class Schema:
+    units: int
+    delimiter: str
+    tables: tuple
+    word_lists: tuple  # the names of their files
+
+    def table(self, name):
+        return next(it for it in self.tables if it.name == name)
+
+
+def read_schema(path):
+    """The schema of a file."""
+    try:
+        with open(path, "rb") as file:
+            text = tomllib.load(file)
+    except (tomllib.TOMLDecodeError, UnicodeDecodeError) as error:
+        raise Unreadable(f"{path} is no TOML 1.0, which this is read as: {error}") from None
+    except OSError as error:
+        raise Unreadable(f"{path} can't be read: {error.strerror}") from None
+    try:
+        tables = []
+        for table in text["table"]:
+            tables.append(read_table(table, tables))
+        delimiter = {"tab": "\t", "bar": "|"}[text.get("delimiter", "tab")]
+        return Schema(text["units"], delimiter, tuple(tables), word_lists_of(text))
+    except (KeyError, TypeError, ValueError, IndexError, AttributeError, StopIteration) as error:
+        raise Unreadable(f"{path} is no schema, as `pdgf check` will tell: {error!r}") from None
+
+
+def word_lists_of(text):
+    names = {}
+    for table in text["table"]:
+        for column in table["column"]:
+            for leaf in [column, *column.get("branches", [])]:
+                if leaf["kind"] in ("dict", "words"):
+                    names[leaf["file"]] = None
+    return tuple(names)
+
+
+def read_table(table, earlier):
+    columns = []
+    for column in table["column"]:
+        columns.append(read_column(column, table, columns, earlier))
+    references = [reference_of(it, table) for it in table["column"] if it["kind"] == "ref"]
+    return Table(table["name"], tuple(columns), tuple(references))
+
+
+def reference_of(column, table):
+    lookups = [it for it in table["column"] if it["kind"] == "lookup" and it["via"] == column["name"]]
+    on_delete = "SET NULL" if column.get("on_delete") == "null" else "CASCADE"
+    return Reference(column["name"], column["table"], on_delete, tuple((it["name"], it["column"]) for it in lookups))
+
+
+def read_column(column, table, before, earlier):
+    named = {it.name: it for it in before}
+    may_be_null = column.get("null", 0) > 0
+    match column["kind"]:
+        case "template":
+            type_ = text_of(sum(size_of_part(part, named) for part in column["parts"]))
+        case "case":
+            type_ = functools.reduce(common_type, [type_of(branch) for branch in column["branches"]])
+            may_be_null = may_be_null or named[column["on"]].may_be_null
+        case "lookup":
+            via = next(it for it in table["column"] if it["name"] == column["via"])
+            shown = next(it for it in earlier if it.name == via["table"]).column(column["column"])
+            type_ = shown.type
+            may_be_null = may_be_null or shown.may_be_null or via.get("on_delete") == "null"
+        case "ref":
+            type_ = whole_of(0, 2**63)
+            may_be_null = may_be_null or column.get("on_delete") == "null"
+        case _:
+            type_ = type_of(column)
+    return Column(column["name"], type_, may_be_null)
+
+
+def size_of_part(part, named):
+    return len(part.encode()) if isinstance(part, str) else named[part["column"]].type.size
+
+
+def type_of(leaf):
+    """The type of a kind that needs no other column."""
+    match leaf["kind"]:
+        case "key" | "born" | "changed":
+            return whole_of(0, 2**63)
+        case "int":
+            return whole_of(leaf["lo"], leaf["hi"])
+        case "skew":
+            return whole_of(leaf["lo"], leaf["lo"] + leaf["size"] - 1)
+        case "fixed":
+            digits = max(digits_of(leaf["lo"], leaf["hi"]), leaf["decimals"] + 1)
+            return Type("fixed", digits, leaf["decimals"], 21)
+        case "date":
+            return Type("date", 0, 0, 10)
+        case "pick":
+            return text_of(max(len(it.encode()) for it in leaf["entries"]))
+        case "chars":
+            return text_of(leaf["hi"] * max(len(it.encode()) for it in leaf["alphabet"]))
+        case "dict":
+            return text_of(255)
+        case "words":
+            return text_of(leaf["hi"] * 256)
+        case kind:
+            raise ValueError(f"kind {kind}")
+
+
+def whole_of(low, high):
+    return Type("whole", digits_of(low, high), 0, 20)
+
+
+def text_of(size):
+    return Type("text", 0, 0, max(size, 1))
+
+
+def digits_of(low, high):
+    return max(len(str(abs(low))), len(str(abs(high))))
+
+
+def common_type(left, right):
+    """A type that holds what either holds."""
+    size = max(left.size, right.size)
+    if left.form == right.form == "date":
+        return left
+    if {left.form, right.form} <= {"whole", "fixed"}:
+        decimals = max(left.decimals, right.decimals)
+        digits = max(left.digits - left.decimals, right.digits - right.decimals) + decimals
+        return Type("fixed" if "fixed" in (left.form, right.form) else "whole", digits, decimals, size)
+    return text_of(size)
