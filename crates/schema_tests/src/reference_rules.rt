@@ -30,7 +30,8 @@ fn try_numbers(rt: &impl Abort, alloc: Global, cases: &[(usize, Told)]) {
     let end = "',kind='ref',table='p',window='all'},";
     for (count, told) in cases {
         let references = numbered(rt, alloc, "{name='r", *count, end);
-        try_text(rt, alloc, &[front, references.as_str(), "]}]"], *told);
+        let pieces = [front, references.as_str(), "]}]"];
+        try_text(rt, alloc, &pieces, *told);
     }
 }
 
