@@ -16,6 +16,3 @@ mod read;
 pub use dictionary::Dictionary;
 pub use fault::DictFault;
 pub use read::read_dictionary;
-
-#[cfg(test)]
-mod tests;

@@ -15,6 +15,3 @@ pub use memory::Memory;
 pub use sequence::{Columns, Leaves, Longs, Parts, Sequence, Tables, Texts};
 pub use table::{Delimiter, Life, Schema, Table};
 pub use text::Text;
-
-#[cfg(test)]
-mod tests;

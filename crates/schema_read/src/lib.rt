@@ -18,6 +18,3 @@ mod types;
 pub use fault::{Expected, Place};
 pub use read::{ReadSchemaFault, read_schema};
 pub use schema_key::SchemaKey;
-
-#[cfg(test)]
-mod tests;

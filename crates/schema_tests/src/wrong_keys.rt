@@ -1,9 +1,9 @@
 //! Texts that have a wrong key, each behind its first one. What is expected follows from the table of keys: a key of
 //! another type, a required key that is missing, and a further key, each once at each place and kind.
 
-use crate::{ReadSchemaFault, read_schema};
-use std::alloc::{AllocError, Global};
-use std::test::Fail;
+use schema_read::{ReadSchemaFault, read_schema};
+use std::alloc::Global;
+use std::process::Abort;
 
 // A whole text whose top has one wrong key.
 const TOP_FAULTS: [&str; 8] = [
@@ -137,133 +137,171 @@ const BRANCH_FAULTS: [&str; 20] = [
 ];
 
 // A whole text, and where its first wrong key is: the places go depth first, each with its further keys.
-const ORDER: [&str; 10] = [
-    "0 0 0 Units Whole: seed=1",
-    "0 0 0 Other NoSuchKey: seed=1\nunits=1\nzz=1\ntable=[{}]",
-    "1 0 0 Other NoSuchKey: seed=1\nunits=1\ntable=[{name='t',rows=1,column=[{}],zz=1}]",
-    "1 2 0 Name TextValue: seed=1\nunits=1\ntable=[{name='t',rows=1,column=[{name='a',kind='born'},{kind='born'}]},{}]",
-    "2 0 0 Rows Whole: seed=1\nunits=1\ntable=[{name='t',rows=1,column=[]},{name='u',rows='1'}]",
-    "1 1 0 Other NoSuchKey: seed=1\nunits=1\ntable=[{name='t',rows=1,column=[{name='c',kind='case',on='x',branches=[{}],zz=1}]}]",
-    "1 1 2 File TextValue: seed=1\nunits=1\ntable=[{name='t',rows=1,column=[{name='c',kind='case',on='x',branches=[{kind='dict',file='f'},{kind='dict'}]},{}]}]",
-    "1 0 0 Life TwoWholes: seed=1\nunits=1\ntable=[{name='t',rows=1,life=[],column=[]}]",
-    "1 0 0 Life TwoWholes: seed=1\nunits=1\ntable=[{name='t',rows=1,life=[1],column=[]}]",
-    "1 0 0 Life TwoWholes: seed=1\nunits=1\ntable=[{name='t',rows=1,life=[1,2.0],column=[]}]",
+const ORDER: [((u64, u64, u64), &str); 10] = [
+    ((0, 0, 0), "Units Whole: seed=1"),
+    (
+        (0, 0, 0),
+        "Other NoSuchKey: seed=1\nunits=1\nzz=1\ntable=[{}]",
+    ),
+    (
+        (1, 0, 0),
+        "Other NoSuchKey: seed=1\nunits=1\ntable=[{name='t',rows=1,column=[{}],zz=1}]",
+    ),
+    (
+        (1, 2, 0),
+        "Name TextValue: seed=1\nunits=1\ntable=[{name='t',rows=1,column=[{name='a',kind='born'},{kind='born'}]},{}]",
+    ),
+    (
+        (2, 0, 0),
+        "Rows Whole: seed=1\nunits=1\ntable=[{name='t',rows=1,column=[]},{name='u',rows='1'}]",
+    ),
+    (
+        (1, 1, 0),
+        "Other NoSuchKey: seed=1\nunits=1\ntable=[{name='t',rows=1,column=[{name='c',kind='case',on='x',branches=[{}],zz=1}]}]",
+    ),
+    (
+        (1, 1, 2),
+        "File TextValue: seed=1\nunits=1\ntable=[{name='t',rows=1,column=[{name='c',kind='case',on='x',branches=[{kind='dict',file='f'},{kind='dict'}]},{}]}]",
+    ),
+    (
+        (1, 0, 0),
+        "Life TwoWholes: seed=1\nunits=1\ntable=[{name='t',rows=1,life=[],column=[]}]",
+    ),
+    (
+        (1, 0, 0),
+        "Life TwoWholes: seed=1\nunits=1\ntable=[{name='t',rows=1,life=[1],column=[]}]",
+    ),
+    (
+        (1, 0, 0),
+        "Life TwoWholes: seed=1\nunits=1\ntable=[{name='t',rows=1,life=[1,2.0],column=[]}]",
+    ),
 ];
 
 // What is no date: none of these days is in the calendar, or the text isn't ten bytes YYYY-MM-DD.
 const NO_DATES: [&str; 12] = [
-    "'0000-01-01'",
-    "'2023-00-10'",
-    "'2023-13-01'",
-    "'2023-04-31'",
-    "'2023-01-00'",
-    "'1900-02-29'",
-    "'2023-1-001'",
-    "'2023-01-1'",
-    "'12023-01-1'",
-    "'2023/01/01'",
-    "'+023-01-01'",
-    "2023-01-01",
+    "Lo DateText: '0000-01-01'",
+    "Lo DateText: '2023-00-10'",
+    "Lo DateText: '2023-13-01'",
+    "Lo DateText: '2023-04-31'",
+    "Lo DateText: '2023-01-00'",
+    "Lo DateText: '1900-02-29'",
+    "Lo DateText: '2023-1-001'",
+    "Lo DateText: '2023-01-1'",
+    "Lo DateText: '12023-01-1'",
+    "Lo DateText: '2023/01/01'",
+    "Lo DateText: '+023-01-01'",
+    "Lo DateText: 2023-01-01",
 ];
 
 // What is no window, and no list of parts.
-const NO_WINDOWS: [&str; 4] = ["true", "1.5", "'ALL'", "[1]"];
+const NO_WINDOWS: [&str; 4] = [
+    "Window WindowValue: true",
+    "Window WindowValue: 1.5",
+    "Window WindowValue: 'ALL'",
+    "Window WindowValue: [1]",
+];
 
-const NO_PARTS: [&str; 4] = ["[1]", "[{}]", "[{column=1}]", "'a'"];
+const NO_PARTS: [&str; 4] = [
+    "Parts PartList: [1]",
+    "Parts PartList: [{}]",
+    "Parts PartList: [{column=1}]",
+    "Parts PartList: 'a'",
+];
 
-/// The first wrong key of a text: its place, the key and the type that it wants.
-fn told(alloc: Global, text: &str) -> Result<String, AllocError> {
-    match read_schema(alloc, text.as_bytes()) {
-        Ok(_) => String::from_str(alloc, "read"),
-        Err(ReadSchemaFault::Syntax) => String::from_str(alloc, "no document"),
-        Err(ReadSchemaFault::Memory) => String::from_str(alloc, "no memory"),
-        Err(
+/// Tries a row: the first wrong key of its text, between a front and an end, is at a table, a column and a branch. Before the colon are
+/// the key and what it wants.
+fn try_row(
+    rt: &impl Abort,
+    alloc: Global,
+    place: (u64, u64, u64),
+    front: &str,
+    row: &str,
+    end: &str,
+) {
+    let (wrong, inner) = row.split_once(": ").expect(rt, "no colon");
+    let text = format!(in alloc; "{front}{inner}{end}").expect(rt, "memory");
+    match read_schema(alloc, text.as_str().as_bytes()).err() {
+        Some(
             ReadSchemaFault::Shape {
-                place,
+                place: told,
                 key,
                 expected,
             },
         ) => {
-            let (table, column, branch) = (place.table, place.column, place.branch);
-            format!(in alloc; "{table} {column} {branch} {key:?} {expected:?}")
+            assert!(rt; (told.table, told.column, told.branch) == place, "{row}");
+            let told = format!(in alloc; "{key:?} {expected:?}").expect(rt, "memory");
+            assert!(rt; told.as_str() == wrong, "{row}");
         }
+        _ => panic!(rt; "no wrong key: {row}"),
     }
 }
 
-/// Tries each row of a table, whose text stands between a front and an end.
+/// The same for each of some rows.
 fn try_rows(
-    rt: &(impl std::process::Abort + Print),
+    rt: &impl Abort,
     alloc: Global,
-    rows: &[&str],
-    place: &str,
+    place: (u64, u64, u64),
     front: &str,
+    rows: &[&str],
     end: &str,
-) -> Result<(), Fail> {
+) {
     for row in rows {
-        let (expected, inner) = row.split_once(": ").ok_or("a row has a colon")?;
-        let text = format!(in alloc; "{front}{inner}{end}")?;
-        let expected = format!(in alloc; "{place}{expected}")?;
-        assert_eq!(rt;
-            told(alloc, text.as_str())?.as_str(),
-            expected.as_str(),
-            "{inner}"
-        );
+        try_row(rt, alloc, place, front, row, end);
     }
-    Ok(())
 }
 
 const TABLE_FRONT: &str = "seed=1\nunits=1\ntable=[{";
 
 const COLUMN_FRONT: &str = "seed=1\nunits=1\ntable=[{name='t',rows=1,column=[{";
 
+const DATE_FRONT: &str =
+    "seed=1\nunits=1\ntable=[{name='t',rows=1,column=[{name='c',kind='date',hi='2024-01-01',lo=";
+
+const WINDOW_FRONT: &str =
+    "seed=1\nunits=1\ntable=[{name='t',rows=1,column=[{name='c',kind='ref',table='p',window=";
+
+const PARTS_FRONT: &str =
+    "seed=1\nunits=1\ntable=[{name='t',rows=1,column=[{name='c',kind='template',parts=";
+
 const BRANCH_FRONT: &str =
     "seed=1\nunits=1\ntable=[{name='t',rows=1,column=[{name='c',kind='case',on='x',branches=[{";
 
 #[test]
-fn each_wrong_key_is_told(rt: HostRuntime) -> Result<(), Fail> {
+fn each_wrong_key_is_told(rt: HostRuntime) {
     let alloc = rt.alloc();
-    try_rows(&rt, alloc, &TOP_FAULTS, "0 0 0 ", "", "")?;
-    try_rows(&rt, alloc, &TABLE_FAULTS, "1 0 0 ", TABLE_FRONT, "}]")?;
-    try_rows(&rt, alloc, &COLUMN_FAULTS, "1 1 0 ", COLUMN_FRONT, "}]}]")?;
-    try_rows(&rt, alloc, &BRANCH_FAULTS, "1 1 1 ", BRANCH_FRONT, "}]}]}]")
-}
-
-/// Tries each of these values under the key that ends a column.
-fn try_values(
-    rt: &(impl std::process::Abort + Print),
-    alloc: Global,
-    values: &[&str],
-    column: &str,
-    expected: &str,
-) -> Result<(), Fail> {
-    for value in values {
-        let text = format!(in alloc; "{COLUMN_FRONT}name='c',{column}{value}}}]}}]")?;
-        assert_eq!(rt; told(alloc, text.as_str())?.as_str(), expected, "{value}");
-    }
-    Ok(())
-}
-
-#[test]
-fn the_first_wrong_key_is_told(rt: HostRuntime) -> Result<(), Fail> {
-    let alloc = rt.alloc();
-    try_rows(&rt, alloc, &ORDER, "", "", "")?;
-    let date = "kind='date',hi='2024-01-01',lo=";
-    try_values(&rt, alloc, &NO_DATES, date, "1 1 0 Lo DateText")?;
-    let window = "kind='ref',table='p',window=";
-    try_values(&rt, alloc, &NO_WINDOWS, window, "1 1 0 Window WindowValue")?;
-    let parts = "kind='template',parts=";
-    try_values(&rt, alloc, &NO_PARTS, parts, "1 1 0 Parts PartList")
-}
-
-#[test]
-fn what_is_no_document_is_told(rt: HostRuntime) -> Result<(), Fail> {
-    let alloc = rt.alloc();
-    assert_eq!(rt; told(alloc, "seed = \"ab")?.as_str(), "no document");
-    assert_eq!(rt;
-        told(alloc, "seed = 9223372036854775808\n")?.as_str(),
-        "no document"
+    try_rows(&rt, alloc, (0, 0, 0), "", &TOP_FAULTS, "");
+    try_rows(&rt, alloc, (1, 0, 0), TABLE_FRONT, &TABLE_FAULTS, "}]");
+    try_rows(&rt, alloc, (1, 1, 0), COLUMN_FRONT, &COLUMN_FAULTS, "}]}]");
+    try_rows(
+        &rt,
+        alloc,
+        (1, 1, 1),
+        BRANCH_FRONT,
+        &BRANCH_FAULTS,
+        "}]}]}]",
     );
-    let not_utf8 = read_schema(alloc, b"# \xff\n");
-    assert!(rt; matches!(not_utf8, Err(ReadSchemaFault::Syntax)));
-    Ok(())
+}
+
+fn try_order(rt: &impl Abort, alloc: Global, rows: &[((u64, u64, u64), &str)]) {
+    for (place, row) in rows {
+        try_row(rt, alloc, *place, "", row, "");
+    }
+}
+
+const NO_DOCUMENTS: [&[u8]; 3] = [b"seed = \"ab", b"seed = 9223372036854775808\n", b"# \xff\n"];
+
+fn try_documents(rt: &impl Abort, alloc: Global, texts: &[&[u8]]) {
+    for text in texts {
+        assert!(rt; read_schema(alloc, text).err() == Some(ReadSchemaFault::Syntax));
+    }
+}
+
+#[test]
+fn the_first_wrong_key_is_told(rt: HostRuntime) {
+    let alloc = rt.alloc();
+    try_order(&rt, alloc, &ORDER);
+    try_rows(&rt, alloc, (1, 1, 0), DATE_FRONT, &NO_DATES, "}]}]");
+    try_rows(&rt, alloc, (1, 1, 0), WINDOW_FRONT, &NO_WINDOWS, "}]}]");
+    try_rows(&rt, alloc, (1, 1, 0), PARTS_FRONT, &NO_PARTS, "}]}]");
+    try_documents(&rt, alloc, &NO_DOCUMENTS);
 }

@@ -1,0 +1,214 @@
+//! What a plan tells of the tables of a schema, worked out by hand.
+
+use crate::cases::{Told, numbered, plan_of, try_text};
+use schema_plan::{Births, Dictionaries, Keys, Lineage, NO_FACTS, Plan, TableFacts, fill_facts};
+use schema_read::read_schema;
+use std::alloc::Global;
+use std::process::Abort;
+use std::thread;
+
+/// A table's place, the cost of a row, the greatest length of a line, and for how many units its rows live at least and at most.
+pub(crate) type Bounds = (u32, u64, u64, Option<u64>, Option<u64>);
+
+/// The tables have these bounds.
+pub(crate) fn assert_bounds(rt: &impl Abort, plan: &Plan, tables: &[Bounds]) {
+    for (table, cost, max_line, sure, longest) in tables {
+        assert!(rt; *table < plan.tables());
+        assert!(rt; plan.cost(*table) == *cost && plan.max_line(*table) == *max_line);
+        assert!(rt; plan.sure_life(*table) == *sure && plan.longest_life(*table) == *longest);
+    }
+}
+
+/// Three tables of one, two and three columns, the keys of the last scrambled.
+const THREE: &str = "seed=1
+units=2
+table=[
+    {name='one',rows=1,insert=1,column=[
+        {name='id',kind='key',base=7},
+    ]},
+    {name='two',rows=0,insert=3,column=[
+        {name='id',kind='key',base=1},
+        {name='born',kind='born'},
+    ]},
+    {name='three',rows=5,insert=0,column=[
+        {name='id',kind='key',base=1,scramble=true},
+        {name='born',kind='born'},
+        {name='again',kind='born'},
+    ]},
+]";
+
+// A line of a key alone has 20 bytes and its line feed; a unit of birth adds 5 and a tab. A scrambled key takes a
+// permutation.
+const BOUNDS_OF_THREE: [Bounds; 3] = [
+    (0, 1, 21, None, None),
+    (1, 1, 27, None, None),
+    (2, 2, 33, None, None),
+];
+
+/// Three tables whose rows live for ever and never change.
+fn assert_three(rt: &impl Abort, plan: &Plan) {
+    assert!(rt; plan.schema().tables.len() == 3);
+    assert!(rt; plan.units() == 2 && plan.tables() == 3 && plan.reach() == 33);
+    assert_bounds(rt, plan, &BOUNDS_OF_THREE);
+    for table in 0..plan.tables() {
+        assert!(rt; plan.life(table).is_none() && plan.update(table).is_none());
+    }
+}
+
+#[test]
+fn tables_of_a_plan(rt: HostRuntime) {
+    let plan = plan_of(&rt, rt.alloc(), THREE, Dictionaries::new(rt.alloc()));
+    assert_three(&rt, &plan);
+}
+
+// Two threads share the plan.
+#[test]
+fn threads_share_a_plan(rt: HostRuntime) {
+    let plan = plan_of(&rt, rt.alloc(), THREE, Dictionaries::new(rt.alloc()));
+    let names = thread::join(&rt, || plan.table_named("two"), || plan.table_named("four"));
+    assert!(rt; names == (Some(1), None));
+}
+
+/// Cities with a scrambled key and a name, which live three to five units, and a table with a column of each kind, which changes
+/// every two units.
+const EACH_KIND: &str = r#"seed=1
+units=2
+table=[
+    {name='city',rows=7,insert=2,life=[3,5],column=[
+        {name='id',kind='key',base=5,scramble=true},
+        {name='name',kind='pick',entries=["Oslo","Li\tma"],weights=[1,1]},
+    ]},
+    {name='all',rows=7,insert=2,update=2,column=[
+        {name='id',kind='key',base=5},
+        {name='born',kind='born'},
+        {name='changed',kind='changed'},
+        {name='c0',kind='int',lo=1,hi=2,step=1},
+        {name='c1',kind='fixed',lo=1,hi=2,decimals=1},
+        {name='c2',kind='date',lo='1970-01-02',hi='1970-01-03'},
+        {name='c3',kind='pick',entries=["Oslo","Li\tma"],weights=[1,1]},
+        {name='c4',kind='skew',lo=1,size=2,power=1},
+        {name='c5',kind='dict',file='words'},
+        {name='c6',kind='words',file='words',lo=1,hi=9},
+        {name='c7',kind='chars',alphabet='a\b',lo=0,hi=3},
+        {name='case',kind='case',on='c3',branches=[
+            {kind='int',lo=1,hi=2,step=1},
+            {kind='date',lo='1970-01-02',hi='1970-01-03'},
+        ]},
+        {name='city',kind='ref',table='city',window=2,spread=[1]},
+        {name='where',kind='lookup',via='city',column='name'},
+        {name='label',kind='template',parts=['in ',{column='city'},{column='city'}]},
+    ]},
+]"#;
+
+const BIRTHS: Births = Births { rows: 7, insert: 2 };
+
+const CITY: TableFacts = TableFacts {
+    births: BIRTHS,
+    keys: Keys {
+        base: 5,
+        scramble: true,
+    },
+    lineage: Lineage {
+        sure_life: Some(3),
+        longest_life: Some(5),
+        death_cost: 1,
+    },
+    cost: 3,
+    max_line: 28,
+};
+
+const ALL: TableFacts = TableFacts {
+    births: BIRTHS,
+    keys: Keys {
+        base: 5,
+        scramble: false,
+    },
+    lineage: Lineage {
+        sure_life: Some(1),
+        longest_life: Some(5),
+        death_cost: 2,
+    },
+    cost: 11,
+    max_line: 227,
+};
+
+// A city has 20 + 6 bytes, its row, the draw of its key and of its life. The other fields have 20, 5, 5, 20, 21, 10, 6, 20, 2, 8,
+// 6, 20, 20, 6 and 43 bytes. Their reference asks 2 permutations, twice more in the text, and the lookup 1.
+#[test]
+fn facts_of_each_kind(rt: HostRuntime) {
+    let schema = read_schema(rt.alloc(), EACH_KIND.as_bytes()).expect(&rt, "no schema");
+    assert!(rt; schema.tables.len() == 2);
+    let mut facts = [NO_FACTS; 2];
+    fill_facts(&schema, &Dictionaries::new(rt.alloc()), &mut facts);
+    assert!(rt; facts[0] == CITY && facts[1] == ALL);
+}
+
+/// The number of references of each table of a chain to the table before it, whose keys are scrambled, what each table says
+/// beside, and what is told.
+type Chain = (&'static [usize], usize, &'static str, Told);
+
+// With 8 references deaths cost 0, 8, 72, 584 and 4,680, and no 64 bits hold the cost from the 23rd table on. In the last two chains
+// they cost 0, 2, 5 * 3 = 15, 6 * 16 = 96, 6 * 97 = 582 and 7 * 583 = 4,081. The row comes on top, and 2 permutations for each
+// of its 7 references to scrambled keys: 4,096. A change takes one more.
+const CHAINS: [Chain; 4] = [
+    (&[8; 4], 64, "", None),
+    (&[8; 64], 64, "", Some((23, 5, 0))),
+    (&[0, 2, 5, 6, 6, 7], 4, "", None),
+    (&[0, 2, 5, 6, 6, 7], 4, "update=1,", Some((23, 6, 0))),
+];
+
+/// A table of a chain, with its number and so many references to the table before it.
+fn link(
+    rt: &impl Abort,
+    alloc: Global,
+    number: usize,
+    count: usize,
+    scramble: bool,
+    beside: &str,
+) -> String {
+    let before = number.wrapping_sub(1);
+    let end = format!(in alloc; "',kind='ref',table='t{before}',window='all'}},").expect(
+        rt, "memory",
+    );
+    let references = numbered(rt, alloc, "{name='r", count, end.as_str());
+    let table = format!(in alloc;
+        "{{name='t{number}',rows=7,insert=2,{beside}column=[{{name='id',kind='key',base=5,scramble={scramble}}},{references}]}},"
+    );
+    table.expect(rt, "memory")
+}
+
+/// The tables of a chain. The first has no table before it.
+fn chain(
+    rt: &impl Abort,
+    alloc: Global,
+    counts: &[usize],
+    scrambled: usize,
+    beside: &str,
+) -> String {
+    let mut text = String::new(alloc);
+    for (number, count) in counts.iter().enumerate() {
+        let count = if number == 0 { 0 } else { *count };
+        let link = link(rt, alloc, number, count, number == scrambled, beside);
+        text.push_str(link.as_str()).expect(rt, "memory");
+    }
+    text
+}
+
+fn try_chains(rt: &impl Abort, alloc: Global, cases: &[Chain]) {
+    for (counts, scrambled, beside, told) in cases {
+        let tables = chain(rt, alloc, counts, *scrambled, beside);
+        try_text(
+            rt,
+            alloc,
+            "seed=1\nunits=2\ntable=[",
+            tables.as_str(),
+            "]",
+            *told,
+        );
+    }
+}
+
+#[test]
+fn costs_of_chains(rt: HostRuntime) {
+    try_chains(&rt, rt.alloc(), &CHAINS);
+}

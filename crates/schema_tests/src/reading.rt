@@ -1,0 +1,86 @@
+//! A text that is read, and the schema that it says, worked out by hand.
+
+use schema_model::Delimiter;
+use schema_read::read_schema;
+
+const TEXT: &str = r#"
+seed = -7
+units = 0x10
+delimiter = "bar"
+[[table]]
+name = "all"
+rows = 3
+insert = 4
+life = [2, 5]
+update = 6
+column = [
+    {name="c", kind="key", base=1, scramble=true},
+    {name="c", kind="born"},
+    {name="c", kind="int", lo=-9223372036854775808, hi=9, step=3},
+    {name="c", kind="fixed", lo=1, hi=9, decimals=2},
+    {name="c", kind="date", lo="0001-01-01", hi="9999-12-31"},
+    {name="c", kind="pick", entries=["Oslo", "Rome"], weights=[5, -2]},
+    {name="c", kind="skew", lo=1, size=9, power=2},
+    {name="c", kind="dict", file="names.txt"},
+    {name="c", kind="words", file="names.txt", lo=0, hi=4},
+    {name="c", kind="chars", alphabet="äb", lo=8, hi=9},
+    {name="c", kind="template", parts=["r", {column="id"}]},
+    {name="c", kind="case", on="x", branches=[{kind="dict", file="f"}, {kind="date", lo="1970-01-01", hi="2000-03-01"}]},
+    {name="c", kind="ref", table="p", window=9, spread=[1, 2]},
+    {name="c", kind="lookup", via="p", column="city"},
+]
+[[table]]
+name = "defaults"
+rows = 1
+column = [
+    {name="c", kind="changed", changes=true, null=100},
+    {name="c", kind="key", base=1},
+    {name="c", kind="int", lo=1, hi=9},
+    {name="c", kind="pick", entries=["a", "b"]},
+    {name="c", kind="ref", table="p", window="all"},
+    {name="c", kind="template", parts=[]},
+]
+"#;
+
+/// The schema that it says, as `{:?}` writes it. The days are those of the calendar: 0001-01-01 is day -719162, 9999-12-31 day 2932896
+/// and 2000-03-01 day 11017.
+const SCHEMA: &str = concat!(
+    "Schema { seed: -7, units: 16, delimiter: Bar, tables: Sequence { items: [",
+    r#"Table { name: Text { text: "all" }, rows: 3, insert: 4, life: Some(Life { lo: 2, hi: 5 }), update: Some(6), columns: Sequence { items: ["#,
+    r#"Column { name: Text { text: "c" }, kind: Key { base: 1, scramble: true }, changes: false, null: 0 }, "#,
+    r#"Column { name: Text { text: "c" }, kind: Born, changes: false, null: 0 }, "#,
+    r#"Column { name: Text { text: "c" }, kind: Leaf(Int { lo: -9223372036854775808, hi: 9, step: 3 }), changes: false, null: 0 }, "#,
+    r#"Column { name: Text { text: "c" }, kind: Leaf(Fixed { lo: 1, hi: 9, decimals: 2 }), changes: false, null: 0 }, "#,
+    r#"Column { name: Text { text: "c" }, kind: Leaf(Date { lo: -719162, hi: 2932896 }), changes: false, null: 0 }, "#,
+    r#"Column { name: Text { text: "c" }, kind: Leaf(Pick { entries: Sequence { items: [Text { text: "Oslo" }, Text { text: "Rome" }] }, weights: Sequence { items: [5, -2] } }), changes: false, null: 0 }, "#,
+    r#"Column { name: Text { text: "c" }, kind: Leaf(Skew { lo: 1, size: 9, power: 2 }), changes: false, null: 0 }, "#,
+    r#"Column { name: Text { text: "c" }, kind: Leaf(Dict { file: Text { text: "names.txt" } }), changes: false, null: 0 }, "#,
+    r#"Column { name: Text { text: "c" }, kind: Leaf(Words { file: Text { text: "names.txt" }, lo: 0, hi: 4 }), changes: false, null: 0 }, "#,
+    r#"Column { name: Text { text: "c" }, kind: Leaf(Chars { alphabet: Text { text: "äb" }, lo: 8, hi: 9 }), changes: false, null: 0 }, "#,
+    r#"Column { name: Text { text: "c" }, kind: Template { parts: Sequence { items: [Literal(Text { text: "r" }), Cited(Text { text: "id" })] } }, changes: false, null: 0 }, "#,
+    r#"Column { name: Text { text: "c" }, kind: Case { on: Text { text: "x" }, branches: Sequence { items: [Dict { file: Text { text: "f" } }, Date { lo: 0, hi: 11017 }] } }, changes: false, null: 0 }, "#,
+    r#"Column { name: Text { text: "c" }, kind: Ref { table: Text { text: "p" }, window: Units(9), spread: Sequence { items: [1, 2] } }, changes: false, null: 0 }, "#,
+    r#"Column { name: Text { text: "c" }, kind: Lookup { via: Text { text: "p" }, column: Text { text: "city" } }, changes: false, null: 0 }"#,
+    "] } }, ",
+    r#"Table { name: Text { text: "defaults" }, rows: 1, insert: 0, life: None, update: None, columns: Sequence { items: ["#,
+    r#"Column { name: Text { text: "c" }, kind: Changed, changes: true, null: 100 }, "#,
+    r#"Column { name: Text { text: "c" }, kind: Key { base: 1, scramble: false }, changes: false, null: 0 }, "#,
+    r#"Column { name: Text { text: "c" }, kind: Leaf(Int { lo: 1, hi: 9, step: 1 }), changes: false, null: 0 }, "#,
+    r#"Column { name: Text { text: "c" }, kind: Leaf(Pick { entries: Sequence { items: [Text { text: "a" }, Text { text: "b" }] }, weights: Sequence { items: [1, 1] } }), changes: false, null: 0 }, "#,
+    r#"Column { name: Text { text: "c" }, kind: Ref { table: Text { text: "p" }, window: All, spread: Sequence { items: [1] } }, changes: false, null: 0 }, "#,
+    r#"Column { name: Text { text: "c" }, kind: Template { parts: Sequence { items: [] } }, changes: false, null: 0 }"#,
+    "] } }] } }",
+);
+
+#[test]
+fn each_kind_is_read(rt: HostRuntime) {
+    let schema = read_schema(rt.alloc(), TEXT.as_bytes()).expect(&rt, "no schema");
+    let told = format!(in rt.alloc(); "{schema:?}").expect(&rt, "memory");
+    assert!(rt; told.as_str() == SCHEMA, "{told}");
+}
+
+#[test]
+fn no_table_is_read(rt: HostRuntime) {
+    let empty = read_schema(rt.alloc(), b"seed=1\nunits=1\ntable=[]").expect(&rt, "no schema");
+    assert!(rt; empty.tables.is_empty() && empty.delimiter == Delimiter::Tab);
+}
