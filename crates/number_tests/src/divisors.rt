@@ -1,6 +1,7 @@
-use super::*;
+//! Quotients and remainders worked out by hand.
 
-// Quotients and remainders worked out by hand.
+use fixed_divisors::{Division, FixedDivisor};
+
 #[test]
 fn divides_at_the_edges(rt: HostRuntime) {
     let largest = u64::MAX;
@@ -32,10 +33,13 @@ fn divides_at_the_edges(rt: HostRuntime) {
             quotient,
             remainder,
         };
-        assert_eq!(rt; divisor.number(), number);
-        assert_eq!(rt; divisor.divide(x), division);
-        assert_eq!(rt; divisor.quotient(x), quotient);
-        assert_eq!(rt; divisor.remainder(x), remainder);
+        assert!(rt;
+            divisor.number() == number
+                && divisor.divide(x) == division
+                && divisor.quotient(x) == quotient
+                && divisor.remainder(x) == remainder,
+            "{x} by {number}"
+        );
     }
 }
 

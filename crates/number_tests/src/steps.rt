@@ -1,9 +1,9 @@
 ghost use Rattle.std.specs.Prelude.{◌≡◌, ℕ, ◌<◌};
 
-use super::*;
 use std::marker::Brand;
 use std::mem::size_of;
 use std::sync::ledger::{Blank, Ledger};
+use step_count::Steps;
 
 fn two_steps<L: Ledger>(blank: Blank)
     requires name { blank.name ≡ L.name }
