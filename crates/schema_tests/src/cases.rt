@@ -34,20 +34,18 @@ pub(crate) fn assert_told(
     assert!(rt; fault == fault_of(told), "{text}");
 }
 
-/// The check tells so of a text between a front and an end, without dictionaries.
-pub(crate) fn try_text(
-    rt: &impl Abort,
-    alloc: Global,
-    front: &str,
-    inner: &str,
-    end: &str,
-    told: Told,
-) {
-    let text = format!(in alloc; "{front}{inner}{end}").expect(rt, "memory");
+/// The pieces, one behind the other.
+pub(crate) fn joined(rt: &impl Abort, alloc: Global, pieces: &[&str]) -> String {
+    pieces.concat(alloc).expect(rt, "memory")
+}
+
+/// The check tells so of the text that the pieces make, without dictionaries.
+pub(crate) fn try_text(rt: &impl Abort, alloc: Global, pieces: &[&str], told: Told) {
+    let text = joined(rt, alloc, pieces);
     assert_told(rt, alloc, text.as_str(), Dictionaries::new(alloc), told);
 }
 
-/// The same for each of some texts.
+/// The same for each of some texts between a front and an end.
 pub(crate) fn try_texts(
     rt: &impl Abort,
     alloc: Global,
@@ -56,7 +54,7 @@ pub(crate) fn try_texts(
     end: &str,
 ) {
     for (inner, told) in cases {
-        try_text(rt, alloc, front, inner, end, *told);
+        try_text(rt, alloc, &[front, inner, end], *told);
     }
 }
 
@@ -71,7 +69,7 @@ pub(crate) fn try_rule(
 ) {
     for (inner, is_kept) in cases {
         let told = if *is_kept { None } else { Some(broken) };
-        try_text(rt, alloc, front, inner, end, told);
+        try_text(rt, alloc, &[front, inner, end], told);
     }
 }
 
@@ -115,8 +113,7 @@ pub(crate) fn weights(
     first: (usize, i64),
     second: (usize, i64),
 ) -> String {
-    let mut text = run(rt, alloc, first);
+    let first = run(rt, alloc, first);
     let second = run(rt, alloc, second);
-    text.push_str(second.as_str()).expect(rt, "memory");
-    text
+    joined(rt, alloc, &[first.as_str(), second.as_str()])
 }

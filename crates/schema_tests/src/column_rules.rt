@@ -84,8 +84,7 @@ fn try_fourths(rt: &impl Abort, alloc: Global, cases: &[Fourth]) {
             "}]}]"
         };
         let word = if *word_changes { "true" } else { "false" };
-        let inner = format!(in alloc; "{word}{FOURTH}{kind}").expect(rt, "memory");
-        try_text(rt, alloc, WORD, inner.as_str(), end, *told);
+        try_text(rt, alloc, &[WORD, word, FOURTH, kind, end], *told);
     }
 }
 
@@ -166,17 +165,23 @@ const DAYS: [(i32, i32, Told); 6] = [
     (i32::MIN, i32::MAX, Some((10, 2, 3))),
 ];
 
-/// The first fault of a schema whose second table has these days in its third column.
-fn fault_of_days(rt: &impl Abort, alloc: Global, lo: i32, hi: i32) -> Option<CheckFault> {
-    let mut schema = read_schema(alloc, ONE_TABLE).expect(rt, "no schema");
-    let table = Table {
-        name: Text::of(alloc, "u").expect(rt, "memory"),
+/// A table of a row at each unit.
+fn table_of(rt: &impl Abort, alloc: Global, columns: Columns) -> Table {
+    let name = Text::of(alloc, "u").expect(rt, "memory");
+    Table {
+        name,
         rows: 1,
         insert: 1,
         life: None,
         update: None,
-        columns: columns_of_days(rt, alloc, lo, hi),
-    };
+        columns,
+    }
+}
+
+/// The first fault of a schema whose second table has these days in its third column.
+fn fault_of_days(rt: &impl Abort, alloc: Global, lo: i32, hi: i32) -> Option<CheckFault> {
+    let mut schema = read_schema(alloc, ONE_TABLE).expect(rt, "no schema");
+    let table = table_of(rt, alloc, columns_of_days(rt, alloc, lo, hi));
     schema.tables.push(table).expect(rt, "memory");
     check(alloc, schema, Dictionaries::new(alloc)).err()
 }
@@ -213,9 +218,16 @@ fn try_entries(rt: &impl Abort, alloc: Global, cases: &[Entries]) {
     for (entries, first, second, told) in cases {
         let entries = "'x',".repeat(alloc, *entries).expect(rt, "memory");
         let weights = weights(rt, alloc, *first, *second);
-        let inner = format!(in alloc; "'pick',entries=[{entries}],weights=[{weights}]");
-        let inner = inner.expect(rt, "memory");
-        try_text(rt, alloc, DRAWN, inner.as_str(), "}]}]", *told);
+        let (entries, weights) = (entries.as_str(), weights.as_str());
+        let pieces = [
+            DRAWN,
+            "'pick',entries=[",
+            entries,
+            "],weights=[",
+            weights,
+            "]}]}]",
+        ];
+        try_text(rt, alloc, &pieces, *told);
     }
 }
 

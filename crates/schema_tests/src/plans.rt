@@ -197,14 +197,8 @@ fn chain(
 fn try_chains(rt: &impl Abort, alloc: Global, cases: &[Chain]) {
     for (counts, scrambled, beside, told) in cases {
         let tables = chain(rt, alloc, counts, *scrambled, beside);
-        try_text(
-            rt,
-            alloc,
-            "seed=1\nunits=2\ntable=[",
-            tables.as_str(),
-            "]",
-            *told,
-        );
+        let pieces = ["seed=1\nunits=2\ntable=[", tables.as_str(), "]"];
+        try_text(rt, alloc, &pieces, *told);
     }
 }
 

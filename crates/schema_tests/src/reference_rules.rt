@@ -10,16 +10,16 @@ const CHILD: &str =
     "seed=1\nunits=2\ntable=[{name='p',rows=1,insert=1,column=[{name='id',kind='key',base=1}]},{name='c',rows=1,insert=1,column=[{name='id',kind='key',base=1},{name='ref',kind='ref',";
 
 const TARGETS: [(&str, bool); 5] = [
-    ("p", true),
-    ("c", false),
-    ("d", false),
-    ("x", false),
-    ("", false),
+    ("table='p'", true),
+    ("table='c'", false),
+    ("table='d'", false),
+    ("table='x'", false),
+    ("table=''", false),
 ];
 
 /// A third table.
 const THIRD: &str =
-    "',window='all'}]},{name='d',rows=1,insert=1,column=[{name='id',kind='key',base=1}]}]";
+    ",window='all'}]},{name='d',rows=1,insert=1,column=[{name='id',kind='key',base=1}]}]";
 
 /// How many references a child has to its parents. The ninth is the tenth column.
 const NUMBERS: [(usize, Told); 3] = [(8, None), (9, Some((18, 2, 10))), (12, Some((18, 2, 10)))];
@@ -27,22 +27,16 @@ const NUMBERS: [(usize, Told); 3] = [(8, None), (9, Some((18, 2, 10))), (12, Som
 fn try_numbers(rt: &impl Abort, alloc: Global, cases: &[(usize, Told)]) {
     let front =
         "seed=1\nunits=2\ntable=[{name='p',rows=1,insert=1,column=[{name='id',kind='key',base=1}]},{name='c',rows=1,insert=1,column=[{name='id',kind='key',base=1},";
+    let end = "',kind='ref',table='p',window='all'},";
     for (count, told) in cases {
-        let references = numbered(
-            rt,
-            alloc,
-            "{name='r",
-            *count,
-            "',kind='ref',table='p',window='all'},",
-        );
-        try_text(rt, alloc, front, references.as_str(), "]}]", *told);
+        let references = numbered(rt, alloc, "{name='r", *count, end);
+        try_text(rt, alloc, &[front, references.as_str(), "]}]"], *told);
     }
 }
 
 #[test]
 fn targets(rt: HostRuntime) {
-    let front = format!(in rt.alloc(); "{CHILD}table='").expect(&rt, "memory");
-    try_rule(&rt, rt.alloc(), (18, 2, 2), front.as_str(), &TARGETS, THIRD);
+    try_rule(&rt, rt.alloc(), (18, 2, 2), CHILD, &TARGETS, THIRD);
     try_numbers(&rt, rt.alloc(), &NUMBERS);
 }
 
@@ -68,53 +62,49 @@ const CHILDREN: &str =
 fn try_windows(rt: &impl Abort, alloc: Global, cases: &[(&str, &str, bool)]) {
     let front = "seed=1\nunits=2\ntable=[{name='p',rows=1,insert=1";
     for (life, window, is_kept) in cases {
-        let inner = format!(in alloc; "{life}{CHILDREN}{window}").expect(rt, "memory");
         let told = if *is_kept { None } else { Some((19, 2, 2)) };
-        try_text(rt, alloc, front, inner.as_str(), "}]}]", told);
+        try_text(rt, alloc, &[front, life, CHILDREN, window, "}]}]"], told);
     }
 }
 
-/// Rows at unit 0 and at each later unit.
-type Counts = (i64, i64);
-
 /// The last unit, the rows of parents and of their children, and the window.
-type Rows = (i64, Counts, Counts, &'static str, bool);
+type Rows = (&'static str, &'static str, &'static str, &'static str, bool);
 
 const ROWS: [Rows; 14] = [
-    (2, (0, 1), (1, 0), "1", false),
-    (2, (0, 1), (1, 0), "'all'", false),
-    (2, (0, 1), (0, 1), "1", true),
-    (2, (0, 1), (0, 1), "0", true),
-    (4, (5, 0), (0, 1), "4", true),
-    (4, (5, 0), (0, 1), "3", false),
-    (4, (5, 0), (0, 1), "'all'", true),
-    (4, (5, 0), (1, 0), "0", true),
-    (10_000, (1, 0), (1, 1), "1000000000", true),
-    (10_000, (1, 0), (1, 1), "10000", true),
-    (10_000, (1, 0), (1, 1), "9999", false),
-    (2, (0, 0), (0, 0), "'all'", true),
-    (2, (0, 0), (0, 1), "'all'", false),
-    (0, (0, 0), (0, 1), "'all'", true),
+    ("2", "0,insert=1", "1,insert=0", "1", false),
+    ("2", "0,insert=1", "1,insert=0", "'all'", false),
+    ("2", "0,insert=1", "0,insert=1", "1", true),
+    ("2", "0,insert=1", "0,insert=1", "0", true),
+    ("4", "5,insert=0", "0,insert=1", "4", true),
+    ("4", "5,insert=0", "0,insert=1", "3", false),
+    ("4", "5,insert=0", "0,insert=1", "'all'", true),
+    ("4", "5,insert=0", "1,insert=0", "0", true),
+    ("10000", "1,insert=0", "1,insert=1", "1000000000", true),
+    ("10000", "1,insert=0", "1,insert=1", "10000", true),
+    ("10000", "1,insert=0", "1,insert=1", "9999", false),
+    ("2", "0,insert=0", "0,insert=0", "'all'", true),
+    ("2", "0,insert=0", "0,insert=1", "'all'", false),
+    ("0", "0,insert=0", "0,insert=1", "'all'", true),
 ];
 
 fn try_counts(rt: &impl Abort, alloc: Global, cases: &[Rows]) {
+    let parents = "\ntable=[{name='p',column=[{name='id',kind='key',base=1}],rows=";
+    let children =
+        "},{name='c',column=[{name='id',kind='key',base=1},{name='ref',kind='ref',table='p',window=";
     for (units, parent, child, window, is_kept) in cases {
-        let parent = format!(in alloc; "rows={},insert={}", parent.0, parent.1).expect(
-            rt, "memory",
-        );
-        let child = format!(in alloc; "rows={},insert={}", child.0, child.1).expect(rt, "memory");
-        let inner = format!(in alloc;
-            "{units}\ntable=[{{name='p',{parent},column=[{{name='id',kind='key',base=1}}]}},{{name='c',{child},column=[{{name='id',kind='key',base=1}},{{name='ref',kind='ref',table='p',window={window}"
-        );
-        let told = if *is_kept { None } else { Some((20, 2, 2)) };
-        try_text(
-            rt,
-            alloc,
+        let pieces = [
             "seed=1\nunits=",
-            inner.expect(rt, "memory").as_str(),
-            "}]}]",
-            told,
-        );
+            units,
+            parents,
+            parent,
+            children,
+            window,
+            "}],rows=",
+            child,
+            "}]",
+        ];
+        let told = if *is_kept { None } else { Some((20, 2, 2)) };
+        try_text(rt, alloc, &pieces, told);
     }
 }
 
@@ -155,11 +145,14 @@ const SPREADS: [Spread; 10] = [
 fn try_spreads(rt: &impl Abort, alloc: Global, cases: &[Spread]) {
     for (first, second, is_kept) in cases {
         let spread = weights(rt, alloc, *first, *second);
-        let inner = format!(in alloc; "table='p',window='all',spread=[{spread}").expect(
-            rt, "memory",
-        );
         let told = if *is_kept { None } else { Some((21, 2, 2)) };
-        try_text(rt, alloc, CHILD, inner.as_str(), "]}]}]", told);
+        let pieces = [
+            CHILD,
+            "table='p',window='all',spread=[",
+            spread.as_str(),
+            "]}]}]",
+        ];
+        try_text(rt, alloc, &pieces, told);
     }
 }
 
@@ -246,10 +239,15 @@ const LOOKUPS: [(&str, Told); 17] = [
 const LATER: &str =
     "'shown',kind='lookup',via='city',column='size'},{name='city',kind='ref',table='city',window='all'";
 
+fn try_lookups(rt: &impl Abort, alloc: Global, cases: &[(&str, Told)]) {
+    let city = "'city',kind='ref',table='city',window='all'},{name='shown',kind='lookup',";
+    for (lookup, told) in cases {
+        try_text(rt, alloc, &[LAND, city, lookup, "}]}]"], *told);
+    }
+}
+
 #[test]
 fn lookups(rt: HostRuntime) {
-    let city = "'city',kind='ref',table='city',window='all'},{name='shown',kind='lookup',";
-    let front = format!(in rt.alloc(); "{LAND}{city}").expect(&rt, "memory");
-    try_texts(&rt, rt.alloc(), front.as_str(), &LOOKUPS, "}]}]");
-    try_text(&rt, rt.alloc(), LAND, LATER, "}]}]", Some((22, 3, 2)));
+    try_lookups(&rt, rt.alloc(), &LOOKUPS);
+    try_text(&rt, rt.alloc(), &[LAND, LATER, "}]}]"], Some((22, 3, 2)));
 }

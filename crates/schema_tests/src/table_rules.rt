@@ -1,7 +1,7 @@
 //! The rules of schemas and of tables, each at its first bound and one past it. The expected places follow from the wording of the
 //! rules.
 
-use crate::cases::{Told, numbered, try_rule, try_text, try_texts};
+use crate::cases::{Told, joined, numbered, try_rule, try_text, try_texts};
 use std::alloc::Global;
 use std::process::Abort;
 
@@ -31,19 +31,21 @@ fn schema_bounds(rt: HostRuntime) {
 
 /// So many columns: a key, and then units of birth.
 fn columns(rt: &impl Abort, alloc: Global, count: usize) -> String {
-    match count {
-        0 => String::new(alloc),
-        _ => {
-            let born = numbered(
-                rt,
-                alloc,
-                "{name='n",
-                count.wrapping_sub(1),
-                "',kind='born'},",
-            );
-            format!(in alloc; "{{name='id',kind='key',base=1}},{born}").expect(rt, "memory")
-        }
+    if count == 0 {
+        return String::new(alloc);
     }
+    let born = numbered(
+        rt,
+        alloc,
+        "{name='n",
+        count.wrapping_sub(1),
+        "',kind='born'},",
+    );
+    joined(
+        rt,
+        alloc,
+        &["{name='id',kind='key',base=1},", born.as_str()],
+    )
 }
 
 /// How many tables, each of how many columns.
@@ -59,16 +61,14 @@ const NUMBERS: [(usize, usize, Told); 6] = [
 fn try_numbers(rt: &impl Abort, alloc: Global, cases: &[(usize, usize, Told)]) {
     for (tables, count, told) in cases {
         let columns = columns(rt, alloc, *count);
-        let end = format!(in alloc; "',rows=1,insert=1,column=[{columns}]}},").expect(rt, "memory");
-        let tables = numbered(rt, alloc, "{name='n", *tables, end.as_str());
-        try_text(
+        let end = joined(
             rt,
             alloc,
-            "seed=1\nunits=2\ntable=[",
-            tables.as_str(),
-            "]",
-            *told,
+            &["',rows=1,insert=1,column=[", columns.as_str(), "]},"],
         );
+        let tables = numbered(rt, alloc, "{name='n", *tables, end.as_str());
+        let pieces = ["seed=1\nunits=2\ntable=[", tables.as_str(), "]"];
+        try_text(rt, alloc, &pieces, *told);
     }
 }
 
@@ -115,7 +115,7 @@ fn names(rt: HostRuntime) {
         &[("t", false), ("t1", true)],
         ONE,
     );
-    try_text(&rt, alloc, COLUMN_FRONT, SAME, end, Some((4, 1, 3)));
+    try_text(&rt, alloc, &[COLUMN_FRONT, SAME, end], Some((4, 1, 3)));
 }
 
 /// The last unit, rows at unit 0 and at each later one.
@@ -190,14 +190,8 @@ const SIZES: [(usize, Told); 3] = [
 fn try_sizes(rt: &impl Abort, alloc: Global, cases: &[(usize, Told)]) {
     for (size, told) in cases {
         let entry = "x".repeat(alloc, *size).expect(rt, "memory");
-        try_text(
-            rt,
-            alloc,
-            ENTRY_FRONT,
-            entry.as_str(),
-            "'],weights=[1]}]}]",
-            *told,
-        );
+        let pieces = [ENTRY_FRONT, entry.as_str(), "'],weights=[1]}]}]"];
+        try_text(rt, alloc, &pieces, *told);
     }
 }
 

@@ -1,6 +1,6 @@
 //! The word lists that a schema cites. The places follow from the wording of the rule.
 
-use crate::cases::{Told, assert_told, fault_of, numbered};
+use crate::cases::{Told, assert_told, fault_of, joined, numbered};
 use dictionaries::read_dictionary;
 use schema_check::citations;
 use schema_plan::Dictionaries;
@@ -74,7 +74,7 @@ const BEFORE_NAME: &str =
 
 fn assert_longest(rt: &impl Abort, alloc: Global) {
     let name = "n".repeat(alloc, 255).expect(rt, "memory");
-    let text = format!(in alloc; "{BEFORE_NAME}{name}'}}]}}]").expect(rt, "memory");
+    let text = joined(rt, alloc, &[BEFORE_NAME, name.as_str(), "'}]}]"]);
     assert_cited(rt, alloc, text.as_str(), 1, 0, &[name.as_str()]);
 }
 
@@ -83,13 +83,9 @@ const BETWEEN_NAMES: &str =
 
 fn assert_longer(rt: &impl Abort, alloc: Global) {
     let name = "n".repeat(alloc, 256).expect(rt, "memory");
-    let text = format!(in alloc; "{BETWEEN_NAMES}{name}'}},{{name='c3',kind='dict',file=''}}]}}]");
-    assert_refused(
-        rt,
-        alloc,
-        text.expect(rt, "memory").as_str(),
-        Some((13, 1, 3)),
-    );
+    let end = "'},{name='c3',kind='dict',file=''}]}]";
+    let text = joined(rt, alloc, &[BETWEEN_NAMES, name.as_str(), end]);
+    assert_refused(rt, alloc, text.as_str(), Some((13, 1, 3)));
 }
 
 #[test]
@@ -98,25 +94,32 @@ fn names_have_at_most_255_bytes(rt: HostRuntime) {
     assert_longer(&rt, rt.alloc());
 }
 
-/// The columns of a pick of so many entries and of a case with a word list for each of them, whose names begin with a letter.
-fn branching(rt: &impl Abort, alloc: Global, entries: usize, letter: &str) -> String {
-    let branch = format!(in alloc; "{{kind='dict',file='{letter}").expect(rt, "memory");
-    let branches = numbered(rt, alloc, branch.as_str(), entries, "'},");
+/// The columns of a pick of so many entries and of a case with a word list for each of them, with what stands before its number.
+fn branching(rt: &impl Abort, alloc: Global, entries: usize, branch: &str) -> String {
+    let branches = numbered(rt, alloc, branch, entries, "'},");
     let entries = "'x',".repeat(alloc, entries).expect(rt, "memory");
-    let columns = format!(in alloc;
-        "{{name='c0',kind='key',base=1}},{{name='c1',kind='pick',entries=[{entries}]}},{{name='c2',kind='case',on='c1',branches=[{branches}]}}"
-    );
-    columns.expect(rt, "memory")
+    let pieces = [
+        "{name='c0',kind='key',base=1},{name='c1',kind='pick',entries=[",
+        entries.as_str(),
+        "]},{name='c2',kind='case',on='c1',branches=[",
+        branches.as_str(),
+        "]}",
+    ];
+    joined(rt, alloc, &pieces)
 }
 
 /// A text of two tables of such columns.
 fn branching_twice(rt: &impl Abort, alloc: Global, first: usize, second: usize) -> String {
-    let first = branching(rt, alloc, first, "a");
-    let second = branching(rt, alloc, second, "b");
-    let text = format!(in alloc;
-        "seed=1\nunits=0\ntable=[{{name='t0',rows=1,column=[{first}]}},{{name='t1',rows=1,column=[{second}]}}]"
-    );
-    text.expect(rt, "memory")
+    let first = branching(rt, alloc, first, "{kind='dict',file='a");
+    let second = branching(rt, alloc, second, "{kind='dict',file='b");
+    let pieces = [
+        "seed=1\nunits=0\ntable=[{name='t0',rows=1,column=[",
+        first.as_str(),
+        "]},{name='t1',rows=1,column=[",
+        second.as_str(),
+        "]}]",
+    ];
+    joined(rt, alloc, &pieces)
 }
 
 #[test]
@@ -170,18 +173,14 @@ const GIVEN: [Given; 5] = [
 ];
 
 fn try_given(rt: &impl Abort, alloc: Global, cases: &[Given]) {
+    let before =
+        "\nunits=0\ntable=[{name='t',rows=1,column=[{name='id',kind='key',base=1},{name='c1',kind='dict',file='";
+    let between = "'},{name='c2',kind='dict',file='";
     for (seed, first, second, given, other, told) in cases {
-        let text = format!(in alloc;
-            "seed={seed}\nunits=0\ntable=[{{name='t',rows=1,column=[{{name='id',kind='key',base=1}},{{name='c1',kind='dict',file='{first}'}},{{name='c2',kind='dict',file='{second}'}}]}}]"
-        );
+        let pieces = ["seed=", seed, before, first, between, second, "'}]}]"];
+        let text = joined(rt, alloc, &pieces);
         let dictionaries = word_lists(rt, alloc, given, other, b"Ann\t3\nBo\n");
-        assert_told(
-            rt,
-            alloc,
-            text.expect(rt, "memory").as_str(),
-            dictionaries,
-            *told,
-        );
+        assert_told(rt, alloc, text.as_str(), dictionaries, *told);
     }
 }
 

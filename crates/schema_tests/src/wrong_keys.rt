@@ -1,6 +1,7 @@
 //! Texts that have a wrong key, each behind its first one. What is expected follows from the table of keys: a key of
 //! another type, a required key that is missing, and a further key, each once at each place and kind.
 
+use crate::cases::joined;
 use schema_read::{ReadSchemaFault, read_schema};
 use std::alloc::Global;
 use std::process::Abort;
@@ -219,7 +220,7 @@ fn try_row(
     end: &str,
 ) {
     let (wrong, inner) = row.split_once(": ").expect(rt, "no colon");
-    let text = format!(in alloc; "{front}{inner}{end}").expect(rt, "memory");
+    let text = joined(rt, alloc, &[front, inner, end]);
     match read_schema(alloc, text.as_str().as_bytes()).err() {
         Some(
             ReadSchemaFault::Shape {
