@@ -9,4 +9,3 @@ pub mod ReadyLemmas
 pub mod ColumnLemmas
 pub mod FieldLemmas
 pub mod CohortLemmas
-pub mod LineLemmas

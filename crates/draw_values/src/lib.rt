@@ -24,6 +24,3 @@ mod words;
 pub use cohort_values::CohortValues;
 pub use draws::{UnitDraws, unit_draws};
 pub use values::{Put, RowAt, put_value};
-
-#[cfg(test)]
-mod tests;

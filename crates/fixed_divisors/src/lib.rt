@@ -138,6 +138,3 @@ fn reduced(rest: u64, divisor: u64) -> u64
 {
     rest.min(rest.wrapping_sub(divisor))
 }
-
-#[cfg(test)]
-mod tests;

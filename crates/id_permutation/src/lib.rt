@@ -19,6 +19,3 @@ pub use memory::Memory;
 pub use order::{Order, tables_pay};
 pub use shuffle::Shuffle;
 pub use table_shuffle::TableShuffle;
-
-#[cfg(test)]
-mod tests;

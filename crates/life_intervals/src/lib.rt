@@ -32,6 +32,3 @@ pub use lives::{Survival, last_change, own_death, survival_at};
 pub use memory::Memory;
 pub use orders::{CohortOrders, cohort_orders, key_order, life_order, table_orders, update_order};
 pub use parents::{CohortParents, death, parent};
-
-#[cfg(test)]
-mod tests;

@@ -23,6 +23,3 @@ pub use mem_shelf::MemShelf;
 pub use message::Message;
 pub use shelf::Shelf;
 pub use whole::{read_whole, write_all};
-
-#[cfg(test)]
-mod tests;

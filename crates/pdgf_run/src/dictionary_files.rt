@@ -13,8 +13,8 @@ ghost use Rattle.pdgf_run.specs.Verdict.{told_files, IsReadOut};
 use crate::refusal::{DictionaryCause, DictionaryFault};
 use dictionaries::read_dictionary;
 use pd_outside::{Library, read_whole};
-use schema_plan::Dictionaries;
 use schema_model::Texts;
+use schema_plan::Dictionaries;
 use std::alloc::Global;
 
 /// The most bytes of a dictionary.

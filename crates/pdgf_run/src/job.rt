@@ -17,8 +17,8 @@ use life_intervals::{
 };
 use line_pages::{Memory, PageBuf};
 use row_lines::{LineDraws, line_draws};
-use schema_plan::Plan;
 use schema_model::{Sequence, Text as Name};
+use schema_plan::Plan;
 use std::alloc::Global;
 use std::sync::ledger::{Blank, Ledger};
 use step_count::Steps;

@@ -19,6 +19,3 @@ pub use report::Report;
 pub use run::pdgf;
 pub use usage::{Mode, OptionName, Request, UsageFault};
 pub use words::read_words;
-
-#[cfg(test)]
-mod tests;

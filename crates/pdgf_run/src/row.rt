@@ -9,8 +9,8 @@ ghost use Rattle.row_lines.specs.Reports.{report_on};
 
 use line_pages::{Memory, PageBuf};
 use row_lines::row_report;
-use schema_plan::Plan;
 use schema_model::Text;
+use schema_plan::Plan;
 use std::alloc::Global;
 use std::sync::ledger::{Blank, Ledger};
 use step_count::Steps;

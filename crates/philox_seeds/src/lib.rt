@@ -14,6 +14,3 @@ pub use tree::{
     child, column_seed, draw, key_order_seed, keyed_number, life_order_seed, reference_order_seed,
     row_seed, table_seed, unit_seed, update_order_seed,
 };
-
-#[cfg(test)]
-mod tests;

@@ -25,8 +25,8 @@ use life_intervals::{
 };
 use line_pages::{PageBuf, Piece};
 use row_text::put_null;
-use schema_plan::{Plan, ReadyColumn, ReadyKind, ReadyLookup};
 use schema_model::Delimiter;
+use schema_plan::{Plan, ReadyColumn, ReadyKind, ReadyLookup};
 use std::marker::Model;
 use std::sync::ledger::Ledger;
 use step_count::Steps;

@@ -18,6 +18,3 @@ pub use cohort_lines::CohortLines;
 pub use draws::{LineDraws, line_draws};
 pub use reports::row_report;
 pub use rows::{live, put_key, put_line};
-
-#[cfg(test)]
-mod tests;

@@ -15,6 +15,3 @@ mod written_texts;
 pub use fields::{field_size, put_field, put_null, put_piece};
 pub use memory::Memory;
 pub use written_texts::WrittenTexts;
-
-#[cfg(test)]
-mod tests;

@@ -1,5 +1,5 @@
 -- References that pass the tests of the rules are within their limits.
-use Rattle.std.proofs.Common.{◌≡◌, ◌∙◌, ℕ, ℤ, pos, suc, ◌+◌, ◌*◌, ◌<◌, ◌≤◌, ◌==◌, ◌&&◌, ◌||◌, All, Bool, true, false, filter_map, List, [], ◌∷◌, length, map, sum, get_or, nat_le, nat_lt, int_le, Option, Some, None, refl, sym, ap, subst, add-zero, zero-add, arith}
+use Rattle.std.proofs.Common.{◌≡◌, ◌∙◌, ℕ, ℤ, pos, suc, ◌+◌, ◌<◌, ◌≤◌, ◌==◌, ◌&&◌, ◌||◌, All, Bool, true, false, filter_map, List, [], ◌∷◌, length, map, get_or, nat_le, nat_lt, int_le, Option, Some, None, refl, sym, ap, subst, add-zero, zero-add, arith}
 use Rattle.std.specs.List.{cons_option, enumerate_from, list_all, range_with_len}
 use Rattle.std.proofs.lemmas.Bool.{and_parts, leb-true, ltb-true}
 use Rattle.std.proofs.lemmas.Bool.Decides.{nat_tests}

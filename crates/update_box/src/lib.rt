@@ -10,6 +10,3 @@ mod units;
 
 pub use scan::{TableRows, table_rows};
 pub use units::{UnitRows, unit_rows};
-
-#[cfg(test)]
-mod tests;

@@ -9,6 +9,3 @@ mod weights;
 
 pub use memory::Memory;
 pub use weights::Weights;
-
-#[cfg(test)]
-mod tests;

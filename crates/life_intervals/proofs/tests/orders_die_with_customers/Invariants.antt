@@ -1,5 +1,0 @@
--- The test counts on the ledger that its blank stands for.
-use Rattle.life_intervals.proofs.tests.orders_die_with_customers.Given as goal
-
-abbrev pub ghosts-assert_families : goal.ghosts-assert_families
-ghosts-assert_families g a = record { name = a.blank.name; parts = a.blank.parts }

@@ -1,0 +1,138 @@
+//! Values from outside: the sides of rectangles, worked out by hand, and what an independent program gave, written in Python from
+//! the rules of the placement and of Philox4x32-10, with unbounded integers and no shared code (docs/SECOND_PROGRAM.md). Rounds and
+//! tables are held to the same ones.
+
+ghost use Rattle.std.specs.Prelude.{◌≡◌, ℕ, ◌<◌};
+
+use crate::checksums::CHECKSUMS;
+use id_permutation::{Order, tables_pay};
+use std::alloc::Global;
+use std::marker::Brand;
+use std::mem::size_of;
+use std::process::Abort;
+use std::sync::ledger::{Blank, Ledger};
+use step_count::Steps;
+
+const PROJECT_SEED: u64 = 0x0123_4567_89ab_cdef;
+
+// The places of small permutations, in the order of their numbers.
+const SMALL: [&[u64]; 4] = [&[0], &[1, 0], &[2, 0, 1], &[4, 3, 2, 5, 1, 6, 0]];
+
+// Some numbers of a permutation of 2^40 and their places.
+const BY_ROUNDS: [(u64, u64); 4] = [
+    (0, 892_157_598_016),
+    (1, 723_745_736_157),
+    (123_456_789_012, 268_230_368_638),
+    ((1 << 40) - 1, 998_511_941_863),
+];
+
+// The same of 2^32.
+const BY_TABLES: [(u64, u64); 4] = [
+    (0, 3_342_709_767),
+    (1, 2_247_032_419),
+    (1_234_567_890, 4_288_376_147),
+    ((1 << 32) - 1, 3_934_091_137),
+];
+
+fn assert_place<L: Ledger>(
+    rt: &impl Abort,
+    order: &Order,
+    x: u64,
+    place: u64,
+    steps: &mut Steps<L>,
+) {
+    assert!(rt; x < order.size() && place < order.size());
+    let found = order.place(x, steps);
+    let undone = order.unplace(place, steps);
+    assert!(rt; found == place && undone == x, "the place of {x}");
+}
+
+fn assert_places<L: Ledger>(rt: &impl Abort, order: &Order, places: &[u64], steps: &mut Steps<L>) {
+    assert!(rt; order.size() == places.len() as u64);
+    let mut x = 0u64;
+    for place in places {
+        assert_place(rt, order, x, *place, steps);
+        x = x.wrapping_add(1);
+    }
+}
+
+fn assert_small<L: Ledger>(rt: &impl Abort, alloc: Global, steps: &mut Steps<L>) {
+    for places in SMALL {
+        let size = places.len() as u64;
+        assert!(rt; 1 <= size && size < 1000);
+        assert_places(rt, &Order::by_rounds(size, 0), places, steps);
+        let tables = Order::by_tables(alloc, size, 0).expect(rt, "memory");
+        assert_places(rt, &tables, places, steps);
+    }
+}
+
+fn assert_checksum<L: Ledger>(rt: &impl Abort, order: &Order, wanted: u64, steps: &mut Steps<L>) {
+    let mut sum = 0u64;
+    for x in 0..order.size() {
+        sum = sum
+            .wrapping_mul(1_000_003)
+            .wrapping_add(order.place(x, steps));
+    }
+    let size = order.size();
+    assert!(rt; sum == wanted, "the checksum of {size}");
+}
+
+fn assert_checksums<L: Ledger>(rt: &impl Abort, alloc: Global, steps: &mut Steps<L>) {
+    let mut size = 0u64;
+    for (by_zero, by_project) in &CHECKSUMS {
+        size = size.wrapping_add(1);
+        assert!(rt; 1 <= size && size <= 200);
+        for (seed, sum) in [(0, *by_zero), (PROJECT_SEED, *by_project)] {
+            assert_checksum(rt, &Order::by_rounds(size, seed), sum, steps);
+            let tables = Order::by_tables(alloc, size, seed).expect(rt, "memory");
+            assert_checksum(rt, &tables, sum, steps);
+        }
+    }
+}
+
+fn assert_large<L: Ledger>(rt: &impl Abort, alloc: Global, steps: &mut Steps<L>) {
+    let rounds = Order::by_rounds(1 << 40, 0);
+    for (x, place) in BY_ROUNDS {
+        assert_place(rt, &rounds, x, place, steps);
+    }
+    let tables = Order::by_tables(alloc, 1 << 32, 0).expect(rt, "memory");
+    for (x, place) in BY_TABLES {
+        assert_place(rt, &tables, x, place, steps);
+    }
+}
+
+fn assert_permutations<L: Ledger>(rt: &impl Abort, alloc: Global, blank: Blank)
+    requires name { blank.name ≡ L.name }
+    requires parts { blank.parts ≡ L.parts }
+    requires some { 0 < blank.parts }
+{
+    let mut steps = Steps::<L>::new(blank);
+    assert_small(rt, alloc, &mut steps);
+    assert_checksums(rt, alloc, &mut steps);
+    assert_large(rt, alloc, &mut steps);
+}
+
+#[test]
+fn permutations_are_as_worked_out(rt: HostRuntime) {
+    assert_permutations::<Brand>(&rt, rt.alloc(), Blank::new(1));
+}
+
+// The tables have three times as many entries as the rectangle has rows and columns: 1 and 1, 2 and 1, 2 and 2, 3 and 3, and
+// 2^16 and 2^16.
+#[test]
+fn tables_pay_from_as_many_rows_as_entries(rt: HostRuntime) {
+    for (size, entries) in [(1, 6), (2, 9), (3, 12), (7, 18), (1 << 32, 393_216)] {
+        assert!(rt; 1 <= size);
+        let one_less = tables_pay(size, u64::wrapping_sub(entries, 1));
+        assert!(rt; !one_less && tables_pay(size, entries), "tables of {size}");
+    }
+    assert!(rt; !tables_pay((1 << 32) + 1, u64::MAX));
+}
+
+fn is_shared<T: Send + Sync>(_shared: &T) {}
+
+#[test]
+fn an_order_is_small_and_shared_by_threads(rt: HostRuntime) {
+    is_shared(&Order::in_place(0));
+    assert!(rt; size_of::<Order>() <= 40);
+}

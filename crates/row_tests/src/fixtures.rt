@@ -1,0 +1,112 @@
+//! What several tests need: plans of schemas, checksums, and the schema of sales.
+
+ghost use Rattle.std.specs.Prelude.{◌≡◌, ◌<◌, is_some, length, true};
+ghost use Rattle.schema_plan.specs.References.{reference_at};
+ghost use Rattle.life_intervals.specs.Generator.{rows_in_all, table_of};
+
+use dictionaries::read_dictionary;
+use life_intervals::born;
+use schema_check::check;
+use schema_plan::{Dictionaries, Plan, ReadyKind};
+use schema_read::read_schema;
+use std::alloc::Global;
+use std::process::Abort;
+
+/// The plan of the schema whose text these parts make, one behind the other. It may cite the dictionary `n`, of three words.
+pub(crate) fn plan_of(rt: &impl Abort, alloc: Global, parts: &[&str]) -> Plan {
+    let mut text = String::new(alloc);
+    for part in parts {
+        text.push_str(part).expect(rt, "memory");
+    }
+    let Ok(schema) = read_schema(alloc, text.as_bytes()) else {
+        panic!(rt; "no schema");
+    };
+    let Ok(plan) = check(alloc, schema, three_words(rt, alloc)) else {
+        panic!(rt; "no plan");
+    };
+    plan
+}
+
+fn three_words(rt: &impl Abort, alloc: Global) -> Dictionaries {
+    let Ok(words) = read_dictionary(alloc, b"Ann\t3\nBo\nA|b\t2\n") else {
+        panic!(rt; "no dictionary");
+    };
+    let mut all = Dictionaries::new(alloc);
+    all.push("n", words).expect(rt, "memory");
+    all
+}
+
+/// A case has to hold; the two numbers say which one it is.
+pub(crate) fn assert_case(rt: &impl Abort, holds: bool, of: u64, number: u64) {
+    assert!(rt; holds, "case {number} of {of}");
+}
+
+/// A checksum, and a number behind what it stands for.
+pub(crate) fn with_number(sum: u64, number: u64) -> u64 {
+    sum.wrapping_mul(1_000_003).wrapping_add(number)
+}
+
+/// A checksum, and a text behind what it stands for.
+pub(crate) fn with_text(sum: u64, text: &[u8]) -> u64 {
+    let mut sum = sum;
+    for byte in text {
+        sum = with_number(sum, u64::from(*byte));
+    }
+    sum
+}
+
+/// Whether there is a table at a place, and a row of this ordinal in it.
+pub(crate) fn is_row(plan: &Plan, table: u32, row: u64) -> bool
+    ensures table { result ≡ true → table < length plan.now.schema.tables }
+    ensures row { result ≡ true → row < rows_in_all plan.now table }
+{
+    table < plan.tables() && row < born(plan, table, plan.units())
+}
+
+/// Whether the column behind the key is a reference.
+pub(crate) fn has_parents(plan: &Plan, table: u32) -> bool
+    requires { table < length plan.now.schema.tables }
+    ensures { result ≡ true → is_some (reference_at (table_of plan.now table) 1) ≡ true }
+{
+    let columns = plan.columns(table);
+    columns.len() >= 2 && matches!(columns[1].kind, ReadyKind::Reference(_))
+}
+
+/// Customers, one at each unit, who live three units and change every two; orders, each of the oldest customer of the last three
+/// units, with the birth of that, that would live nine; and lines, each of the order of its own unit, with a label that has the
+/// order's key, and with the order's customer.
+pub(crate) const SALES: &str = r#"
+seed = 7
+units = 5
+[[table]]
+name = "customers"
+rows = 1
+insert = 1
+life = [3, 3]
+update = 2
+column = [
+    { name = "id", kind = "key", base = 1 },
+    { name = "born", kind = "born" },
+    { name = "changed", kind = "changed" },
+]
+[[table]]
+name = "orders"
+rows = 1
+insert = 1
+life = [9, 9]
+column = [
+    { name = "id", kind = "key", base = 1 },
+    { name = "customer", kind = "ref", table = "customers", window = 2 },
+    { name = "since", kind = "lookup", via = "customer", column = "born" },
+]
+[[table]]
+name = "lines"
+rows = 1
+insert = 1
+column = [
+    { name = "id", kind = "key", base = 1 },
+    { name = "order_id", kind = "ref", table = "orders", window = 0 },
+    { name = "label", kind = "template", parts = ["o", { column = "order_id" }] },
+    { name = "payer", kind = "lookup", via = "order_id", column = "customer" },
+]
+"#;

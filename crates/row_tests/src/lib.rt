@@ -1,0 +1,17 @@
+//! The tests of the crates that make rows, of `row_text`, `draw_values`, `life_intervals`, `row_lines` and `update_box`.
+#![tactic(auto)]
+
+#[cfg(test)]
+mod fixtures;
+#[cfg(test)]
+mod life_tests;
+#[cfg(test)]
+mod line_tests;
+#[cfg(test)]
+mod text_tests;
+#[cfg(test)]
+mod told;
+#[cfg(test)]
+mod update_tests;
+#[cfg(test)]
+mod value_tests;

@@ -1,0 +1,525 @@
+//! Lines, key lines and reports worked out by hand, and texts that an independent program wrote, in Python from the rules of
+//! cohorts, keys and lines, with no shared code (docs/SECOND_PROGRAM.md).
+
+ghost use Rattle.std.specs.Prelude.{◌≡◌, ◌<◌, ◌≤◌, length, true};
+ghost use Rattle.schema_plan.specs.Cohorts.{born_count, cohort_size};
+ghost use Rattle.schema_plan.specs.Layout.{layout_of};
+ghost use Rattle.schema_plan.specs.TableFacts.{max_line};
+ghost use Rattle.life_intervals.specs.Generator.{generator_of, last_unit, table_of};
+ghost use Rattle.life_intervals.specs.Intervals.{is_live};
+ghost use Rattle.life_intervals.specs.CohortOrders.{cohort_orders};
+ghost use Rattle.row_lines.specs.CohortLines.{is_live_for, layout_for};
+
+use crate::fixtures::{SALES, has_parents, is_row, with_text};
+use crate::told::{Told, assert_all};
+use life_intervals::{CohortOrders, Survival, born, cohort, cohort_orders, key, parent};
+use line_pages::PageBuf;
+use row_lines::{CohortLines, live, put_key, put_line, row_report};
+use schema_plan::Plan;
+use std::alloc::Global;
+use std::marker::Brand;
+use std::sync::ledger::{Blank, Ledger};
+use step_count::Steps;
+
+/// Whether the row, which is alive at the unit, has this line then.
+fn is_line<L: Ledger>(
+    alloc: Global,
+    plan: &Plan,
+    table: u32,
+    row: u64,
+    unit: u64,
+    line: &str,
+    steps: &mut Steps<L>,
+) -> bool
+    requires table { table < length plan.now.schema.tables }
+    requires unit { unit ≤ last_unit plan.now }
+    requires born { row < born_count (table_of plan.now table).births unit }
+    requires alive { is_live (generator_of plan.now) table unit row ≡ true }
+{
+    match PageBuf::with_room(alloc, plan.max_line(table) as usize) {
+        Ok(page) => {
+            let mut page = page;
+            put_line(plan, table, row, unit, &mut page, steps);
+            page.text() == line.as_bytes()
+        }
+        Err(_) => false,
+    }
+}
+
+fn has_line<L: Ledger>(
+    alloc: Global,
+    plan: &Plan,
+    table: u32,
+    row: u64,
+    unit: u64,
+    line: &str,
+    steps: &mut Steps<L>,
+) -> bool {
+    is_row(plan, table, row)
+        && unit <= plan.units()
+        && row < born(plan, table, unit)
+        && live(plan, table, row, unit, steps)
+        && is_line(alloc, plan, table, row, unit, line, steps)
+}
+
+fn has_key_line<L: Ledger>(
+    alloc: Global,
+    plan: &Plan,
+    table: u32,
+    row: u64,
+    line: &str,
+    steps: &mut Steps<L>,
+) -> bool {
+    if !is_row(plan, table, row) {
+        return false;
+    }
+    match PageBuf::with_room(alloc, 21) {
+        Ok(page) => {
+            let mut page = page;
+            put_key(plan, table, row, &mut page, steps);
+            page.text() == line.as_bytes()
+        }
+        Err(_) => false,
+    }
+}
+
+fn is_live_at<L: Ledger>(
+    plan: &Plan,
+    table: u32,
+    row: u64,
+    unit: u64,
+    is_live: bool,
+    steps: &mut Steps<L>,
+) -> bool {
+    is_row(plan, table, row)
+        && unit <= plan.units()
+        && live(plan, table, row, unit, steps) == is_live
+}
+
+fn has_report<L: Ledger>(
+    alloc: Global,
+    plan: &Plan,
+    table: u32,
+    key: u64,
+    unit: u64,
+    report: &str,
+    steps: &mut Steps<L>,
+) -> bool {
+    if table >= plan.tables() || unit > plan.units() || plan.max_line(table) > 100 {
+        return false;
+    }
+    match PageBuf::with_room(alloc, 228) {
+        Ok(page) => {
+            let mut page = page;
+            let found = row_report(plan, table, key, unit, &mut page, steps);
+            found != report.is_empty() && page.text() == report.as_bytes()
+        }
+        Err(_) => false,
+    }
+}
+
+/// The key of the parent that a row of a table has in that at place 0 by the column behind the key.
+fn key_of_parent<L: Ledger>(
+    plan: &Plan,
+    table: u32,
+    row: u64,
+    steps: &mut Steps<L>,
+) -> Option<u64> {
+    if !is_row(plan, table, row) || !has_parents(plan, table) {
+        return None;
+    }
+    let parent = parent(plan, table, row, 1, steps);
+    if is_row(plan, 0, parent) {
+        Some(key(plan, 0, parent, steps))
+    } else {
+        None
+    }
+}
+
+fn is_child<L: Ledger>(
+    alloc: Global,
+    plan: &Plan,
+    table: u32,
+    row: u64,
+    own: &str,
+    steps: &mut Steps<L>,
+) -> bool {
+    let parent = key_of_parent(plan, table, row, steps).unwrap_or(0);
+    match format!(in alloc; "{own}\t{parent}\n") {
+        Ok(line) => has_line(alloc, plan, table, row, 0, line.as_str(), steps),
+        Err(_) => false,
+    }
+}
+
+/// A checksum, and behind what it stands for the line of a row of a cohort.
+fn with_line<L: Ledger>(
+    alloc: Global,
+    lines: &CohortLines<'_>,
+    room: usize,
+    index: u64,
+    sum: u64,
+    steps: &mut Steps<L>,
+) -> u64
+    requires row { index < cohort_size (layout_for lines.now).births lines.now.born }
+    requires alive { is_live_for lines.now index ≡ true }
+    requires room { max_line (layout_of lines.now.plan) lines.now.table ≤ room }
+{
+    match PageBuf::with_room(alloc, room) {
+        Ok(page) => {
+            let mut page = page;
+            lines.put_line(index, &mut page, steps);
+            with_text(sum, page.text())
+        }
+        Err(_) => 0,
+    }
+}
+
+/// The same by the orders of the cohort, where lives say that all of it are alive at the unit.
+fn with_sure_line<L: Ledger>(
+    alloc: Global,
+    plan: &Plan,
+    born: u64,
+    unit: u64,
+    orders: &CohortOrders,
+    index: u64,
+    sum: u64,
+    steps: &mut Steps<L>,
+) -> u64
+    requires table { 0 < length plan.now.schema.tables }
+    requires born { born ≤ unit }
+    requires unit { unit ≤ last_unit plan.now }
+    requires orders { orders.now ≡ cohort_orders plan.now 0 born }
+    requires row { index < cohort_size (table_of plan.now 0).births born }
+{
+    let lines = CohortLines::new(plan, 0, born, unit, orders, &[]);
+    let room = plan.max_line(0) as usize;
+    match lines.survival() {
+        Survival::Sure => with_line(alloc, &lines, room, index, sum, steps),
+        _ => 0,
+    }
+}
+
+/// The same of all rows of a cohort.
+fn with_cohort<L: Ledger>(
+    alloc: Global,
+    plan: &Plan,
+    born: u64,
+    unit: u64,
+    sum: u64,
+    steps: &mut Steps<L>,
+) -> u64
+    requires table { 0 < length plan.now.schema.tables }
+    requires born { born ≤ unit }
+    requires unit { unit ≤ last_unit plan.now }
+{
+    let orders = cohort_orders(plan, 0, born);
+    let mut sum = sum;
+    for index in 0..cohort(plan, 0, born).size {
+        sum = with_sure_line(alloc, plan, born, unit, &orders, index, sum, steps);
+    }
+    sum
+}
+
+fn has_text<L: Ledger>(alloc: Global, plan: &Plan, sum: u64, steps: &mut Steps<L>) -> bool {
+    if plan.tables() != 1 {
+        return false;
+    }
+    let _limits = plan.schema(); // there are at most 10,000 units
+    let last = plan.units();
+    let mut so_far = 0;
+    for born in 0..last + 1 {
+        so_far = with_cohort(alloc, plan, born, last, so_far, steps);
+    }
+    so_far == sum
+}
+
+/// Whether what is told of lines holds.
+pub(crate) fn has_lines_as_told<L: Ledger>(
+    alloc: Global,
+    plan: &Plan,
+    table: u32,
+    number: u64,
+    told: Told<'_>,
+    steps: &mut Steps<L>,
+) -> bool {
+    match told {
+        Told::Line(unit, line) => has_line(alloc, plan, table, number, unit, line, steps),
+        Told::KeyLine(line) => has_key_line(alloc, plan, table, number, line, steps),
+        Told::Live(unit, live) => is_live_at(plan, table, number, unit, live, steps),
+        Told::Report(unit, report) => has_report(alloc, plan, table, number, unit, report, steps),
+        Told::Child(own) => is_child(alloc, plan, table, number, own, steps),
+        Told::Text(sum) => has_text(alloc, plan, sum, steps),
+        _ => false,
+    }
+}
+
+/// A row at each unit of three.
+const ONE: &str = r#"
+seed = 7
+units = 2
+[[table]]
+name = "t"
+rows = 1
+insert = 1
+"#;
+
+/// As many rows as a table may have, all at unit 0.
+const LARGE: &str = r#"
+seed = 7
+units = 0
+[[table]]
+name = "t"
+rows = 1099511627776
+"#;
+
+/// A row at each unit but 0, as many units as there may be.
+const LONG: &str = r#"
+seed = 7
+units = 10000
+[[table]]
+name = "t"
+rows = 0
+insert = 1
+"#;
+
+const BIRTHS: &str = r#"
+column = [
+    { name = "id", kind = "key", base = 1 },
+    { name = "born", kind = "born" },
+]
+"#;
+
+const SCRAMBLED_BIRTHS: &str = r#"
+column = [
+    { name = "id", kind = "key", base = 1, scramble = true },
+    { name = "born", kind = "born" },
+]
+"#;
+
+/// Scrambled keys, units of birth of which half are null, and labels of these of which 300 of a thousand are: an r, the key, a tab,
+/// the unit of birth, a mark and the key again.
+const LABELLED: &str = r#"
+seed = 7
+units = 2
+[[table]]
+name = "t"
+rows = 4
+insert = 2
+column = [
+    { name = "id", kind = "key", base = 1, scramble = true },
+    { name = "born", kind = "born", null = 500 },
+    { name = "label", kind = "template", null = 300, parts = [
+        "r", { column = "id" }, "\t", { column = "born" }, "!", { column = "id" },
+    ] },
+]
+"#;
+
+/// Four parents with scrambled keys, and four children of any of them.
+const SCRAMBLED_PARENTS: &str = r#"
+seed = 7
+units = 0
+[[table]]
+name = "parents"
+rows = 4
+column = [{ name = "id", kind = "key", base = 1, scramble = true }]
+[[table]]
+name = "children"
+rows = 4
+column = [
+    { name = "id", kind = "key", base = 1 },
+    { name = "parent", kind = "ref", table = "parents", window = "all" },
+]
+"#;
+
+/// 1,000 rows at unit 0, and 10 at each later unit.
+const THOUSAND: &str = r#"
+seed = 7
+units = 5
+[[table]]
+name = "t"
+rows = 1000
+insert = 10
+"#;
+
+/// A row at each unit that lives three and changes every two.
+const CUSTOMERS: &str = r#"
+seed = 7
+units = 5
+[[table]]
+name = "customers"
+rows = 1
+insert = 1
+life = [3, 3]
+update = 2
+column = [
+    { name = "id", kind = "key", base = 1 },
+    { name = "born", kind = "born" },
+    { name = "changed", kind = "changed" },
+]
+"#;
+
+const KEYS: &str = r#"
+column = [{ name = "id", kind = "key", base = 1 }]
+"#;
+
+/// A row at each unit of three.
+const ONE_ROWS: &[(u32, u64, Told<'static>)] = &[
+    (0, 0, Told::Line(2, "1\t0\n")),
+    (0, 1, Told::Line(2, "2\t1\n")),
+    (0, 2, Told::Line(2, "3\t2\n")),
+    (0, 0, Told::KeyLine("1\n")),
+    (0, 1, Told::KeyLine("2\n")),
+    (0, 2, Told::KeyLine("3\n")),
+];
+
+// By hand: a cohort of one row has its key in place. From the Python program: the last key of the large table, scrambled; a label, one
+// that cites a null unit, and one that is null itself; and the numbers that texts of 1,050 lines make.
+const LINES: &[(&[&str], &[(u32, u64, Told<'static>)])] = &[
+    (&[ONE, BIRTHS], ONE_ROWS),
+    (&[ONE, SCRAMBLED_BIRTHS], ONE_ROWS),
+    (
+        &[LARGE, BIRTHS],
+        &[
+            (0, 1_099_511_627_775, Told::Line(0, "1099511627776\t0\n")),
+            (0, 1_099_511_627_775, Told::KeyLine("1099511627776\n")),
+        ],
+    ),
+    (
+        &[LARGE, SCRAMBLED_BIRTHS],
+        &[
+            (0, 1_099_511_627_775, Told::Line(0, "91737330597\t0\n")),
+            (0, 1_099_511_627_775, Told::KeyLine("91737330597\n")),
+        ],
+    ),
+    (
+        &[LONG, BIRTHS],
+        &[
+            (0, 9_999, Told::Line(10_000, "10000\t10000\n")),
+            (0, 9_999, Told::KeyLine("10000\n")),
+        ],
+    ),
+    (
+        &[LABELLED],
+        &[
+            (0, 0, Told::Line(2, "3\t\\N\t\\N\n")),
+            (0, 0, Told::KeyLine("3\n")),
+            (0, 3, Told::Line(2, "1\t0\tr1\\t0!1\n")),
+            (0, 3, Told::KeyLine("1\n")),
+            (0, 4, Told::Line(2, "6\t1\tr6\\t1!6\n")),
+            (0, 4, Told::KeyLine("6\n")),
+            (0, 5, Told::Line(2, "5\t\\N\tr5\\t!5\n")),
+            (0, 5, Told::KeyLine("5\n")),
+        ],
+    ),
+    (
+        &[THOUSAND, BIRTHS],
+        &[(0, 0, Told::Text(9_241_165_838_321_129_305))],
+    ),
+    (
+        &[THOUSAND, SCRAMBLED_BIRTHS],
+        &[(0, 0, Told::Text(9_490_844_110_043_729_951))],
+    ),
+];
+
+#[test]
+fn lines_and_keys(rt: HostRuntime) {
+    assert_all::<Brand>(&rt, rt.alloc(), LINES, Blank::new(1));
+}
+
+// By hand: a row that lives for two units is there from its birth on, for as long as it lives. The orders 0 to 2 are of customer 0, and
+// order 3 of customer 1; order 0 dies with its customer at unit 3. The keys of scrambled parents are those of `life_intervals`.
+const FAMILIES: &[(&[&str], &[(u32, u64, Told<'static>)])] = &[
+    (
+        &[ONE, "life = [2, 2]", BIRTHS],
+        &[
+            (0, 0, Told::Live(0, true)),
+            (0, 0, Told::Live(1, true)),
+            (0, 0, Told::Live(2, false)),
+            (0, 1, Told::Live(0, false)),
+            (0, 1, Told::Live(1, true)),
+            (0, 1, Told::Live(2, true)),
+            (0, 2, Told::Live(1, false)),
+            (0, 2, Told::Live(2, true)),
+        ],
+    ),
+    (
+        &[SALES],
+        &[
+            (0, 0, Told::Line(2, "1\t0\t1\n")),
+            (0, 1, Told::Line(2, "2\t1\t2\n")),
+            (0, 2, Told::Line(2, "3\t2\t2\n")),
+            (1, 0, Told::Line(2, "1\t1\t0\n")),
+            (1, 1, Told::Line(2, "2\t1\t0\n")),
+            (1, 2, Told::Line(2, "3\t1\t0\n")),
+            (1, 3, Told::Line(3, "4\t2\t1\n")),
+            (2, 0, Told::Line(2, "1\t1\to1\t1\n")),
+            (2, 1, Told::Line(2, "2\t2\to2\t1\n")),
+            (2, 2, Told::Line(2, "3\t3\to3\t1\n")),
+            (2, 3, Told::Line(3, "4\t4\to4\t2\n")),
+            (1, 0, Told::Live(2, true)),
+            (1, 0, Told::Live(3, false)),
+        ],
+    ),
+    (
+        &[SCRAMBLED_PARENTS],
+        &[
+            (1, 0, Told::Child("1")),
+            (1, 1, Told::Child("2")),
+            (1, 2, Told::Child("3")),
+            (1, 3, Told::Child("4")),
+        ],
+    ),
+];
+
+#[test]
+fn families(rt: HostRuntime) {
+    assert_all::<Brand>(&rt, rt.alloc(), FAMILIES, Blank::new(1));
+}
+
+// By hand: a row is there for three units from its birth, and changes one unit behind it and then every two. A table of keys alone
+// holds each row to its end.
+const REPORTS: &[(&[&str], &[(u32, u64, Told<'static>)])] = &[
+    (
+        &[CUSTOMERS],
+        &[
+            (
+                0,
+                1,
+                Told::Report(2, "born 0\ngone 3\nstate live\nchanged 1\n1\t0\t1\n"),
+            ),
+            (0, 1, Told::Report(3, "born 0\ngone 3\nstate dead\n")),
+            (
+                0,
+                3,
+                Told::Report(2, "born 2\ngone 5\nstate live\nchanged 2\n3\t2\t2\n"),
+            ),
+            (0, 5, Told::Report(2, "born 4\ngone never\nstate unborn\n")),
+            (
+                0,
+                5,
+                Told::Report(5, "born 4\ngone never\nstate live\nchanged 5\n5\t4\t5\n"),
+            ),
+            (0, 0, Told::Report(2, "")),
+            (0, 7, Told::Report(2, "")),
+        ],
+    ),
+    (
+        &[LARGE, KEYS],
+        &[
+            (
+                0,
+                1_099_511_627_776,
+                Told::Report(
+                    0,
+                    "born 0\ngone never\nstate live\nchanged 0\n1099511627776\n",
+                ),
+            ),
+            (0, 1_099_511_627_777, Told::Report(0, "")),
+        ],
+    ),
+];
+
+#[test]
+fn reports_on_rows(rt: HostRuntime) {
+    assert_all::<Brand>(&rt, rt.alloc(), REPORTS, Blank::new(1));
+}

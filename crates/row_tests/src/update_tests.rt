@@ -1,0 +1,257 @@
+//! Values from outside: the lists of small tables worked out by hand, and those of a larger one that an independent program gave,
+//! written in Python from the rules of the simulation, with no shared code (docs/SECOND_PROGRAM.md).
+
+ghost use Rattle.std.specs.Prelude.{◌<◌, length};
+
+use crate::fixtures::{SALES, with_number};
+use crate::told::{Ordinals, Told, assert_all};
+use life_intervals::Cohort;
+use schema_plan::Plan;
+use std::alloc::Global;
+use std::marker::Brand;
+use std::sync::ledger::{Blank, Ledger};
+use step_count::Steps;
+use update_box::{UnitRows, unit_rows};
+
+fn are(rows: &[u64], told: Ordinals<'_>) -> bool {
+    match told {
+        Ordinals::Are(expected) => rows == expected,
+        Ordinals::Count(count, expected) => {
+            let mut sum = 0;
+            for row in rows {
+                sum = with_number(sum, *row);
+            }
+            rows.len() == count && sum == expected
+        }
+    }
+}
+
+fn has_changes(
+    rows: &UnitRows,
+    table: u32,
+    deleted: Ordinals<'_>,
+    updated: Ordinals<'_>,
+    inserted: Cohort,
+) -> bool
+    requires { table < length rows.now.tables }
+{
+    are(rows.dels(table), deleted) && are(rows.upds(table), updated) && rows.ins(table) == inserted
+}
+
+/// Whether a unit changes this in a table.
+pub(crate) fn changes_as_told<L: Ledger>(
+    alloc: Global,
+    plan: &Plan,
+    table: u32,
+    unit: u64,
+    told: Told<'_>,
+    steps: &mut Steps<L>,
+) -> bool {
+    let Told::Changes(deleted, updated, first, size) = told else {
+        return false;
+    };
+    if unit < 1 || unit > plan.units() || table >= plan.tables() {
+        return false;
+    }
+    match unit_rows(alloc, plan, unit, steps) {
+        Ok(rows) => {
+            rows.unit() == unit
+                && has_changes(&rows, table, deleted, updated, Cohort { first, size })
+        }
+        Err(_) => false,
+    }
+}
+
+/// A row at each unit, that lives for two.
+const MORTAL: &str = r#"
+seed = 7
+units = 4
+[[table]]
+name = "t"
+rows = 1
+insert = 1
+life = [2, 2]
+column = [{ name = "id", kind = "key", base = 1 }]
+"#;
+
+/// A row at each unit, that lives for four.
+const CHANGING: &str = r#"
+seed = 7
+units = 6
+[[table]]
+name = "t"
+rows = 1
+insert = 1
+life = [4, 4]
+update = 2
+column = [{ name = "id", kind = "key", base = 1 }]
+"#;
+
+/// A table in whose 300 rows of unit 0 lives and changes differ.
+const LARGER: &str = r#"
+seed = 7
+units = 6
+[[table]]
+name = "t"
+rows = 300
+insert = 20
+life = [2, 5]
+update = 3
+column = [{ name = "id", kind = "key", base = 1, scramble = true }]
+"#;
+
+// By hand: rows live for two units; or for four, and change at the ages 1 and 3. An order is of the oldest customer that is born in its
+// window, so orders 0 to 2 are of customer 0, who dies at unit 3, and order 3 is of customer 1. A line is of the order of its unit. The
+// numbers of the larger table are from the Python program.
+const TABLES: &[(&[&str], &[(u32, u64, Told<'static>)])] = &[
+    (
+        &[MORTAL],
+        &[
+            (
+                0,
+                1,
+                Told::Changes(Ordinals::Are(&[]), Ordinals::Are(&[]), 1, 1),
+            ),
+            (
+                0,
+                2,
+                Told::Changes(Ordinals::Are(&[0]), Ordinals::Are(&[]), 2, 1),
+            ),
+            (
+                0,
+                3,
+                Told::Changes(Ordinals::Are(&[1]), Ordinals::Are(&[]), 3, 1),
+            ),
+            (
+                0,
+                4,
+                Told::Changes(Ordinals::Are(&[2]), Ordinals::Are(&[]), 4, 1),
+            ),
+        ],
+    ),
+    (
+        &[CHANGING],
+        &[
+            (
+                0,
+                1,
+                Told::Changes(Ordinals::Are(&[]), Ordinals::Are(&[0]), 1, 1),
+            ),
+            (
+                0,
+                2,
+                Told::Changes(Ordinals::Are(&[]), Ordinals::Are(&[1]), 2, 1),
+            ),
+            (
+                0,
+                3,
+                Told::Changes(Ordinals::Are(&[]), Ordinals::Are(&[0, 2]), 3, 1),
+            ),
+            (
+                0,
+                4,
+                Told::Changes(Ordinals::Are(&[0]), Ordinals::Are(&[1, 3]), 4, 1),
+            ),
+            (
+                0,
+                5,
+                Told::Changes(Ordinals::Are(&[1]), Ordinals::Are(&[2, 4]), 5, 1),
+            ),
+            (
+                0,
+                6,
+                Told::Changes(Ordinals::Are(&[2]), Ordinals::Are(&[3, 5]), 6, 1),
+            ),
+        ],
+    ),
+    (
+        &[SALES],
+        &[
+            (
+                0,
+                3,
+                Told::Changes(Ordinals::Are(&[0]), Ordinals::Are(&[2]), 3, 1),
+            ),
+            (
+                1,
+                3,
+                Told::Changes(Ordinals::Are(&[0, 1, 2]), Ordinals::Are(&[]), 3, 1),
+            ),
+            (
+                2,
+                3,
+                Told::Changes(Ordinals::Are(&[0, 1, 2]), Ordinals::Are(&[]), 3, 1),
+            ),
+        ],
+    ),
+    (
+        &[LARGER],
+        &[
+            (
+                0,
+                1,
+                Told::Changes(
+                    Ordinals::Count(0, 0),
+                    Ordinals::Count(100, 11_045_530_965_034_260_265),
+                    300,
+                    20,
+                ),
+            ),
+            (
+                0,
+                2,
+                Told::Changes(
+                    Ordinals::Count(75, 18_198_970_329_443_324_737),
+                    Ordinals::Count(82, 12_008_463_823_287_537_212),
+                    320,
+                    20,
+                ),
+            ),
+            (
+                0,
+                3,
+                Told::Changes(
+                    Ordinals::Count(80, 10_808_466_508_335_604_351),
+                    Ordinals::Count(59, 3_862_043_155_133_554_218),
+                    340,
+                    20,
+                ),
+            ),
+            (
+                0,
+                4,
+                Told::Changes(
+                    Ordinals::Count(85, 2_252_893_688_869_345_310),
+                    Ordinals::Count(44, 17_840_246_835_995_527_560),
+                    360,
+                    20,
+                ),
+            ),
+            (
+                0,
+                5,
+                Told::Changes(
+                    Ordinals::Count(90, 6_936_739_866_874_783_261),
+                    Ordinals::Count(16, 7_130_282_922_571_438_732),
+                    380,
+                    20,
+                ),
+            ),
+            (
+                0,
+                6,
+                Told::Changes(
+                    Ordinals::Count(20, 12_765_703_532_418_090_129),
+                    Ordinals::Count(16, 12_437_086_227_510_991_730),
+                    400,
+                    20,
+                ),
+            ),
+        ],
+    ),
+];
+
+#[test]
+fn units_change_tables(rt: HostRuntime) {
+    assert_all::<Brand>(&rt, rt.alloc(), TABLES, Blank::new(1));
+}

@@ -1,0 +1,651 @@
+//! Values worked out by hand, and values that an independent program drew, in Python from the rules of seeds and values, with
+//! no shared code (docs/SECOND_PROGRAM.md).
+
+ghost use Rattle.std.specs.Prelude.{◌≡◌, ◌<◌, ◌≤◌, ℕ, ◌-◌, ◌^◌, pos, neg_ℤ, [], ◌∷◌, Some, codes, length, map, true};
+ghost use Rattle.std.specs.Bool.{OnTrue};
+ghost use Rattle.schema_plan.specs.Layout.{column_at, int_leaf, layout_of, table_at};
+ghost use Rattle.schema_plan.specs.TableFacts.{max_line};
+ghost use Rattle.draw_values.specs.Values.{is_own, leaf_value, size_at};
+
+use crate::fixtures::{assert_case, plan_of, with_text};
+use draw_values::{CohortValues, Put, RowAt, UnitDraws, put_value, unit_draws};
+use line_pages::PageBuf;
+use schema_plan::{Plan, ReadyKind, ReadyLeaf};
+use std::alloc::Global;
+use std::process::Abort;
+
+/// Whether the first table has a column of this place, of units or of drawn values.
+fn is_own_column(plan: &Plan, column: usize) -> bool
+    requires { 0 < length plan.now.schema.tables }
+    ensures within { OnTrue result (column < length (table_at (layout_of plan.now).tables 0).columns) }
+    ensures own { OnTrue result (is_own (column_at (table_at (layout_of plan.now).tables 0).columns column).kind ≡ true) }
+    ensures size { OnTrue result (size_at (layout_of plan.now) 0 column ≤ max_line (layout_of plan.now) 0) }
+{
+    match plan.columns(0).get(column) {
+        Some(ready) => match &ready.kind {
+            ReadyKind::Born | ReadyKind::Changed | ReadyKind::Drawn(_) | ReadyKind::Case { .. } =>
+                true,
+            _ => false,
+        },
+        None => false,
+    }
+}
+
+/// Whether the column of this place in the first table is a case.
+fn is_case(plan: &Plan, column: usize) -> bool
+    requires { 0 < length plan.now.schema.tables }
+{
+    match plan.columns(0).get(column) {
+        Some(ready) => matches!(ready.kind, ReadyKind::Case { .. }),
+        None => false,
+    }
+}
+
+/// Appends what a field holds, and a semicolon.
+fn push_field(put: Put, field: &[u8], text: &mut Vec<u8>) -> bool {
+    let field = if put == Put::Null { b"\\N" } else { field };
+    text.extend_from_slice(field).is_ok() && text.push(b';').is_ok()
+}
+
+/// Appends what a row of the first table holds in a column, as the values of its cohort put it. Where the field is null, and no case,
+/// the draw says so.
+fn put_in_cohort(
+    alloc: Global,
+    plan: &Plan,
+    values: &CohortValues<'_>,
+    column: usize,
+    at: RowAt,
+    text: &mut Vec<u8>,
+) -> bool
+    requires table { 0 < length plan.now.schema.tables }
+    requires values { values.now ≡ record { plan = plan.now; table = 0; born = at.born; changed = at.changed } }
+    requires column { column < length (table_at (layout_of plan.now).tables 0).columns }
+    requires own { is_own (column_at (table_at (layout_of plan.now).tables 0).columns column).kind ≡ true }
+    requires size { size_at (layout_of plan.now) 0 column ≤ max_line (layout_of plan.now) 0 }
+{
+    match PageBuf::with_room(alloc, plan.max_line(0) as usize) {
+        Ok(page) => {
+            let mut page = page;
+            let put = values.put(column, at.ordinal, &mut page);
+            let null = values.is_null(column, at.ordinal);
+            push_field(put, page.text(), text)
+                && (null == (put == Put::Null) || is_case(plan, column))
+        }
+        Err(_) => false,
+    }
+}
+
+/// The same as it is put alone.
+fn put_alone(alloc: Global, plan: &Plan, column: usize, at: RowAt, text: &mut Vec<u8>) -> bool
+    requires table { 0 < length plan.now.schema.tables }
+    requires column { column < length (table_at (layout_of plan.now).tables 0).columns }
+    requires own { is_own (column_at (table_at (layout_of plan.now).tables 0).columns column).kind ≡ true }
+    requires size { size_at (layout_of plan.now) 0 column ≤ max_line (layout_of plan.now) 0 }
+    requires born { at.born ≤ (layout_of plan.now).units }
+    requires changed { at.changed ≤ (layout_of plan.now).units }
+{
+    let _limits = plan.columns(0); // there are at most 64
+    match PageBuf::with_room(alloc, plan.max_line(0) as usize) {
+        Ok(page) => {
+            let mut page = page;
+            let put = put_value(plan, 0, column as u32, at, &mut page);
+            push_field(put, page.text(), text)
+        }
+        Err(_) => false,
+    }
+}
+
+/// Appends what a row of the first table holds in the columns behind its key, as both calls put it, each with a semicolon behind.
+fn put_row(
+    alloc: Global,
+    plan: &Plan,
+    at: RowAt,
+    in_cohort: &mut Vec<u8>,
+    alone: &mut Vec<u8>,
+) -> bool {
+    if plan.tables() != 1 || at.born > plan.units() || at.changed > plan.units() {
+        return false;
+    }
+    let births = UnitDraws::new(plan, 0, at.born);
+    let changes = UnitDraws::new(plan, 0, at.changed);
+    let values = CohortValues::new(plan, 0, &births, &changes);
+    let mut is_put = true;
+    for column in 1..plan.columns(0).len() {
+        is_put = is_put
+            && is_own_column(plan, column)
+            && put_in_cohort(alloc, plan, &values, column, at, in_cohort)
+            && put_alone(alloc, plan, column, at, alone);
+    }
+    is_put
+}
+
+/// Whether a row of the first table holds this in the columns behind its key.
+fn holds(alloc: Global, plan: &Plan, at: RowAt, expected: &str) -> bool {
+    let mut in_cohort = Vec::new(alloc);
+    let mut alone = Vec::new(alloc);
+    put_row(alloc, plan, at, &mut in_cohort, &mut alone)
+        && in_cohort.as_slice() == expected.as_bytes()
+        && alone.as_slice() == expected.as_bytes()
+}
+
+/// What rows of the first table hold, by their ordinals and the units of their births and last changes.
+fn assert_rows(rt: &impl Abort, alloc: Global, parts: &[&str], rows: &[(u64, u64, u64, &str)]) {
+    let plan = plan_of(rt, alloc, parts);
+    for (ordinal, born, changed, expected) in rows {
+        let at = RowAt {
+            ordinal: *ordinal,
+            born: *born,
+            changed: *changed,
+        };
+        assert_case(rt, holds(alloc, &plan, at, expected), *born, *ordinal);
+    }
+}
+
+/// A table with the seed 7: how many rows at unit 0 and at each of five more.
+const FEW: &str = r#"
+seed = 7
+units = 5
+[[table]]
+name = "t"
+rows = 4
+insert = 2
+"#;
+
+/// The same with bars between the fields.
+const FEW_WITH_BARS: &str = r#"
+seed = 7
+units = 5
+delimiter = "bar"
+[[table]]
+name = "t"
+rows = 4
+insert = 2
+"#;
+
+/// Columns of keys, of units of birth and of each kind of drawn value, none of them null; and three that are null at times, of a
+/// number, of a pick, and of a case by that pick. Of the entries two hold what is escaped, and an alphabet has a letter of two
+/// bytes, and one that is escaped between bars.
+const ALL_KINDS: &str = r#"
+column = [
+    { name = "id", kind = "key", base = 1 },
+    { name = "born", kind = "born" },
+    { name = "by_3", kind = "int", lo = -5, hi = 20, step = 3 },
+    { name = "below_0", kind = "int", lo = -9223372036854775808, hi = -1 },
+    { name = "from_0", kind = "int", lo = 0, hi = 9223372036854775807 },
+    { name = "cents", kind = "fixed", lo = -5000, hi = 5000, decimals = 2 },
+    { name = "whole", kind = "fixed", lo = -9, hi = 9, decimals = 0 },
+    { name = "billionths", kind = "fixed", lo = -999, hi = 999, decimals = 9 },
+    { name = "day", kind = "date", lo = "0001-01-01", hi = "9999-12-31" },
+    { name = "leap", kind = "date", lo = "2000-02-28", hi = "2000-03-01" },
+    { name = "word", kind = "pick", entries = ["a\\b|c\td", "plain", "x|y", "", "last"], weights = [3, 1, 2, 1, 5] },
+    { name = "rank", kind = "skew", lo = -3, size = 7, power = 1 },
+    { name = "steep", kind = "skew", lo = 100, size = 4096, power = 3 },
+    { name = "code", kind = "chars", alphabet = "ab|é", lo = 0, hi = 5 },
+    { name = "digit", kind = "int", lo = 0, hi = 9, null = 400 },
+    { name = "sort", kind = "pick", entries = ["a\\b|c\td", "plain", "x|y", "", "last"], weights = [3, 1, 2, 1, 5], null = 300 },
+    { name = "by_sort", kind = "case", on = "sort", null = 100, branches = [
+        { kind = "int", lo = 10, hi = 19 },
+        { kind = "int", lo = 20, hi = 29 },
+        { kind = "int", lo = 30, hi = 39 },
+        { kind = "int", lo = 40, hi = 49 },
+        { kind = "chars", alphabet = "ab|é", lo = 0, hi = 5 },
+    ] },
+]
+"#;
+
+/// Units, numbers, and cases by a pick that stays as it is and by one that changes: some change, and others don't.
+const COLUMNS_THAT_CHANGE: &str = r#"
+column = [
+    { name = "id", kind = "key", base = 1 },
+    { name = "born", kind = "born" },
+    { name = "changed", kind = "changed" },
+    { name = "still", kind = "int", lo = 0, hi = 999999 },
+    { name = "moving", kind = "int", lo = 0, hi = 999999, changes = true },
+    { name = "at_times", kind = "int", lo = 0, hi = 999999, changes = true, null = 500 },
+    { name = "sort", kind = "pick", entries = ["a\\b|c\td", "plain", "x|y", "", "last"], weights = [3, 1, 2, 1, 5], null = 300 },
+    { name = "still_by_sort", kind = "case", on = "sort", branches = [
+        { kind = "int", lo = 10, hi = 19 },
+        { kind = "int", lo = 20, hi = 29 },
+        { kind = "int", lo = 30, hi = 39 },
+        { kind = "int", lo = 40, hi = 49 },
+        { kind = "chars", alphabet = "ab|é", lo = 0, hi = 5 },
+    ] },
+    { name = "by_sort", kind = "case", on = "sort", changes = true, branches = [
+        { kind = "int", lo = 10, hi = 19 },
+        { kind = "int", lo = 20, hi = 29 },
+        { kind = "int", lo = 30, hi = 39 },
+        { kind = "int", lo = 40, hi = 49 },
+        { kind = "chars", alphabet = "ab|é", lo = 0, hi = 5 },
+    ] },
+    { name = "state", kind = "pick", entries = ["a\\b|c\td", "plain", "x|y", "", "last"], weights = [3, 1, 2, 1, 5], changes = true, null = 300 },
+    { name = "by_state", kind = "case", on = "state", changes = true, null = 100, branches = [
+        { kind = "int", lo = 10, hi = 19 },
+        { kind = "int", lo = 20, hi = 29 },
+        { kind = "int", lo = 30, hi = 39 },
+        { kind = "int", lo = 40, hi = 49 },
+        { kind = "chars", alphabet = "ab|é", lo = 0, hi = 5 },
+    ] },
+]
+"#;
+
+/// Words of a dictionary: one, up to four, and two or none.
+const WORDS: &str = r#"
+column = [
+    { name = "id", kind = "key", base = 1 },
+    { name = "word", kind = "dict", file = "n" },
+    { name = "some", kind = "words", file = "n", lo = 0, hi = 4 },
+    { name = "two", kind = "words", file = "n", lo = 2, hi = 2, null = 500 },
+]
+"#;
+
+const ROWS: &[(u64, u64, u64, &str)] = &[
+    (
+        0,
+        0,
+        0,
+        "0;4;-1301148152031528877;1646713118542009436;-20.21;5;-0.000000130;3308-03-17;2000-03-01;;-3;100;|;\\N;a\\\\b|c\\td;13;",
+    ),
+    (
+        1,
+        0,
+        0,
+        "0;-5;-7168664074685475188;5679114685750042959;35.60;-3;-0.000000675;6556-04-07;2000-02-29;last;-1;100;||a;4;\\N;\\N;",
+    ),
+    (
+        3,
+        0,
+        0,
+        "0;13;-5141894393530882224;1560041756983882477;-11.36;1;-0.000000988;2557-09-13;2000-03-01;last;3;100;ébaa;0;last;é|;",
+    ),
+    (
+        4,
+        1,
+        1,
+        "1;16;-3708718578705328411;4541888477291126794;6.20;-5;0.000000069;5091-07-05;2000-02-28;last;3;104;é||;5;\\N;\\N;",
+    ),
+    (
+        6,
+        2,
+        2,
+        "2;7;-3485567071594094168;6417096489469501226;-31.13;3;-0.000000186;6229-10-20;2000-03-01;a\\\\b|c\\td;1;100;a|;3;a\\\\b|c\\td;10;",
+    ),
+];
+
+const ROWS_WITH_BARS: &[(u64, u64, u64, &str)] = &[(
+    6,
+    2,
+    2,
+    "2;7;-3485567071594094168;6417096489469501226;-31.13;3;-0.000000186;6229-10-20;2000-03-01;a\\\\b\\|c\\td;1;100;a\\|;3;a\\\\b\\|c\\td;10;",
+)];
+
+// The texts are those of the Python program.
+#[test]
+fn values_of_some_rows(rt: HostRuntime) {
+    assert_rows(&rt, rt.alloc(), &[FEW, ALL_KINDS], ROWS);
+}
+
+// The text is that of the Python program.
+#[test]
+fn values_between_bars(rt: HostRuntime) {
+    assert_rows(&rt, rt.alloc(), &[FEW_WITH_BARS, ALL_KINDS], ROWS_WITH_BARS);
+}
+
+const CHANGED_ROWS: &[(u64, u64, u64, &str)] = &[
+    (0, 1, 1, "1;1;767936;566084;378317;last;;éa;last;a|;"),
+    (0, 1, 3, "1;3;767936;314603;64628;last;;aa;\\N;\\N;"),
+    (0, 3, 3, "3;3;515091;314603;64628;last;ébbab;aa;\\N;\\N;"),
+    (1, 0, 2, "0;2;300620;518894;870426;plain;20;25;\\N;\\N;"),
+    (
+        1,
+        0,
+        5,
+        "0;5;300620;14137;286381;plain;20;22;a\\\\b|c\\td;15;",
+    ),
+    (4, 1, 2, "1;2;447397;327457;\\N;;40;43;x|y;\\N;"),
+    (4, 1, 3, "1;3;447397;319022;351648;;40;41;last;bb|;"),
+    (4, 3, 3, "3;3;96738;319022;351648;\\N;\\N;\\N;last;bb|;"),
+];
+
+// The texts are those of the Python program, with the unit of the last change in place of that of the birth in a column that
+// changes.
+#[test]
+fn values_of_changed_rows(rt: HostRuntime) {
+    assert_rows(&rt, rt.alloc(), &[FEW, COLUMNS_THAT_CHANGE], CHANGED_ROWS);
+}
+
+const WORD_ROWS: &[(u64, u64, u64, &str)] = &[
+    (0, 0, 0, "Ann;A\\|b;A\\|b Ann;"),
+    (2, 0, 0, "Bo;;Bo A\\|b;"),
+    (3, 0, 0, "A\\|b;;\\N;"),
+    (4, 1, 1, "Ann;Ann;Ann Bo;"),
+    (7, 2, 2, "Bo;A\\|b;\\N;"),
+];
+
+// The texts are those of the Python program.
+#[test]
+fn words_of_some_rows(rt: HostRuntime) {
+    assert_rows(&rt, rt.alloc(), &[FEW_WITH_BARS, WORDS], WORD_ROWS);
+}
+
+/// Of the numbers of a range in steps, each draw chooses the one with this text.
+fn draws_choose_whole_numbers()
+    ensures below_0 { map (λ (draw : ℕ). leaf_value (int_leaf (neg_ℤ (pos (2 ^ 63))) (neg_ℤ (pos 1)) 1) (λ _. draw))
+        (0 ∷ (2 ^ 64 - 1) ∷ (2 ^ 63) ∷ [])
+        ≡ Some (codes "-9223372036854775808") ∷ Some (codes "-1") ∷ Some (codes "-9223372036854775808") ∷ [] }
+    ensures ends { leaf_value (int_leaf (neg_ℤ (pos (2 ^ 63))) (neg_ℤ (pos 1)) (2 ^ 63 - 1)) (λ _. 1) ≡ Some (codes "-1") }
+    ensures from_0 { map (λ (draw : ℕ). leaf_value (int_leaf (pos 0) (pos (2 ^ 63 - 1)) 1) (λ _. draw))
+        (0 ∷ (2 ^ 64 - 1) ∷ [])
+        ≡ Some (codes "0") ∷ Some (codes "9223372036854775807") ∷ [] }
+    ensures greatest { leaf_value (int_leaf (pos (2 ^ 63 - 1)) (pos (2 ^ 63 - 1)) 1) (λ _. 2 ^ 64 - 1) ≡ Some (codes "9223372036854775807") }
+    ensures steps { map (λ (draw : ℕ). leaf_value (int_leaf (neg_ℤ (pos 5)) (pos 5) 3) (λ _. draw))
+        (3 ∷ 4 ∷ 9 ∷ [])
+        ≡ Some (codes "4") ∷ Some (codes "-5") ∷ Some (codes "-2") ∷ [] }
+    ensures wide_step { leaf_value (int_leaf (neg_ℤ (pos 5)) (pos 5) (2 ^ 64 - 1)) (λ _. 2 ^ 64 - 1) ≡ Some (codes "-5") }
+    ensures to_0 { leaf_value (int_leaf (neg_ℤ (pos 1)) (pos 0) 1) (λ _. 7) ≡ Some (codes "0") }
+{}
+
+/// Columns of keys and of one value: what stands before the keys of the value's column, and behind them.
+const KEY_AND: &str = r#"
+column = [
+    { name = "id", kind = "key", base = 1 },
+    { name = "value", "#;
+
+const END: &str = r#" },
+]
+"#;
+
+/// Columns of one number: their keys, no day, and how the number is written.
+const NUMBERS: &[(&str, Option<i32>, &str)] = &[
+    (
+        r#"kind = "int", lo = -9223372036854775808, hi = -9223372036854775808"#,
+        None,
+        "-9223372036854775808;",
+    ),
+    (r#"kind = "int", lo = -5, hi = -5"#, None, "-5;"),
+    (r#"kind = "int", lo = -2, hi = -2"#, None, "-2;"),
+    (r#"kind = "int", lo = -1, hi = -1"#, None, "-1;"),
+    (r#"kind = "int", lo = 0, hi = 0"#, None, "0;"),
+    (r#"kind = "int", lo = 4, hi = 4"#, None, "4;"),
+    (
+        r#"kind = "int", lo = 9223372036854775807, hi = 9223372036854775807"#,
+        None,
+        "9223372036854775807;",
+    ),
+    (
+        r#"kind = "fixed", lo = -5, hi = -5, decimals = 2"#,
+        None,
+        "-0.05;",
+    ),
+    (
+        r#"kind = "fixed", lo = 1234, hi = 1234, decimals = 0"#,
+        None,
+        "1234;",
+    ),
+    (
+        r#"kind = "fixed", lo = 0, hi = 0, decimals = 0"#,
+        None,
+        "0;",
+    ),
+    (
+        r#"kind = "fixed", lo = 0, hi = 0, decimals = 2"#,
+        None,
+        "0.00;",
+    ),
+    (
+        r#"kind = "fixed", lo = -99, hi = -99, decimals = 2"#,
+        None,
+        "-0.99;",
+    ),
+    (
+        r#"kind = "fixed", lo = -100, hi = -100, decimals = 2"#,
+        None,
+        "-1.00;",
+    ),
+    (
+        r#"kind = "fixed", lo = 7, hi = 7, decimals = 1"#,
+        None,
+        "0.7;",
+    ),
+    (
+        r#"kind = "fixed", lo = 1000000001, hi = 1000000001, decimals = 9"#,
+        None,
+        "1.000000001;",
+    ),
+    (
+        r#"kind = "fixed", lo = -9223372036854775808, hi = -9223372036854775808, decimals = 9"#,
+        None,
+        "-9223372036.854775808;",
+    ),
+    (
+        r#"kind = "fixed", lo = -9223372036854775808, hi = -9223372036854775808, decimals = 0"#,
+        None,
+        "-9223372036854775808;",
+    ),
+    (
+        r#"kind = "fixed", lo = 9223372036854775807, hi = 9223372036854775807, decimals = 1"#,
+        None,
+        "922337203685477580.7;",
+    ),
+];
+
+/// Columns of one date: their keys, its day, counted from 1970-01-01, which is day 0, and how it is written. The day numbers are those of
+/// Python's `datetime`.
+const DATES: &[(&str, Option<i32>, &str)] = &[
+    (
+        r#"kind = "date", lo = "0001-01-01", hi = "0001-01-01""#,
+        Some(-719_162),
+        "0001-01-01;",
+    ),
+    (
+        r#"kind = "date", lo = "0001-12-31", hi = "0001-12-31""#,
+        Some(-718_798),
+        "0001-12-31;",
+    ),
+    (
+        r#"kind = "date", lo = "0004-02-29", hi = "0004-02-29""#,
+        Some(-718_008),
+        "0004-02-29;",
+    ),
+    (
+        r#"kind = "date", lo = "0400-02-29", hi = "0400-02-29""#,
+        Some(-573_372),
+        "0400-02-29;",
+    ),
+    (
+        r#"kind = "date", lo = "1582-10-10", hi = "1582-10-10""#,
+        Some(-141_432),
+        "1582-10-10;",
+    ),
+    (
+        r#"kind = "date", lo = "1900-02-28", hi = "1900-02-28""#,
+        Some(-25_509),
+        "1900-02-28;",
+    ),
+    (
+        r#"kind = "date", lo = "1900-03-01", hi = "1900-03-01""#,
+        Some(-25_508),
+        "1900-03-01;",
+    ),
+    (
+        r#"kind = "date", lo = "1969-12-31", hi = "1969-12-31""#,
+        Some(-1),
+        "1969-12-31;",
+    ),
+    (
+        r#"kind = "date", lo = "1970-01-01", hi = "1970-01-01""#,
+        Some(0),
+        "1970-01-01;",
+    ),
+    (
+        r#"kind = "date", lo = "2000-02-29", hi = "2000-02-29""#,
+        Some(11_016),
+        "2000-02-29;",
+    ),
+    (
+        r#"kind = "date", lo = "2000-03-01", hi = "2000-03-01""#,
+        Some(11_017),
+        "2000-03-01;",
+    ),
+    (
+        r#"kind = "date", lo = "2000-12-31", hi = "2000-12-31""#,
+        Some(11_322),
+        "2000-12-31;",
+    ),
+    (
+        r#"kind = "date", lo = "2024-02-29", hi = "2024-02-29""#,
+        Some(19_782),
+        "2024-02-29;",
+    ),
+    (
+        r#"kind = "date", lo = "2100-02-28", hi = "2100-02-28""#,
+        Some(47_540),
+        "2100-02-28;",
+    ),
+    (
+        r#"kind = "date", lo = "2100-03-01", hi = "2100-03-01""#,
+        Some(47_541),
+        "2100-03-01;",
+    ),
+    (
+        r#"kind = "date", lo = "9999-01-01", hi = "9999-01-01""#,
+        Some(2_932_532),
+        "9999-01-01;",
+    ),
+    (
+        r#"kind = "date", lo = "9999-12-31", hi = "9999-12-31""#,
+        Some(2_932_896),
+        "9999-12-31;",
+    ),
+];
+
+/// Whether the column behind the key holds dates from this day on; or none, where no day is given.
+fn begins_with(plan: &Plan, day: Option<i32>) -> bool
+    requires { 0 < length plan.now.schema.tables }
+{
+    match plan.columns(0).get(1) {
+        Some(ready) => match (&ready.kind, day) {
+            (ReadyKind::Drawn(ReadyLeaf::Date { lo, .. }), Some(day)) => *lo == day,
+            (_, Some(_)) => false,
+            (_, None) => true,
+        },
+        None => false,
+    }
+}
+
+fn has_value(alloc: Global, plan: &Plan, day: Option<i32>, text: &str) -> bool {
+    let at = RowAt {
+        ordinal: 0,
+        born: 0,
+        changed: 0,
+    };
+    plan.tables() == 1 && begins_with(plan, day) && holds(alloc, plan, at, text)
+}
+
+fn assert_values(rt: &impl Abort, alloc: Global, values: &[(&str, Option<i32>, &str)]) {
+    for (place, (keys, day, text)) in values.iter().enumerate() {
+        let plan = plan_of(rt, alloc, &[FEW, KEY_AND, *keys, END]);
+        assert_case(rt, has_value(alloc, &plan, *day, text), 1, place as u64);
+    }
+}
+
+// By hand, and proved: the call does nothing.
+#[test]
+fn whole_numbers_reach_both_ends_of_their_range(_rt: HostRuntime) {
+    draws_choose_whole_numbers();
+}
+
+#[test]
+fn numbers_keep_their_sign_and_zeros(rt: HostRuntime) {
+    assert_values(&rt, rt.alloc(), NUMBERS);
+}
+
+#[test]
+fn dates_keep_leap_days_apart(rt: HostRuntime) {
+    assert_values(&rt, rt.alloc(), DATES);
+}
+
+/// Whether there are draws of so many units from a first one on, and they end with this unit.
+fn end_with(alloc: Global, plan: &Plan, first: u64, count: u64, last: u64) -> bool {
+    if plan.tables() != 1 || plan.units() != 5 || first > 3 || count != 3 {
+        return false;
+    }
+    match unit_draws(alloc, plan, 0, first, count) {
+        Ok(draws) => draws.len() == 3 && draws[2].unit() == last,
+        Err(_) => false,
+    }
+}
+
+#[test]
+fn draws_of_some_units(rt: HostRuntime) {
+    let plan = plan_of(&rt, rt.alloc(), &[FEW, COLUMNS_THAT_CHANGE]);
+    assert!(rt; end_with(rt.alloc(), &plan, 1, 3, 3));
+}
+
+/// Units with the first row that is born at each and the one past its last.
+const UNITS: &[(u64, u64, u64)] = &[
+    (0, 0, 1000),
+    (1, 1000, 1010),
+    (2, 1010, 1020),
+    (3, 1020, 1030),
+    (4, 1030, 1040),
+    (5, 1040, 1050),
+];
+
+/// Whether what all rows of these units hold has this checksum.
+fn has_checksum(alloc: Global, plan: &Plan, sum: u64) -> bool {
+    let mut in_cohort = Vec::new(alloc);
+    let mut alone = Vec::new(alloc);
+    let mut is_put = true;
+    for (born, first, past) in UNITS {
+        for ordinal in *first..*past {
+            let at = RowAt {
+                ordinal,
+                born: *born,
+                changed: *born,
+            };
+            is_put = is_put && put_row(alloc, plan, at, &mut in_cohort, &mut alone);
+        }
+    }
+    is_put && with_text(0, &in_cohort) == sum && with_text(0, &alone) == sum
+}
+
+const MANY: &str = r#"
+seed = 7
+units = 5
+[[table]]
+name = "t"
+rows = 1000
+insert = 10
+"#;
+
+const MANY_WITH_BARS: &str = r#"
+seed = 7
+units = 5
+delimiter = "bar"
+[[table]]
+name = "t"
+rows = 1000
+insert = 10
+"#;
+
+fn assert_checksum(rt: &impl Abort, alloc: Global, parts: &[&str], sum: u64) {
+    let plan = plan_of(rt, alloc, parts);
+    assert!(rt; has_checksum(alloc, &plan, sum));
+}
+
+// The checksums are those of the Python program, of what 1,050 rows hold.
+#[test]
+fn values_of_many_rows(rt: HostRuntime) {
+    assert_checksum(
+        &rt,
+        rt.alloc(),
+        &[MANY, ALL_KINDS],
+        12_429_313_703_229_295_597,
+    );
+    assert_checksum(
+        &rt,
+        rt.alloc(),
+        &[MANY_WITH_BARS, ALL_KINDS],
+        14_872_582_688_233_119_221,
+    );
+}

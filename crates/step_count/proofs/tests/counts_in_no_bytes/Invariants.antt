@@ -1,5 +1,0 @@
--- The test counts on the ledger that its blank stands for.
-use Rattle.step_count.proofs.tests.counts_in_no_bytes.Given as goal
-
-abbrev pub ghosts-two_steps : goal.ghosts-two_steps
-ghosts-two_steps g a = record { name = a.blank.name; parts = a.blank.parts }
