@@ -24,14 +24,24 @@ const THIRD: &str =
 /// How many references a child has to its parents. The ninth is the tenth column.
 const NUMBERS: [(usize, Told); 3] = [(8, None), (9, Some((18, 2, 10))), (12, Some((18, 2, 10)))];
 
-fn try_numbers(rt: &impl Abort, alloc: Global, cases: &[(usize, Told)]) {
-    let front =
-        "seed=1\nunits=2\ntable=[{name='p',rows=1,insert=1,column=[{name='id',kind='key',base=1}]},{name='c',rows=1,insert=1,column=[{name='id',kind='key',base=1},";
+/// A parent, and a child whose further columns follow.
+const PARENT_AND_CHILD: &str =
+    "seed=1\nunits=2\ntable=[{name='p',rows=1,insert=1,column=[{name='id',kind='key',base=1}]},{name='c',rows=1,insert=1,column=[{name='id',kind='key',base=1},";
+
+fn try_number(rt: &impl Abort, alloc: Global, count: usize, told: Told) {
     let end = "',kind='ref',table='p',window='all'},";
+    let references = numbered(rt, alloc, "{name='r", count, end);
+    try_text(
+        rt,
+        alloc,
+        &[PARENT_AND_CHILD, references.as_str(), "]}]"],
+        told,
+    );
+}
+
+fn try_numbers(rt: &impl Abort, alloc: Global, cases: &[(usize, Told)]) {
     for (count, told) in cases {
-        let references = numbered(rt, alloc, "{name='r", *count, end);
-        let pieces = [front, references.as_str(), "]}]"];
-        try_text(rt, alloc, &pieces, *told);
+        try_number(rt, alloc, *count, *told);
     }
 }
 
