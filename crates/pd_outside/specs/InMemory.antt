@@ -1,7 +1,7 @@
 -- What a library and a shelf in memory hold and count.
-use Rattle.std.specs.Prelude.{◌≡◌, ℕ, Bool, ◌||◌, List, [], Result, unwrap_or, is_none, is_ok, if◌then◌else◌}
+use Rattle.std.specs.Prelude.{◌≡◌, ℕ, Bool, ◌||◌, List, [], Result, unwrap_or, is_none}
 use Rattle.std.specs.Option.{option_map}
-use Rattle.pd_outside.specs.Faults.{counted}
+use Rattle.pd_outside.specs.Faults.{counted, faults_after}
 use Rattle.pd_outside.specs.Files.{File, file_named}
 use Rattle.pd_outside.specs.Library.{Content}
 use Rattle.pd_outside.specs.Shelf.{Held}
@@ -38,9 +38,10 @@ pub record Writing : Type 0 where
   pub writes : ℕ
   pub ends : ℕ
   pub faults : ℕ
+  pub last_failed : Bool
 
 -- A call of a shelf in memory counts a fault where it fails, and leaves what is stated of its calls.
 pub record IsCounted {T E : Type 0} (result : Result T E) (before now : Writing) : Type 0 where
-  pub faults : now.faults ≡ (if is_ok result then before.faults else counted before.faults)
+  pub faults : now.faults ≡ faults_after result before.faults
   pub fails : now.fails ≡ before.fails
   pub step : now.step ≡ before.step

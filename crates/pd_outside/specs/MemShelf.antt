@@ -14,6 +14,7 @@ writing_of shelf = record {
   writes = shelf.writes;
   ends = shelf.ends;
   faults = shelf.faults;
+  last_failed = shelf.last_failed;
 }
 
 -- each write takes at least a byte

@@ -3,7 +3,7 @@
 ghost use Rattle.std.specs.Prelude.{◌≡◌, ◌<◌, ◌≤◌, ◌+◌, ◌^◌, ℕ, List, Bool, Option, length, IsTrue, IfOk, IfSome, OnOk, OnErr, is_ok, is_some};
 ghost use Rattle.std.specs.Option.{option_map};
 ghost use Rattle.std.specs.Result.{result_unwrap_or};
-ghost use Rattle.pd_outside.specs.Faults.{Rose};
+ghost use Rattle.pd_outside.specs.Faults.{Rose, faults_after};
 ghost use Rattle.pd_outside.specs.Library.{Content, left, start_file, take_bytes, stop, ReadsPrefix, ask, AskedAtMost};
 
 use crate::Failed;
@@ -40,7 +40,8 @@ pub trait Library {
         ensures taken { taken self.new ≡ 0 }
         ensures never_falls { faults self.old ≤ faults self.new }
         ensures cause { OnErr result (Rose (faults self.old) (faults self.new)) }
-        ensures no_fault { OnOk result (faults self.new ≡ faults self.old) };
+        ensures no_fault { OnOk result (faults self.new ≡ faults self.old) }
+        ensures counted { faults self.new ≡ faults_after result (faults self.old) };
 
     /// Takes bytes of the started file into the beginning of `into`, and tells how many: at least one, but at the end of the
     /// file. At `Failed` no file is started.
@@ -58,7 +59,8 @@ pub trait Library {
         ensures asked { asked self.new ≡ asked self.old }
         ensures never_falls { faults self.old ≤ faults self.new }
         ensures cause { OnErr result (Rose (faults self.old) (faults self.new)) }
-        ensures no_fault { OnOk result (faults self.new ≡ faults self.old) };
+        ensures no_fault { OnOk result (faults self.new ≡ faults self.old) }
+        ensures counted { faults self.new ≡ faults_after result (faults self.old) };
 
     /// A file is told as started exactly where one is started.
     ghost told_alike: { (library : Self) → IfSome (content library) (λ c. is_some c.started ≡ is_started library) };

@@ -1,10 +1,10 @@
 //! A library in memory.
 
-ghost use Rattle.std.specs.Prelude.{◌≡◌, ◌<◌, ◌≤◌, ◌+◌, ◌^◌, ◌⊎◌, ◌++◌, [], ◌∷◌, None, Some, false, true, length, min, IsTrue, IfOk, OnOk, OnErr, IfSome, IfNone, is_ok, is_err, is_some, slice_get, map, take, string_bytes, if◌then◌else◌};
+ghost use Rattle.std.specs.Prelude.{◌≡◌, ◌<◌, ◌≤◌, ◌+◌, ◌^◌, ◌⊎◌, ◌++◌, [], ◌∷◌, None, Some, false, true, length, min, IsTrue, IfOk, OnOk, OnErr, IfSome, IfNone, is_ok, is_err, is_some, slice_get, map, take, string_bytes};
 ghost use Rattle.std.proofs.Common.{rules};
 ghost use Rattle.std.specs.Option.{option_map};
 ghost use Rattle.std.specs.Result.{result_unwrap_or};
-ghost use Rattle.pd_outside.specs.Faults.{Rose, counted};
+ghost use Rattle.pd_outside.specs.Faults.{Rose, counted, faults_after};
 ghost use Rattle.pd_outside.specs.Files.{file_named, file_at};
 ghost use Rattle.pd_outside.specs.Library.{left, start_file, take_bytes, stop, ReadsPrefix, ask, AskedAtMost};
 ghost use Rattle.pd_outside.specs.InMemory.{Reading, start_fails, read_fails};
@@ -132,13 +132,13 @@ impl Library for MemLibrary {
         ensures never_falls { self.old.faults ≤ self.new.faults }
         ensures cause { OnErr result (Rose self.old.faults self.new.faults) }
         ensures no_fault { OnOk result (self.new.faults ≡ self.old.faults) }
+        ensures counted { self.new.faults ≡ faults_after result self.old.faults }
 
         // It fails where it is stated to and where the name is absent, and else for want of memory alone.
         ensures stated { OnOk result (start_fails self.old name.now ≡ false) }
         ensures no_other { OnErr result ((start_fails self.old name.now ≡ true) ⊎ (self.new.asked ≡ self.old.asked)) }
         ensures call { OnOk result (self.new.calls ≡ 1) }
         ensures fails { self.new.fails ≡ self.old.fails }
-        ensures counted { self.new.faults ≡ (if is_ok result then self.old.faults else counted self.old.faults) }
     {
         self.started = None;
         self.taken = 0;
@@ -172,13 +172,13 @@ impl Library for MemLibrary {
         ensures never_falls { self.old.faults ≤ self.new.faults }
         ensures cause { OnErr result (Rose self.old.faults self.new.faults) }
         ensures no_fault { OnOk result (self.new.faults ≡ self.old.faults) }
+        ensures counted { self.new.faults ≡ faults_after result self.old.faults }
 
         // It fails where it is stated to and nowhere else, and it gives all that fits.
         ensures stated { is_err result ≡ read_fails self.old }
         ensures most { IfOk result (λ n. n ≡ min (length into.old) (length (left self.old.content))) }
         ensures call { OnOk result (self.new.calls ≡ counted self.old.calls) }
         ensures fails { self.new.fails ≡ self.old.fails }
-        ensures counted { self.new.faults ≡ (if is_ok result then self.old.faults else counted self.old.faults) }
     {
         let started = match self.started {
             Some(started) => started,

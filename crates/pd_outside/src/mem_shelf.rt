@@ -3,7 +3,7 @@
 ghost use Rattle.std.specs.Prelude.{◌≡◌, ◌<◌, ◌≤◌, ◌+◌, [], None, Some, false, length, min, take, Contains, IsTrue, IsErr, IfOk, OnOk, OnErr, ◌++◌, IsSome, string_bytes, is_ok, is_err, is_some};
 ghost use Rattle.std.proofs.Common.{rules};
 ghost use Rattle.std.specs.Option.{option_map, option_to_list};
-ghost use Rattle.pd_outside.specs.Faults.{Rose, counted};
+ghost use Rattle.pd_outside.specs.Faults.{Rose, counted, faults_after};
 ghost use Rattle.pd_outside.specs.Entry.{file_of};
 ghost use Rattle.pd_outside.specs.Files.{File};
 ghost use Rattle.pd_outside.specs.InMemory.{IsCounted};
@@ -30,6 +30,7 @@ pub struct MemShelf {
     writes: u64,
     ends: u64,
     faults: u64,
+    last_failed: bool,
 }
 
 impl Model for MemShelf {
@@ -55,6 +56,7 @@ impl MemShelf {
           writes = 0;
           ends = 0;
           faults = 0;
+          last_failed = false;
         } }
     {
         MemShelf {
@@ -67,6 +69,7 @@ impl MemShelf {
             writes: 0,
             ends: 0,
             faults: 0,
+            last_failed: false,
         }
     }
 
@@ -143,6 +146,8 @@ impl Shelf for MemShelf {
 
     ghost faults = { λ m. m.faults };
 
+    ghost last_failed = { λ m. m.last_failed };
+
     ghost told_alike = { λ m. Prim.search rules };
 
     fn begin(&mut self, name: &str) -> Result<(), Failed>
@@ -153,6 +158,8 @@ impl Shelf for MemShelf {
         ensures never_falls { self.old.faults ≤ self.new.faults }
         ensures cause { OnErr result (Rose self.old.faults self.new.faults) }
         ensures no_fault { OnOk result (self.new.faults ≡ self.old.faults) }
+        ensures counted { self.new.faults ≡ faults_after result self.old.faults }
+        ensures last { self.new.last_failed ≡ is_err result }
 
         // It fails where it is stated to, and else for want of memory alone.
         ensures stated { Contains self.old.fails (fail.Begin (counted self.old.begins)) → IsErr result }
@@ -160,6 +167,7 @@ impl Shelf for MemShelf {
         ensures call { self.new.begins ≡ counted self.old.begins }
         ensures other_calls { (self.new.writes ≡ self.old.writes) × (self.new.ends ≡ self.old.ends) }
     {
+        self.last_failed = false;
         self.begins = self.begins.saturating_add(1);
         if !self.fails.states(ShelfFail::Begin(self.begins)) {
             if let Ok(entry) = empty_file(self.alloc, name) {
@@ -168,6 +176,7 @@ impl Shelf for MemShelf {
             }
         }
         self.faults = self.faults.saturating_add(1);
+        self.last_failed = true;
         Err(Failed)
     }
 
@@ -183,6 +192,8 @@ impl Shelf for MemShelf {
         ensures never_falls { self.old.faults ≤ self.new.faults }
         ensures cause { OnErr result (Rose self.old.faults self.new.faults) }
         ensures no_fault { OnOk result (self.new.faults ≡ self.old.faults) }
+        ensures counted { self.new.faults ≡ faults_after result self.old.faults }
+        ensures last { self.new.last_failed ≡ is_err result }
 
         // It takes all that its step lets through. It fails where it is stated to, and else for want of memory alone.
         ensures most { IfOk result (λ n. n ≡ min self.old.step (length piece.now)) }
@@ -191,6 +202,7 @@ impl Shelf for MemShelf {
         ensures call { self.new.writes ≡ counted self.old.writes }
         ensures other_calls { (self.new.begins ≡ self.old.begins) × (self.new.ends ≡ self.old.ends) }
     {
+        self.last_failed = false;
         self.writes = self.writes.saturating_add(1);
         let n = self.step.min(piece.len());
         if !self.fails.states(ShelfFail::Write(self.writes))
@@ -199,6 +211,7 @@ impl Shelf for MemShelf {
             return Ok(n);
         }
         self.faults = self.faults.saturating_add(1);
+        self.last_failed = true;
         Err(Failed)
     }
 
@@ -210,6 +223,8 @@ impl Shelf for MemShelf {
         ensures never_falls { self.old.faults ≤ self.new.faults }
         ensures cause { OnErr result (Rose self.old.faults self.new.faults) }
         ensures no_fault { OnOk result (self.new.faults ≡ self.old.faults) }
+        ensures counted { self.new.faults ≡ faults_after result self.old.faults }
+        ensures last { self.new.last_failed ≡ is_err result }
 
         // It fails where it is stated to, and else for want of memory alone.
         ensures stated { Contains self.old.fails (fail.End (counted self.old.ends)) → IsErr result }
@@ -217,6 +232,7 @@ impl Shelf for MemShelf {
         ensures call { self.new.ends ≡ counted self.old.ends }
         ensures other_calls { (self.new.begins ≡ self.old.begins) × (self.new.writes ≡ self.old.writes) }
     {
+        self.last_failed = false;
         self.ends = self.ends.saturating_add(1);
         if !self.fails.states(ShelfFail::End(self.ends))
             && finish(&mut self.begun, &mut self.finished).is_ok()
@@ -224,6 +240,7 @@ impl Shelf for MemShelf {
             return Ok(());
         }
         self.faults = self.faults.saturating_add(1);
+        self.last_failed = true;
         Err(Failed)
     }
 }

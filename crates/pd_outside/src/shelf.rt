@@ -2,7 +2,7 @@
 
 ghost use Rattle.std.specs.Prelude.{◌≡◌, ◌<◌, ◌≤◌, ℕ, Bool, true, false, Option, length, take, IsTrue, IfOk, IfSome, OnOk, OnErr, is_ok, is_err, is_some};
 ghost use Rattle.std.specs.Option.{option_map};
-ghost use Rattle.pd_outside.specs.Faults.{Rose};
+ghost use Rattle.pd_outside.specs.Faults.{Rose, faults_after};
 ghost use Rattle.pd_outside.specs.Shelf.{Held, begin_file, append_bytes, end_file};
 
 use crate::Failed;
@@ -22,6 +22,9 @@ pub trait Shelf {
     /// its type.
     ghost faults: { Self → ℕ };
 
+    /// Whether the last call failed. Where none was made, none failed.
+    ghost last_failed: { Self → Bool };
+
     /// Begins an empty file of this name. At `Failed` no file is begun.
     fn begin(&mut self, name: &str) -> Result<(), Failed>
         requires { is_begun self.old ≡ false }
@@ -30,7 +33,9 @@ pub trait Shelf {
         ensures unchanged { OnErr result (held self.new ≡ held self.old) }
         ensures never_falls { faults self.old ≤ faults self.new }
         ensures cause { OnErr result (Rose (faults self.old) (faults self.new)) }
-        ensures no_fault { OnOk result (faults self.new ≡ faults self.old) };
+        ensures no_fault { OnOk result (faults self.new ≡ faults self.old) }
+        ensures counted { faults self.new ≡ faults_after result (faults self.old) }
+        ensures last { last_failed self.new ≡ is_err result };
 
     /// Appends the first bytes of the piece to the begun file, and tells how many: at least one. At `Failed` the file is
     /// as before. It stays begun.
@@ -45,7 +50,9 @@ pub trait Shelf {
         ensures begun { IsTrue (is_begun self.new) }
         ensures never_falls { faults self.old ≤ faults self.new }
         ensures cause { OnErr result (Rose (faults self.old) (faults self.new)) }
-        ensures no_fault { OnOk result (faults self.new ≡ faults self.old) };
+        ensures no_fault { OnOk result (faults self.new ≡ faults self.old) }
+        ensures counted { faults self.new ≡ faults_after result (faults self.old) }
+        ensures last { last_failed self.new ≡ is_err result };
 
     /// Finishes the begun file. At `Failed` it stays begun, as it was.
     fn end(&mut self) -> Result<(), Failed>
@@ -55,7 +62,9 @@ pub trait Shelf {
         ensures unchanged { OnErr result (held self.new ≡ held self.old) }
         ensures never_falls { faults self.old ≤ faults self.new }
         ensures cause { OnErr result (Rose (faults self.old) (faults self.new)) }
-        ensures no_fault { OnOk result (faults self.new ≡ faults self.old) };
+        ensures no_fault { OnOk result (faults self.new ≡ faults self.old) }
+        ensures counted { faults self.new ≡ faults_after result (faults self.old) }
+        ensures last { last_failed self.new ≡ is_err result };
 
     /// A file is told as begun exactly where one is begun.
     ghost told_alike: { (shelf : Self) → IfSome (held shelf) (λ h. is_some h.begun ≡ is_begun shelf) };

@@ -2,7 +2,7 @@
 
 ghost use Rattle.std.specs.Prelude.{◌≡◌, ◌<◌, ◌≤◌, ◌⊎◌, ◌+◌, ◌^◌, ◌↔◌, false, length, take, IsTrue, IfOk, IfSome, IsErrOf, IsOk, OnOk, OnErr, vec_len};
 ghost use Rattle.std.specs.Option.{option_map};
-ghost use Rattle.pd_outside.specs.Faults.{Rose};
+ghost use Rattle.pd_outside.specs.Faults.{FailsAtLast, Rose, counted};
 ghost use Rattle.pd_outside.specs.Files.{bytes_of};
 ghost use Rattle.pd_outside.specs.Library.{Content, read_out, ask, AskedAtMost};
 ghost use Rattle.pd_outside.specs.Shelf.{append_bytes, AppendedPrefixOf};
@@ -15,7 +15,7 @@ const CHUNK: usize = 65536;
 
 /// Reads the whole file of this name, to its end, where it has at most `limit` bytes.
 ///
-/// `Failed` comes only where the library's count of faults rose, and no file is started then; any other answer leaves
+/// `Failed` comes only where the library's count of faults rose, by one, and no file is started then; any other answer leaves
 /// the count as it was. `TooLong` comes exactly where `limit` + 1 bytes of the file were taken, and no more are ever taken.
 /// Nothing is taken of a file whose name isn't asked.
 pub fn read_whole<L: Library>(
@@ -44,6 +44,7 @@ pub fn read_whole<L: Library>(
     ensures files { option_map (λ (c : Content). c.files) (L.content library.new) ≡ option_map (λ (c : Content). c.files) (L.content library.old) }
     ensures never_falls { L.faults library.old ≤ L.faults library.new }
     ensures no_fault { IsErrOf result ReadFault.Failed ⊎ (L.faults library.new ≡ L.faults library.old) }
+    ensures once { IsErrOf result ReadFault.Failed → L.faults library.new ≡ counted (L.faults library.old) }
 {
     match library.start(name) {
         Ok(()) => {}
@@ -76,7 +77,7 @@ fn zeros(alloc: Global, n: usize) -> Result<Vec<u8>, AllocError>
 }
 
 /// Appends all the bytes to the begun file, which stays begun. `WriteFailed` comes only where the shelf's count of faults
-/// rose; a prefix of the bytes was appended then.
+/// rose; a prefix of the bytes was appended then, and nothing was called after the write that failed.
 pub fn write_all<S: Shelf>(shelf: &mut S, bytes: &[u8]) -> Result<(), WriteFailed>
     requires { IsTrue (S.is_begun shelf.old) }
     ensures all { OnOk result (S.held shelf.new ≡ option_map (append_bytes bytes.now) (S.held shelf.old)) }
@@ -85,6 +86,7 @@ pub fn write_all<S: Shelf>(shelf: &mut S, bytes: &[u8]) -> Result<(), WriteFaile
     ensures begun { IsTrue (S.is_begun shelf.new) }
     ensures never_falls { S.faults shelf.old ≤ S.faults shelf.new }
     ensures no_fault { OnOk result (S.faults shelf.new ≡ S.faults shelf.old) }
+    ensures at_last { FailsAtLast result (S.faults shelf.old) (S.faults shelf.new) (S.last_failed shelf.new) }
 {
     let mut at = 0;
     while at < bytes.len() {

@@ -2,8 +2,7 @@
 
 ghost use Rattle.std.specs.Prelude.{◌≡◌, false, None, is_some};
 
-use crate::faults::fault;
-use crate::moves::{hand_on, put_some};
+use crate::writing::Writing;
 use pd_outside::{Failed, Shelf};
 use std::alloc::Global;
 use std::fs::File;
@@ -27,8 +26,7 @@ pub struct FileShelf<R: Files> {
     rt: R,
     alloc: Global,
     stdout: Stdout,
-    begun: Option<BufWriter<Output<R::File>>>,
-    pub(crate) faults: u64,
+    writing: Writing<Output<R::File>>,
 }
 
 #[derive(Drop)]
@@ -56,15 +54,15 @@ impl<F: Write> Write for Output<F> {
 impl<R: Files> FileShelf<R> {
     /// Nothing is begun, and no call failed.
     pub fn new(rt: R, alloc: Global, stdout: Stdout) -> Self
-        ensures begun { is_some result.begun ≡ false }
-        ensures faults { result.faults ≡ 0 }
+        ensures begun { is_some result.writing.begun ≡ false }
+        ensures faults { result.writing.faults ≡ 0 }
+        ensures last_failed { result.writing.last_failed ≡ false }
     {
         FileShelf {
             rt,
             alloc,
             stdout,
-            begun: None,
-            faults: 0,
+            writing: Writing::new(),
         }
     }
 
@@ -80,35 +78,24 @@ impl<R: Files> FileShelf<R> {
 impl<R: Files> Shelf for FileShelf<R> {
     ghost held = { λ _. None };
 
-    ghost is_begun = { λ shelf. is_some shelf.begun };
+    ghost is_begun = { λ shelf. is_some shelf.writing.begun };
 
-    ghost faults = { λ shelf. shelf.faults };
+    ghost faults = { λ shelf. shelf.writing.faults };
+
+    ghost last_failed = { λ shelf. shelf.writing.last_failed };
 
     ghost told_alike = { λ _. tt };
 
     fn begin(&mut self, name: &str) -> Result<(), Failed> {
-        match self.open(name) {
-            Ok(output) => {
-                self.begun = Some(output);
-                Ok(())
-            }
-            Err(_) => Err(fault(&mut self.faults)),
-        }
+        let opened = self.open(name);
+        self.writing.begin(opened)
     }
 
     fn write(&mut self, piece: &[u8]) -> Result<usize, Failed> {
-        let Some(output) = &mut self.begun else {
-            unreachable!()
-        };
-        put_some(output, piece, &mut self.faults)
+        self.writing.write(piece)
     }
 
     fn end(&mut self) -> Result<(), Failed> {
-        let Some(output) = &mut self.begun else {
-            unreachable!()
-        };
-        hand_on(output, &mut self.faults)?;
-        self.begun = None;
-        Ok(())
+        self.writing.end()
     }
 }

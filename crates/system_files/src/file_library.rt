@@ -1,0 +1,54 @@
+//! The files of the system that are read.
+
+ghost use Rattle.std.specs.Prelude.{◌≡◌, false, None, is_some};
+
+use crate::reading::Reading;
+use pd_outside::{Failed, Library};
+use std::fs::File;
+use std::rt::Files;
+
+/// The files of the system, read one at a time. It can't tell what they hold, nor which were asked.
+///
+/// A name is a path. One that can't be opened, an absent one among them, is a failed start. Each error that the system
+/// answers is counted as a fault. A read of no byte is the end of the file.
+#[derive(Drop)]
+pub struct FileLibrary<R: Files> {
+    rt: R,
+    reading: Reading<R::File>,
+}
+
+impl<R: Files> FileLibrary<R> {
+    /// Nothing is started or taken, and no call failed.
+    pub fn new(rt: R) -> Self
+        ensures started { is_some result.reading.started ≡ false }
+        ensures taken { result.reading.taken ≡ 0 }
+        ensures faults { result.reading.faults ≡ 0 }
+    {
+        FileLibrary {
+            rt,
+            reading: Reading::new(),
+        }
+    }
+}
+
+impl<R: Files> Library for FileLibrary<R> {
+    ghost content = { λ _. None };
+
+    ghost asked = { λ _. None };
+
+    ghost is_started = { λ library. is_some library.reading.started };
+
+    ghost taken = { λ library. library.reading.taken };
+
+    ghost faults = { λ library. library.reading.faults };
+
+    ghost told_alike = { λ _. tt };
+
+    fn start(&mut self, name: &str) -> Result<(), Failed> {
+        self.reading.start(File::open(&self.rt, name))
+    }
+
+    fn read(&mut self, into: &mut [u8]) -> Result<usize, Failed> {
+        self.reading.read(into)
+    }
+}

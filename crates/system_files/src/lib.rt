@@ -1,0 +1,10 @@
+//! The outside over the system: its files that are read, and its files and the standard output that are written.
+#![tactic(auto)]
+
+mod file_library;
+mod file_shelf;
+mod reading;
+mod writing;
+
+pub use file_library::FileLibrary;
+pub use file_shelf::FileShelf;

@@ -1,0 +1,89 @@
+//! What is read, with its faults.
+
+ghost use Rattle.std.specs.Prelude.{◌≡◌, ◌≤◌, ◌<◌, ◌+◌, ◌^◌, false, length, IfOk, IfSome, IsTrue, is_ok, is_some};
+ghost use Rattle.std.specs.Io.KnownBytes.{ReadConsumes};
+ghost use Rattle.std.specs.Result.{result_unwrap_or};
+ghost use Rattle.pd_outside.specs.Faults.{counted, faults_after};
+
+use pd_outside::Failed;
+use std::io;
+use std::io::Read;
+
+/// A file that is read, if one is started, with the count of its bytes that were taken and that of the faults. Each error that
+/// the system answers is one fault, and is counted here, where it comes.
+#[derive(Drop)]
+pub(crate) struct Reading<F> {
+    started: Option<F>,
+    taken: u64,
+    faults: u64,
+}
+
+impl<F: Read + Drop> Reading<F> {
+    /// Nothing is started or taken, and no call failed.
+    pub(crate) fn new() -> Self
+        ensures started { is_some result.started ≡ false }
+        ensures taken { result.taken ≡ 0 }
+        ensures faults { result.faults ≡ 0 }
+    {
+        Reading {
+            started: None,
+            taken: 0,
+            faults: 0,
+        }
+    }
+
+    /// Starts the file that was opened. Where none was, that is a fault, and none is started.
+    pub(crate) fn start(&mut self, opened: io::Result<F>) -> Result<(), Failed>
+        ensures failed { is_ok result ≡ is_ok opened }
+        ensures started { is_some self.new.started ≡ is_ok opened }
+        ensures file { IfSome self.new.started (λ file. IfOk opened (λ given. file ≡ given)) }
+        ensures taken { self.new.taken ≡ 0 }
+        ensures counted { self.new.faults ≡ faults_after result self.old.faults }
+        ensures never_falls { self.old.faults ≤ self.new.faults }
+    {
+        self.taken = 0;
+        match opened {
+            Ok(file) => {
+                self.started = Some(file);
+                Ok(())
+            }
+            Err(_) => Err(self.fail()),
+        }
+    }
+
+    /// Takes bytes of the file into the beginning of `into`, and tells how many: at least one, but at the end of the file.
+    /// Where the system answers an error, that is a fault, and no file is started.
+    pub(crate) fn read(&mut self, into: &mut [u8]) -> Result<usize, Failed>
+        requires started { IsTrue (is_some self.old.started) }
+        requires not_empty { 0 < length into.old }
+        requires countable { self.old.taken + length into.old < 2 ^ 64 }
+        ensures within { IfOk result (λ n. n ≤ length into.old) }
+        ensures bytes { IfSome self.old.started (λ before. IfSome self.new.started (λ now. ReadConsumes (F.remaining before) (F.remaining now) result into.new)) }
+        ensures started { is_some self.new.started ≡ is_ok result }
+        ensures taken { self.new.taken ≡ self.old.taken + result_unwrap_or result 0 }
+        ensures counted { self.new.faults ≡ faults_after result self.old.faults }
+        ensures never_falls { self.old.faults ≤ self.new.faults }
+    {
+        let Some(file) = &mut self.started else {
+            unreachable!()
+        };
+        match file.read(into) {
+            Ok(n) => {
+                self.taken += n as u64;
+                Ok(n)
+            }
+            Err(_) => Err(self.fail()),
+        }
+    }
+
+    fn fail(&mut self) -> Failed
+        ensures stopped { is_some self.new.started ≡ false }
+        ensures taken { self.new.taken ≡ self.old.taken }
+        ensures counted { self.new.faults ≡ counted self.old.faults }
+        ensures never_falls { self.old.faults ≤ self.new.faults }
+    {
+        self.started = None;
+        self.faults = self.faults.saturating_add(1);
+        Failed
+    }
+}

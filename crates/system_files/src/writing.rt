@@ -1,0 +1,117 @@
+//! What is written, with its faults.
+
+ghost use Rattle.std.specs.Prelude.{◌≡◌, ◌≤◌, ◌<◌, [], false, length, IfOk, IfSome, IsTrue, OnOk, is_err, is_ok, is_some};
+ghost use Rattle.std.specs.Io.Buffered.{writer_buffer, writer_contents};
+ghost use Rattle.std.specs.Io.KnownBytes.{Keeps, WriteAppends};
+ghost use Rattle.pd_outside.specs.Faults.{counted, faults_after};
+
+use pd_outside::Failed;
+use std::io;
+use std::io::{BufWriter, Write};
+
+/// A file that is written, if one is begun, with the count of the faults and whether the last call was one. Each error that the
+/// system answers is one fault, and is counted here, where it comes.
+#[derive(Drop)]
+pub(crate) struct Writing<W: Write + Drop> {
+    begun: Option<BufWriter<W>>,
+    faults: u64,
+    last_failed: bool,
+}
+
+impl<W: Write + Drop> Writing<W> {
+    /// Nothing is begun, and no call failed.
+    pub(crate) fn new() -> Self
+        ensures begun { is_some result.begun ≡ false }
+        ensures faults { result.faults ≡ 0 }
+        ensures last_failed { result.last_failed ≡ false }
+    {
+        Writing {
+            begun: None,
+            faults: 0,
+            last_failed: false,
+        }
+    }
+
+    /// Begins the file that was opened. Where none was, that is a fault, and none is begun.
+    pub(crate) fn begin(&mut self, opened: io::Result<BufWriter<W>>) -> Result<(), Failed>
+        ensures failed { is_ok result ≡ is_ok opened }
+        ensures begun { is_some self.new.begun ≡ is_ok opened }
+        ensures file { IfSome self.new.begun (λ file. IfOk opened (λ given. file ≡ given)) }
+        ensures counted { self.new.faults ≡ faults_after result self.old.faults }
+        ensures never_falls { self.old.faults ≤ self.new.faults }
+        ensures last { self.new.last_failed ≡ is_err result }
+    {
+        self.begun = None;
+        self.last_failed = false;
+        match opened {
+            Ok(output) => {
+                self.begun = Some(output);
+                Ok(())
+            }
+            Err(_) => Err(self.fail()),
+        }
+    }
+
+    /// Appends the first of the bytes to the file, and tells how many: at least one. Where the system takes none, or answers an
+    /// error, that is a fault.
+    pub(crate) fn write(&mut self, bytes: &[u8]) -> Result<usize, Failed>
+        requires begun { IsTrue (is_some self.old.begun) }
+        ensures some { IfOk result (λ n. 1 ≤ n) }
+        ensures within { IfOk result (λ n. n ≤ length bytes.now) }
+        ensures put { IfSome self.old.begun (λ before. IfSome self.new.begun (λ now.
+            WriteAppends (writer_contents W.contents before) (writer_contents W.contents now) result bytes.now)) }
+        ensures begun { IsTrue (is_some self.new.begun) }
+        ensures counted { self.new.faults ≡ faults_after result self.old.faults }
+        ensures never_falls { self.old.faults ≤ self.new.faults }
+        ensures last { self.new.last_failed ≡ is_err result }
+    {
+        self.last_failed = false;
+        let Some(output) = &mut self.begun else {
+            unreachable!()
+        };
+        match output.write(bytes) {
+            Ok(n) if n > 0 => Ok(n),
+            _ => Err(self.fail()),
+        }
+    }
+
+    /// Hands all that is gathered on to the output behind the buffer, and lets go of the file.
+    pub(crate) fn end(&mut self) -> Result<(), Failed>
+        requires begun { IsTrue (is_some self.old.begun) }
+        ensures begun { is_some self.new.begun ≡ is_err result }
+        ensures counted { self.new.faults ≡ faults_after result self.old.faults }
+        ensures never_falls { self.old.faults ≤ self.new.faults }
+        ensures last { self.new.last_failed ≡ is_err result }
+    {
+        self.last_failed = false;
+        let Some(output) = &mut self.begun else {
+            unreachable!()
+        };
+        match hand_on(output) {
+            Ok(()) => {
+                self.begun = None;
+                Ok(())
+            }
+            Err(_) => Err(self.fail()),
+        }
+    }
+
+    fn fail(&mut self) -> Failed
+        ensures begun { self.new.begun ≡ self.old.begun }
+        ensures counted { self.new.faults ≡ counted self.old.faults }
+        ensures never_falls { self.old.faults ≤ self.new.faults }
+        ensures last { IsTrue self.new.last_failed }
+    {
+        self.last_failed = true;
+        self.faults = self.faults.saturating_add(1);
+        Failed
+    }
+}
+
+/// Hands all that is gathered on to the output behind the buffer.
+fn hand_on<W: Write + Drop>(output: &mut BufWriter<W>) -> io::Result<()>
+    ensures all { OnOk result (writer_buffer output.new ≡ []) }
+    ensures kept { Keeps (writer_contents W.contents output.old) (writer_contents W.contents output.new) }
+{
+    output.flush()
+}
