@@ -1,5 +1,5 @@
 -- The dictionary of bytes, case by case.
-use Rattle.std.proofs.Common.{◌≡◌, ℕ, ◌<◌, Bool, List, [], ◌∷◌, length, Option, Some, None, Result, Ok, Err, refl, ap, ◌∙◌, arith, if◌then◌else◌}
+use Rattle.std.proofs.Common.{◌≡◌, ℕ, ◌<◌, Bool, List, [], ◌∷◌, length, Option, Some, None, Result, Ok, Err, IsOk, refl, ap, ◌∙◌, arith, if◌then◌else◌}
 use Rattle.std.proofs.lemmas.Bool.{false_from_ne_true}
 use Rattle.std.proofs.lemmas.Str.{IsUtf8-from_is_utf8, is_utf8-from_IsUtf8}
 use Rattle.std.specs.Str.{IsUtf8, is_utf8}
@@ -27,26 +27,33 @@ pub dictionary_of-fault : (bytes : List ℕ) (fault : DictFault) → IsUtf8 byte
 dictionary_of-fault bytes fault text first =
     dictionary_of-text bytes text ∙ ap (λ (o : Option DictFault). unless_fault o (entry_lines (without_mark bytes))) first
 
-unless_fault-list : (lines : List Line) (list : WordList) → word_list lines ≡ list → 0 < length list.entries → unless_fault None lines ≡ Ok list
-unless_fault-list [] list same some = absurd (omega (arith, ap (λ (l : WordList). length l.entries) same))
-unless_fault-list (line ∷ others) list same some = ap Ok same
+unless_fault-list : (lines : List Line) → 0 < length lines → unless_fault None lines ≡ Ok (word_list lines)
+unless_fault-list [] some = absurd (omega arith)
+unless_fault-list (line ∷ others) some = refl
 
-unless_fault-empty : (lines : List Line) (list : WordList) → word_list lines ≡ list → length list.entries ≡ 0 → unless_fault None lines ≡ Err Empty
-unless_fault-empty [] list same none = refl
-unless_fault-empty (line ∷ others) list same none = absurd (omega (arith, ap (λ (l : WordList). length l.entries) same))
+unless_fault-empty : (lines : List Line) → length lines ≡ 0 → unless_fault None lines ≡ Err Empty
+unless_fault-empty [] none = refl
+unless_fault-empty (line ∷ others) none = absurd (omega arith)
 
 -- no line has a fault, and there is an entry
-pub dictionary_of-list : (bytes : List ℕ) (list : WordList) → IsUtf8 bytes →
-    first_fault_from 1 (entry_lines (without_mark bytes)) ≡ None → word_list (entry_lines (without_mark bytes)) ≡ list →
-    0 < length list.entries → dictionary_of bytes ≡ Ok list
-dictionary_of-list bytes list text right same some =
+pub dictionary_of-list : (bytes : List ℕ) → IsUtf8 bytes →
+    first_fault_from 1 (entry_lines (without_mark bytes)) ≡ None → 0 < length (entry_lines (without_mark bytes)) →
+    dictionary_of bytes ≡ Ok (word_list (entry_lines (without_mark bytes)))
+dictionary_of-list bytes text right some =
     let lines = entry_lines (without_mark bytes) in
-    dictionary_of-text bytes text ∙ ap (λ (o : Option DictFault). unless_fault o lines) right ∙ unless_fault-list lines list same some
+    dictionary_of-text bytes text ∙ ap (λ (o : Option DictFault). unless_fault o lines) right ∙ unless_fault-list lines some
+
+is_ok-list : (given : Result WordList DictFault) (list : WordList) → given ≡ Ok list → IsOk given
+is_ok-list given list is = rw is refl
+
+-- so it is a dictionary
+pub dictionary_of-is_ok : (bytes : List ℕ) → IsUtf8 bytes →
+    first_fault_from 1 (entry_lines (without_mark bytes)) ≡ None → 0 < length (entry_lines (without_mark bytes)) → IsOk (dictionary_of bytes)
+dictionary_of-is_ok bytes text right some = is_ok-list (dictionary_of bytes) _ (dictionary_of-list bytes text right some)
 
 -- or there is none
-pub dictionary_of-empty : (bytes : List ℕ) (list : WordList) → IsUtf8 bytes →
-    first_fault_from 1 (entry_lines (without_mark bytes)) ≡ None → word_list (entry_lines (without_mark bytes)) ≡ list →
-    length list.entries ≡ 0 → dictionary_of bytes ≡ Err Empty
-dictionary_of-empty bytes list text right same none =
+pub dictionary_of-empty : (bytes : List ℕ) → IsUtf8 bytes →
+    first_fault_from 1 (entry_lines (without_mark bytes)) ≡ None → length (entry_lines (without_mark bytes)) ≡ 0 → dictionary_of bytes ≡ Err Empty
+dictionary_of-empty bytes text right none =
     let lines = entry_lines (without_mark bytes) in
-    dictionary_of-text bytes text ∙ ap (λ (o : Option DictFault). unless_fault o lines) right ∙ unless_fault-empty lines list same none
+    dictionary_of-text bytes text ∙ ap (λ (o : Option DictFault). unless_fault o lines) right ∙ unless_fault-empty lines none

@@ -1,11 +1,12 @@
 -- The lines of a text, read one after the other.
 use Rattle.std.proofs.Common.{◌≡◌, ℕ, zero, suc, ◌+◌, ◌<◌, ◌≤◌, ◌==◌, Bool, true, false, not, cond, List, [], ◌∷◌, ◌++◌, Option, Some, None, map, filter, length, get_or, take, drop, refl, ap, sym, ◌∙◌, arith}
-use Rattle.std.proofs.lemmas.List.{length-map, take_all, map-append, append-nil, append_assoc, get_or-map, take-append-drop}
+use Rattle.std.proofs.lemmas.List.{length-append, length-map, take_all, map-append, append-nil, append_assoc, get_or-map, take-append-drop}
 use Rattle.std.proofs.lemmas.List.Elements.{filter_more, filter-append}
 use Rattle.std.specs.List.{slice_split}
 use Rattle.std.specs.Option.{option_or, unwrap_or}
 use Rattle.std.specs.Str.Lines.{strip_carriage_return}
 use Rattle.dictionaries.specs.Grammar.{Line, is_line_feed, lines, numbered_line, numbered_from, has_entry, entry_lines, text_of, weight_of, fault_of, first_fault_from, word_list}
+use Rattle.dictionaries.specs.WordList.{WordList}
 use Rattle.dictionaries.specs.declared.fault.DictFault.{DictFault}
 
 length-numbered_from : (number : ℕ) (lines : List (List ℕ)) → length (numbered_from number lines) ≡ length lines
@@ -170,3 +171,80 @@ pub AreRead-all : (text : List ℕ) (n : ℕ) (entries : List (List ℕ)) (weigh
 AreRead-all text n entries weights whole so_far =
     let all = entries_before-all text n whole in
     (rw all at so_far.right, rw (← all, so_far.texts, so_far.weighed) refl)
+
+-- the first n lines of a text have no fault, they have so many entries, and these are their entries and weights where memory lasted
+pub record AreTried (text : List ℕ) (n count : ℕ) (is_whole : Bool) (entries : List (List ℕ)) (weights : List ℕ) : Type 0 where
+  pub texts : List (List ℕ)
+  pub weighed : List ℕ
+  pub read : AreRead text n texts weighed
+  pub counted : count ≡ length texts
+  pub kept_entries : is_whole ≡ true → entries ≡ texts
+  pub kept_weights : is_whole ≡ true → weights ≡ weighed
+
+pub AreTried-none : (text : List ℕ) (count : ℕ) (is_whole : Bool) (entries : List (List ℕ)) (weights : List ℕ) →
+    count ≡ 0 → entries ≡ [] → weights ≡ [] → AreTried text 0 count is_whole entries weights
+AreTried-none text count is_whole entries weights no_count none no_weights = record {
+  texts = [];
+  weighed = [];
+  read = AreRead-none text;
+  counted = no_count;
+  kept_entries = λ _. none;
+  kept_weights = λ _. no_weights;
+}
+
+pub AreTried-empty : (text : List ℕ) (n : ℕ) (part : List ℕ) (count : ℕ) (is_whole : Bool) (entries : List (List ℕ)) (weights : List ℕ) →
+    n < length (slice_split is_line_feed text) → part ≡ get_or (slice_split is_line_feed text) n part →
+    (length (strip_carriage_return part) == 0) ≡ true → AreTried text n count is_whole entries weights → AreTried text (n + 1) count is_whole entries weights
+AreTried-empty text n part count is_whole entries weights within at empty so_far = record {
+  texts = so_far.texts;
+  weighed = so_far.weighed;
+  read = AreRead-empty text n part so_far.texts so_far.weighed within at empty so_far.read;
+  counted = so_far.counted;
+  kept_entries = so_far.kept_entries;
+  kept_weights = so_far.kept_weights;
+}
+
+pub AreTried-more : (text : List ℕ) (n : ℕ) (part : List ℕ) (count : ℕ) (is_whole : Bool) (entries : List (List ℕ)) (weights : List ℕ) (weight : ℕ)
+    (count' : ℕ) (is_whole' : Bool) (entries' : List (List ℕ)) (weights' : List ℕ) →
+    n < length (slice_split is_line_feed text) → part ≡ get_or (slice_split is_line_feed text) n part →
+    (length (strip_carriage_return part) == 0) ≡ false →
+    fault_of (count + 1) (n + 1) (strip_carriage_return part) ≡ None → weight_of (strip_carriage_return part) ≡ Some weight →
+    count' ≡ count + 1 → (is_whole' ≡ true → is_whole ≡ true) →
+    (is_whole' ≡ true → entries' ≡ entries ++ text_of (strip_carriage_return part) ∷ []) → (is_whole' ≡ true → weights' ≡ weights ++ weight ∷ []) →
+    AreTried text n count is_whole entries weights → AreTried text (n + 1) count' is_whole' entries' weights'
+AreTried-more text n part count is_whole entries weights weight count' is_whole' entries' weights' within at filled fine named one still more more_weights so_far =
+    let fine_here : fault_of (length so_far.texts + 1) (n + 1) (strip_carriage_return part) ≡ None = rw so_far.counted at fine in
+    record {
+      texts = so_far.texts ++ text_of (strip_carriage_return part) ∷ [];
+      weighed = so_far.weighed ++ weight ∷ [];
+      read = AreRead-more text n part so_far.texts so_far.weighed weight within at filled fine_here named so_far.read;
+      counted = omega (arith, length-append so_far.texts (text_of (strip_carriage_return part) ∷ []), so_far.counted);
+      kept_entries = λ whole. more whole ∙ ap (λ (front : List (List ℕ)). front ++ text_of (strip_carriage_return part) ∷ []) (so_far.kept_entries (still whole));
+      kept_weights = λ whole. more_weights whole ∙ ap (λ (front : List ℕ). front ++ weight ∷ []) (so_far.kept_weights (still whole));
+    }
+
+-- the first fault of all lines is that of the next line with an entry
+pub first_fault-of_tried : (text : List ℕ) (n : ℕ) (part : List ℕ) (count : ℕ) (is_whole : Bool) (entries : List (List ℕ)) (weights : List ℕ) (fault : DictFault) →
+    n < length (slice_split is_line_feed text) → part ≡ get_or (slice_split is_line_feed text) n part →
+    (length (strip_carriage_return part) == 0) ≡ false →
+    fault_of (count + 1) (n + 1) (strip_carriage_return part) ≡ Some fault → AreTried text n count is_whole entries weights →
+    first_fault_from 1 (entry_lines text) ≡ Some fault
+first_fault-of_tried text n part count is_whole entries weights fault within at filled wrong so_far =
+    let wrong_here : fault_of (length so_far.texts + 1) (n + 1) (strip_carriage_return part) ≡ Some fault = rw so_far.counted at wrong in
+    first_fault-of_next text n part so_far.texts so_far.weighed fault within at filled wrong_here so_far.read
+
+-- all lines are tried
+pub record AllAreTried (text : List ℕ) (count : ℕ) (is_whole : Bool) (entries : List (List ℕ)) (weights : List ℕ) : Type 0 where
+  pub right : first_fault_from 1 (entry_lines text) ≡ None
+  pub counted : count ≡ length (entry_lines text)
+  pub kept : is_whole ≡ true → word_list (entry_lines text) ≡ record { entries = entries; weights = weights }
+
+pub AreTried-all : (text : List ℕ) (n count : ℕ) (is_whole : Bool) (entries : List (List ℕ)) (weights : List ℕ) → n ≡ length (slice_split is_line_feed text) →
+    AreTried text n count is_whole entries weights → AllAreTried text count is_whole entries weights
+AreTried-all text n count is_whole entries weights whole so_far =
+    let all = AreRead-all text n so_far.texts so_far.weighed whole so_far.read in
+    record {
+      right = all.0;
+      counted = so_far.counted ∙ ap length (sym (ap (λ (list : WordList). list.entries) all.1)) ∙ length-map (entry_lines text) (λ l. text_of l.bytes);
+      kept = λ last. rw (so_far.kept_entries last, so_far.kept_weights last) all.1;
+    }

@@ -2,7 +2,7 @@
 use Rattle.std.proofs.Common.{◌≡◌, ◌≢◌, ℕ, zero, suc, ◌+◌, ◌-◌, ◌<◌, ◌≤◌, ◌^◌, ◌==◌, Bool, true, false, not, cond, List, [], ◌∷◌, ◌++◌, map, filter, length, get_or, take, drop, All, Some, None, Ok, refl, ap, sym, ◌∙◌, arith, eq-eqb, lit<, if◌then◌else◌}
 use Rattle.std.proofs.lemmas.Bool.{ne_eqb, le-leb, le-ltb, and_from}
 use Rattle.std.proofs.lemmas.Fmt.{IsAscii-decimal, decimal_nonempty, digits_decimal, digits_value-decimal, length-decimal-le}
-use Rattle.std.proofs.lemmas.List.{get_or-append-add, get_or_append_left, length-append, drop-drop}
+use Rattle.std.proofs.lemmas.List.{get_or-append-add, get_or_append_left, length-append, length-map, drop-drop}
 use Rattle.std.proofs.lemmas.List.Elements.{All-append, All-cons, All-from_get_or, All-head, All-tail, All-weaker}
 use Rattle.std.proofs.lemmas.List.Folds.{list_any_at}
 use Rattle.std.proofs.lemmas.List.Splits.{slice_split_at}
@@ -20,7 +20,7 @@ use Rattle.std.specs.Str.{IsUtf8}
 use Rattle.std.specs.Str.Lines.{strip_carriage_return}
 use Rattle.std.specs.Str.Parse.{digits_value}
 use Rattle.dictionaries.specs.WordList.{WordList, IsWordList}
-use Rattle.dictionaries.specs.Grammar.{Line, byte_order_mark, is_line_feed, lines, numbered_line, numbered_from, has_entry, is_tab, text_of, is_weight, weight_named, weight_of, fault_of, first_fault_from, dictionary_of}
+use Rattle.dictionaries.specs.Grammar.{Line, byte_order_mark, entry_lines, without_mark, word_list, is_line_feed, lines, numbered_line, numbered_from, has_entry, is_tab, text_of, is_weight, weight_named, weight_of, fault_of, first_fault_from, dictionary_of}
 use Rattle.dictionaries.specs.Written.{IsPlain, written, written_line, written_lines}
 use Rattle.dictionaries.proofs.LineLemmas.{digits_model}
 use Rattle.dictionaries.proofs.DictionaryLemmas.{dictionary_of-list}
@@ -215,4 +215,8 @@ dictionary_of-written list sound plain =
     } in
     let utf8 : IsUtf8 (written list) = IsUtf8-append byte_order_mark rest IsUtf8-byte_order_mark (IsUtf8-written_lines list.entries list.weights fit) in
     let read = AreReadAs-written 1 1 list.entries list.weights fit (omega (arith, sound.few)) in
-    dictionary_of-list (written list) list utf8 read.right (rw (read.texts, read.weighed) refl) (omega (arith, sound.some))
+    let lines = entry_lines (without_mark (written list)) in
+    let same : word_list lines ≡ list = rw (read.texts, read.weighed) refl in
+    let some : 0 < length lines =
+    omega (arith, sound.some, ap (λ (l : WordList). length l.entries) same, length-map lines (λ (l : Line). text_of l.bytes)) in
+    dictionary_of-list (written list) utf8 read.right some ∙ ap Ok same

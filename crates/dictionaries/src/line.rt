@@ -1,6 +1,6 @@
 //! What one line says.
 
-ghost use Rattle.std.specs.Prelude.{◌≡◌, ◌+◌, Some, None, IfOk, IfErr};
+ghost use Rattle.std.specs.Prelude.{◌≡◌, ◌≢◌, ◌<◌, ◌+◌, Some, None, IfOk, IfErr, OnOk};
 ghost use Rattle.std.specs.Char.{is_ascii_digit};
 ghost use Rattle.std.specs.List.{list_all};
 ghost use Rattle.std.specs.Str.Lines.{strip_carriage_return};
@@ -32,6 +32,8 @@ pub fn read_line(line: &str, number: u64, before: usize) -> Result<(&str, u64), 
     ensures read { IfOk result (λ entry. (fault_of (before + 1) number line.now ≡ None)
         × (text_of line.now ≡ entry.0.now) × (weight_of line.now ≡ Some entry.1)) }
     ensures refused { IfErr result (λ fault. fault_of (before + 1) number line.now ≡ Some fault) }
+    ensures no_memory { IfErr result (λ fault. fault ≢ DictFault.Memory) }
+    ensures few { OnOk result (before < 1000000) }
 {
     let (text, weight) = divide(line);
     if text.len() > LONGEST_TEXT {

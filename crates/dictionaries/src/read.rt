@@ -1,6 +1,6 @@
 //! The dictionary that bytes stand for.
 
-ghost use Rattle.std.specs.Prelude.{◌≡◌, ◌≢◌, Ok, Err, Some, None, IfOk, IfErr};
+ghost use Rattle.std.specs.Prelude.{◌≡◌, ◌≢◌, ◌<◌, ◌+◌, [], ◌∷◌, ◌++◌, Ok, Err, Some, None, IfOk, IfErr, IsOk, IsTrue, OnOk, length};
 ghost use Rattle.dictionaries.specs.Grammar.{dictionary_of, entry_lines, first_fault_from, word_list, without_mark};
 
 use crate::entries::Entries;
@@ -8,11 +8,45 @@ use crate::line::{read_line, strip_carriage_return};
 use crate::{DictFault, Dictionary};
 use std::alloc::Global;
 
-/// The entries of lines, and their weights, one for each.
+/// The entries of lines, and their weights, one for each. They are counted all, and kept as long as memory lasts: so each line
+/// is tried, and want of memory is told of right lines alone.
 #[derive(Drop)]
 struct Draft {
     entries: Entries,
     weights: Vec<u64>,
+    count: usize,
+    is_whole: bool,
+}
+
+impl Draft {
+    /// No entry.
+    fn new(alloc: Global) -> Draft
+        ensures entries { result.entries ≡ [] }
+        ensures weights { result.weights.items ≡ [] }
+        ensures count { result.count ≡ 0 }
+        ensures whole { IsTrue result.is_whole }
+    {
+        Draft {
+            entries: Entries::new(alloc),
+            weights: Vec::new(alloc),
+            count: 0,
+            is_whole: true,
+        }
+    }
+
+    /// One entry more.
+    fn keep(&mut self, entry: &str, weight: u64)
+        requires { self.old.count < 1000000 }
+        ensures count { self.new.count ≡ self.old.count + 1 }
+        ensures whole { IsTrue self.new.is_whole → IsTrue self.old.is_whole }
+        ensures entries { IsTrue self.new.is_whole → self.new.entries ≡ self.old.entries ++ entry.now ∷ [] }
+        ensures weights { IsTrue self.new.is_whole → self.new.weights.items ≡ self.old.weights.items ++ weight ∷ [] }
+    {
+        self.count += 1;
+        self.is_whole = self.is_whole
+            && self.entries.push(entry).is_ok()
+            && self.weights.push(weight).is_ok();
+    }
 }
 
 /// The text without a byte order mark at its beginning.
@@ -24,12 +58,14 @@ fn without_mark(text: &str) -> &str
 
 /// The entries that the lines of a text have, or the first fault of a line.
 fn read_lines(alloc: Global, text: &str) -> Result<Draft, DictFault>
-    ensures read { IfOk result (λ draft. (first_fault_from 1 (entry_lines text.now) ≡ None)
-        × (word_list (entry_lines text.now) ≡ record { entries = draft.entries; weights = draft.weights.items })) }
-    ensures refused { IfErr result (λ fault. fault ≢ DictFault.Memory → first_fault_from 1 (entry_lines text.now) ≡ Some fault) }
+    ensures right { OnOk result (first_fault_from 1 (entry_lines text.now) ≡ None) }
+    ensures count { IfOk result (λ draft. draft.count ≡ length (entry_lines text.now)) }
+    ensures read { IfOk result (λ draft. IsTrue draft.is_whole →
+        word_list (entry_lines text.now) ≡ record { entries = draft.entries; weights = draft.weights.items }) }
+    ensures refused { IfErr result (λ fault. first_fault_from 1 (entry_lines text.now) ≡ Some fault) }
+    ensures no_memory { IfErr result (λ fault. fault ≢ DictFault.Memory) }
 {
-    let mut entries = Entries::new(alloc);
-    let mut weights = Vec::new(alloc);
+    let mut draft = Draft::new(alloc);
     let mut number = 0u64;
     for part in text.split('\n') {
         number += 1;
@@ -37,19 +73,19 @@ fn read_lines(alloc: Global, text: &str) -> Result<Draft, DictFault>
         if line.is_empty() {
             continue;
         }
-        let (entry, weight) = read_line(line, number, entries.len())?;
-        entries.push(entry)?;
-        weights.push(weight)?;
+        let (entry, weight) = read_line(line, number, draft.count)?;
+        draft.keep(entry, weight);
     }
-    Ok(Draft { entries, weights })
+    Ok(draft)
 }
 
 /// The dictionary that the bytes stand for, or their first fault: that they aren't UTF-8 comes first, then the faults of
 /// the lines, line by line, and then that there is no entry. At one line a long text comes first, then a bad weight, then
-/// that the line has one entry too many.
+/// that the line has one entry too many. Want of memory is told of a word list alone.
 pub fn read_dictionary(alloc: Global, bytes: &[u8]) -> Result<Dictionary, DictFault>
     ensures read { IfOk result (λ dictionary. dictionary_of bytes.now ≡ Ok dictionary) }
     ensures refused { IfErr result (λ fault. fault ≢ DictFault.Memory → dictionary_of bytes.now ≡ Err fault) }
+    ensures memory { IfErr result (λ fault. fault ≡ DictFault.Memory → IsOk (dictionary_of bytes.now)) }
 {
     let text = match std::str::from_utf8(bytes) {
         Ok(text) => text,
@@ -59,10 +95,18 @@ pub fn read_dictionary(alloc: Global, bytes: &[u8]) -> Result<Dictionary, DictFa
             });
         }
     };
-    let Draft { entries, weights } = read_lines(alloc, without_mark(text))?;
-    if entries.len() == 0 {
+    let draft = read_lines(alloc, without_mark(text))?;
+    if draft.count == 0 {
         return Err(DictFault::Empty);
     }
+    if !draft.is_whole {
+        return Err(DictFault::Memory);
+    }
+    let Draft {
+        entries,
+        weights,
+        ..
+    } = draft;
     let dictionary = Dictionary::new(alloc, entries, &weights)?;
     Ok(dictionary)
 }
