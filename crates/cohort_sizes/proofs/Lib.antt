@@ -1,0 +1,3 @@
+pub mod CohortLemmas
+pub mod RateLemmas
+pub mod StretchLemmas

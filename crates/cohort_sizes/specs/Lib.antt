@@ -1,0 +1,4 @@
+pub mod Births
+pub mod Rates
+pub mod Stretches
+pub mod Kept

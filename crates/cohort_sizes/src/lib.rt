@@ -1,0 +1,18 @@
+//! How many rows of a table are born at each unit of time, and when each is born.
+//!
+//! The rows that are born at one unit are a cohort. A row is named by its ordinal, its place in the order of birth in its table,
+//! counted from 0. Units count from 0 too: some rows are born at unit 0, and at each later unit as many as the rate says that has
+//! begun last.
+#![tactic(auto)]
+
+mod cohort;
+mod cohorts;
+pub mod laws;
+mod memory;
+mod rate;
+mod stretch;
+
+pub use cohort::Cohort;
+pub use cohorts::Cohorts;
+pub use memory::Memory;
+pub use rate::Rate;
