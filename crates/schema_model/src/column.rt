@@ -44,6 +44,7 @@ pub enum Kind {
         table: Text,
         window: Window,
         spread: Longs,
+        on_delete: OnDelete,
     },
     /// The field of a column of the row that the reference column named `via` names.
     Lookup {
@@ -89,4 +90,13 @@ pub enum Window {
     Units(i64),
     /// All units up to the row's own birth.
     All,
+}
+
+/// What becomes of a row when the row that a reference names is deleted.
+#[derive(Clone, Copy, Debug, PartialEq, Eq)]
+pub enum OnDelete {
+    /// The row is deleted too.
+    Cascade,
+    /// The row stays, and the reference becomes null.
+    Null,
 }

@@ -10,8 +10,8 @@ mod sequence;
 mod table;
 mod text;
 
-pub use column::{Column, Kind, Leaf, Part, Window};
+pub use column::{Column, Kind, Leaf, OnDelete, Part, Window};
 pub use memory::Memory;
-pub use sequence::{Columns, Leaves, Longs, Parts, Sequence, Tables, Texts};
-pub use table::{Delimiter, Life, Schema, Table};
+pub use sequence::{Columns, Leaves, Longs, Parts, Phases, Sequence, Tables, Texts};
+pub use table::{Delimiter, Life, Phase, Schema, Table};
 pub use text::Text;

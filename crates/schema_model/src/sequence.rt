@@ -1,6 +1,6 @@
 //! Sequences that contracts see as lists.
 
-use crate::{Column, Leaf, Memory, Part, Table, Text};
+use crate::{Column, Leaf, Memory, Part, Phase, Table, Text};
 use std::alloc::Global;
 use std::marker::Model;
 
@@ -15,6 +15,9 @@ pub type Texts = Sequence<Text>;
 
 /// Whole numbers in order.
 pub type Longs = Sequence<i64>;
+
+/// The phases of a table's births, in order.
+pub type Phases = Sequence<Phase>;
 
 /// The tables of a schema, in order.
 pub type Tables = Sequence<Table>;

@@ -1,6 +1,6 @@
 //! A schema and its tables.
 
-use crate::{Columns, Tables, Text};
+use crate::{Columns, Phases, Tables, Text};
 
 /// The byte between the fields of a line.
 #[derive(Clone, Copy, Debug, PartialEq, Eq)]
@@ -24,6 +24,15 @@ pub struct Schema {
     pub tables: Tables,
 }
 
+/// From which unit on how many rows are born at each unit: until the next phase of the table begins.
+#[derive(Clone, Copy, Debug, PartialEq, Eq)]
+pub struct Phase {
+    /// The phase's first unit.
+    pub from: i64,
+    /// The number of rows that are born at each of its units.
+    pub rate: i64,
+}
+
 /// How many units a row lives: at least `lo` and at most `hi`.
 #[derive(Clone, Copy, Debug, PartialEq, Eq)]
 pub struct Life {
@@ -40,8 +49,8 @@ pub struct Table {
     pub name: Text,
     /// The number of rows that are born at unit 0.
     pub rows: i64,
-    /// The number of rows that are born at each later unit.
-    pub insert: i64,
+    /// The numbers of rows that are born at later units, by phases.
+    pub insert: Phases,
     /// How long rows live; without it they live for ever.
     pub life: Option<Life>,
     /// The number of units from one change of a row to its next; without it rows never change.

@@ -12,8 +12,7 @@ use Rattle.std.proofs.lemmas.List.Folds.{list_all-map}
 use Rattle.toml.specs.Data.{Data, Items, Members, no_members, table, as_array, as_table}
 use Rattle.toml.specs.View.{view, items_of, items_view, members_view}
 use Rattle.toml.specs.declared.value.Value.{Value}
-use Rattle.schema_read.specs.Document.{document, elements, keys_of}
-use Rattle.schema_read.specs.Reading.{members_of, table_of, tables_of}
+use Rattle.schema_read.specs.Document.{document, elements, keys_of, members_of, table_of, tables_of}
 use Rattle.schema_read.specs.Types.{all_read, as_list_of}
 
 pub elements-items_of : (ds : List Data) → elements (items_of ds) ≡ ds
@@ -46,6 +45,10 @@ found_list read xs (Some ds) found = ap (all_read read) (same_Some (elements ds)
 pub as_list_of-found : {A : Type 0} (read : Data → Option A) (vs : List Value) (d : Data) → Some (map view vs) ≡ option_map elements (as_array d) → as_list_of read d ≡ all_read read (map view vs)
 as_list_of-found read vs d found = found_list read (map view vs) (as_array d) found
 
+-- whether each element of an array that was found can be read
+pub are_all_read : {A : Type 0} (read : Data → Option A) (vs : List Value) (d : Data) → Some (map view vs) ≡ option_map elements (as_array d) → is_some (as_list_of read d) ≡ list_all (λ v. is_some (read (view v))) vs
+are_all_read read vs d found = ap is_some (as_list_of-found read vs d found) ∙ is_some-all_read read (map view vs) ∙ list_all-map (λ d. is_some (read d)) view vs
+
 table_there : (d : Data) → is_some (as_table d) ≡ true → as_table d ≡ Some (members_of d)
 table_there (table ms) there = refl
 table_there _ there = absurd cc
@@ -66,7 +69,7 @@ none_there (Some x) e = absurd cc
 
 pub no_tables-view : (vs : List Value) (d : Data) → Some (map view vs) ≡ option_map elements (as_array d) → list_all (λ v. is_some (as_table (view v))) vs ≡ false → None ≡ as_list_of as_table d
 no_tables-view vs d found not_all =
-    none_there _ (ap is_some (as_list_of-found as_table vs d found) ∙ is_some-all_read as_table (map view vs) ∙ list_all-map (λ d. is_some (as_table d)) view vs ∙ not_all)
+    none_there _ (are_all_read as_table vs d found ∙ not_all)
 
 members_of-is : (d : Data) (ms : Members) → Some ms ≡ as_table d → members_of d ≡ ms
 members_of-is (table ns) ms found = sym (same_Some ms ns found)

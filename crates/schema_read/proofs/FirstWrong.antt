@@ -12,7 +12,8 @@ use Rattle.schema_read.specs.declared.kind_name.KindName.TheVariants.{Case}
 use Rattle.schema_read.specs.Order.{AreRight, TellsFirst, place_readings, readings_from, branch_readings, branches_readings, column_readings, table_readings, document_readings}
 use Rattle.schema_read.specs.Shape.{top, table_place, column_place, branch_place, top_keys, table_keys, column_keys, branch_keys, kind_of, leaf_of, branch_wrong, branches_wrong, column_wrong, table_wrong, first_wrong_key}
 use Rattle.schema_read.specs.Values.{tables}
-use Rattle.schema_read.specs.Wanted.{Wanted, wrong_key, first_of, further_key, first_wrong, each_from}
+use Rattle.schema_read.specs.declared.wanted.Wanted.{Wanted}
+use Rattle.schema_read.specs.Wanted.{wrong_key, first_of, further_key, first_wrong, each_from}
 
 none_wrong : AreRight []
 none_wrong = All-nil (λ (r : Option Wrong). r ≡ None)
@@ -47,7 +48,7 @@ first_of-first p (w ∷ ws) ms = then (wrong_key p w ms) (first_of p ws ms) (map
 
 pub first_wrong-first : (p : Place) (ws : List Wanted) (ms : Members) → TellsFirst (first_wrong p ws ms) (place_readings p ws ms)
 first_wrong-first p ws ms =
-    let further = further_key p (map (λ w. w.key) ws) ms in
+    let further = further_key p ws ms in
     both (first_of p ws ms) further (map (λ w. wrong_key p w ms) ws) (further ∷ []) (first_of-first p ws ms) (one further)
 
 pub each_from-first : (wrong : ℕ → Members → Option Wrong) (n : ℕ) (mss : List Members) → TellsFirst (each_from wrong n mss) (map (λ numbered. wrong numbered.0 numbered.1) (enumerate_from n mss))

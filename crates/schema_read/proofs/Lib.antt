@@ -2,6 +2,6 @@ pub mod Documents
 pub mod Days
 pub mod Places
 pub mod Sequences
-pub mod Shapes
+pub mod Found
 pub mod FirstWrong
 pub mod Refusals

@@ -1,8 +1,10 @@
--- The document that bytes are, and its parts as plain lists.
-use Rattle.std.specs.Prelude.{ℕ, Bool, List, [], ◌∷◌, Option, None, ◌==◌, if◌then◌else◌}
+-- The document that bytes are, and its parts as plain lists; of a value of the reader, the data that it stands for.
+use Rattle.std.specs.Prelude.{ℕ, Bool, List, [], ◌∷◌, Option, None, ◌==◌, map, if◌then◌else◌}
 use Rattle.std.specs.Cmp.Lexicographic.{pointwise}
 use Rattle.std.specs.Str.{is_utf8}
-use Rattle.toml.specs.Data.{Data, Items, no_items, item, Members, no_members, member}
+use Rattle.toml.specs.Data.{Data, Items, no_items, item, Members, no_members, member, table}
+use Rattle.toml.specs.View.{view}
+use Rattle.toml.specs.declared.value.Value.{Value}
 use Rattle.toml.specs.Parse.{parse_document}
 
 -- the TOML document that the bytes are
@@ -22,3 +24,15 @@ keys_of (member k d ms) = k ∷ keys_of ms
 -- the two texts have the same bytes
 abbrev pub same_text : List ℕ → List ℕ → Bool
 same_text = pointwise ◌==◌
+
+-- what a table holds; nothing, where the value is no table
+abbrev pub members_of : Data → Members
+members_of (table ms) = ms
+members_of _ = no_members
+
+-- the members of a value of the reader
+abbrev pub table_of : Value → Members
+table_of v = members_of (view v)
+
+abbrev pub tables_of : List Value → List Members
+tables_of vs = map table_of vs

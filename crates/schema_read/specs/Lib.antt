@@ -5,7 +5,6 @@ pub mod Dates
 pub mod Types
 pub mod Values
 pub mod Wanted
-pub mod Reading
 pub mod Shape
 pub mod Order
 pub mod Schema

@@ -9,7 +9,8 @@ use Rattle.schema_read.specs.declared.kind_name.KindName.{KindName}
 use Rattle.schema_read.specs.declared.kind_name.KindName.TheVariants.{Case}
 use Rattle.schema_read.specs.Shape.{top, table_place, column_place, branch_place, top_keys, table_keys, column_keys, branch_keys, kind_of, leaf_of}
 use Rattle.schema_read.specs.Values.{tables}
-use Rattle.schema_read.specs.Wanted.{Wanted, wrong_key, further_key}
+use Rattle.schema_read.specs.declared.wanted.Wanted.{Wanted}
+use Rattle.schema_read.specs.Wanted.{wrong_key, further_key}
 
 -- each reading found the key right
 abbrev pub AreRight : List (Option Wrong) → Type 0
@@ -29,7 +30,7 @@ TellsFirst (Some wrong) readings = IsFirstOf wrong readings
 
 -- of a place: its wanted keys in order, and then the further ones
 abbrev pub place_readings : Place → List Wanted → Members → List (Option Wrong)
-place_readings p wanted ms = map (λ w. wrong_key p w ms) wanted ++ further_key p (map (λ w. w.key) wanted) ms ∷ []
+place_readings p wanted ms = map (λ w. wrong_key p w ms) wanted ++ further_key p wanted ms ∷ []
 
 -- of tables, which are counted from n: one table after the other
 abbrev pub readings_from : (ℕ → Members → List (Option Wrong)) → ℕ → List Members → List (Option Wrong)

@@ -11,18 +11,21 @@ use Rattle.schema_model.specs.declared.column.Kind.{Kind}
 use Rattle.schema_model.specs.declared.column.Kind.TheVariants as kind
 use Rattle.schema_model.specs.declared.column.Leaf.{Leaf}
 use Rattle.schema_model.specs.declared.column.Leaf.TheVariants as leaf
+use Rattle.schema_model.specs.declared.column.OnDelete.TheVariants.{Cascade}
 use Rattle.schema_model.specs.declared.column.Window.TheVariants.{All}
 use Rattle.schema_read.specs.declared.fault.Place.{Place}
 use Rattle.schema_read.specs.declared.fault.Wrong.{Wrong}
-use Rattle.schema_read.specs.declared.fault.Expected.TheVariants.{Whole, TextValue, Flag, DelimiterName, TableList, TwoWholes, KindName as NameOfKind, LeafName as NameOfLeaf, DateText, TextList, Wholes, PartList, WindowValue}
+use Rattle.schema_read.specs.declared.fault.Expected.TheVariants.{Whole, TextValue, Flag, DelimiterName, TableList, TwoWholes, KindName as NameOfKind, LeafName as NameOfLeaf, DateText, TextList, Wholes, PartList, WindowValue, InsertValue, DeleteName}
 use Rattle.schema_read.specs.declared.schema_key.SchemaKey.TheVariants as key
 use Rattle.schema_read.specs.declared.kind_name.KindName.{KindName}
 use Rattle.schema_read.specs.declared.kind_name.KindName.TheVariants.{Key, Born, Changed, Leaf as LeafOf, Template, Case, Ref, Lookup}
 use Rattle.schema_read.specs.declared.kind_name.LeafName.{LeafName}
 use Rattle.schema_read.specs.declared.kind_name.LeafName.TheVariants.{Int, Fixed, Date, Pick, Skew, Dict, Words, Chars}
-use Rattle.schema_read.specs.Types.{as_delimiter, as_life, as_kind, as_leaf, as_day, as_list_of, as_part, as_window}
+use Rattle.schema_read.specs.Types.{as_delimiter, as_life, as_phases, one_phase, as_kind, as_leaf, as_day, as_list_of, as_part, as_window, as_deletion}
 use Rattle.schema_read.specs.Values.{value, value_or, whole, whole_or, text, texts, flag_or, tables}
-use Rattle.schema_read.specs.Wanted.{Wanted, required, optional, first_wrong, each_from}
+use Rattle.schema_read.specs.declared.wanted.Wanted.{Wanted}
+use Rattle.schema_read.specs.declared.wanted.Wanted.TheVariants.{Required, Optional}
+use Rattle.schema_read.specs.Wanted.{first_wrong, each_from}
 
 -- ---- the places
 
@@ -42,54 +45,54 @@ branch_place i j b = record { table = i; column = j; branch = b }
 
 abbrev pub top_keys : List Wanted
 top_keys =
-    required key.Seed Whole
-    ∷ required key.Units Whole
-    ∷ optional key.Delimiter DelimiterName
-    ∷ required key.Table TableList
+    Required key.Seed Whole
+    ∷ Required key.Units Whole
+    ∷ Optional key.Delimiter DelimiterName
+    ∷ Required key.Table TableList
     ∷ []
 
 abbrev pub table_keys : List Wanted
 table_keys =
-    required key.Name TextValue
-    ∷ required key.Rows Whole
-    ∷ optional key.Insert Whole
-    ∷ optional key.Life TwoWholes
-    ∷ optional key.Update Whole
-    ∷ required key.Column TableList
+    Required key.Name TextValue
+    ∷ Required key.Rows Whole
+    ∷ Optional key.Insert InsertValue
+    ∷ Optional key.Life TwoWholes
+    ∷ Optional key.Update Whole
+    ∷ Required key.Column TableList
     ∷ []
 
 abbrev pub leaf_keys : LeafName → List Wanted
-leaf_keys Int = required key.Lo Whole ∷ required key.Hi Whole ∷ optional key.Step Whole ∷ []
-leaf_keys Fixed = required key.Lo Whole ∷ required key.Hi Whole ∷ required key.Decimals Whole ∷ []
-leaf_keys Date = required key.Lo DateText ∷ required key.Hi DateText ∷ []
-leaf_keys Pick = required key.Entries TextList ∷ optional key.Weights Wholes ∷ []
-leaf_keys Skew = required key.Lo Whole ∷ required key.Size Whole ∷ required key.Power Whole ∷ []
-leaf_keys Dict = required key.File TextValue ∷ []
-leaf_keys Words = required key.File TextValue ∷ required key.Lo Whole ∷ required key.Hi Whole ∷ []
-leaf_keys Chars = required key.Alphabet TextValue ∷ required key.Lo Whole ∷ required key.Hi Whole ∷ []
+leaf_keys Int = Required key.Lo Whole ∷ Required key.Hi Whole ∷ Optional key.Step Whole ∷ []
+leaf_keys Fixed = Required key.Lo Whole ∷ Required key.Hi Whole ∷ Required key.Decimals Whole ∷ []
+leaf_keys Date = Required key.Lo DateText ∷ Required key.Hi DateText ∷ []
+leaf_keys Pick = Required key.Entries TextList ∷ Optional key.Weights Wholes ∷ []
+leaf_keys Skew = Required key.Lo Whole ∷ Required key.Size Whole ∷ Required key.Power Whole ∷ []
+leaf_keys Dict = Required key.File TextValue ∷ []
+leaf_keys Words = Required key.File TextValue ∷ Required key.Lo Whole ∷ Required key.Hi Whole ∷ []
+leaf_keys Chars = Required key.Alphabet TextValue ∷ Required key.Lo Whole ∷ Required key.Hi Whole ∷ []
 
 abbrev pub kind_keys : KindName → List Wanted
-kind_keys Key = required key.Base Whole ∷ optional key.Scramble Flag ∷ []
+kind_keys Key = Required key.Base Whole ∷ Optional key.Scramble Flag ∷ []
 kind_keys Born = []
 kind_keys Changed = []
 kind_keys (LeafOf l) = leaf_keys l
-kind_keys Template = required key.Parts PartList ∷ []
-kind_keys Case = required key.On TextValue ∷ required key.Branches TableList ∷ []
-kind_keys Ref = required key.Table TextValue ∷ required key.Window WindowValue ∷ optional key.Spread Wholes ∷ []
-kind_keys Lookup = required key.Via TextValue ∷ required key.Column TextValue ∷ []
+kind_keys Template = Required key.Parts PartList ∷ []
+kind_keys Case = Required key.On TextValue ∷ Required key.Branches TableList ∷ []
+kind_keys Ref = Required key.Table TextValue ∷ Required key.Window WindowValue ∷ Optional key.Spread Wholes ∷ Optional key.OnDelete DeleteName ∷ []
+kind_keys Lookup = Required key.Via TextValue ∷ Required key.Column TextValue ∷ []
 
 -- of a column of this kind
 abbrev pub column_keys : KindName → List Wanted
 column_keys k =
-    required key.Name TextValue
-    ∷ required key.Kind NameOfKind
-    ∷ optional key.Changes Flag
-    ∷ optional key.Null Whole
+    Required key.Name TextValue
+    ∷ Required key.Kind NameOfKind
+    ∷ Optional key.Changes Flag
+    ∷ Optional key.Null Whole
     ∷ kind_keys k
 
 -- of a branch of this kind
 abbrev pub branch_keys : LeafName → List Wanted
-branch_keys l = required key.Kind NameOfLeaf ∷ leaf_keys l
+branch_keys l = Required key.Kind NameOfLeaf ∷ leaf_keys l
 
 -- ---- the first wrong key, depth first: of a place, and then of the places inside it
 
@@ -140,7 +143,7 @@ kind_value Changed ms = kind.Changed
 kind_value (LeafOf l) ms = kind.Leaf (leaf_value l ms)
 kind_value Template ms = kind.Template (value_or (as_list_of as_part) [] key.Parts ms)
 kind_value Case ms = kind.Case (text key.On ms) (map branch (tables key.Branches ms))
-kind_value Ref ms = kind.Ref (text key.Table ms) (value_or as_window All key.Window ms) (value_or (as_list_of as_integer) (pos 1 ∷ []) key.Spread ms)
+kind_value Ref ms = kind.Ref (text key.Table ms) (value_or as_window All key.Window ms) (value_or (as_list_of as_integer) (pos 1 ∷ []) key.Spread ms) (value_or as_deletion Cascade key.OnDelete ms)
 kind_value Lookup ms = kind.Lookup (text key.Via ms) (text key.Column ms)
 
 abbrev pub column : Members → Column
@@ -151,7 +154,7 @@ table ms =
     record {
       name = text key.Name ms;
       rows = whole key.Rows ms;
-      insert = whole_or (pos 0) key.Insert ms;
+      insert = value_or as_phases (one_phase (pos 0)) key.Insert ms;
       life = value as_life key.Life ms;
       update = value as_integer key.Update ms;
       columns = map column (tables key.Column ms);

@@ -1,11 +1,14 @@
 -- The types of values that keys want: for each, the value that some data are, where they are of the type.
-use Rattle.std.specs.Prelude.{ℕ, ℤ, List, [], ◌∷◌, Bool, false, Option, Some, None, is_some, option_map, option_and_then, codes, if◌then◌else◌}
+use Rattle.std.specs.Prelude.{ℕ, ℤ, pos, List, [], ◌∷◌, Bool, false, Option, Some, None, is_some, option_map, option_and_then, codes, if◌then◌else◌}
 use Rattle.std.specs.Option.{option_or}
 use Rattle.std.specs.List.{list_all}
 use Rattle.toml.specs.Data.{Data, Members, get_member, as_integer, as_str, as_bool, as_array, as_table}
 use Rattle.schema_model.specs.declared.table.Delimiter.{Delimiter}
 use Rattle.schema_model.specs.declared.table.Delimiter.TheVariants.{Tab, Bar}
 use Rattle.schema_model.specs.declared.table.Life.{Life}
+use Rattle.schema_model.specs.declared.table.Phase.{Phase}
+use Rattle.schema_model.specs.declared.column.OnDelete.{OnDelete}
+use Rattle.schema_model.specs.declared.column.OnDelete.TheVariants.{Cascade, Null}
 use Rattle.schema_model.specs.declared.column.Part.{Part}
 use Rattle.schema_model.specs.declared.column.Part.TheVariants.{Literal, Cited}
 use Rattle.schema_model.specs.declared.column.Window.{Window}
@@ -36,12 +39,26 @@ abbrev pub as_delimiter : Data → Option Delimiter
 as_delimiter d = option_and_then delimiter_named (as_str d)
 
 -- two whole numbers, and no more
-abbrev pub life_of : List Data → Option Life
-life_of (lo ∷ hi ∷ []) = option_and_then (λ l. option_map (λ h. record { lo = l; hi = h }) (as_integer hi)) (as_integer lo)
-life_of _ = None
+abbrev pub pair_of : List Data → Option (ℤ × ℤ)
+pair_of (first ∷ second ∷ []) = option_and_then (λ a. option_map (λ b. (a, b)) (as_integer second)) (as_integer first)
+pair_of _ = None
+
+abbrev pub as_pair : Data → Option (ℤ × ℤ)
+as_pair d = option_and_then (λ ds. pair_of (elements ds)) (as_array d)
 
 abbrev pub as_life : Data → Option Life
-as_life d = option_and_then (λ ds. life_of (elements ds)) (as_array d)
+as_life d = option_map (λ pair. record { lo = pair.0; hi = pair.1 }) (as_pair d)
+
+abbrev pub as_phase : Data → Option Phase
+as_phase d = option_map (λ pair. record { from = pair.0; rate = pair.1 }) (as_pair d)
+
+-- the one phase of a rate that stays
+abbrev pub one_phase : ℤ → List Phase
+one_phase n = record { from = pos 1; rate = n } ∷ []
+
+-- a whole number is the rate of one phase; an array has a pair for each
+abbrev pub as_phases : Data → Option (List Phase)
+as_phases d = option_or (option_map one_phase (as_integer d)) (as_list_of as_phase d)
 
 abbrev pub as_kind : Data → Option KindName
 as_kind d = option_and_then kind_named (as_str d)
@@ -53,18 +70,24 @@ as_leaf d = option_and_then leaf_named (as_str d)
 abbrev pub as_day : Data → Option ℤ
 as_day d = option_and_then day_named (as_str d)
 
--- the column that a table with the one key `column` cites
-abbrev pub cited : Members → Option Part
-cited ms = if list_all (is_among (Column ∷ [])) (keys_of ms) then option_map Cited (option_and_then as_str (get_member (key_name Column) ms)) else None
+-- the name of the column that a table with the one key `column` cites
+abbrev pub cited : Members → Option (List ℕ)
+cited ms = if list_all (is_among (Column ∷ [])) (keys_of ms) then option_and_then as_str (get_member (key_name Column) ms) else None
 
 abbrev pub as_part : Data → Option Part
-as_part d = option_or (option_map Literal (as_str d)) (option_and_then cited (as_table d))
+as_part d = option_or (option_map Literal (as_str d)) (option_map Cited (option_and_then cited (as_table d)))
 
 abbrev pub window_named : List ℕ → Option Window
 window_named name = if same_text name (codes "all") then Some All else None
 
 abbrev pub as_window : Data → Option Window
 as_window d = option_or (option_map Units (as_integer d)) (option_and_then window_named (as_str d))
+
+abbrev pub deletion_named : List ℕ → Option OnDelete
+deletion_named name = if same_text name (codes "cascade") then Some Cascade else (if same_text name (codes "null") then Some Null else None)
+
+abbrev pub as_deletion : Data → Option OnDelete
+as_deletion d = option_and_then deletion_named (as_str d)
 
 -- whether a value is of a type
 abbrev pub fits : Expected → Data → Bool
@@ -81,4 +104,6 @@ fits type.TextList d = is_some (as_list_of as_str d)
 fits type.Wholes d = is_some (as_list_of as_integer d)
 fits type.PartList d = is_some (as_list_of as_part d)
 fits type.WindowValue d = is_some (as_window d)
+fits type.InsertValue d = is_some (as_phases d)
+fits type.DeleteName d = is_some (as_deletion d)
 fits type.NoSuchKey d = false

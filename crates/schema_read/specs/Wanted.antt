@@ -1,7 +1,7 @@
 -- The keys that a table of a document is to have, and the first that is wrong.
-use Rattle.std.specs.Prelude.{ℕ, suc, List, [], ◌∷◌, map, Bool, true, false, Option, Some, None, if◌then◌else◌}
+use Rattle.std.specs.Prelude.{ℕ, suc, List, [], ◌∷◌, Bool, true, false, Option, Some, None, if◌then◌else◌}
 use Rattle.std.specs.Option.{option_or}
-use Rattle.std.specs.List.{list_all}
+use Rattle.std.specs.List.{list_all, list_any}
 use Rattle.toml.specs.Data.{Data, Members, get_member}
 use Rattle.schema_read.specs.declared.schema_key.SchemaKey.{SchemaKey}
 use Rattle.schema_read.specs.declared.schema_key.SchemaKey.TheVariants.{Other}
@@ -9,47 +9,57 @@ use Rattle.schema_read.specs.declared.fault.Expected.{Expected}
 use Rattle.schema_read.specs.declared.fault.Expected.TheVariants.{NoSuchKey}
 use Rattle.schema_read.specs.declared.fault.Place.{Place}
 use Rattle.schema_read.specs.declared.fault.Wrong.{Wrong}
-use Rattle.schema_read.specs.Document.{keys_of}
-use Rattle.schema_read.specs.Keys.{key_name, is_among}
+use Rattle.schema_read.specs.declared.wanted.Wanted.{Wanted}
+use Rattle.schema_read.specs.declared.wanted.Wanted.TheVariants.{Required, Optional}
+use Rattle.schema_read.specs.Document.{keys_of, same_text}
+use Rattle.schema_read.specs.Keys.{key_name}
 use Rattle.schema_read.specs.Types.{fits}
 
--- a key with its type, and whether it may not be missing
-pub record Wanted : Type 0 where
-  pub key : SchemaKey
-  pub expected : Expected
-  pub is_required : Bool
+abbrev pub key_of : Wanted → SchemaKey
+key_of (Required k e) = k
+key_of (Optional k e) = k
 
-abbrev pub required : SchemaKey → Expected → Wanted
-required k e = record { key = k; expected = e; is_required = true }
+abbrev pub expected_of : Wanted → Expected
+expected_of (Required k e) = e
+expected_of (Optional k e) = e
 
-abbrev pub optional : SchemaKey → Expected → Wanted
-optional k e = record { key = k; expected = e; is_required = false }
+abbrev pub may_be_missing : Wanted → Bool
+may_be_missing (Required k e) = false
+may_be_missing (Optional k e) = true
 
 -- that the key is wrong, told at its place
 abbrev pub wrong_at : Place → SchemaKey → Expected → Wrong
 wrong_at p k e = record { place = p; key = k; expected = e }
 
--- whether what stands under a wanted key will do
+-- whether what stands under a wanted key will do: it is of the type, or it is missing and may be
 abbrev pub is_right : Wanted → Option Data → Bool
-is_right w None = if w.is_required then false else true
-is_right w (Some d) = fits w.expected d
+is_right w None = may_be_missing w
+is_right w (Some d) = fits (expected_of w) d
+
+-- whether a wanted key of a table is right
+abbrev pub is_right_in : Members → Wanted → Bool
+is_right_in ms w = is_right w (get_member (key_name (key_of w)) ms)
 
 -- the wanted key, where it is wrong: required and missing, or of another type
 abbrev pub wrong_key : Place → Wanted → Members → Option Wrong
-wrong_key p w ms = if is_right w (get_member (key_name w.key) ms) then None else Some (wrong_at p w.key w.expected)
+wrong_key p w ms = if is_right_in ms w then None else Some (wrong_at p (key_of w) (expected_of w))
 
 -- the first wanted key that is wrong
 abbrev pub first_of : Place → List Wanted → Members → Option Wrong
 first_of p [] ms = None
 first_of p (w ∷ ws) ms = option_or (wrong_key p w ms) (first_of p ws ms)
 
+-- a key of a table is one of those that are wanted
+abbrev pub is_wanted : List Wanted → List ℕ → Bool
+is_wanted ws name = list_any (λ w. same_text (key_name (key_of w)) name) ws
+
 -- a further key, where the table has one beside these
-abbrev pub further_key : Place → List SchemaKey → Members → Option Wrong
-further_key p keys ms = if list_all (is_among keys) (keys_of ms) then None else Some (wrong_at p Other NoSuchKey)
+abbrev pub further_key : Place → List Wanted → Members → Option Wrong
+further_key p ws ms = if list_all (is_wanted ws) (keys_of ms) then None else Some (wrong_at p Other NoSuchKey)
 
 -- the first wrong key of a table that is to have these keys and no others
 abbrev pub first_wrong : Place → List Wanted → Members → Option Wrong
-first_wrong p ws ms = option_or (first_of p ws ms) (further_key p (map (λ w. w.key) ws) ms)
+first_wrong p ws ms = option_or (first_of p ws ms) (further_key p ws ms)
 
 -- the first wrong key among tables, which are counted from n
 abbrev pub each_from : (ℕ → Members → Option Wrong) → ℕ → List Members → Option Wrong

@@ -1,10 +1,6 @@
 //! What may be wrong with a schema's document.
 
-ghost use Rattle.std.specs.Prelude.{◌≡◌, Err};
-ghost use Rattle.schema_read.specs.declared.fault.ReadFault.TheVariants.{Memory};
-
 use crate::schema_key::SchemaKey;
-use schema_model::Memory;
 
 /// A place of a schema's document. Tables, columns and branches count from 1; a part is 0 where the place isn't
 /// inside one.
@@ -56,6 +52,10 @@ pub enum Expected {
     PartList,
     /// A whole number or the text `all`.
     WindowValue,
+    /// A whole number, or an array whose elements are all arrays of two whole numbers.
+    InsertValue,
+    /// The text `cascade` or `null`.
+    DeleteName,
     /// Nothing: the key has no place here.
     NoSuchKey,
 }
@@ -69,32 +69,4 @@ pub struct Wrong {
     pub key: SchemaKey,
     /// What it wants.
     pub expected: Expected,
-}
-
-/// Why a part of a document wasn't read.
-#[derive(Clone, Copy, Debug, PartialEq, Eq)]
-pub enum ReadFault {
-    /// No memory was left.
-    Memory,
-    /// A key is wrong.
-    Wrong(Wrong),
-}
-
-impl From<Memory> for ReadFault {
-    ghost from_gives = { λ _ e. e ≡ Memory };
-
-    fn from(_e: Memory) -> ReadFault {
-        ReadFault::Memory
-    }
-}
-
-/// The answer that a key is wrong.
-pub fn refuse<T>(place: Place, key: SchemaKey, expected: Expected) -> Result<T, ReadFault>
-    ensures { result ≡ Err (ReadFault.Wrong (record { place = place; key = key; expected = expected })) }
-{
-    Err(ReadFault::Wrong(Wrong {
-        place,
-        key,
-        expected,
-    }))
 }

@@ -16,7 +16,8 @@ ghost use Rattle.schema_read.specs.Kinds.{kind_named, kind_text, leaf_named, lea
 ghost use Rattle.schema_read.specs.Order.{AreRight, IsFirstOf, TellsFirst, place_readings, document_readings};
 ghost use Rattle.schema_read.specs.Schema.{schema_of};
 ghost use Rattle.schema_read.specs.Shape.{first_wrong_key, schema};
-ghost use Rattle.schema_read.specs.Wanted.{Wanted, wrong_at, wrong_key, first_of, first_wrong, each_from};
+ghost use Rattle.schema_read.specs.declared.wanted.Wanted.{Wanted};
+ghost use Rattle.schema_read.specs.Wanted.{wrong_at, wrong_key, first_of, first_wrong, each_from};
 
 /// Of the keys that a table is to have, the first that is wrong is told, and none where each is right. A further key is
 /// told where each of them is right.

@@ -1,78 +1,17 @@
-//! Reading the keys of the leaf kinds.
+//! The leaf kinds, by what stands under their keys.
 
 ghost use Rattle.std.specs.Prelude.{◌≡◌, map, pos, IfOk};
 ghost use Rattle.toml.specs.View.{table_view};
-ghost use Rattle.schema_read.specs.Reading.{Finds, Reads};
-ghost use Rattle.schema_read.specs.Shape.{leaf_keys, leaf_value};
-ghost use Rattle.schema_read.specs.Wanted.{first_of};
+ghost use Rattle.schema_read.specs.Shape.{leaf_value, pick};
+ghost use Rattle.schema_read.specs.Values.{value_or};
 
-use crate::fault::{Place, ReadFault};
 use crate::kind_name::LeafName;
+use crate::lists::{list_at, list_if_any};
 use crate::schema_key::SchemaKey;
-use crate::typed_member::{day_at, text_at, texts_at, whole_at, whole_if_any, wholes_if_any};
-use schema_model::{Leaf, Longs, Memory, Text};
+use crate::typed_member::{day_if_any, text_at, whole_at, whole_if_any};
+use schema_model::{Leaf, Longs, Memory, Text, Texts};
 use std::alloc::Global;
 use toml::Table;
-
-fn read_int(members: &Table, place: Place) -> Result<Leaf, ReadFault>
-    ensures { Finds (λ found. found) result (first_of place (leaf_keys LeafName.Int) (table_view members.now)) (leaf_value LeafName.Int (table_view members.now)) }
-{
-    let lo = whole_at(members, place, SchemaKey::Lo)?;
-    let hi = whole_at(members, place, SchemaKey::Hi)?;
-    let step = whole_if_any(members, place, SchemaKey::Step)?.unwrap_or(1);
-    Ok(Leaf::Int { lo, hi, step })
-}
-
-fn read_fixed(members: &Table, place: Place) -> Result<Leaf, ReadFault>
-    ensures { Finds (λ found. found) result (first_of place (leaf_keys LeafName.Fixed) (table_view members.now)) (leaf_value LeafName.Fixed (table_view members.now)) }
-{
-    let lo = whole_at(members, place, SchemaKey::Lo)?;
-    let hi = whole_at(members, place, SchemaKey::Hi)?;
-    let decimals = whole_at(members, place, SchemaKey::Decimals)?;
-    Ok(Leaf::Fixed { lo, hi, decimals })
-}
-
-fn read_date(members: &Table, place: Place) -> Result<Leaf, ReadFault>
-    ensures { Finds (λ found. found) result (first_of place (leaf_keys LeafName.Date) (table_view members.now)) (leaf_value LeafName.Date (table_view members.now)) }
-{
-    let lo = day_at(members, place, SchemaKey::Lo)?;
-    let hi = day_at(members, place, SchemaKey::Hi)?;
-    Ok(Leaf::Date { lo, hi })
-}
-
-fn read_skew(members: &Table, place: Place) -> Result<Leaf, ReadFault>
-    ensures { Finds (λ found. found) result (first_of place (leaf_keys LeafName.Skew) (table_view members.now)) (leaf_value LeafName.Skew (table_view members.now)) }
-{
-    let lo = whole_at(members, place, SchemaKey::Lo)?;
-    let size = whole_at(members, place, SchemaKey::Size)?;
-    let power = whole_at(members, place, SchemaKey::Power)?;
-    Ok(Leaf::Skew { lo, size, power })
-}
-
-fn read_dict(alloc: Global, members: &Table, place: Place) -> Result<Leaf, ReadFault>
-    ensures { Reads (λ found. found) result (first_of place (leaf_keys LeafName.Dict) (table_view members.now)) (leaf_value LeafName.Dict (table_view members.now)) }
-{
-    let file = text_at(alloc, members, place, SchemaKey::File)?;
-    Ok(Leaf::Dict { file })
-}
-
-fn read_words(alloc: Global, members: &Table, place: Place) -> Result<Leaf, ReadFault>
-    ensures { Reads (λ found. found) result (first_of place (leaf_keys LeafName.Words) (table_view members.now)) (leaf_value LeafName.Words (table_view members.now)) }
-{
-    let file = text_at(alloc, members, place, SchemaKey::File)?;
-    let lo = whole_at(members, place, SchemaKey::Lo)?;
-    let hi = whole_at(members, place, SchemaKey::Hi)?;
-    Ok(Leaf::Words { file, lo, hi })
-}
-
-fn read_chars(alloc: Global, members: &Table, place: Place) -> Result<Leaf, ReadFault>
-    ensures { Reads (λ found. found) result (first_of place (leaf_keys LeafName.Chars) (table_view members.now)) (leaf_value LeafName.Chars (table_view members.now)) }
-{
-    let alphabet = text_at(alloc, members, place, SchemaKey::Alphabet)?;
-    let lo = whole_at(members, place, SchemaKey::Lo)?;
-    let hi = whole_at(members, place, SchemaKey::Hi)?;
-    Ok(Leaf::Chars { alphabet, lo, hi })
-}
 
 /// One weight of 1 for each of so many entries.
 fn equal_weights(alloc: Global, entries: &[Text]) -> Result<Longs, Memory>
@@ -85,34 +24,54 @@ fn equal_weights(alloc: Global, entries: &[Text]) -> Result<Longs, Memory>
     Ok(weights)
 }
 
-fn read_pick(alloc: Global, members: &Table, place: Place) -> Result<Leaf, ReadFault>
-    ensures { Reads (λ found. found) result (first_of place (leaf_keys LeafName.Pick) (table_view members.now)) (leaf_value LeafName.Pick (table_view members.now)) }
+fn read_pick(alloc: Global, members: &Table) -> Result<Leaf, Memory>
+    ensures { IfOk result (λ leaf. leaf ≡ pick (table_view members.now)) }
 {
-    let entries = texts_at(alloc, members, place, SchemaKey::Entries)?;
-    let weights = match wholes_if_any(alloc, members, place, SchemaKey::Weights)? {
+    let entries: Texts = list_at(alloc, members, SchemaKey::Entries)?;
+    let weights = match list_if_any(alloc, members, SchemaKey::Weights)? {
         Some(weights) => weights,
         None => equal_weights(alloc, entries.as_slice())?,
     };
     Ok(Leaf::Pick { entries, weights })
 }
 
-/// The keys of a leaf kind.
-pub fn read_leaf(
-    alloc: Global,
-    members: &Table,
-    place: Place,
-    kind: LeafName,
-) -> Result<Leaf, ReadFault>
-    ensures { Reads (λ found. found) result (first_of place (leaf_keys kind) (table_view members.now)) (leaf_value kind (table_view members.now)) }
+/// The leaf kind of this name that the keys give.
+pub fn read_leaf(alloc: Global, members: &Table, kind: LeafName) -> Result<Leaf, Memory>
+    ensures { IfOk result (λ leaf. leaf ≡ leaf_value kind (table_view members.now)) }
 {
     match kind {
-        LeafName::Int => read_int(members, place),
-        LeafName::Fixed => read_fixed(members, place),
-        LeafName::Date => read_date(members, place),
-        LeafName::Pick => read_pick(alloc, members, place),
-        LeafName::Skew => read_skew(members, place),
-        LeafName::Dict => read_dict(alloc, members, place),
-        LeafName::Words => read_words(alloc, members, place),
-        LeafName::Chars => read_chars(alloc, members, place),
+        LeafName::Int => Ok(Leaf::Int {
+            lo: whole_at(members, SchemaKey::Lo),
+            hi: whole_at(members, SchemaKey::Hi),
+            step: whole_if_any(members, SchemaKey::Step).unwrap_or(1),
+        }),
+        LeafName::Fixed => Ok(Leaf::Fixed {
+            lo: whole_at(members, SchemaKey::Lo),
+            hi: whole_at(members, SchemaKey::Hi),
+            decimals: whole_at(members, SchemaKey::Decimals),
+        }),
+        LeafName::Date => Ok(Leaf::Date {
+            lo: day_if_any(members, SchemaKey::Lo).unwrap_or(0),
+            hi: day_if_any(members, SchemaKey::Hi).unwrap_or(0),
+        }),
+        LeafName::Pick => read_pick(alloc, members),
+        LeafName::Skew => Ok(Leaf::Skew {
+            lo: whole_at(members, SchemaKey::Lo),
+            size: whole_at(members, SchemaKey::Size),
+            power: whole_at(members, SchemaKey::Power),
+        }),
+        LeafName::Dict => Ok(Leaf::Dict {
+            file: text_at(alloc, members, SchemaKey::File)?,
+        }),
+        LeafName::Words => Ok(Leaf::Words {
+            file: text_at(alloc, members, SchemaKey::File)?,
+            lo: whole_at(members, SchemaKey::Lo),
+            hi: whole_at(members, SchemaKey::Hi),
+        }),
+        LeafName::Chars => Ok(Leaf::Chars {
+            alphabet: text_at(alloc, members, SchemaKey::Alphabet)?,
+            lo: whole_at(members, SchemaKey::Lo),
+            hi: whole_at(members, SchemaKey::Hi),
+        }),
     }
 }

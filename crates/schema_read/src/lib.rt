@@ -5,6 +5,7 @@ mod column_kind;
 mod date;
 mod document;
 mod fault;
+mod fits;
 mod kind_name;
 pub mod laws;
 mod leaf_kind;
@@ -14,6 +15,8 @@ mod read;
 mod schema_key;
 mod typed_member;
 mod types;
+mod wanted;
+mod wrong_key;
 
 pub use fault::{Expected, Place};
 pub use read::{ReadSchemaFault, read_schema};

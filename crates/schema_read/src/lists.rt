@@ -1,14 +1,15 @@
-//! Lists of texts, of whole numbers and of a template's parts.
+//! The lists of a document as sequences.
 
-ghost use Rattle.std.specs.Prelude.{◌≡◌, map, Option, IfOk};
-ghost use Rattle.toml.specs.Data.{Data, as_integer, as_str, as_table, Members};
+ghost use Rattle.std.specs.Prelude.{◌≡◌, [], map, Option, IfOk};
+ghost use Rattle.toml.specs.Data.{Data, as_integer, as_str};
 ghost use Rattle.toml.specs.View.{view, table_view};
-ghost use Rattle.schema_read.specs.Types.{all_read, as_list_of, as_part, cited};
+ghost use Rattle.schema_read.specs.Types.{all_read, as_list_of, as_part, as_phase, one_phase, as_phases};
+ghost use Rattle.schema_read.specs.Values.{value, value_or};
 
-use crate::members::{has_only, member};
+use crate::members::member;
 use crate::schema_key::SchemaKey;
-use crate::types::array_elements;
-use schema_model::{Memory, Part, Sequence, Text};
+use crate::types::{array_elements, cited_name, phase_of_value};
+use schema_model::{Memory, Part, Phase, Phases, Sequence, Text};
 use std::alloc::Global;
 use toml::{Table, Value};
 
@@ -42,19 +43,11 @@ impl Element for i64 {
     }
 }
 
-/// The column that a table with the one key `column` cites.
-fn cited_column(alloc: Global, members: &Table) -> Result<Option<Part>, Memory>
-    ensures { IfOk result (λ found. found ≡ cited (table_view members.now)) }
-{
-    if !has_only(members, &[SchemaKey::Column], &[]) {
-        return Ok(None);
-    }
-    match member(members, SchemaKey::Column) {
-        Some(value) => match value.as_str() {
-            Some(name) => Ok(Some(Part::Cited(Text::of(alloc, name)?))),
-            None => Ok(None),
-        },
-        None => Ok(None),
+impl Element for Phase {
+    ghost read = { as_phase };
+
+    fn of_value(_alloc: Global, value: &Value) -> Result<Option<Phase>, Memory> {
+        Ok(phase_of_value(value))
     }
 }
 
@@ -65,7 +58,10 @@ impl Element for Part {
         match value.as_str() {
             Some(text) => Ok(Some(Part::Literal(Text::of(alloc, text)?))),
             None => match value.as_table() {
-                Some(members) => cited_column(alloc, members),
+                Some(members) => match cited_name(members) {
+                    Some(name) => Ok(Some(Part::Cited(Text::of(alloc, name)?))),
+                    None => Ok(None),
+                },
                 None => Ok(None),
             },
         }
@@ -86,7 +82,7 @@ fn sequence_of<T: Element>(alloc: Global, items: &[Value]) -> Result<Option<Sequ
 }
 
 /// The elements of an array, where the value is one and each is of the type.
-pub fn sequence_of_value<T: Element>(
+fn sequence_of_value<T: Element>(
     alloc: Global,
     value: &Value,
 ) -> Result<Option<Sequence<T>>, Memory>
@@ -94,6 +90,63 @@ pub fn sequence_of_value<T: Element>(
 {
     match array_elements(value) {
         Some(items) => sequence_of(alloc, items),
+        None => Ok(None),
+    }
+}
+
+/// The elements of the array under a key, where there is one and each is of the type.
+pub fn list_if_any<T: Element>(
+    alloc: Global,
+    table: &Table,
+    key: SchemaKey,
+) -> Result<Option<Sequence<T>>, Memory>
+    ensures { IfOk result (λ found. found ≡ value (as_list_of T.read) key (table_view table.now)) }
+{
+    match member(table, key) {
+        Some(value) => sequence_of_value(alloc, value),
+        None => Ok(None),
+    }
+}
+
+/// The same, and no element where there is no such array.
+pub fn list_at<T: Element>(
+    alloc: Global,
+    table: &Table,
+    key: SchemaKey,
+) -> Result<Sequence<T>, Memory>
+    ensures { IfOk result (λ found. found ≡ value_or (as_list_of T.read) [] key (table_view table.now)) }
+{
+    match list_if_any(alloc, table, key)? {
+        Some(found) => Ok(found),
+        None => Ok(Sequence::new(alloc)),
+    }
+}
+
+/// The one phase of a rate that stays.
+pub fn one_phase_of(alloc: Global, rate: i64) -> Result<Phases, Memory>
+    ensures { IfOk result (λ phases. phases ≡ one_phase rate) }
+{
+    let mut phases = Phases::new(alloc);
+    phases.push(Phase { from: 1, rate })?;
+    Ok(phases)
+}
+
+/// The phases of a whole number or of an array of pairs.
+fn phases_of_value(alloc: Global, value: &Value) -> Result<Option<Phases>, Memory>
+    ensures { IfOk result (λ found. found ≡ as_phases (view value.now)) }
+{
+    match value.as_integer() {
+        Some(rate) => Ok(Some(one_phase_of(alloc, rate)?)),
+        None => sequence_of_value(alloc, value),
+    }
+}
+
+/// The phases under a key.
+pub fn phases_if_any(alloc: Global, table: &Table, key: SchemaKey) -> Result<Option<Phases>, Memory>
+    ensures { IfOk result (λ found. found ≡ value as_phases key (table_view table.now)) }
+{
+    match member(table, key) {
+        Some(value) => phases_of_value(alloc, value),
         None => Ok(None),
     }
 }

@@ -1,4 +1,4 @@
-//! Reading the members of a table by their keys.
+//! The members of a table by their keys.
 
 ghost use Rattle.std.specs.Prelude.{◌≡◌, ◌++◌, option_map, string_bytes};
 ghost use Rattle.std.specs.List.{list_all};
@@ -6,12 +6,11 @@ ghost use Rattle.std.specs.BTreeMap.{keys as map_keys};
 ghost use Rattle.toml.specs.Data.{get_member};
 ghost use Rattle.toml.specs.View.{view, table_view};
 ghost use Rattle.schema_read.specs.Document.{keys_of};
-ghost use Rattle.schema_read.specs.Keys.{key_name, is_among};
-ghost use Rattle.schema_read.specs.Reading.{Passes};
-ghost use Rattle.schema_read.specs.Wanted.{further_key};
+ghost use Rattle.schema_read.specs.Keys.{key_name};
+ghost use Rattle.schema_read.specs.Wanted.{is_wanted};
 
-use crate::fault::{Expected, Place, ReadFault, refuse};
 use crate::schema_key::SchemaKey;
+use crate::wanted::Wanted;
 use toml::{Table, Value};
 
 /// What stands under a key.
@@ -22,17 +21,17 @@ pub fn member(table: &Table, key: SchemaKey) -> Option<&Value>
 }
 
 /// Whether a key is one of these.
-fn is_known(name: &str, common: &[SchemaKey], own: &[SchemaKey]) -> bool
-    ensures { result ≡ is_among (common.now ++ own.now) name.now }
+fn is_known(name: &str, common: &[Wanted], own: &[Wanted]) -> bool
+    ensures { result ≡ is_wanted (common.now ++ own.now) name.now }
 {
     common
         .iter()
         .chain(own.iter())
-        .any(|key| key.name() == name)
+        .any(|wanted| wanted.key().name() == name)
 }
 
-fn has_known_keys(table: &Table, common: &[SchemaKey], own: &[SchemaKey]) -> bool
-    ensures { result ≡ list_all (λ name. is_among (common.now ++ own.now) (string_bytes name)) (map_keys table.now) }
+fn has_known_keys(table: &Table, common: &[Wanted], own: &[Wanted]) -> bool
+    ensures { result ≡ list_all (λ name. is_wanted (common.now ++ own.now) (string_bytes name)) (map_keys table.now) }
 {
     table
         .keys()
@@ -40,24 +39,8 @@ fn has_known_keys(table: &Table, common: &[SchemaKey], own: &[SchemaKey]) -> boo
 }
 
 /// Whether a table has no keys beside these: the common ones, and those of its own kind.
-pub fn has_only(table: &Table, common: &[SchemaKey], own: &[SchemaKey]) -> bool
-    ensures { result ≡ list_all (is_among (common.now ++ own.now)) (keys_of (table_view table.now)) }
+pub fn has_only(table: &Table, common: &[Wanted], own: &[Wanted]) -> bool
+    ensures { result ≡ list_all (is_wanted (common.now ++ own.now)) (keys_of (table_view table.now)) }
 {
     has_known_keys(table, common, own)
-}
-
-/// Checks that a table has no further keys beside these: the common ones, and those of its own kind.
-pub fn no_further_key(
-    table: &Table,
-    place: Place,
-    common: &[SchemaKey],
-    own: &[SchemaKey],
-) -> Result<(), ReadFault>
-    ensures { Passes result (further_key place (common.now ++ own.now) (table_view table.now)) }
-{
-    if has_only(table, common, own) {
-        Ok(())
-    } else {
-        refuse(place, SchemaKey::Other, Expected::NoSuchKey)
-    }
 }

@@ -1,14 +1,16 @@
 //! The schema that bytes stand for.
 
-ghost use Rattle.std.specs.Prelude.{◌≡◌, ◌≢◌, Ok, Err, Some, None, IfOk, IfErr};
+ghost use Rattle.std.specs.Prelude.{◌≡◌, ◌≢◌, Ok, Err, Some, None, IfOk, IfErr, IsOk, IsUtf8};
 ghost use Rattle.toml.specs.View.{table_view};
 ghost use Rattle.schema_read.specs.Document.{document};
-ghost use Rattle.schema_read.specs.Schema.{schema_of};
+ghost use Rattle.schema_read.specs.Schema.{schema_of_document, schema_of};
+ghost use Rattle.schema_read.specs.declared.read.ReadSchemaFault.TheVariants.{Memory as OutOfMemory};
 
 use crate::document::read_document;
-use crate::fault::{Expected, Place, ReadFault, Wrong};
+use crate::fault::{Expected, Place, Wrong};
 use crate::schema_key::SchemaKey;
-use schema_model::Schema;
+use crate::wrong_key::first_wrong_key;
+use schema_model::{Memory, Schema};
 use std::alloc::Global;
 
 /// Why bytes give no schema.
@@ -26,14 +28,25 @@ pub enum ReadSchemaFault {
         /// What the key wants.
         expected: Expected,
     },
-    /// No memory was left.
+    /// No memory was left to parse the bytes, so nothing tells whether they are a document.
+    ParseMemory,
+    /// No memory was left for the schema. Each key of the document is right.
     Memory,
+}
+
+impl From<Memory> for ReadSchemaFault {
+    ghost from_gives = { λ _ e. e ≡ OutOfMemory };
+
+    fn from(_e: Memory) -> ReadSchemaFault {
+        ReadSchemaFault::Memory
+    }
 }
 
 /// The TOML document that the bytes are.
 fn parse(alloc: Global, bytes: &[u8]) -> Result<toml::Table, ReadSchemaFault>
     ensures read { IfOk result (λ t. document bytes.now ≡ Some (table_view t)) }
-    ensures refused { IfErr result (λ fault. fault ≢ ReadSchemaFault.Memory → (fault ≡ ReadSchemaFault.Syntax) × (document bytes.now ≡ None)) }
+    ensures refused { IfErr result (λ fault. fault ≢ ReadSchemaFault.ParseMemory → (fault ≡ ReadSchemaFault.Syntax) × (document bytes.now ≡ None)) }
+    ensures memory { result ≡ Err ReadSchemaFault.ParseMemory → IsUtf8 bytes.now }
 {
     let text = match std::str::from_utf8(bytes) {
         Ok(text) => text,
@@ -43,11 +56,33 @@ fn parse(alloc: Global, bytes: &[u8]) -> Result<toml::Table, ReadSchemaFault>
         Ok(table) => Ok(table),
         Err(error) => {
             if error.is_memory() {
-                Err(ReadSchemaFault::Memory)
+                Err(ReadSchemaFault::ParseMemory)
             } else {
                 Err(ReadSchemaFault::Syntax)
             }
         }
+    }
+}
+
+/// The schema of a document whose keys are right, or its first wrong key.
+fn schema_of_table(alloc: Global, table: &toml::Table) -> Result<Schema, ReadSchemaFault>
+    ensures read { IfOk result (λ read. schema_of_document (Some (table_view table.now)) ≡ Ok read) }
+    ensures refused { IfErr result (λ fault. fault ≢ ReadSchemaFault.Memory → schema_of_document (Some (table_view table.now)) ≡ Err fault) }
+    ensures memory { result ≡ Err ReadSchemaFault.Memory → IsOk (schema_of_document (Some (table_view table.now))) }
+{
+    match first_wrong_key(table) {
+        Some(
+            Wrong {
+                place,
+                key,
+                expected,
+            },
+        ) => Err(ReadSchemaFault::Shape {
+            place,
+            key,
+            expected,
+        }),
+        None => Ok(read_document(alloc, table)?),
     }
 }
 
@@ -56,24 +91,10 @@ fn parse(alloc: Global, bytes: &[u8]) -> Result<toml::Table, ReadSchemaFault>
 #[tactic(auto, unfolding(crate::specs::Schema::schema_of))]
 pub fn read_schema(alloc: Global, bytes: &[u8]) -> Result<Schema, ReadSchemaFault>
     ensures read { IfOk result (λ schema. schema_of bytes.now ≡ Ok schema) }
-    ensures refused { IfErr result (λ fault. fault ≢ ReadSchemaFault.Memory → schema_of bytes.now ≡ Err fault) }
+    ensures refused { IfErr result (λ fault. fault ≢ ReadSchemaFault.Memory → fault ≢ ReadSchemaFault.ParseMemory → schema_of bytes.now ≡ Err fault) }
+    ensures memory { result ≡ Err ReadSchemaFault.Memory → IsOk (schema_of bytes.now) }
+    ensures parse_memory { result ≡ Err ReadSchemaFault.ParseMemory → IsUtf8 bytes.now }
 {
     let table = parse(alloc, bytes)?;
-    match read_document(alloc, &table) {
-        Ok(schema) => Ok(schema),
-        Err(
-            ReadFault::Wrong(
-                Wrong {
-                    place,
-                    key,
-                    expected,
-                },
-            ),
-        ) => Err(ReadSchemaFault::Shape {
-            place,
-            key,
-            expected,
-        }),
-        Err(ReadFault::Memory) => Err(ReadSchemaFault::Memory),
-    }
+    schema_of_table(alloc, &table)
 }

@@ -66,6 +66,8 @@ pub enum SchemaKey {
     Window,
     /// `spread`
     Spread,
+    /// `on_delete`
+    OnDelete,
     /// `via`
     Via,
     /// A key that has no place where it stands.
@@ -108,6 +110,7 @@ impl SchemaKey {
             SchemaKey::Branches => "branches",
             SchemaKey::Window => "window",
             SchemaKey::Spread => "spread",
+            SchemaKey::OnDelete => "on_delete",
             SchemaKey::Via => "via",
             SchemaKey::Other => "",
         }

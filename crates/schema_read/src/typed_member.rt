@@ -1,240 +1,122 @@
-//! Reading the values of the keys of a table, each of the type that the key wants.
+//! The values under the keys of a table. A key that is missing, or of another type, has none.
 
-ghost use Rattle.std.specs.Prelude.{◌≡◌, [], pos, MatchResult, Some, None};
-ghost use Rattle.toml.specs.Data.{get_member, as_bool, as_integer};
-ghost use Rattle.toml.specs.View.{view, table_view};
-ghost use Rattle.schema_read.specs.Keys.{key_name};
-ghost use Rattle.schema_read.specs.Reading.{Finds, Reads, tables_of};
-ghost use Rattle.schema_read.specs.Types.{as_delimiter, as_life, as_kind, as_leaf, as_day, as_list_of, as_part, as_window};
-ghost use Rattle.schema_read.specs.Values.{value, value_or, whole, text, texts, tables};
-ghost use Rattle.schema_read.specs.Wanted.{required, optional, wrong_at, wrong_key};
+ghost use Rattle.std.specs.Prelude.{◌≡◌, IfOk};
+ghost use Rattle.toml.specs.Data.{as_bool, as_integer};
+ghost use Rattle.toml.specs.View.{table_view};
+ghost use Rattle.schema_read.specs.Document.{tables_of};
+ghost use Rattle.schema_read.specs.Shape.{kind_of, leaf_of};
+ghost use Rattle.schema_read.specs.Types.{as_delimiter, as_life, as_day, as_window, as_deletion};
+ghost use Rattle.schema_read.specs.Values.{value, whole, text, tables};
 
-use crate::fault::{Expected, Place, ReadFault, refuse};
 use crate::kind_name::{KindName, LeafName};
-use crate::lists::sequence_of_value;
 use crate::members::member;
 use crate::schema_key::SchemaKey;
 use crate::types::{
-    day_of, delimiter_of, kind_of, leaf_kind_of, life_of_value, table_elements, window_of,
+    day_of, deletion_of, delimiter_of, kind_of, leaf_kind_of, life_of_value, table_elements,
+    window_of,
 };
-use schema_model::{Delimiter, Life, Longs, Parts, Text, Texts, Window};
+use schema_model::{Delimiter, Life, Memory, OnDelete, Text, Window};
 use std::alloc::Global;
 use toml::{Table, Value};
 
-/// What stands under a key that may not be missing.
-fn required_at(
-    table: &Table,
-    place: Place,
-    key: SchemaKey,
-    expected: Expected,
-) -> Result<&Value, ReadFault>
-    ensures { MatchResult result (λ value. get_member (key_name key) (table_view table.now) ≡ Some (view value.now))
-        (λ fault. (get_member (key_name key) (table_view table.now) ≡ None) × (fault ≡ ReadFault.Wrong (wrong_at place key expected))) }
-{
-    match member(table, key) {
-        Some(value) => Ok(value),
-        None => refuse(place, key, expected),
-    }
-}
-
 /// The whole number under a key.
-pub fn whole_at(table: &Table, place: Place, key: SchemaKey) -> Result<i64, ReadFault>
-    ensures { Finds (λ found. found) result (wrong_key place (required key Expected.Whole) (table_view table.now))
-        (whole key (table_view table.now)) }
+pub fn whole_if_any(table: &Table, key: SchemaKey) -> Option<i64>
+    ensures { result ≡ value as_integer key (table_view table.now) }
 {
-    let value = required_at(table, place, key, Expected::Whole)?;
-    match value.as_integer() {
-        Some(found) => Ok(found),
-        None => refuse(place, key, Expected::Whole),
-    }
+    member(table, key)?.as_integer()
 }
 
-/// The kind that a key names.
-pub fn kind_at(table: &Table, place: Place, key: SchemaKey) -> Result<KindName, ReadFault>
-    ensures { Finds (λ found. found) result (wrong_key place (required key Expected.KindName) (table_view table.now))
-        (value_or as_kind KindName.Born key (table_view table.now)) }
+/// The whole number under a key, and 0 where there is none.
+pub fn whole_at(table: &Table, key: SchemaKey) -> i64
+    ensures { result ≡ whole key (table_view table.now) }
 {
-    let value = required_at(table, place, key, Expected::KindName)?;
-    match kind_of(value) {
-        Some(found) => Ok(found),
-        None => refuse(place, key, Expected::KindName),
-    }
+    whole_if_any(table, key).unwrap_or(0)
 }
 
-/// The leaf kind that a key names.
-pub fn leaf_kind_at(table: &Table, place: Place, key: SchemaKey) -> Result<LeafName, ReadFault>
-    ensures { Finds (λ found. found) result (wrong_key place (required key Expected.LeafName) (table_view table.now))
-        (value_or as_leaf LeafName.Int key (table_view table.now)) }
+/// The flag under a key.
+pub fn flag_if_any(table: &Table, key: SchemaKey) -> Option<bool>
+    ensures { result ≡ value as_bool key (table_view table.now) }
 {
-    let value = required_at(table, place, key, Expected::LeafName)?;
-    match leaf_kind_of(value) {
-        Some(found) => Ok(found),
-        None => refuse(place, key, Expected::LeafName),
-    }
+    member(table, key)?.as_bool()
+}
+
+/// The delimiter under a key.
+pub fn delimiter_if_any(table: &Table, key: SchemaKey) -> Option<Delimiter>
+    ensures { result ≡ value as_delimiter key (table_view table.now) }
+{
+    delimiter_of(member(table, key)?)
+}
+
+/// The two whole numbers under a key.
+pub fn life_if_any(table: &Table, key: SchemaKey) -> Option<Life>
+    ensures { result ≡ value as_life key (table_view table.now) }
+{
+    life_of_value(member(table, key)?)
 }
 
 /// The day number of the date under a key.
-pub fn day_at(table: &Table, place: Place, key: SchemaKey) -> Result<i32, ReadFault>
-    ensures { Finds (λ found. found) result (wrong_key place (required key Expected.DateText) (table_view table.now))
-        (value_or as_day (pos 0) key (table_view table.now)) }
+pub fn day_if_any(table: &Table, key: SchemaKey) -> Option<i32>
+    ensures { result ≡ value as_day key (table_view table.now) }
 {
-    let value = required_at(table, place, key, Expected::DateText)?;
-    match day_of(value) {
-        Some(found) => Ok(found),
-        None => refuse(place, key, Expected::DateText),
-    }
+    day_of(member(table, key)?)
 }
 
 /// The window under a key.
-pub fn window_at(table: &Table, place: Place, key: SchemaKey) -> Result<Window, ReadFault>
-    ensures { Finds (λ found. found) result (wrong_key place (required key Expected.WindowValue) (table_view table.now))
-        (value_or as_window Window.All key (table_view table.now)) }
+pub fn window_if_any(table: &Table, key: SchemaKey) -> Option<Window>
+    ensures { result ≡ value as_window key (table_view table.now) }
 {
-    let value = required_at(table, place, key, Expected::WindowValue)?;
-    match window_of(value) {
-        Some(found) => Ok(found),
-        None => refuse(place, key, Expected::WindowValue),
+    window_of(member(table, key)?)
+}
+
+/// What a deletion does, as it stands under a key.
+pub fn deletion_if_any(table: &Table, key: SchemaKey) -> Option<OnDelete>
+    ensures { result ≡ value as_deletion key (table_view table.now) }
+{
+    deletion_of(member(table, key)?)
+}
+
+/// The kind of a column, and `born` where none is named.
+pub fn kind_at(column: &Table) -> KindName
+    ensures { result ≡ kind_of (table_view column.now) }
+{
+    match member(column, SchemaKey::Kind) {
+        Some(value) => kind_of(value).unwrap_or(KindName::Born),
+        None => KindName::Born,
     }
 }
 
-/// The text under a key, as a text of its own.
-pub fn text_at(
-    alloc: Global,
-    table: &Table,
-    place: Place,
-    key: SchemaKey,
-) -> Result<Text, ReadFault>
-    ensures { Reads (λ found. found) result (wrong_key place (required key Expected.TextValue) (table_view table.now))
-        (text key (table_view table.now)) }
+/// The leaf kind of a branch, and `int` where none is named.
+pub fn leaf_kind_at(branch: &Table) -> LeafName
+    ensures { result ≡ leaf_of (table_view branch.now) }
 {
-    let value = required_at(table, place, key, Expected::TextValue)?;
-    match value.as_str() {
-        Some(found) => Ok(Text::of(alloc, found)?),
-        None => refuse(place, key, Expected::TextValue),
+    match member(branch, SchemaKey::Kind) {
+        Some(value) => leaf_kind_of(value).unwrap_or(LeafName::Int),
+        None => LeafName::Int,
     }
 }
 
-/// The tables of the list under a key.
-pub fn tables_at(table: &Table, place: Place, key: SchemaKey) -> Result<&[Value], ReadFault>
-    ensures { Finds (λ items. tables_of items.now) result (wrong_key place (required key Expected.TableList) (table_view table.now))
-        (tables key (table_view table.now)) }
-{
-    let value = required_at(table, place, key, Expected::TableList)?;
-    match table_elements(value) {
-        Some(items) => Ok(items),
-        None => refuse(place, key, Expected::TableList),
-    }
-}
-
-/// The texts of the list under a key.
-pub fn texts_at(
-    alloc: Global,
-    table: &Table,
-    place: Place,
-    key: SchemaKey,
-) -> Result<Texts, ReadFault>
-    ensures { Reads (λ found. found) result (wrong_key place (required key Expected.TextList) (table_view table.now))
-        (texts key (table_view table.now)) }
-{
-    let value = required_at(table, place, key, Expected::TextList)?;
-    match sequence_of_value(alloc, value)? {
-        Some(found) => Ok(found),
-        None => refuse(place, key, Expected::TextList),
-    }
-}
-
-/// The parts of the list under a key.
-pub fn parts_at(
-    alloc: Global,
-    table: &Table,
-    place: Place,
-    key: SchemaKey,
-) -> Result<Parts, ReadFault>
-    ensures { Reads (λ found. found) result (wrong_key place (required key Expected.PartList) (table_view table.now))
-        (value_or (as_list_of as_part) [] key (table_view table.now)) }
-{
-    let value = required_at(table, place, key, Expected::PartList)?;
-    match sequence_of_value(alloc, value)? {
-        Some(found) => Ok(found),
-        None => refuse(place, key, Expected::PartList),
-    }
-}
-
-/// The whole number under a key that may be missing.
-pub fn whole_if_any(table: &Table, place: Place, key: SchemaKey) -> Result<Option<i64>, ReadFault>
-    ensures { Finds (λ found. found) result (wrong_key place (optional key Expected.Whole) (table_view table.now))
-        (value as_integer key (table_view table.now)) }
+/// The text under a key, as a text of its own, and the empty text where there is none.
+pub fn text_at(alloc: Global, table: &Table, key: SchemaKey) -> Result<Text, Memory>
+    ensures { IfOk result (λ found. found ≡ text key (table_view table.now)) }
 {
     match member(table, key) {
-        Some(value) => match value.as_integer() {
-            Some(found) => Ok(Some(found)),
-            None => refuse(place, key, Expected::Whole),
+        Some(value) => match value.as_str() {
+            Some(found) => Text::of(alloc, found),
+            None => Ok(Text::new(alloc)),
         },
-        None => Ok(None),
+        None => Ok(Text::new(alloc)),
     }
 }
 
-/// The flag under a key that may be missing.
-pub fn flag_if_any(table: &Table, place: Place, key: SchemaKey) -> Result<Option<bool>, ReadFault>
-    ensures { Finds (λ found. found) result (wrong_key place (optional key Expected.Flag) (table_view table.now))
-        (value as_bool key (table_view table.now)) }
+/// The tables of the list under a key, and none where there is no such list.
+pub fn tables_at(table: &Table, key: SchemaKey) -> &[Value]
+    ensures { tables_of result.now ≡ tables key (table_view table.now) }
 {
     match member(table, key) {
-        Some(value) => match value.as_bool() {
-            Some(found) => Ok(Some(found)),
-            None => refuse(place, key, Expected::Flag),
+        Some(value) => match table_elements(value) {
+            Some(items) => items,
+            None => &[],
         },
-        None => Ok(None),
-    }
-}
-
-/// The delimiter under a key that may be missing.
-pub fn delimiter_if_any(
-    table: &Table,
-    place: Place,
-    key: SchemaKey,
-) -> Result<Option<Delimiter>, ReadFault>
-    ensures { Finds (λ found. found) result (wrong_key place (optional key Expected.DelimiterName) (table_view table.now))
-        (value as_delimiter key (table_view table.now)) }
-{
-    match member(table, key) {
-        Some(value) => match delimiter_of(value) {
-            Some(found) => Ok(Some(found)),
-            None => refuse(place, key, Expected::DelimiterName),
-        },
-        None => Ok(None),
-    }
-}
-
-/// The two whole numbers under a key that may be missing.
-pub fn life_if_any(table: &Table, place: Place, key: SchemaKey) -> Result<Option<Life>, ReadFault>
-    ensures { Finds (λ found. found) result (wrong_key place (optional key Expected.TwoWholes) (table_view table.now))
-        (value as_life key (table_view table.now)) }
-{
-    match member(table, key) {
-        Some(value) => match life_of_value(value) {
-            Some(found) => Ok(Some(found)),
-            None => refuse(place, key, Expected::TwoWholes),
-        },
-        None => Ok(None),
-    }
-}
-
-/// The whole numbers of the list under a key that may be missing.
-pub fn wholes_if_any(
-    alloc: Global,
-    table: &Table,
-    place: Place,
-    key: SchemaKey,
-) -> Result<Option<Longs>, ReadFault>
-    ensures { Reads (λ found. found) result (wrong_key place (optional key Expected.Wholes) (table_view table.now))
-        (value (as_list_of as_integer) key (table_view table.now)) }
-{
-    match member(table, key) {
-        Some(value) => match sequence_of_value(alloc, value)? {
-            Some(found) => Ok(Some(found)),
-            None => refuse(place, key, Expected::Wholes),
-        },
-        None => Ok(None),
+        None => &[],
     }
 }

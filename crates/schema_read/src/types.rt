@@ -2,16 +2,19 @@
 
 ghost use Rattle.std.specs.Prelude.{◌≡◌, option_map, map, is_some};
 ghost use Rattle.std.specs.List.{list_all};
+ghost use Rattle.std.specs.Option.{option_copied};
 ghost use Rattle.toml.specs.Data.{Data, as_array, as_integer, as_str, as_table};
-ghost use Rattle.toml.specs.View.{view};
-ghost use Rattle.schema_read.specs.Document.{elements};
-ghost use Rattle.schema_read.specs.Reading.{tables_of};
-ghost use Rattle.schema_read.specs.Types.{as_list_of, delimiter_named, as_delimiter, life_of, as_life, as_kind, as_leaf, as_day, window_named, as_window};
+ghost use Rattle.toml.specs.View.{view, table_view};
+ghost use Rattle.schema_read.specs.Document.{elements, tables_of};
+ghost use Rattle.schema_read.specs.Types.{as_list_of, delimiter_named, as_delimiter, pair_of, as_pair, as_life, as_phase, as_kind, as_leaf, as_day, cited, window_named, as_window, deletion_named, as_deletion};
 
 use crate::date::day_of_text;
 use crate::kind_name::{KindName, LeafName, kind_of_name, leaf_of_name};
-use schema_model::{Delimiter, Life, Window};
-use toml::Value;
+use crate::members::{has_only, member};
+use crate::schema_key::SchemaKey;
+use crate::wanted::PART_KEYS;
+use schema_model::{Delimiter, Life, OnDelete, Phase, Window};
+use toml::{Table, Value};
 
 fn delimiter_of_name(name: &str) -> Option<Delimiter>
     ensures { result ≡ delimiter_named name.now }
@@ -85,6 +88,37 @@ pub fn window_of(value: &Value) -> Option<Window>
     }
 }
 
+fn deletion_of_name(name: &str) -> Option<OnDelete>
+    ensures { result ≡ deletion_named name.now }
+{
+    match name {
+        "cascade" => Some(OnDelete::Cascade),
+        "null" => Some(OnDelete::Null),
+        _ => None,
+    }
+}
+
+/// What a deletion does, of the text `cascade` or `null`, and `None` for every other value.
+pub fn deletion_of(value: &Value) -> Option<OnDelete>
+    ensures { result ≡ as_deletion (view value.now) }
+{
+    match value.as_str() {
+        Some(name) => deletion_of_name(name),
+        None => None,
+    }
+}
+
+/// The name of the column that a table with the one key `column` cites.
+pub fn cited_name(members: &Table) -> Option<&str>
+    ensures { option_copied result ≡ cited (table_view members.now) }
+{
+    if has_only(members, &PART_KEYS, &[]) {
+        member(members, SchemaKey::Column)?.as_str()
+    } else {
+        None
+    }
+}
+
 /// The elements of an array.
 pub fn array_elements(value: &Value) -> Option<&[Value]>
     ensures { option_map (λ items. map view items.now) result ≡ option_map elements (as_array (view value.now)) }
@@ -95,25 +129,43 @@ pub fn array_elements(value: &Value) -> Option<&[Value]>
     }
 }
 
-fn life_of_items(items: &[Value]) -> Option<Life>
-    ensures { result ≡ life_of (map view items.now) }
+fn pair_of_items(items: &[Value]) -> Option<(i64, i64)>
+    ensures { result ≡ pair_of (map view items.now) }
 {
     let (first, others) = items.split_first()?;
     let (second, further) = others.split_first()?;
     if !further.is_empty() {
         return None;
     }
-    let lo = first.as_integer()?;
-    let hi = second.as_integer()?;
-    Some(Life { lo, hi })
+    Some((first.as_integer()?, second.as_integer()?))
 }
 
 /// The two whole numbers of an array.
+fn pair_of_value(value: &Value) -> Option<(i64, i64)>
+    ensures { result ≡ as_pair (view value.now) }
+{
+    match array_elements(value) {
+        Some(items) => pair_of_items(items),
+        None => None,
+    }
+}
+
+/// The life of two whole numbers.
 pub fn life_of_value(value: &Value) -> Option<Life>
     ensures { result ≡ as_life (view value.now) }
 {
-    match array_elements(value) {
-        Some(items) => life_of_items(items),
+    match pair_of_value(value) {
+        Some((lo, hi)) => Some(Life { lo, hi }),
+        None => None,
+    }
+}
+
+/// The phase of two whole numbers.
+pub fn phase_of_value(value: &Value) -> Option<Phase>
+    ensures { result ≡ as_phase (view value.now) }
+{
+    match pair_of_value(value) {
+        Some((from, rate)) => Some(Phase { from, rate }),
         None => None,
     }
 }

@@ -1,22 +1,10 @@
-use Rattle.std.proofs.Common.{arith}
-use Rattle.std.proofs.lemmas.Result.{err_from_is_err_and}
-use Rattle.schema_read.specs.Reading.{table_of}
-use Rattle.schema_read.specs.Shape.{table_wrong, table}
-use Rattle.schema_read.proofs.Places.{begins, goes_on, stops, ends}
+use Rattle.std.proofs.Common.{◌≡◌, List, IfOk, subst}
+use Rattle.toml.specs.View.{table_view}
+use Rattle.schema_model.specs.declared.table.Table.{Table}
+use Rattle.schema_read.specs.declared.schema_key.SchemaKey.TheVariants as key
+use Rattle.schema_read.specs.Shape.{table}
+use Rattle.schema_read.proofs.Found.{value_or-tables}
 use Rattle.schema_read.proofs.document.read_tables.Goals as goal
 
-pub loop-i-init : goal.loop-i-init
-loop-i-init c = rw c.new-tables.ensures (begins _ _ _)
-
-pub returns-in_err-read_table : goal.returns-in_err-read_table
-returns-in_err-read_table c =
-    let p = err_from_is_err_and c.from_residual.result c.from_residual.ensures.1 in
-    rw (p.1, p.2) (stops (table_wrong) table table_of c.args.items.now c.loop-i.i c.loop-i.tables c.index-items-i.result _ (omega arith) c.index-items-i.is c.in_err-read_table.ensures c.loop-i.invariant)
-
-pub loop-i-preserved : goal.loop-i-preserved
-loop-i-preserved c =
-    let (right, read) = c.in_ok-read_table.ensures in
-    rw (c.in_ok-push.ensures.appended, read) (goes_on (table_wrong) table table_of c.args.items.now c.loop-i.i c.loop-i.tables c.index-items-i.result (omega arith) c.index-items-i.is right c.loop-i.invariant)
-
 pub returns : goal.returns
-returns c = ends (table_wrong) table table_of c.args.items.now c.loop-i.i c.loop-i.tables (omega arith) c.loop-i.invariant
+returns c = subst (λ (read : List Table). IfOk c.list_at.result (λ found. found ≡ read)) (value_or-tables table key.Table (table_view c.args.members.now)) c.list_at.ensures
