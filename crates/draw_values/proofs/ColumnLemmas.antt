@@ -75,7 +75,7 @@ entry_of-ready delimiter (leaf_kind (words_leaf dictionary lo hi)) draw = refl
 entry_of-ready delimiter (leaf_kind (chars_leaf alphabet lo hi)) draw = refl
 entry_of-ready delimiter (template_kind parts) draw = refl
 entry_of-ready delimiter (case_kind on branches) draw = refl
-entry_of-ready delimiter (reference_kind parent window spread) draw = refl
+entry_of-ready delimiter (reference_kind parent window spread nulls) draw = refl
 entry_of-ready delimiter (lookup_kind via parent name) draw = refl
 
 -- what is known of the kind of a pick column of so many entries
@@ -115,7 +115,7 @@ chooser_of-within delimiter columns place changed_kind of within = within
 chooser_of-within delimiter columns place (leaf_kind leaf) of within = within
 chooser_of-within delimiter columns place (template_kind parts) of within = absurd (let own = of.own in cc)
 chooser_of-within delimiter columns place (case_kind on branches) of within = omega (arith, of.limits.earlier)
-chooser_of-within delimiter columns place (reference_kind parent window spread) of within = absurd (let own = of.own in cc)
+chooser_of-within delimiter columns place (reference_kind parent window spread nulls) of within = absurd (let own = of.own in cc)
 chooser_of-within delimiter columns place (lookup_kind via parent name) of within = absurd (let own = of.own in cc)
 
 -- what is kept of it can be written
@@ -140,7 +140,7 @@ kind_is_ready delimiter columns place (leaf_kind leaf) of all within = leaf_is_r
 kind_is_ready delimiter columns place (template_kind parts) of all within = absurd (let own = of.own in cc)
 kind_is_ready delimiter columns place (case_kind on branches) of all within =
     case_is_ready delimiter on branches columns place of.limits (all on (omega (arith, of.limits.earlier)))
-kind_is_ready delimiter columns place (reference_kind parent window spread) of all within = absurd (let own = of.own in cc)
+kind_is_ready delimiter columns place (reference_kind parent window spread nulls) of all within = absurd (let own = of.own in cc)
 kind_is_ready delimiter columns place (lookup_kind via parent name) of all within = absurd (let own = of.own in cc)
 
 -- its greatest size
@@ -152,7 +152,7 @@ bounds_of-ready delimiter tables table columns place changed_kind of = refl
 bounds_of-ready delimiter tables table columns place (leaf_kind leaf) of = ap (max 2) (leaf_size-ready delimiter leaf of.limits)
 bounds_of-ready delimiter tables table columns place (template_kind parts) of = absurd (let own = of.own in cc)
 bounds_of-ready delimiter tables table columns place (case_kind on branches) of = ap (max 2) (greatest_from delimiter 0 branches of.limits.each)
-bounds_of-ready delimiter tables table columns place (reference_kind parent window spread) of = absurd (let own = of.own in cc)
+bounds_of-ready delimiter tables table columns place (reference_kind parent window spread nulls) of = absurd (let own = of.own in cc)
 bounds_of-ready delimiter tables table columns place (lookup_kind via parent name) of = absurd (let own = of.own in cc)
 
 -- and what a row holds in it
@@ -184,7 +184,7 @@ own_value-written delimiter columns at draws place (case_kind on branches) of al
     branch_written delimiter branches (draws place) (held_entry pick (draws on)) of.limits.each
     (held_entry-within columns on (length branches) (draws on) of.limits.pick (all on (omega (arith, of.limits.earlier))))
     ∙ ap (option_map (λ entry. ready_text (ready_branch (map (ready_leaf delimiter) branches) entry) (draws place))) (held_entry-ready delimiter pick (draws on))
-own_value-written delimiter columns at draws place (reference_kind parent window spread) of all within = absurd (let own = of.own in cc)
+own_value-written delimiter columns at draws place (reference_kind parent window spread nulls) of all within = absurd (let own = of.own in cc)
 own_value-written delimiter columns at draws place (lookup_kind via parent name) of all within = absurd (let own = of.own in cc)
 
 option_map-if : {A B : Type 0} (f : A → B) (null : Bool) (held : Option A) → option_map f (if null then None else held) ≡ (if null then None else option_map f held)

@@ -100,7 +100,7 @@ own_value columns at draws column (template_kind parts) = not_own
 own_value columns at draws column (case_kind on branches) =
     option_and_then (λ entry. leaf_value (branch_at branches entry) (draws column))
     (held_entry (column_at columns on) (draws on))
-own_value columns at draws column (reference_kind parent window spread) = not_own
+own_value columns at draws column (reference_kind parent window spread nulls) = not_own
 own_value columns at draws column (lookup_kind via parent name) = not_own
 
 -- the field of a row in the column at a place, which is of such a kind

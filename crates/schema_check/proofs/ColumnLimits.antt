@@ -17,9 +17,9 @@ use Rattle.schema_plan.specs.Citations.{leaves_of}
 use Rattle.schema_plan.specs.Counts.{count}
 use Rattle.schema_plan.specs.Dictionaries.{AreWordLists, Dictionary, Project}
 use Rattle.schema_plan.specs.Layout.{ColumnLayout, column_at, column_layout, kind_layout, leaf_layout, no_column, part_layout, place_of_column}
-use Rattle.schema_plan.specs.Limits.{AreParts, CitesStill, IsCase, IsKindInLimits, IsLeafInLimits, IsPart, IsPickOf, IsStillPart, can_change, is_change_unit, is_cited, moves}
+use Rattle.schema_plan.specs.Limits.{AreParts, CitesStill, IsCase, IsKindInLimits, IsLeafInLimits, IsPart, IsPickOf, IsStillPart, can_change, is_cited, is_moving_kind as is_moving_layout, moves}
 use Rattle.schema_plan.specs.References.{Reference, reference_of}
-use Rattle.schema_plan.specs.Rules.{are_supplied, changes_at, cites_still, is_between, is_case, is_change, is_changed, is_citable, is_date_range, is_key_in_range, is_length_range, is_null_share, is_number_range, is_part, is_pick_of, is_skew_range, is_spread, is_still_kind, is_still_part, is_template, is_weighted, kind_at, may_change, moves_at, null_at}
+use Rattle.schema_plan.specs.Rules.{are_supplied, changes_at, cites_still, is_between, is_case, is_change, is_citable, is_date_range, is_key_in_range, is_length_range, is_moving_kind, is_null_share, is_number_range, is_part, is_pick_of, is_skew_range, is_spread, is_still_kind, is_still_part, is_template, is_weighted, kind_at, may_change, moves_at, null_at}
 use Rattle.schema_check.proofs.FromTests.{limit_from_test, passes_each}
 use Rattle.schema_check.proofs.LeafLimits.{leaf_in_limits, leaves_in_limits}
 use Rattle.schema_check.proofs.ReferenceLimits.{spread_from_test}
@@ -108,7 +108,7 @@ kind_in_limits project lists tables columns place within (kind.Template of) supp
     template_from_test project.dictionaries tables columns place within of parts
 kind_in_limits project lists tables columns place within (kind.Case on branches) supplied numbers dates picks skews lengths parts case spread =
     case_from_test project.dictionaries tables columns place within on branches case (leaves_in_limits project lists branches supplied numbers dates picks skews lengths)
-kind_in_limits project lists tables columns place within (kind.Ref table window weights) supplied numbers dates picks skews lengths parts case spread = spread_from_test weights spread
+kind_in_limits project lists tables columns place within (kind.Ref table window weights on_delete) supplied numbers dates picks skews lengths parts case spread = spread_from_test weights spread
 kind_in_limits project lists tables columns place within _ supplied numbers dates picks skews lengths parts case spread = tt
 
 -- ---- columns that change
@@ -124,9 +124,10 @@ can_change-layout dictionaries tables columns (kind.Template parts) = refl
 can_change-layout dictionaries tables columns (kind.Case on branches) = refl
 can_change-layout dictionaries tables columns _ = refl
 
-is_change_unit-layout : (dictionaries : List Dictionary) (tables : List Table) (columns : List Column) (kind : Kind) → is_change_unit (kind_layout dictionaries tables columns kind) ≡ is_changed kind
-is_change_unit-layout dictionaries tables columns kind.Changed = refl
-is_change_unit-layout dictionaries tables columns _ = refl
+is_moving_kind-layout : (dictionaries : List Dictionary) (tables : List Table) (columns : List Column) (kind : Kind) → is_moving_layout (kind_layout dictionaries tables columns kind) ≡ is_moving_kind kind
+is_moving_kind-layout dictionaries tables columns kind.Changed = refl
+is_moving_kind-layout dictionaries tables columns (kind.Ref table window spread on_delete) = refl
+is_moving_kind-layout dictionaries tables columns _ = refl
 
 -- a column that changes is of a kind that may
 unchanged_from_test : (changes may : Bool) → (not changes || may) ≡ true → may ≡ false → changes ≡ false
@@ -143,7 +144,7 @@ unchanged dictionaries tables columns place within h none =
 -- past the last column none moves
 moves_in : (dictionaries : List Dictionary) (tables : List Table) (all columns : List Column) (j : ℕ) → moves (column_at (map (column_layout dictionaries tables all) columns) j) ≡ moves_at columns j
 moves_in dictionaries tables all [] j = refl
-moves_in dictionaries tables all (column ∷ columns) zero = ap (λ unit. column.changes || unit) (is_change_unit-layout dictionaries tables all column.kind)
+moves_in dictionaries tables all (column ∷ columns) zero = ap (λ moving. column.changes || moving) (is_moving_kind-layout dictionaries tables all column.kind)
 moves_in dictionaries tables all (column ∷ columns) (suc j) = moves_in dictionaries tables all columns j
 
 pub still_from_test : (dictionaries : List Dictionary) (tables : List Table) (columns : List Column) (j : ℕ) → not (moves_at columns j) ≡ true → moves (column_at (columns_layout dictionaries tables columns) j) ≡ false
@@ -189,7 +190,7 @@ key_never_null _ null is_key h = cc
 -- nor is a reference
 pub reference_never_null : (dictionaries : List Dictionary) (tables : List Table) (columns : List Column) (place : ℕ) (kind : Kind) (null : ℤ) (reference : Reference) →
     reference_of place (kind_layout dictionaries tables columns kind) ≡ Some reference → is_null_share kind null ≡ true → count null ≡ 0
-reference_never_null dictionaries tables columns place (kind.Ref table window spread) null reference is h = never_null null h
+reference_never_null dictionaries tables columns place (kind.Ref table window spread on_delete) null reference is h = never_null null h
 reference_never_null dictionaries tables columns place _ null reference is h = absurd (cc)
 
 share_from_test : (null : ℤ) → is_between 0 999 null ≡ true → count null ≤ 999
@@ -197,7 +198,7 @@ share_from_test null h = limit_from_test null 999 ((and_parts (int_le (pos 0) nu
 
 pub null_limit : (kind : Kind) (null : ℤ) → is_null_share kind null ≡ true → count null ≤ 999
 null_limit (kind.Key base scramble) null h = omega (arith, never_null null h)
-null_limit (kind.Ref table window spread) null h = omega (arith, never_null null h)
+null_limit (kind.Ref table window spread on_delete) null h = omega (arith, never_null null h)
 null_limit kind.Born null h = share_from_test null h
 null_limit kind.Changed null h = share_from_test null h
 null_limit (kind.Leaf leaf) null h = share_from_test null h

@@ -1,5 +1,5 @@
 -- An accepted schema is within its limits.
-use Rattle.std.proofs.Common.{◌≡◌, ◌≢◌, ℕ, pos, negsuc, suc, ◌<◌, ◌≤◌, ◌^◌, All, Bool, true, false, not, ◌&&◌, ◌||◌, List, length, slice_get, refl, sym, ap, ◌∙◌, subst, arith, int_le, nat_le, ◌==◌, Option, Some, None, IfSome, ℤ}
+use Rattle.std.proofs.Common.{◌≡◌, ◌≢◌, ℕ, pos, negsuc, suc, ◌<◌, ◌≤◌, ◌^◌, All, Bool, true, false, not, ◌&&◌, ◌||◌, List, length, slice_get, refl, sym, ap, ◌∙◌, subst, arith, int_le, nat_le, nat_lt, ◌==◌, Option, Some, None, IfSome, ℤ}
 use Rattle.std.specs.List.{position_or_len}
 use Rattle.std.specs.Option.{option_map}
 use Rattle.std.proofs.lemmas.Bool.{and_parts, leb-true}
@@ -12,13 +12,13 @@ use Rattle.schema_model.specs.declared.column.Kind.TheVariants.{Key}
 use Rattle.schema_plan.specs.declared.rules.Rule.{Rule}
 use Rattle.schema_plan.specs.declared.rules.Rule.TheVariants.{Dictionaries, SeedAndUnits, TableCount, Columns, KeyColumn, RowCount, LifeRange, UpdatePeriod, NumberRange, DateRange, PickEntries, SkewRange, LengthRange, TemplateParts, CaseBranches, StillCitations, ReferenceTargets, ReferenceWindows, ParentRows, SpreadWeights, LookupColumns, RowCost, LineSize, ChangesAndNulls}
 use Rattle.schema_plan.specs.declared.site.Site.TheVariants.{Whole, OfTable, OfColumn}
-use Rattle.schema_plan.specs.Cohorts.{born_count}
+use Rattle.cohort_sizes.specs.Births.{born_count}
 use Rattle.schema_plan.specs.Counts.{count}
 use Rattle.schema_plan.specs.Dictionaries.{AreWordLists, Dictionary, Project}
 use Rattle.schema_plan.specs.Layout.{ColumnLayout, TableLayout, births_of, column_at, column_layout, key_kind, keys_of_kind, kind_layout, layout_of, span_of, table_at, table_layout}
 use Rattle.schema_plan.specs.Limits.{IsKindInLimits, IsLife, IsLookupInLimits, IsTableInLimits, IsInLimits, IsUpdatePeriod}
 use Rattle.schema_plan.specs.References.{IsReferenceInLimits, reference_of, references_of}
-use Rattle.schema_plan.specs.Rules.{broken_rule, first_broken, number_of, rules, changes_at, cites_still, is_between, is_change, is_key, is_key_in_range, is_key_first, is_life, is_null_share, is_one_to_64, is_update_period, kind_at, null_at, references_before, schema_table, IsAccepted, Keeps}
+use Rattle.schema_plan.specs.Rules.{are_phases, broken_rule, first_broken, number_of, rules, changes_at, cites_still, is_between, is_change, is_key, is_key_in_range, is_key_first, is_life, is_null_share, is_one_to_64, is_update_period, kind_at, null_at, references_before, schema_table, IsAccepted, Keeps}
 use Rattle.schema_plan.specs.Sites.{columns_at}
 use Rattle.schema_plan.specs.TableFacts.{cost, max_line}
 use Rattle.schema_check.proofs.ColumnLimits.{cites_still_columns, columns_layout, key_never_null, kind_at-layout, kind_in_limits, null_at-layout, null_limit, reference_never_null, unchanged}
@@ -27,7 +27,8 @@ use Rattle.schema_check.proofs.FirstBreak.{none_of_rule}
 use Rattle.schema_check.proofs.FromTests.{count_from_test, least_from_test, limit_from_test}
 use Rattle.schema_check.proofs.Kept.{keeps_from_none, none_at}
 use Rattle.schema_check.proofs.LookupLimits.{lookup_in_limits}
-use Rattle.schema_check.proofs.ReferenceLimits.{each_reference, reference_from_tests}
+use Rattle.schema_check.proofs.PhaseLemmas.{rates_from_phases}
+use Rattle.schema_check.proofs.ReferenceLimits.{asked_units, each_reference, reference_from_tests}
 use Rattle.schema_check.proofs.RuleLemmas.{columns_at-is}
 
 -- the place of a rule in the order, by its number
@@ -94,20 +95,21 @@ update_in_limits (Some units) h =
     let v = and_parts (int_le (pos 1) units) (int_le units (pos 10000)) h in
     record { some_unit = least_from_test units 1 v.0; unit_limit = limit_from_test units 10000 v.1 }
 
-table_in_limits : (project : Project) → AreWordLists project.dictionaries → IsAccepted project → (i : ℕ) → i < length project.schema.tables → IsTableInLimits (count project.schema.units) (table_layout project.dictionaries project.schema.tables (schema_table project.schema i))
-table_in_limits project lists accepted i h =
+table_in_limits : (project : Project) → AreWordLists project.dictionaries → IsAccepted project → count project.schema.units ≤ 10000 → (i : ℕ) → i < length project.schema.tables → IsTableInLimits (count project.schema.units) (table_layout project.dictionaries project.schema.tables (schema_table project.schema i))
+table_in_limits project lists accepted units i h =
     let t = schema_table project.schema i in
     let same : columns_at project.schema i ≡ t.columns = columns_at-is project.schema i _ h in
     let v4 : is_one_to_64 (length t.columns) ≡ true = ap (λ columns. is_one_to_64 (length columns)) (sym same) ∙ keeps project accepted Columns refl (OfTable i) h in
     let counted = and_parts (nat_le 1 (length t.columns)) (nat_le (length t.columns) 64) v4 in
-    let v6 = and_parts (int_le (pos 0) t.rows && int_le (pos 0) t.insert) (nat_le (born_count (births_of t) (count project.schema.units)) (2 ^ 40)) (keeps project accepted RowCount refl (OfTable i) h) in
+    let v6 = and_parts (int_le (pos 0) t.rows && are_phases t.insert) (nat_lt 10000 (count project.schema.units) || nat_le (born_count (births_of t) (count project.schema.units)) (2 ^ 40)) (keeps project accepted RowCount refl (OfTable i) h) in
     let some : 1 ≤ length t.columns = leb-true 1 (length t.columns) counted.0 in
     let v5 = λ (j : ℕ) (lt : j < length t.columns). ap (λ columns. is_key_first j (kind_at columns j)) (sym same) ∙ keeps project accepted KeyColumn refl (OfColumn i j) (h, subst (λ (columns : List Column). j < length columns) (sym same) lt) in
     let v17 = λ (j : ℕ) (lt : j < length t.columns). ap (λ columns. cites_still columns j) (sym same) ∙ keeps project accepted StillCitations refl (OfColumn i j) (h, subst (λ (columns : List Column). j < length columns) (sym same) lt) in
     let v25 = λ (j : ℕ) (lt : j < length t.columns). and_parts (is_null_share (kind_at t.columns j) (null_at t.columns j)) (is_change (kind_at t.columns j) (changes_at t.columns j)) (ap (λ columns. is_null_share (kind_at columns j) (null_at columns j) && is_change (kind_at columns j) (changes_at columns j)) (sym same) ∙ keeps project accepted ChangesAndNulls refl (OfColumn i j) (h, subst (λ (columns : List Column). j < length columns) (sym same) lt)) in
     let layouts : length (columns_layout project.dictionaries project.schema.tables t.columns) ≡ length t.columns = length-map t.columns (column_layout project.dictionaries project.schema.tables t.columns) in
     record {
-      row_limit = leb-true (born_count (births_of t) (count project.schema.units)) (2 ^ 40) v6.1;
+      rates = rates_from_phases t.insert (and_parts (int_le (pos 0) t.rows) (are_phases t.insert) v6.0).1;
+      row_limit = leb-true (born_count (births_of t) (count project.schema.units)) (2 ^ 40) (asked_units (count project.schema.units) _ units v6.1);
       life = life_in_limits t.life (keeps project accepted LifeRange refl (OfTable i) h);
       update = update_in_limits t.update (keeps project accepted UpdatePeriod refl (OfTable i) h);
       base_limit = base_from_range (kind_at t.columns 0) (v5 0 some);
@@ -141,8 +143,8 @@ table_in_limits project lists accepted i h =
     }
 
 -- each reference of a table of an accepted schema
-references_in_limits : (project : Project) → IsAccepted project → length project.schema.tables ≤ 64 → (i : ℕ) → i < length project.schema.tables → All (IsReferenceInLimits (count project.schema.units) (layout_of project).tables i) (references_of (table_at (layout_of project).tables i))
-references_in_limits project accepted few i h =
+references_in_limits : (project : Project) → IsAccepted project → length project.schema.tables ≤ 64 → count project.schema.units ≤ 10000 → (i : ℕ) → i < length project.schema.tables → All (IsReferenceInLimits (count project.schema.units) (layout_of project).tables i) (references_of (table_at (layout_of project).tables i))
+references_in_limits project accepted few units i h =
     let dictionaries = project.dictionaries in
     let tables = project.schema.tables in
     let columns = columns_at project.schema i in
@@ -155,7 +157,7 @@ references_in_limits project accepted few i h =
     let column : j < length columns = omega (arith, within, ap length at, length-map columns (column_layout dictionaries tables columns)) in
     let kind : reference_of j (kind_layout dictionaries tables columns (kind_at columns j)) ≡ Some reference =
     ap (reference_of j) (sym (ap (λ (layouts : List ColumnLayout). (column_at layouts j).kind) at ∙ kind_at-layout dictionaries tables columns j column)) ∙ is in
-    reference_from_tests project i j (references_before columns j) columns (kind_at columns j) h few
+    reference_from_tests project i j (references_before columns j) columns (kind_at columns j) h few units
     (keeps project accepted ReferenceTargets refl (OfColumn i j) (h, column))
     (keeps project accepted ReferenceWindows refl (OfColumn i j) (h, column))
     (keeps project accepted ParentRows refl (OfColumn i j) (h, column))
@@ -192,16 +194,17 @@ in_limits project lists accepted =
     let units = and_parts (int_le (pos 0) project.schema.units) (int_le project.schema.units (pos 10000)) v1.1 in
     let v2 = and_parts (nat_le 1 (length project.schema.tables)) (nat_le (length project.schema.tables) 64) (keeps project accepted TableCount refl Whole tt) in
     let few : length project.schema.tables ≤ 64 = leb-true (length project.schema.tables) 64 v2.1 in
+    let last : count project.schema.units ≤ 10000 = limit_from_test project.schema.units 10000 units.1 in
     record {
       seed = count_from_test project.schema.seed v1.0;
       units = count_from_test project.schema.units units.0;
-      unit_limit = limit_from_test project.schema.units 10000 units.1;
+      unit_limit = last;
       some_table = leb-true 1 (length project.schema.tables) v2.0;
       table_limit = few;
       tables = λ i d h.
           let within : i < length project.schema.tables = omega (arith, h, length-map project.schema.tables (table_layout project.dictionaries project.schema.tables)) in
-          subst (IsTableInLimits (count project.schema.units)) (sym (get_or-map (table_layout project.dictionaries project.schema.tables) project.schema.tables i _ d within)) (table_in_limits project lists accepted i within);
-      references = λ place h. references_in_limits project accepted few place h;
+          subst (IsTableInLimits (count project.schema.units)) (sym (get_or-map (table_layout project.dictionaries project.schema.tables) project.schema.tables i _ d within)) (table_in_limits project lists accepted last i within);
+      references = λ place h. references_in_limits project accepted few last place h;
       lookups = λ place column h lt. lookups_in_limits project accepted place column h lt;
       costs = λ place h. within_limit place (cost (layout_of project) place) 4096 (omega (arith, h, few)) (keeps project accepted RowCost refl (OfTable place) h);
       lines = λ place h. within_limit place (max_line (layout_of project) place) 65536 (omega (arith, h, few)) (keeps project accepted LineSize refl (OfTable place) h);

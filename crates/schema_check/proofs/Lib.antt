@@ -2,6 +2,7 @@ pub mod FirstFound
 pub mod FromTests
 pub mod Kept
 pub mod FirstBreak
+pub mod PhaseLemmas
 pub mod RuleLemmas
 pub mod ReferenceLemmas
 pub mod LeafLemmas

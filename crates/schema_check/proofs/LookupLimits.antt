@@ -6,9 +6,10 @@ use Rattle.schema_model.specs.declared.table.Table.{Table}
 use Rattle.schema_model.specs.declared.column.Column.{Column}
 use Rattle.schema_model.specs.declared.column.Kind.{Kind}
 use Rattle.schema_model.specs.declared.column.Kind.TheVariants as kind
+use Rattle.schema_model.specs.declared.column.OnDelete.TheVariants.{Cascade}
 use Rattle.schema_plan.specs.Dictionaries.{Dictionary}
 use Rattle.schema_plan.specs.Layout.{ColumnLayout, column_at, column_layout, columns_of, kind_layout, parent_of, place_of_column, table_at, table_layout, table_layouts}
-use Rattle.schema_plan.specs.Limits.{IsLookupInLimits, IsReferenceTo, is_lookup_kind as is_lookup_layout, moves}
+use Rattle.schema_plan.specs.Limits.{IsLookupInLimits, IsCascadeTo, is_lookup_kind as is_lookup_layout, moves}
 use Rattle.schema_plan.specs.Rules.{has_still_column, is_lookup, is_lookup_kind, is_looked_up, kind_at, moves_at}
 use Rattle.schema_check.proofs.ColumnLimits.{columns_layout, kind_at-layout, still_from_test}
 
@@ -26,10 +27,10 @@ not-false : (test : Bool) → not test ≡ true → test ≡ false
 not-false true h = cc
 not-false false h = refl
 
--- a kind by which something is looked up is a reference, to a table with the column
+-- a kind by which something is looked up is a reference, with whose parent the row is deleted, to a table with the column
 reference_from_test : (dictionaries : List Dictionary) (tables : List Table) (columns : List Column) (kind : Kind) (name : List ℕ) → is_looked_up tables kind name ≡ true →
-    IsReferenceTo (parent_of tables kind) (kind_layout dictionaries tables columns kind) × (has_still_column (columns_of tables (parent_of tables kind)) name ≡ true)
-reference_from_test dictionaries tables columns (kind.Ref table window spread) name h = (refl, h)
+    IsCascadeTo (parent_of tables kind) (kind_layout dictionaries tables columns kind) × (has_still_column (columns_of tables (parent_of tables kind)) name ≡ true)
+reference_from_test dictionaries tables columns (kind.Ref table window spread Cascade) name h = (refl, h)
 reference_from_test dictionaries tables columns _ name h = absurd (cc)
 
 pub lookup_in_limits : (dictionaries : List Dictionary) (tables : List Table) (columns : List Column) (place : ℕ) → place ≤ length columns → (kind : Kind) → is_lookup tables columns place kind ≡ true →
@@ -48,7 +49,7 @@ lookup_in_limits dictionaries tables columns place within (kind.Lookup via name)
     let at = columns_of-layout dictionaries tables tables parent in
     record {
       earlier = earlier;
-      reference = subst (IsReferenceTo parent) (sym (kind_at-layout dictionaries tables columns reference (omega arith))) found.0;
+      reference = subst (IsCascadeTo parent) (sym (kind_at-layout dictionaries tables columns reference (omega arith))) found.0;
       within = omega (arith, is_there, ap length at, length-map others (column_layout dictionaries tables others));
       still = ap (λ (layouts : List ColumnLayout). moves (column_at layouts other)) at ∙ still_from_test dictionaries tables others other w.1;
       no_lookup = ap (λ (layouts : List ColumnLayout). is_lookup_layout (column_at layouts other).kind) at

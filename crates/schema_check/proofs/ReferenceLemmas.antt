@@ -1,24 +1,24 @@
 -- What the rules ask of references, as the code asks it.
-use Rattle.std.proofs.Common.{◌≡◌, ℕ, zero, suc, ◌+◌, ◌*◌, ◌-◌, ◌<◌, ◌≤◌, ◌==◌, Bool, true, false, ◌&&◌, ◌||◌, List, length, map, min, ltb, nat_lt, zero-add, Option, Some, None, refl, sym, ap, ◌∙◌, arith}
+use Rattle.std.proofs.Common.{◌≡◌, ℕ, suc, ◌+◌, ◌*◌, ◌-◌, ◌<◌, ◌≤◌, ◌==◌, Bool, true, false, inl, inr, ◌||◌, List, length, map, min, ltb, nat_le, nat_lt, zero-add, Option, Some, None, refl, sym, ap, ◌∙◌, arith}
 use Rattle.std.specs.List.{list_all, range_with_len}
-use Rattle.std.proofs.Math.Nat.{mul-le-mul_right}
-use Rattle.std.proofs.lemmas.Bool.{ltb-false, ltb-true}
-use Rattle.std.proofs.lemmas.Bool.Decides.{nat_tests}
+use Rattle.std.proofs.lemmas.Bool.{cases_lt, le-leb, le-ltb, lt-leb, lt-ltb, ltb-false, ltb-true}
+use Rattle.std.specs.Option.{option_map_or}
 use Rattle.std.proofs.lemmas.List.{get_or_past, length-map}
 use Rattle.std.proofs.lemmas.List.FromFn.{get_or-map-range_with_len, get_or-range_with_len, length-map-range_with_len, length-range_with_len}
+use Rattle.std.proofs.lemmas.List.Folds.{list_all_at}
 use Rattle.std.proofs.lemmas.List.Sums.{list_all-from_AllPass}
+use Rattle.cohort_sizes.specs.Births.{Births, born_count, cohort_size, first_ordinal}
 use Rattle.schema_plan.specs.declared.facts.TableFacts.{TableFacts}
-use Rattle.schema_plan.specs.declared.layout.Births.{Births}
 use Rattle.schema_plan.specs.declared.lineage.Lineage.{Lineage}
 use Rattle.schema_plan.specs.Capped.{capped_facts, capped_lineage, first_facts}
-use Rattle.schema_plan.specs.Cohorts.{first_ordinal}
 use Rattle.schema_plan.specs.Dictionaries.{Project}
 use Rattle.schema_plan.specs.Layout.{TableLayout, layout_of, table_layout}
 use Rattle.schema_plan.specs.Lineage.{endless, lineage_at, lineages, sure_life}
 use Rattle.schema_plan.specs.References.{window_start}
-use Rattle.schema_plan.specs.Rules.{has_parent_row, has_parent_rows}
+use Rattle.schema_plan.specs.Rules.{has_parent_row}
+use Rattle.cohort_sizes.proofs.StretchLemmas.{first_ordinal-stretch}
 use Rattle.schema_plan.specs.TableFacts.{facts_at}
-use Rattle.schema_plan.proofs.CohortLemmas.{born_count-is, first_ordinal-suc}
+use Rattle.cohort_sizes.proofs.CohortLemmas.{first_ordinal-le}
 use Rattle.schema_check.proofs.FromTests.{passes_each}
 use Rattle.schema_plan.proofs.LineageLemmas.{length-lineages}
 use Rattle.schema_plan.proofs.Lists.{map-map}
@@ -52,106 +52,92 @@ sure_life-first project place few =
 
 -- ---- rows to refer to
 
--- at unit 0 a row of unit 0
-first_row : (child parent : Births) (window : Option ℕ) → has_parent_row child parent window 0 ≡ (child.rows == 0 || nat_lt 0 parent.rows)
-first_row child parent None = ap (λ rows. child.rows == 0 || nat_lt 0 rows) (zero-add parent.rows)
-first_row child parent (Some older) =
-    let start : 0 - older ≡ 0 = omega arith in
-    ap (λ first. child.rows == 0 || nat_lt (first_ordinal parent first) (0 + parent.rows)) start
-    ∙ ap (λ rows. child.rows == 0 || nat_lt 0 rows) (zero-add parent.rows)
+-- the last unit before another at which rows are born; None where none are
+abbrev pub IsLatest : Births → ℕ → Option ℕ → Type 0
+IsLatest births unit None = (u : ℕ) → u < unit → cohort_size births u ≡ 0
+IsLatest births unit (Some latest) =
+    (latest < unit) × (0 < cohort_size births latest) × ((u : ℕ) → latest < u → u < unit → cohort_size births u ≡ 0)
 
-not_first : (unit : ℕ) → suc unit == 0 ≡ false
-not_first unit = grind (arith, nat_tests)
+-- one unit on, where rows are born at it and where none are
+pub IsLatest-some : (births : Births) (unit : ℕ) → 0 < cohort_size births unit → IsLatest births (unit + 1) (Some unit)
+IsLatest-some births unit some = (omega arith, some, λ u past below. absurd (omega (arith, past, below)))
 
--- from some unit up to a later one rows are born where some are at each unit, or where there are rows of unit 0 and the unit is 0
-born_later : (rows insert start unit : ℕ) → start ≤ suc unit → nat_lt (first_ordinal (record { rows = rows; insert = insert }) start) (rows + suc unit * insert) ≡ (nat_lt 0 insert || (nat_lt 0 rows && start == 0))
-born_later rows insert zero unit h = born_from_first rows insert unit
-  where
-    born_from_first : (rows insert unit : ℕ) → nat_lt 0 (rows + suc unit * insert) ≡ (nat_lt 0 insert || (nat_lt 0 rows && true))
-    born_from_first rows zero unit = grind (arith, nat_tests)
-    born_from_first rows (suc i) unit = grind (arith, nat_tests)
-born_later rows insert (suc start) unit h =
-    ap (λ first. nat_lt first (rows + suc unit * insert)) (first_ordinal-suc (record { rows = rows; insert = insert }) start)
-    ∙ born_between rows insert start unit (omega arith)
-    ∙ ap (λ from_first. nat_lt 0 insert || (nat_lt 0 rows && from_first)) (sym (not_first start))
-  where
-    born_between : (rows insert start unit : ℕ) → start ≤ unit → nat_lt (rows + start * insert) (rows + suc unit * insert) ≡ (nat_lt 0 insert || (nat_lt 0 rows && false))
-    born_between rows zero start unit h = grind (arith, nat_tests)
-    born_between rows (suc i) start unit h =
-        let less : start * suc i ≤ unit * suc i = mul-le-mul_right (suc i) h in
-        grind (arith, nat_tests)
+pub IsLatest-none : (births : Births) (unit : ℕ) (latest : Option ℕ) → IsLatest births unit latest → cohort_size births unit ≡ 0 → IsLatest births (unit + 1) latest
+IsLatest-none births unit None is none =
+    λ u below. elim (cases_lt u unit) [
+      | inl before ↦ is u before
+      | inr after ↦
+          let same : u ≡ unit = omega (arith, after, below) in
+          ap (cohort_size births) same ∙ none
+    ]
+IsLatest-none births unit (Some latest) is none = (
+  omega (arith, is.0),
+  is.1,
+  λ u past below. elim (cases_lt u unit) [
+    | inl before ↦ is.2 u past before
+    | inr after ↦
+        let same : u ≡ unit = omega (arith, after, below) in
+        ap (cohort_size births) same ∙ none
+  ],
+)
 
--- whether a row is born in a window from a start on that ends at a unit after the first, where rows are born at it
-abbrev pub later_row : Births → Births → ℕ → Bool
-later_row child parent start = child.insert == 0 || (nat_lt 0 parent.insert || (nat_lt 0 parent.rows && start == 0))
+-- where none are born from a unit up to another, as many are born before both
+none_between : (births : Births) (from unit : ℕ) → from ≤ unit → ((u : ℕ) → from ≤ u → u < unit → cohort_size births u ≡ 0) → first_ordinal births unit ≡ first_ordinal births from
+none_between births from unit within none =
+    let at : from + (unit - from) ≡ unit = omega (arith, within) in
+    let grown = first_ordinal-stretch births from 0 (unit - from) (λ u begun below. none u begun (omega (arith, below, at))) in
+    let zeros : (unit - from) * 0 ≡ 0 = grind arith in
+    sym (ap (first_ordinal births) at) ∙ omega (arith, grown, zeros)
+
+-- a window has a row of the parent's table where it reaches back to the last unit at which some are born
+pub row_in_window : (parent : Births) (start unit : ℕ) (latest : Option ℕ) → start ≤ unit → IsLatest parent (unit + 1) latest → nat_lt (first_ordinal parent start) (born_count parent unit) ≡ option_map_or (nat_le start) latest false
+row_in_window parent start unit None within is =
+    let none = none_between parent 0 (unit + 1) (omega arith) (λ u begun below. is u below) in
+    let zero_first : first_ordinal parent 0 ≡ 0 = refl in
+    le-ltb (first_ordinal parent start) (born_count parent unit) (omega (arith, none, zero_first))
+row_in_window parent start unit (Some latest) within is =
+    elim (cases_lt latest start) [
+      | inl short ↦
+          let none = none_between parent start (unit + 1) (omega (arith, within)) (λ u begun below. is.2 u (omega (arith, begun, short)) below) in
+          le-ltb (first_ordinal parent start) (born_count parent unit) (omega (arith, none))
+          ∙ sym (lt-leb start latest short)
+      | inr long ↦
+          let before = first_ordinal-le parent start latest long in
+          let after = first_ordinal-le parent (suc latest) (unit + 1) (omega (arith, is.0)) in
+          let grown : first_ordinal parent (suc latest) ≡ first_ordinal parent latest + cohort_size parent latest = refl in
+          lt-ltb (first_ordinal parent start) (born_count parent unit) (omega (arith, before, after, grown, is.1))
+          ∙ sym (le-leb start latest long)
+    ]
 
 start_within : (window : Option ℕ) (unit : ℕ) → window_start window unit ≤ unit
 start_within None unit = omega arith
 start_within (Some older) unit = omega arith
 
-starts_ordered : (window : Option ℕ) (unit last : ℕ) → unit ≤ last → window_start window unit ≤ window_start window last
-starts_ordered None unit last h = omega arith
-starts_ordered (Some older) unit last h = omega arith
+pub has_parent_row-is : (child parent : Births) (window : Option ℕ) (unit : ℕ) (latest : Option ℕ) → IsLatest parent (unit + 1) latest →
+    has_parent_row child parent window unit ≡ (cohort_size child unit == 0 || option_map_or (nat_le (window_start window unit)) latest false)
+has_parent_row-is child parent window unit latest is =
+    ap (λ test. cohort_size child unit == 0 || test) (row_in_window parent (window_start window unit) unit latest (start_within window unit) is)
 
--- at a later unit a row of the unit itself, or one of unit 0 where the window reaches back to it
-later_row-is : (child parent : Births) (window : Option ℕ) (unit : ℕ) → has_parent_row child parent window (suc unit) ≡ later_row child parent (window_start window (suc unit))
-later_row-is child parent window unit =
-    let start = window_start window (suc unit) in
-    ap (λ born. child.insert == 0 || nat_lt (first_ordinal parent start) born) (born_count-is parent (suc unit))
-    ∙ ap (λ some. child.insert == 0 || some) (born_later parent.rows parent.insert start unit (start_within window (suc unit)))
-
--- a window that begins no later has a row where another that ends later has
-row_before : (child parent : Births) (start last : ℕ) → start ≤ last → later_row child parent last ≡ true → later_row child parent start ≡ true
-row_before child parent start last h some = grind (arith, nat_tests)
-
-same_tests : (a b : Bool) → (a ≡ true → b ≡ true) → (b ≡ true → a ≡ true) → a ≡ b
-same_tests true b there back = sym (there refl)
-same_tests false true there back = back refl
-same_tests false false there back = refl
-
-both_pass : (a b c : Bool) → b ≡ false → a ≡ true → c ≡ true → (a && (b || c)) ≡ true
-both_pass a b c p q r = cc
-
--- where a unit isn't 0, both parts hold
-both_parts : (a b c : Bool) → b ≡ false → (a && (b || c)) ≡ true → (a ≡ true) × (c ≡ true)
-both_parts true false c p h = (refl, h)
-both_parts true true c p h = cc
-both_parts false b c p h = cc
-
--- it is enough to look at unit 0 and at the last unit
-pub has_parent_rows-is : (units : ℕ) (child parent : Births) (window : Option ℕ) → has_parent_rows units child parent window ≡ ((child.rows == 0 || nat_lt 0 parent.rows) && (units == 0 || later_row child parent (window_start window units)))
-has_parent_rows-is zero child parent window = ap (λ test. test && true) (first_row child parent window)
-has_parent_rows-is (suc n) child parent window = same_tests _ _ there back
+-- the tests of the units before one, and that of one more
+pub tests_more : (test : ℕ → Bool) (unit : ℕ) → list_all test (range_with_len 0 unit) ≡ true → test unit ≡ true → list_all test (range_with_len 0 (unit + 1)) ≡ true
+tests_more test unit before here =
+    list_all-from_AllPass test (range_with_len 0 (unit + 1)) (λ i d below.
+    let within : i < unit + 1 = omega (arith, below, length-range_with_len 0 (unit + 1)) in
+    ap test (get_or-range_with_len 0 (unit + 1) i d within ∙ zero-add i) ∙ at i within)
   where
-    test : ℕ → Bool
-    test = has_parent_row child parent window
+    at : (i : ℕ) → i < unit + 1 → test i ≡ true
+    at i within =
+        elim (cases_lt i unit) [
+          | inl less ↦
+              ap test (sym (get_or-range_with_len 0 unit i 0 less ∙ zero-add i))
+              ∙ passes_each test (range_with_len 0 unit) i 0 (omega (arith, less, length-range_with_len 0 unit)) before
+          | inr more ↦
+              let same : i ≡ unit = omega (arith, within, more) in
+              ap test same ∙ here
+        ]
 
-    units : List ℕ
-    units = range_with_len 0 (suc n + 1)
-
-    there : list_all test units ≡ true → ((child.rows == 0 || nat_lt 0 parent.rows) && (suc n == 0 || later_row child parent (window_start window (suc n)))) ≡ true
-    there all =
-        let at = λ (k : ℕ) (below : k < suc n + 1). ap test (sym (get_or-range_with_len 0 (suc n + 1) k 0 below ∙ zero-add k)) ∙ passes_each test units k 0 (omega (arith, length-range_with_len 0 (suc n + 1))) all in
-        both_pass (child.rows == 0 || nat_lt 0 parent.rows) (suc n == 0) (later_row child parent (window_start window (suc n))) (not_first n)
-        (sym (first_row child parent window) ∙ at 0 (omega arith))
-        (sym (later_row-is child parent window n) ∙ at (suc n) (omega arith))
-
-    back : ((child.rows == 0 || nat_lt 0 parent.rows) && (suc n == 0 || later_row child parent (window_start window (suc n)))) ≡ true → list_all test units ≡ true
-    back h =
-        let parts = both_parts (child.rows == 0 || nat_lt 0 parent.rows) (suc n == 0) (later_row child parent (window_start window (suc n))) (not_first n) h in
-        list_all-from_AllPass test units (λ i d lt.
-        let below : i < suc n + 1 = omega (arith, length-range_with_len 0 (suc n + 1)) in
-        ap test (get_or-range_with_len 0 (suc n + 1) i d below ∙ zero-add i) ∙ row i (omega arith) parts.0 parts.1)
-      where
-        row : (unit : ℕ) → unit ≤ suc n → (child.rows == 0 || nat_lt 0 parent.rows) ≡ true → later_row child parent (window_start window (suc n)) ≡ true → test unit ≡ true
-        row zero within first later = first_row child parent window ∙ first
-        row (suc unit) within first later =
-            later_row-is child parent window unit
-            ∙ row_before child parent (window_start window (suc unit)) (window_start window (suc n)) (starts_ordered window (suc unit) (suc n) within) later
-
--- where there is a row for unit 0, it is enough to look at the last unit
-pub has_parent_rows-later : (units : ℕ) (child parent : Births) (window : Option ℕ) → (child.rows == 0 || nat_lt 0 parent.rows) ≡ true → (units == 0) ≡ false → later_row child parent (window_start window units) ≡ has_parent_rows units child parent window
-has_parent_rows-later units child parent window first later =
-    sym (has_parent_rows-is units child parent window
-    ∙ ap (λ test. test && (units == 0 || later_row child parent (window_start window units))) first
-    ∙ ap (λ test. test || later_row child parent (window_start window units)) later)
+-- where the test of one unit fails, not all pass
+pub tests_fail : (test : ℕ → Bool) (unit last : ℕ) → unit < last → test unit ≡ false → list_all test (range_with_len 0 last) ≡ false
+tests_fail test unit last below fails =
+    list_all_at test (range_with_len 0 last) unit 0 (omega (arith, below, length-range_with_len 0 last))
+    (ap test (get_or-range_with_len 0 last unit 0 below ∙ zero-add unit) ∙ fails)

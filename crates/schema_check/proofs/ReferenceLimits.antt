@@ -11,8 +11,7 @@ use Rattle.schema_model.specs.declared.column.Kind.{Kind}
 use Rattle.schema_model.specs.declared.column.Kind.TheVariants as kind
 use Rattle.schema_model.specs.declared.column.Window.{Window}
 use Rattle.schema_model.specs.declared.column.Window.TheVariants as window
-use Rattle.schema_plan.specs.declared.layout.Births.{Births}
-use Rattle.schema_plan.specs.Cohorts.{born_count, cohort_size}
+use Rattle.cohort_sizes.specs.Births.{Births, born_count, cohort_size}
 use Rattle.schema_plan.specs.Counts.{count}
 use Rattle.schema_plan.specs.Dictionaries.{Project}
 use Rattle.schema_plan.specs.Layout.{ColumnLayout, TableLayout, births_of, column_at, kind_layout, layout_of, place_of_table, table_at, window_layout}
@@ -78,6 +77,12 @@ asked_below place test few h =
     let asked : nat_le 64 place ≡ false = grind (arith, nat_tests) in
     ap (λ past. past || test) (sym asked) ∙ h
 
+-- what is asked of so many units is asked of at most 10,000
+pub asked_units : (units : ℕ) (test : Bool) → units ≤ 10000 → (nat_lt 10000 units || test) ≡ true → test ≡ true
+asked_units units test within h =
+    let asked : nat_lt 10000 units ≡ false = grind (arith, nat_tests) in
+    ap (λ past. past || test) (sym asked) ∙ h
+
 -- a row to refer to at a unit at which rows are born
 row_from_tests : (units : ℕ) (child parent : Births) (of : Option ℕ) → has_parent_rows units child parent of ≡ true → (unit : ℕ) → unit ≤ units → 0 < cohort_size child unit → first_in_window parent of unit < born_count parent unit
 row_from_tests units child parent of h unit within born =
@@ -93,8 +98,8 @@ births_at : (project : Project) (place : ℕ) → place < length project.schema.
 births_at project place h = ap (λ (table : TableLayout). table.births) (sym (table_at-is project.dictionaries project.schema.tables place _ h))
 
 -- a reference whose column passes the tests of the rules is within its limits
-pub reference_from_tests : (project : Project) (place column earlier : ℕ) (columns : List Column) (kind : Kind) → place < length project.schema.tables → length project.schema.tables ≤ 64 → is_target project.schema.tables place earlier kind ≡ true → is_window project kind ≡ true → has_parents project.schema place kind ≡ true → is_spread kind ≡ true → (reference : Reference) → reference_of column (kind_layout project.dictionaries project.schema.tables columns kind) ≡ Some reference → IsReferenceInLimits (count project.schema.units) (layout_of project).tables place reference
-reference_from_tests project place column earlier columns (kind.Ref table of weights) within few target life parents spread reference is =
+pub reference_from_tests : (project : Project) (place column earlier : ℕ) (columns : List Column) (kind : Kind) → place < length project.schema.tables → length project.schema.tables ≤ 64 → count project.schema.units ≤ 10000 → is_target project.schema.tables place earlier kind ≡ true → is_window project kind ≡ true → has_parents project.schema place kind ≡ true → is_spread kind ≡ true → (reference : Reference) → reference_of column (kind_layout project.dictionaries project.schema.tables columns kind) ≡ Some reference → IsReferenceInLimits (count project.schema.units) (layout_of project).tables place reference
+reference_from_tests project place column earlier columns (kind.Ref table of weights on_delete) within few units target life parents spread reference is =
     let parent = place_of_table project.schema.tables table in
     let before : parent < place = ltb-true parent place ((and_parts (nat_lt parent place) (nat_lt earlier 8) target).0) in
     let in_tables : parent < length project.schema.tables = omega arith in
@@ -105,7 +110,7 @@ reference_from_tests project place column earlier columns (kind.Ref table of wei
       some_parent = row_from_tests (count project.schema.units) (table_at (layout_of project).tables place).births (table_at (layout_of project).tables parent).births (window_layout of)
           (ap (λ (child : Births). has_parent_rows (count project.schema.units) child (table_at (layout_of project).tables parent).births (window_layout of)) (sym (births_at project place within))
           ∙ ap (λ (born : Births). has_parent_rows (count project.schema.units) (births_of (schema_table project.schema place)) born (window_layout of)) (sym (births_at project parent in_tables))
-          ∙ parents);
+          ∙ asked_units (count project.schema.units) _ units parents);
       spread = spread_from_test weights spread;
     })
-reference_from_tests project place column earlier columns _ within few target life parents spread reference is = cc
+reference_from_tests project place column earlier columns _ within few units target life parents spread reference is = cc

@@ -1,5 +1,5 @@
 -- What the tests of the rules ask, as the code asks it.
-use Rattle.std.proofs.Common.{◌≡◌, ℕ, suc, zero, ◌+◌, ◌*◌, ◌-◌, ◌<◌, ◌^◌, Bool, true, false, not, ◌&&◌, ◌||◌, List, [], ◌∷◌, length, map, min, get_or, take, refl, sym, ap, ◌∙◌, arith, nat_le, ℤ, pos, int_le}
+use Rattle.std.proofs.Common.{◌≡◌, ℕ, suc, zero, ◌+◌, ◌-◌, ◌<◌, ◌^◌, Bool, true, false, not, ◌&&◌, ◌||◌, List, [], ◌∷◌, length, map, min, get_or, take, refl, sym, ap, ◌∙◌, arith, nat_le}
 use Rattle.std.specs.List.{list_any, range_with_len}
 use Rattle.std.proofs.lemmas.Bool.{leb-false}
 use Rattle.std.proofs.lemmas.Bool.Decides.{nat_tests}
@@ -13,15 +13,13 @@ use Rattle.schema_plan.specs.declared.rules.Rule.TheVariants.{RowCost, LineSize}
 use Rattle.schema_plan.specs.declared.site.Site.{Site}
 use Rattle.schema_plan.specs.declared.site.Site.TheVariants.{OfTable}
 use Rattle.schema_plan.specs.Capped.{capped, capped_facts, first_facts, is_known_at_most}
-use Rattle.schema_plan.specs.Cohorts.{born_count}
 use Rattle.schema_plan.specs.Counts.{count}
 use Rattle.schema_plan.specs.Dictionaries.{Project}
-use Rattle.schema_plan.specs.Layout.{births_of, layout_of}
+use Rattle.schema_plan.specs.Layout.{layout_of}
 use Rattle.schema_plan.specs.Names.{same_text, is_name}
-use Rattle.schema_plan.specs.Rules.{holds, is_new_name, is_new_at, is_row_count}
+use Rattle.schema_plan.specs.Rules.{holds, is_new_name, is_new_at}
 use Rattle.schema_plan.specs.Sites.{columns_at}
 use Rattle.schema_plan.specs.TableFacts.{cost, facts_at, max_line}
-use Rattle.schema_plan.proofs.CohortLemmas.{born_count-is}
 use Rattle.schema_plan.proofs.Lists.{list_any-map, map-map}
 
 take-map : {A B : Type 0} (f : A → B) (i : ℕ) (xs : List A) → take i (map f xs) ≡ map f (take i xs)
@@ -41,11 +39,9 @@ is_new_at-item name_of xs i d any h is_name_at any_is =
 pub capped-test : (n limit : ℕ) → limit < 2 ^ 64 - 1 → nat_le (capped n) limit ≡ nat_le n limit
 capped-test n limit h = grind (arith, nat_tests)
 
-pub is_row_count-is : (units : ℤ) (table : Table) → (int_le (pos 0) table.rows && int_le (pos 0) table.insert) ≡ true → nat_le (capped (count table.rows + count units * count table.insert)) (2 ^ 40) ≡ is_row_count units table
-is_row_count-is units table counted =
-    capped-test (count table.rows + count units * count table.insert) (2 ^ 40) (omega arith)
-    ∙ ap (λ rows. nat_le rows (2 ^ 40)) (sym (born_count-is (births_of table) (count units)))
-    ∙ ap (λ test. test && nat_le (born_count (births_of table) (count units)) (2 ^ 40)) (sym counted)
+-- the last of some numbers that are added up one by one, each at most the last of 64 bits
+pub capped-more : (a b n m : ℕ) → a ≡ capped n → m ≡ n + b → capped (a + b) ≡ capped m
+capped-more a b n m a_is m_is = omega arith
 
 -- what is asked of the facts of the first tables is asked of those tables
 pub is_known-range : (number : ℕ → ℕ) (count place limit : ℕ) → place < count → limit < 2 ^ 64 - 1 → is_known_at_most (map (λ p. capped (number p)) (range_with_len 0 (min count 64))) place limit ≡ (nat_le 64 place || nat_le (number place) limit)

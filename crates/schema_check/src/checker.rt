@@ -31,10 +31,12 @@ pub enum CheckFault {
 
 /// The names of the dictionaries that a schema cites, each once, in the order of their first citations; or the rule of
 /// dictionaries, where the schema may not cite them: a name has 1 to 255 bytes, and at most 64 different ones are cited.
+/// Want of memory is told of a schema that may cite them alone.
 pub fn citations(alloc: Global, schema: &Schema) -> Result<Texts, CheckFault>
     ensures names { IfOk result (λ names. names ≡ cited_names schema.now.tables) }
     ensures citable { OnOk result (citation_refusal schema.now ≡ None) }
     ensures refused { IfErr result (λ fault. fault ≢ CheckFault.Memory → citation_refusal schema.now ≡ Some fault) }
+    ensures memory { IfErr result (λ fault. fault ≡ CheckFault.Memory → citation_refusal schema.now ≡ None) }
 {
     let dictionaries = Dictionaries::new(alloc);
     let names = CitedNames::of(schema);

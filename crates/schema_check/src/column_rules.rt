@@ -3,10 +3,10 @@
 ghost use Rattle.std.specs.Prelude.{◌≡◌, ◌<◌, ◌≤◌, ◌||◌, length};
 ghost use Rattle.std.specs.List.{list_all};
 ghost use Rattle.schema_plan.specs.Layout.{place_of_column};
-ghost use Rattle.schema_plan.specs.Rules.{cites_still, is_case, is_change, is_changed, is_citable, is_null_share, is_part, is_pick_of, is_still_kind, is_still_part, is_template, kind_at, may_change, moves_at};
+ghost use Rattle.schema_plan.specs.Rules.{cites_still, is_case, is_change, is_citable, is_moving_kind, is_null_share, is_part, is_pick_of, is_still_kind, is_still_part, is_template, kind_at, may_change, moves_at};
 
 use schema_model::{Column, Kind, Leaf, Part, Text};
-use schema_plan::place_of_column;
+use schema_plan::{becomes_null, place_of_column};
 
 /// The most parts of a template.
 const MAX_PARTS: usize = 32;
@@ -120,7 +120,7 @@ fn is_still_part(columns: &[Column], part: &Part) -> bool
     }
 }
 
-/// Whether the column with a name moves: it is drawn anew where a row changes, or holds the unit of that change.
+/// Whether the column with a name moves: it is drawn anew where a row changes, or is of a kind that moves.
 fn is_moving(columns: &[Column], name: &Text) -> bool
     ensures { result ≡ moves_at columns.now (place_of_column columns.now name.now) }
 {
@@ -129,9 +129,21 @@ fn is_moving(columns: &[Column], name: &Text) -> bool
 }
 
 pub(crate) fn moves(column: &Column) -> bool
-    ensures { result ≡ (column.now.changes || is_changed column.now.kind) }
+    ensures { result ≡ (column.now.changes || is_moving_kind column.now.kind) }
 {
-    column.changes || matches!(column.kind, Kind::Changed)
+    column.changes || is_moving_kind(&column.kind)
+}
+
+/// Whether the fields of a kind move though nothing is drawn anew: the unit of a row's last change, and a reference that becomes
+/// null.
+fn is_moving_kind(kind: &Kind) -> bool
+    ensures { result ≡ is_moving_kind kind.now }
+{
+    match kind {
+        Kind::Changed => true,
+        Kind::Ref { on_delete, .. } => becomes_null(*on_delete),
+        _ => false,
+    }
 }
 
 /// Whether a column that changes is of a kind that may.

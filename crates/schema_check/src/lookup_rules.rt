@@ -4,11 +4,11 @@ ghost use Rattle.std.specs.Prelude.{◌≡◌, ◌<◌, length};
 ghost use Rattle.schema_plan.specs.Rules.{has_still_column, is_looked_up, is_lookup, is_lookup_kind, kind_at};
 
 use crate::column_rules::moves;
-use schema_model::{Column, Kind, Table, Text};
+use schema_model::{Column, Kind, OnDelete, Table, Text};
 use schema_plan::{columns_of, place_of_column, place_of_table};
 
-/// Whether the column at a place, where it is a lookup, names an earlier reference and a column of the parent's table that doesn't
-/// move and is no lookup.
+/// Whether the column at a place, where it is a lookup, names an earlier reference, with whose parent the row is deleted, and a column
+/// of the parent's table that doesn't move and is no lookup.
 pub(crate) fn is_lookup(tables: &[Table], columns: &[Column], place: usize) -> bool
     requires { place < length columns.now }
     ensures { result ≡ is_lookup tables.now columns.now place (kind_at columns.now place) }
@@ -22,14 +22,21 @@ pub(crate) fn is_lookup(tables: &[Table], columns: &[Column], place: usize) -> b
     }
 }
 
-/// Whether a kind is a reference to a table that has such a column of a name.
+/// Whether a kind is a reference, with whose parent the row is deleted, to a table that has such a column of a name.
 fn is_looked_up(tables: &[Table], kind: &Kind, name: &Text) -> bool
     ensures { result ≡ is_looked_up tables.now kind.now name.now }
 {
     match kind {
-        Kind::Ref { table, .. } => {
-            has_still_column(columns_of(tables, place_of_table(tables, table)), name)
-        }
+        Kind::Ref {
+            table,
+            on_delete,
+            ..
+        } => match on_delete {
+            OnDelete::Cascade => {
+                has_still_column(columns_of(tables, place_of_table(tables, table)), name)
+            }
+            OnDelete::Null => false,
+        },
         _ => false,
     }
 }

@@ -1,16 +1,18 @@
 //! What the rules ask of references.
 
-ghost use Rattle.std.specs.Prelude.{◌≡◌, ◌==◌, ◌<◌, ◌≤◌, ◌&&◌, ◌||◌, length, nat_lt};
+ghost use Rattle.std.specs.Prelude.{◌≡◌, ◌<◌, ◌≤◌, ◌||◌, false, length, nat_le, nat_lt};
 ghost use Rattle.std.specs.List.{list_all};
+ghost use Rattle.std.specs.Option.{option_map_or};
+ghost use Rattle.cohort_sizes.specs.Births.{cohort_size};
 ghost use Rattle.schema_plan.specs.Counts.{count};
 ghost use Rattle.schema_plan.specs.Layout.{births_of, place_of_table, window_layout};
 ghost use Rattle.schema_plan.specs.References.{window_start};
-ghost use Rattle.schema_plan.specs.Rules.{has_parent_rows, has_parents, is_between, is_reference, is_spread, is_target, is_window, is_within_life, kind_at, references_before, schema_table};
+ghost use Rattle.schema_plan.specs.Rules.{has_parent_rows, has_parents, is_between, is_reference, is_spread, is_target, is_window, is_within_life, kind_at, references_before, table_in};
 
 use crate::candidate::Candidate;
-use crate::rules::MAX_ITEMS;
+use crate::rules::{MAX_ITEMS, MAX_UNITS};
 use schema_model::{Column, Kind, Schema, Table, Text, Window};
-use schema_plan::{Births, births_of, count, lineage_at, place_of_table};
+use schema_plan::{cohort_size, count, lineage_at, place_of_table};
 
 /// The most references of a table.
 const MAX_REFERENCES: usize = 8;
@@ -79,7 +81,7 @@ pub(crate) fn is_window(candidate: &Candidate<'_>, kind: &Kind) -> bool
 
 /// Whether a window is within the sure life of the rows of the table with a name, where it is one of the first 64 tables.
 fn is_window_of(candidate: &Candidate<'_>, parent: &Text, window: Window) -> bool
-    ensures { (spread : _) → result ≡ is_window candidate.now (Kind.Ref parent.now window spread) }
+    ensures { (spread on_delete : _) → result ≡ is_window candidate.now (Kind.Ref parent.now window spread on_delete) }
 {
     let parent = place_of_table(candidate.schema().tables.as_slice(), parent);
     if parent >= MAX_ITEMS {
@@ -88,48 +90,56 @@ fn is_window_of(candidate: &Candidate<'_>, parent: &Text, window: Window) -> boo
     is_within_life(lineage_at(candidate.facts(), parent).sure_life, window)
 }
 
-/// The births of the table at a place; past the last one none are born.
-fn births_at(tables: &[Table], place: usize) -> Births
-    ensures { (schema : _) → schema.tables ≡ tables.now → result ≡ births_of (schema_table schema place) }
+/// How many rows of the table at a place are born at a unit; none past the last table.
+fn cohort_size_at(tables: &[Table], place: usize, unit: u64) -> u64
+    ensures { result ≡ cohort_size (births_of (table_in tables.now place)) unit }
 {
     if place < tables.len() {
-        births_of(&tables[place])
+        cohort_size(&tables[place], unit)
     } else {
-        Births { rows: 0, insert: 0 }
+        0
     }
 }
 
-/// Whether a row of the parent's table is born in the window at each unit up to the last at which rows of the child's are. It is
-/// enough to look at unit 0 and at the last one.
-fn has_parent_rows(units: i64, child: Births, parent: Births, window: Window) -> bool
-    ensures { result ≡ has_parent_rows (count units) child parent (window_layout window) }
+/// Whether a row of the parent's table is born in the window at each unit up to a last one at which rows of the child's are.
+fn has_parent_rows(tables: &[Table], child: usize, parent: usize, window: Window, last: u64) -> bool
+    requires { last ≤ 10000 }
+    ensures { result ≡ has_parent_rows last (births_of (table_in tables.now child)) (births_of (table_in tables.now parent)) (window_layout window) }
+{
+    let mut latest = None;
+    for unit in 0..last + 1 {
+        if cohort_size_at(tables, parent, unit) > 0 {
+            latest = Some(unit);
+        }
+        if cohort_size_at(tables, child, unit) > 0 && !reaches(window, unit, latest) {
+            return false;
+        }
+    }
+    true
+}
+
+/// The same up to the last unit of a schema, where this isn't past the greatest.
+fn has_candidates(tables: &[Table], child: usize, parent: usize, window: Window, units: i64) -> bool
+    ensures { result ≡ (nat_lt 10000 (count units)
+        || has_parent_rows (count units) (births_of (table_in tables.now child)) (births_of (table_in tables.now parent)) (window_layout window)) }
 {
     let last = count(units);
-    let at_first = child.rows == 0 || parent.rows > 0;
-    at_first && (last == 0 || has_later_row(child, parent, reaches_back(window, last)))
+    last > MAX_UNITS as u64 || has_parent_rows(tables, child, parent, window, last)
 }
 
-/// Whether a row of the parent's table is born in a window that ends at a unit after the first, where rows of the child's are born at
-/// it: one of the unit itself; and where none is born then, one of unit 0, as long as the window reaches back to it.
-fn has_later_row(child: Births, parent: Births, reaches_back: bool) -> bool
-    ensures { result ≡ (child.insert == 0 || (nat_lt 0 parent.insert || (nat_lt 0 parent.rows && reaches_back))) }
+/// Whether a window that ends at a unit reaches back to another, where there is one.
+fn reaches(window: Window, unit: u64, latest: Option<u64>) -> bool
+    ensures { result ≡ option_map_or (nat_le (window_start (window_layout window) unit)) latest false }
 {
-    child.insert == 0 || parent.insert > 0 || (parent.rows > 0 && reaches_back)
-}
-
-/// Whether a window that ends at a unit begins at unit 0.
-fn reaches_back(window: Window, unit: u64) -> bool
-    ensures { result ≡ (window_start (window_layout window) unit == 0) }
-{
-    match window {
-        Window::All => true,
-        Window::Units(older) => unit <= count(older),
+    match (latest, window) {
+        (None, _) => false,
+        (Some(_), Window::All) => true,
+        (Some(latest), Window::Units(older)) => unit <= latest.saturating_add(count(older)),
     }
 }
 
 /// Whether a kind of the table at a place, where it is a reference, has parents at each unit.
 pub(crate) fn has_parents(schema: &Schema, table: usize, kind: &Kind) -> bool
-    requires { table < length schema.now.tables }
     ensures { result ≡ has_parents schema.now table kind.now }
 {
     match kind {
@@ -139,8 +149,13 @@ pub(crate) fn has_parents(schema: &Schema, table: usize, kind: &Kind) -> bool
             ..
         } => {
             let tables = schema.tables.as_slice();
-            let parent = births_at(tables, place_of_table(tables, parent));
-            has_parent_rows(schema.units, births_at(tables, table), parent, *window)
+            has_candidates(
+                tables,
+                table,
+                place_of_table(tables, parent),
+                *window,
+                schema.units,
+            )
         }
         _ => true,
     }

@@ -1,11 +1,10 @@
 //! The rules of a schema as tests of its sites, and the search for the first that is broken.
 
-ghost use Rattle.std.specs.Prelude.{◌≡◌, ◌<◌, ◌+◌, ◌*◌, ◌&&◌, IfSome, int_le, length, map, pos};
+ghost use Rattle.std.specs.Prelude.{◌≡◌, ◌<◌, ◌&&◌, IfSome, int_le, length, map, pos};
 ghost use Rattle.std.specs.List.{list_any};
-ghost use Rattle.schema_plan.specs.Capped.{capped, is_known_at_most};
-ghost use Rattle.schema_plan.specs.Counts.{count};
+ghost use Rattle.schema_plan.specs.Capped.{is_known_at_most};
 ghost use Rattle.schema_plan.specs.Names.{same_text};
-ghost use Rattle.schema_plan.specs.Rules.{break_in_table, first_break, first_broken, holds, is_between, is_key_first, is_life, is_new_at, is_one_to_64, is_row_count, is_update_period};
+ghost use Rattle.schema_plan.specs.Rules.{break_in_table, first_break, first_broken, holds, is_between, is_key_first, is_life, is_new_at, is_one_to_64, is_update_period};
 ghost use Rattle.schema_plan.specs.Sites.{columns_at, IsSiteOf};
 
 use crate::candidate::Candidate;
@@ -16,21 +15,19 @@ use crate::leaf_rules::{
 };
 use crate::lookup_rules::is_lookup;
 use crate::names::is_name;
+use crate::phase_rules::is_row_count;
 use crate::reference_rules::{has_parents, is_spread, is_target, is_window};
 use schema_model::{Column, Kind, Life, Schema, Table, Text};
-use schema_plan::{Broken, Rule, Site, TableFacts, count};
+use schema_plan::{Broken, Rule, Site, TableFacts};
 
 /// The greatest last unit.
-const MAX_UNITS: i64 = 10_000;
+pub(crate) const MAX_UNITS: i64 = 10_000;
 
 /// The most tables of a schema, and the most columns of a table.
 pub(crate) const MAX_ITEMS: usize = 64;
 
 /// The greatest number that the keys of a table may begin from.
 const MAX_BASE: i64 = 1 << 62;
-
-/// The most rows that a table may gain up to the last unit.
-const MAX_ROWS: u64 = 1 << 40;
 
 /// The longest life, in units.
 const MAX_LIFE: i64 = 20_000;
@@ -256,28 +253,6 @@ fn is_key_first(place: usize, kind: &Kind) -> bool
         Kind::Key { base, .. } => place == 0 && 0 <= *base && *base <= MAX_BASE,
         _ => place > 0,
     }
-}
-
-fn is_row_count(units: i64, table: &Table) -> bool
-    ensures { result ≡ is_row_count units table.now }
-{
-    is_counted(table) && rows_by(units, table) <= MAX_ROWS
-}
-
-/// Whether a table gains no negative number of rows.
-fn is_counted(table: &Table) -> bool
-    ensures { result ≡ (int_le (pos 0) table.now.rows && int_le (pos 0) table.now.insert) }
-{
-    0 <= table.rows && 0 <= table.insert
-}
-
-/// How many rows of a table are born by a unit.
-fn rows_by(unit: i64, table: &Table) -> u64
-    ensures { result ≡ capped (count table.now.rows + count unit * count table.now.insert) }
-{
-    count(unit)
-        .saturating_mul(count(table.insert))
-        .saturating_add(count(table.rows))
 }
 
 fn is_life(life: Option<Life>) -> bool

@@ -7,13 +7,12 @@ use Rattle.std.proofs.lemmas.List.{get_or-map, length-map, take_more_set}
 use Rattle.std.proofs.lemmas.List.FromFn.{map-range_with_len_more}
 use Rattle.schema_model.specs.declared.table.Table.{Table}
 use Rattle.schema_plan.specs.declared.facts.TableFacts.{TableFacts}
-use Rattle.schema_plan.specs.declared.layout.Births.{Births}
 use Rattle.schema_plan.specs.declared.layout.Keys.{Keys}
 use Rattle.schema_plan.specs.declared.lineage.Lineage.{Lineage}
 use Rattle.schema_plan.specs.Capped.{capped, capped_facts, capped_lineage}
 use Rattle.schema_plan.specs.Counts.{count}
 use Rattle.schema_plan.specs.Dictionaries.{Dictionary, Project}
-use Rattle.schema_plan.specs.Layout.{births_of, keys_of, layout_of, no_table, table_at, table_layout, table_layouts}
+use Rattle.schema_plan.specs.Layout.{keys_of, layout_of, no_table, table_at, table_layout, table_layouts}
 use Rattle.schema_plan.specs.Lineage.{lineage_at, lineage_of, lineages, one_if}
 use Rattle.schema_plan.specs.TableFacts.{cost, facts_at, fields_cost, line_cost, line_of_table, max_line}
 use Rattle.schema_plan.proofs.Lists.{map-map}
@@ -33,44 +32,54 @@ one_more project facts place given within so_far given_is =
 pub table_at-is : (dictionaries : List Dictionary) (tables : List Table) (place : ℕ) (d : Table) → place < length tables → table_at (table_layouts dictionaries tables) place ≡ table_layout dictionaries tables (get_or tables place d)
 table_at-is dictionaries tables place d h = get_or-map (table_layout dictionaries tables) tables place d no_table h
 
-abbrev facts_of_parts : Births → Keys → Lineage → ℕ → ℕ → TableFacts
-facts_of_parts births keys lineage cost line = record { births = births; keys = keys; lineage = lineage; cost = cost; max_line = line }
+abbrev facts_of_parts : Keys → Lineage → ℕ → ℕ → TableFacts
+facts_of_parts keys lineage cost line = record { keys = keys; lineage = lineage; cost = cost; max_line = line }
 
-same_facts : (b b' : Births) (k k' : Keys) (l l' : Lineage) (c c' m m' : ℕ) → b ≡ b' → k ≡ k' → l ≡ l' → c ≡ c' → m ≡ m' → facts_of_parts b k l c m ≡ facts_of_parts b' k' l' c' m'
-same_facts b b' k k' l l' c c' m m' p q r s t = cc
+same_facts : (k k' : Keys) (l l' : Lineage) (c c' m m' : ℕ) → k ≡ k' → l ≡ l' → c ≡ c' → m ≡ m' → facts_of_parts k l c m ≡ facts_of_parts k' l' c' m'
+same_facts k k' l l' c c' m m' q r s t = cc
 
 is_some-map : {A B : Type 0} (f : A → B) (o : Option A) → is_some (option_map f o) ≡ is_some o
 is_some-map f None = refl
 is_some-map f (Some x) = refl
 
+-- the cost of a row of a table of this lineage, by whether its rows change and by what its fields cost
+abbrev cost_of : Lineage → Bool → ℕ → ℕ
+cost_of lineage updates fields = 1 + lineage.death_cost + (one_if updates + lineage.loss_cost + (lineage.null_cost + fields))
+
 -- the cost of a row, by the layout of its table
-cost-is : (project : Project) (place : ℕ) (table : Table) → table_at (table_layouts project.dictionaries project.schema.tables) place ≡ table_layout project.dictionaries project.schema.tables table → cost (layout_of project) place ≡ 1 + (lineage_at (lineages (table_layouts project.dictionaries project.schema.tables)) place).death_cost + (one_if (is_some table.update) + fields_cost (layout_of project) (table_layout project.dictionaries project.schema.tables table))
+cost-is : (project : Project) (place : ℕ) (table : Table) → table_at (table_layouts project.dictionaries project.schema.tables) place ≡ table_layout project.dictionaries project.schema.tables table → cost (layout_of project) place ≡ cost_of (lineage_at (lineages (table_layouts project.dictionaries project.schema.tables)) place) (is_some table.update) (fields_cost (layout_of project) (table_layout project.dictionaries project.schema.tables table))
 unfolding line_cost
 cost-is project place table at =
-    let deaths = (lineage_at (lineages (table_layouts project.dictionaries project.schema.tables)) place).death_cost in
-    ap (λ layout. 1 + deaths + (one_if (is_some layout.update) + fields_cost (layout_of project) layout)) at
-    ∙ ap (λ updates. 1 + deaths + (one_if updates + fields_cost (layout_of project) (table_layout project.dictionaries project.schema.tables table))) (is_some-map count table.update)
+    let lineage = lineage_at (lineages (table_layouts project.dictionaries project.schema.tables)) place in
+    ap (λ layout. cost_of lineage (is_some layout.update) (fields_cost (layout_of project) layout)) at
+    ∙ ap (λ updates. cost_of lineage updates (fields_cost (layout_of project) (table_layout project.dictionaries project.schema.tables table))) (is_some-map count table.update)
 
 max_line-is : (project : Project) (place : ℕ) (table : Table) → table_at (table_layouts project.dictionaries project.schema.tables) place ≡ table_layout project.dictionaries project.schema.tables table → max_line (layout_of project) place ≡ line_of_table (layout_of project) (table_layout project.dictionaries project.schema.tables table)
 unfolding max_line
 max_line-is project place table at = ap (line_of_table (layout_of project)) at
 
 -- the facts of the table at a place, as they are put together
-pub facts_are : (project : Project) (place : ℕ) (table : Table) (births : Births) (keys : Keys) (lineage : Lineage) (change permutations line given : ℕ) → place < length project.schema.tables → table ≡ get_or project.schema.tables place table → births ≡ births_of table → keys ≡ keys_of table.columns → lineage ≡ capped_lineage (lineage_at (lineages (table_layouts project.dictionaries project.schema.tables)) place) → change ≡ one_if (is_some table.update) → permutations ≡ capped (fields_cost (layout_of project) (table_layout project.dictionaries project.schema.tables table)) → line ≡ capped (line_of_table (layout_of project) (table_layout project.dictionaries project.schema.tables table)) → given ≡ capped (capped (lineage.death_cost + 1) + capped (permutations + change)) → facts_of_parts births keys lineage given line ≡ capped_facts (facts_at (layout_of project) place)
-facts_are project place table births keys lineage change permutations line given within table_is births_is keys_is lineage_is change_is permutations_is line_is given_is =
+pub facts_are : (project : Project) (place : ℕ) (table : Table) (keys : Keys) (lineage : Lineage) (update permutations line given : ℕ) → place < length project.schema.tables → table ≡ get_or project.schema.tables place table → keys ≡ keys_of table.columns → lineage ≡ capped_lineage (lineage_at (lineages (table_layouts project.dictionaries project.schema.tables)) place) → update ≡ one_if (is_some table.update) → permutations ≡ capped (fields_cost (layout_of project) (table_layout project.dictionaries project.schema.tables table)) → line ≡ capped (line_of_table (layout_of project) (table_layout project.dictionaries project.schema.tables table)) → given ≡ capped (capped (lineage.death_cost + 1) + capped (capped (lineage.loss_cost + update) + capped (lineage.null_cost + permutations))) → facts_of_parts keys lineage given line ≡ capped_facts (facts_at (layout_of project) place)
+facts_are project place table keys lineage update permutations line given within table_is keys_is lineage_is update_is permutations_is line_is given_is =
     let at : table_at (table_layouts project.dictionaries project.schema.tables) place ≡ table_layout project.dictionaries project.schema.tables table = table_at-is project.dictionaries project.schema.tables place table within ∙ ap (table_layout project.dictionaries project.schema.tables) (sym table_is) in
-    let deaths = (lineage_at (lineages (table_layouts project.dictionaries project.schema.tables)) place).death_cost in
-    let death : lineage.death_cost ≡ capped deaths = ap (λ (l : Lineage). l.death_cost) lineage_is in
-    let whole : capped (capped (lineage.death_cost + 1) + capped (permutations + change)) ≡ capped (1 + deaths + (one_if (is_some table.update) + fields_cost (layout_of project) (table_layout project.dictionaries project.schema.tables table))) = sum deaths lineage.death_cost (one_if (is_some table.update)) change (fields_cost (layout_of project) (table_layout project.dictionaries project.schema.tables table)) permutations death change_is permutations_is in
-    same_facts births _ keys _ lineage _ given _ line _
-    (births_is ∙ sym (ap (λ layout. layout.births) at))
+    let known = lineage_at (lineages (table_layouts project.dictionaries project.schema.tables)) place in
+    let fields = fields_cost (layout_of project) (table_layout project.dictionaries project.schema.tables table) in
+    let whole = sum known lineage (is_some table.update) update fields permutations lineage_is update_is permutations_is in
+    same_facts keys _ lineage _ given _ line _
     (keys_is ∙ sym (ap (λ layout. layout.key) at))
     lineage_is
     (given_is ∙ whole ∙ ap capped (sym (cost-is project place table at)))
     (line_is ∙ ap capped (sym (max_line-is project place table at)))
   where
-    sum : (deaths death updates change fields permutations : ℕ) → death ≡ capped deaths → change ≡ updates → permutations ≡ capped fields → capped (capped (death + 1) + capped (permutations + change)) ≡ capped (1 + deaths + (updates + fields))
-    sum deaths death updates change fields permutations p q r = omega arith
+    sum : (known lineage : Lineage) (updates : Bool) (update fields permutations : ℕ) → lineage ≡ capped_lineage known → update ≡ one_if updates → permutations ≡ capped fields →
+        capped (capped (lineage.death_cost + 1) + capped (capped (lineage.loss_cost + update) + capped (lineage.null_cost + permutations))) ≡ capped (cost_of known updates fields)
+    sum known lineage updates update fields permutations is update_is permutations_is =
+        omega (
+          arith,
+          ap (λ (l : Lineage). l.death_cost) is,
+          ap (λ (l : Lineage). l.loss_cost) is,
+          ap (λ (l : Lineage). l.null_cost) is,
+        )
 
 -- the lineage of the table at a place, by the facts of the tables before it
 pub lineage_is : (project : Project) (place : ℕ) (table : Table) (earlier : List TableFacts) (lineage : Lineage) → place < length project.schema.tables → table ≡ get_or project.schema.tables place table → earlier ≡ map (λ p. capped_facts (facts_at (layout_of project) p)) (range_with_len 0 place) → ((given : List Lineage) → map (λ (facts : TableFacts). facts.lineage) earlier ≡ map capped_lineage given → lineage ≡ capped_lineage (lineage_of given (table_layout project.dictionaries project.schema.tables table))) → lineage ≡ capped_lineage (lineage_at (lineages (table_layouts project.dictionaries project.schema.tables)) place)

@@ -1,7 +1,6 @@
 pub mod Lists
 pub mod PlaceLemmas
 pub mod Capping
-pub mod CohortLemmas
 pub mod LineageLemmas
 pub mod BoundsLemmas
 pub mod FactsLemmas

@@ -1,26 +1,36 @@
 -- What a plan keeps of the table at a place.
-use Rattle.std.proofs.Common.{◌≡◌, ℕ, zero, suc, ◌<◌, ◌≤◌, min, max, List, [], ◌∷◌, length, map, get_or, refl, sym, ap, ◌∙◌, arith}
+use Rattle.std.proofs.Common.{◌≡◌, ℕ, pos, zero, suc, ◌<◌, ◌≤◌, All, None, min, max, List, [], ◌∷◌, length, map, get_or, refl, subst, sym, ap, ◌∙◌, arith}
 use Rattle.std.specs.List.{fold, range_with_len}
-use Rattle.std.proofs.lemmas.List.{length-map}
+use Rattle.std.proofs.lemmas.List.{get_or-map, length-map}
 use Rattle.std.proofs.lemmas.List.FromFn.{fill_by_all, get_or-map-range_with_len, length-map-range_with_len}
 use Rattle.std.proofs.lemmas.List.Folds.{fold-map}
+use Rattle.cohort_sizes.specs.Births.{Births}
+use Rattle.cohort_sizes.specs.Kept.{BirthsUpTo}
+use Rattle.schema_model.specs.declared.table.Table.{Table}
 use Rattle.schema_plan.specs.declared.facts.TableFacts.{TableFacts}
-use Rattle.schema_plan.specs.Capped.{capped, capped_facts, first_facts}
+use Rattle.schema_plan.specs.Counts.{count}
+use Rattle.schema_plan.specs.Capped.{capped, capped_facts, capped_lineage, first_facts}
 use Rattle.schema_plan.specs.Dictionaries.{Project}
 use Rattle.schema_plan.specs.FieldBounds.{greatest_by}
-use Rattle.schema_plan.specs.Layout.{Layout, TableLayout, layout_of, no_table, table_at, table_layout}
-use Rattle.schema_plan.specs.Limits.{IsInLimits}
-use Rattle.schema_plan.specs.TableFacts.{facts_at, line_of_table, max_line, reach}
-use Rattle.schema_plan.proofs.Lists.{map-map, map-same}
+use Rattle.schema_plan.specs.Layout.{Layout, TableLayout, births_of, layout_of, no_table, table_at, table_layout}
+use Rattle.schema_plan.specs.Limits.{AreBirthsInLimits, IsInLimits, IsTableInLimits}
+use Rattle.schema_plan.specs.Planned.{births_up_to}
+use Rattle.schema_plan.specs.TableFacts.{facts_at, line_cost, line_of_table, max_line, reach}
+use Rattle.schema_plan.proofs.Lists.{map-same}
 
 -- no fact of an accepted schema is past the end of 64 bits
 not_capped : (project : Project) → IsInLimits project → (place : ℕ) → place < length project.schema.tables → capped_facts (facts_at (layout_of project) place) ≡ facts_at (layout_of project) place
+unfolding line_cost
 not_capped project limits place h =
     let facts = facts_at (layout_of project) place in
     let cost : capped facts.cost ≡ facts.cost = omega (arith, limits.costs place h) in
     let death : capped facts.lineage.death_cost ≡ facts.lineage.death_cost = omega (arith, limits.costs place h) in
+    let loss : capped facts.lineage.loss_cost ≡ facts.lineage.loss_cost = omega (arith, limits.costs place h) in
+    let null : capped facts.lineage.null_cost ≡ facts.lineage.null_cost = omega (arith, limits.costs place h) in
     let line : capped facts.max_line ≡ facts.max_line = omega (arith, limits.lines place h) in
-    ap (λ n. record facts { lineage = record facts.lineage { death_cost = n }; cost = capped facts.cost; max_line = capped facts.max_line }) death
+    ap (λ n. record facts { lineage = record (capped_lineage facts.lineage) { death_cost = n }; cost = capped facts.cost; max_line = capped facts.max_line }) death
+    ∙ ap (λ n. record facts { lineage = record facts.lineage { loss_cost = n; null_cost = capped facts.lineage.null_cost }; cost = capped facts.cost; max_line = capped facts.max_line }) loss
+    ∙ ap (λ n. record facts { lineage = record facts.lineage { null_cost = n }; cost = capped facts.cost; max_line = capped facts.max_line }) null
     ∙ ap (λ n. record facts { cost = n; max_line = capped facts.max_line }) cost
     ∙ ap (λ n. record facts { max_line = n }) line
 
@@ -65,12 +75,22 @@ length-kept of tables kept is = ap length is ∙ length-map-range_with_len of 0 
 pub get_or-kept : {A : Type 0} (of : ℕ → A) (tables : ℕ) (kept : List A) → kept ≡ map of (range_with_len 0 tables) → (place : ℕ) (d : A) → place < tables → get_or kept place d ≡ of place
 get_or-kept of tables kept is place d h = ap (λ all. get_or all place d) is ∙ get_or-map-range_with_len of 0 tables place place d h (omega arith)
 
--- the births of a unit of the table at a place, to divide by
-abbrev pub divisor_at : Layout → ℕ → ℕ
-divisor_at layout place = max 1 (table_at layout.tables place).births.insert
+-- the births of each table of an accepted schema are within their limits
+pub births_in_limits : (project : Project) → IsInLimits project → All (λ (table : Table). AreBirthsInLimits (count project.schema.units) (births_of table)) project.schema.tables
+births_in_limits project limits k d below =
+    let tables = project.schema.tables in
+    let in_layouts : k < length (layout_of project).tables = omega (arith, below, length-map tables (table_layout project.dictionaries tables)) in
+    let layout : get_or (layout_of project).tables k no_table ≡ table_layout project.dictionaries tables (get_or tables k d) = get_or-map (table_layout project.dictionaries tables) tables k d no_table below in
+    let within = subst (λ (table : TableLayout). IsTableInLimits (count project.schema.units) table) layout (limits.tables k no_table in_layouts) in
+    record { rates = within.rates; row_limit = within.row_limit }
 
--- the divisors that are kept of the tables
-pub divisors_are : (project : Project) (kept : List TableFacts) (inserts : List ℕ) → kept ≡ map (facts_at (layout_of project)) (range_with_len 0 (length project.schema.tables)) → inserts ≡ map (λ (fact : TableFacts). max 1 fact.births.insert) kept → inserts ≡ map (divisor_at (layout_of project)) (range_with_len 0 (length project.schema.tables))
-divisors_are project kept inserts facts divisors =
-    let divisor = λ (fact : TableFacts). max 1 fact.births.insert in
-    divisors ∙ ap (map divisor) facts ∙ map-map divisor (facts_at (layout_of project)) (range_with_len 0 (length project.schema.tables))
+-- what is told of the cohorts of the table at a place
+pub cohorts_kept : (project : Project) (place : ℕ) (d : BirthsUpTo) → place < length project.schema.tables →
+    get_or (map (births_up_to (count project.schema.units)) project.schema.tables) place d
+    ≡ record { births = (table_at (layout_of project).tables place).births; last = (layout_of project).units }
+cohorts_kept project place d below =
+    let tables = project.schema.tables in
+    let none : Table = record { name = []; rows = pos 0; insert = []; life = None; update = None; columns = [] } in
+    get_or-map (births_up_to (count project.schema.units)) tables place none d below
+    ∙ ap (λ (births : Births). record { births = births; last = (layout_of project).units })
+    (sym (ap (λ (table : TableLayout). table.births) (get_or-map (table_layout project.dictionaries tables) tables place none no_table below)))

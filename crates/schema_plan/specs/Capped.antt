@@ -16,7 +16,11 @@ abbrev pub capped_bounds : FieldBounds → FieldBounds
 capped_bounds bounds = record { size = capped bounds.size; permutations = capped bounds.permutations }
 
 abbrev pub capped_lineage : Lineage → Lineage
-capped_lineage lineage = record lineage { death_cost = capped lineage.death_cost }
+capped_lineage lineage = record lineage {
+  death_cost = capped lineage.death_cost;
+  loss_cost = capped lineage.loss_cost;
+  null_cost = capped lineage.null_cost;
+}
 
 abbrev pub capped_facts : TableFacts → TableFacts
 capped_facts facts = record facts {

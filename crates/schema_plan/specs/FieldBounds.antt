@@ -52,7 +52,7 @@ bounds_alone delimiter tables table changed_kind = bounds 5 0
 bounds_alone delimiter tables table (leaf_kind leaf) = bounds (leaf_size delimiter leaf) 0
 bounds_alone delimiter tables table (template_kind parts) = of_cited
 bounds_alone delimiter tables table (case_kind on branches) = bounds (greatest_by (leaf_size delimiter) branches) 0
-bounds_alone delimiter tables table (reference_kind parent window spread) =
+bounds_alone delimiter tables table (reference_kind parent window spread nulls) =
     bounds 20 (1 + one_if (table_at tables parent).key.scramble)
 bounds_alone delimiter tables table (lookup_kind via parent column) = of_cited
 

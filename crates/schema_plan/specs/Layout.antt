@@ -1,22 +1,26 @@
 -- The layout of a schema with its dictionaries: its tables and columns with each name resolved to what it names, a table or a
 -- column to its place, counted from 0, and a dictionary to its words. It is total: a name that nothing has stands for the place
 -- past the last one or for no words, and a number below 0 counts as 0.
-use Rattle.std.specs.Prelude.{ℕ, ℤ, Bool, false, List, [], map, length, Option, Some, None, slice_index_or}
+use Rattle.std.specs.Prelude.{ℕ, ℤ, Bool, true, false, List, [], map, length, Option, Some, None, slice_index_or}
 use Rattle.std.specs.List.{position_or_len}
 use Rattle.std.specs.Option.{option_map}
 use Rattle.dictionaries.specs.WordList.{WordList}
 use Rattle.schema_model.specs.declared.table.Table.{Table}
 use Rattle.schema_model.specs.declared.table.Life.{Life}
+use Rattle.schema_model.specs.declared.table.Phase.{Phase}
 use Rattle.schema_model.specs.declared.column.Column.{Column}
 use Rattle.schema_model.specs.declared.column.Kind.{Kind}
 use Rattle.schema_model.specs.declared.column.Kind.TheVariants as kind
 use Rattle.schema_model.specs.declared.column.Leaf.{Leaf}
 use Rattle.schema_model.specs.declared.column.Leaf.TheVariants as drawn
+use Rattle.schema_model.specs.declared.column.OnDelete.{OnDelete}
+use Rattle.schema_model.specs.declared.column.OnDelete.TheVariants.{Cascade, Null}
 use Rattle.schema_model.specs.declared.column.Part.{Part}
 use Rattle.schema_model.specs.declared.column.Part.TheVariants as part
 use Rattle.schema_model.specs.declared.column.Window.{Window}
 use Rattle.schema_model.specs.declared.column.Window.TheVariants as window
-use Rattle.schema_plan.specs.declared.layout.Births.{Births}
+use Rattle.cohort_sizes.specs.Births.{Births}
+use Rattle.cohort_sizes.specs.declared.rate.Rate.{Rate}
 use Rattle.schema_plan.specs.declared.layout.Keys.{Keys}
 use Rattle.schema_plan.specs.declared.layout.Span.{Span}
 use Rattle.schema_plan.specs.Counts.{count}
@@ -43,8 +47,8 @@ pub data PartLayout : Type 0 where
   cited_part : ℕ → PartLayout
 
 -- what a column holds. A case has the place of its pick column; a reference the place of its parent's table, the units by which
--- a parent may be older (None: any) and its spread; a lookup the places of its reference column, of that one's parent and of the
--- parent's column
+-- a parent may be older (None: any), its spread, and whether it becomes null where the parent is deleted; a lookup the places of its
+-- reference column, of that one's parent and of the parent's column
 pub data KindLayout : Type 0 where
   key_kind : KindLayout
   born_kind : KindLayout
@@ -52,7 +56,7 @@ pub data KindLayout : Type 0 where
   leaf_kind : LeafLayout → KindLayout
   template_kind : List PartLayout → KindLayout
   case_kind : ℕ → List LeafLayout → KindLayout
-  reference_kind : ℕ → Option ℕ → List ℕ → KindLayout
+  reference_kind : ℕ → Option ℕ → List ℕ → Bool → KindLayout
   lookup_kind : ℕ → ℕ → ℕ → KindLayout
 
 -- a column: what it holds, whether it is drawn anew where a row changes, and how many of a thousand fields are null
@@ -81,7 +85,7 @@ pub record Layout : Type 0 where
 -- the table without rows and columns, which stands past the last table
 abbrev pub no_table : TableLayout
 no_table = record {
-  births = record { rows = 0; insert = 0 };
+  births = record { rows = 0; rates = [] };
   life = None;
   update = None;
   key = record { base = 0; scramble = false };
@@ -116,7 +120,7 @@ columns_of tables place = slice_index_or (map (λ table. table.columns) tables) 
 
 -- the place of the table that a kind names as its parent; the place past the last one where it names none
 abbrev pub parent_of : List Table → Kind → ℕ
-parent_of tables (kind.Ref table window spread) = place_of_table tables table
+parent_of tables (kind.Ref table window spread on_delete) = place_of_table tables table
 parent_of tables _ = length tables
 
 -- the kinds of some columns
@@ -148,6 +152,11 @@ abbrev pub window_layout : Window → Option ℕ
 window_layout (window.Units units) = Some (count units)
 window_layout window.All = None
 
+-- whether a reference becomes null where its parent is deleted; else its row is deleted too
+abbrev pub becomes_null : OnDelete → Bool
+becomes_null Cascade = false
+becomes_null Null = true
+
 abbrev pub kind_layout : List Dictionary → List Table → List Column → Kind → KindLayout
 kind_layout dictionaries tables columns (kind.Key base scramble) = key_kind
 kind_layout dictionaries tables columns kind.Born = born_kind
@@ -156,8 +165,8 @@ kind_layout dictionaries tables columns (kind.Leaf drawn) = leaf_kind (leaf_layo
 kind_layout dictionaries tables columns (kind.Template parts) = template_kind (map (part_layout columns) parts)
 kind_layout dictionaries tables columns (kind.Case on branches) =
     case_kind (place_of_column columns on) (map (leaf_layout dictionaries) branches)
-kind_layout dictionaries tables columns (kind.Ref table window spread) =
-    reference_kind (place_of_table tables table) (window_layout window) (map count spread)
+kind_layout dictionaries tables columns (kind.Ref table window spread on_delete) =
+    reference_kind (place_of_table tables table) (window_layout window) (map count spread) (becomes_null on_delete)
 kind_layout dictionaries tables columns (kind.Lookup via column) =
     lookup_kind (place_of_column columns via) (parent_via tables columns via)
     (place_of_column (columns_of tables (parent_via tables columns via)) column)
@@ -178,8 +187,12 @@ keys_of_kind _ = record { base = 0; scramble = false }
 abbrev pub keys_of : List Column → Keys
 keys_of columns = keys_of_kind (slice_index_or (kinds_of columns) 0 kind.Born)
 
+-- how many rows are born from the first unit of a phase on
+abbrev pub rate_of : Phase → Rate
+rate_of phase = record { from = count phase.from; rows = count phase.rate }
+
 abbrev pub births_of : Table → Births
-births_of table = record { rows = count table.rows; insert = count table.insert }
+births_of table = record { rows = count table.rows; rates = map rate_of table.insert }
 
 abbrev pub span_of : Life → Span
 span_of life = record { least = count life.lo; most = count life.hi }

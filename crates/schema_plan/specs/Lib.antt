@@ -5,7 +5,6 @@ pub mod Names
 pub mod Delimiters
 pub mod Dictionaries
 pub mod Layout
-pub mod Cohorts
 pub mod InTurn
 pub mod Lineage
 pub mod References

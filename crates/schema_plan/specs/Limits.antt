@@ -6,7 +6,8 @@ use Rattle.schema_model.specs.declared.column.Kind.{Kind}
 use Rattle.schema_model.specs.declared.column.Kind.TheVariants as kind
 use Rattle.schema_plan.specs.declared.layout.Span.{Span}
 use Rattle.schema_plan.specs.Citations.{leaves_of}
-use Rattle.schema_plan.specs.Cohorts.{born_count}
+use Rattle.cohort_sizes.specs.Births.{Births, born_count}
+use Rattle.cohort_sizes.specs.Rates.{AreRates}
 use Rattle.schema_plan.specs.Counts.{count}
 use Rattle.schema_plan.specs.Dictionaries.{Dictionary, Project}
 use Rattle.schema_plan.specs.Layout.{LeafLayout, int_leaf, fixed_leaf, date_leaf, pick_leaf, skew_leaf, dict_leaf, words_leaf, chars_leaf, PartLayout, literal_part, cited_part, KindLayout, key_kind, changed_kind, leaf_kind, template_kind, case_kind, reference_kind, lookup_kind, ColumnLayout, column_at, TableLayout, layout_of, leaf_layout, table_at}
@@ -74,7 +75,7 @@ is_cited _ = true
 
 -- what is made ready of a kind: what it draws is within its limits, and so is its spread
 abbrev pub IsSpreadOf : Kind → Type 0
-IsSpreadOf (kind.Ref table window spread) = IsSpread (map count spread)
+IsSpreadOf (kind.Ref table window spread on_delete) = IsSpread (map count spread)
 IsSpreadOf _ = ⊤
 
 pub record CanBeReady (dictionaries : List Dictionary) (kind : Kind) : Type 0 where
@@ -107,17 +108,17 @@ abbrev pub is_lookup_kind : KindLayout → Bool
 is_lookup_kind (lookup_kind via parent column) = true
 is_lookup_kind _ = false
 
--- a reference to the table at a place
-abbrev pub IsReferenceTo : ℕ → KindLayout → Type 0
-IsReferenceTo place (reference_kind parent window spread) = parent ≡ place
-IsReferenceTo place _ = ⊥
+-- a reference to the table at a place, with whose row its own is deleted
+abbrev pub IsCascadeTo : ℕ → KindLayout → Type 0
+IsCascadeTo place (reference_kind parent window spread false) = parent ≡ place
+IsCascadeTo place _ = ⊥
 
 -- the column at a place within its limits, by its kind
 abbrev pub IsKindInLimits : List ColumnLayout → ℕ → KindLayout → Type 0
 IsKindInLimits columns place (leaf_kind leaf) = IsLeafInLimits leaf
 IsKindInLimits columns place (template_kind parts) = AreParts columns place parts
 IsKindInLimits columns place (case_kind on branches) = IsCase columns place on branches
-IsKindInLimits columns place (reference_kind parent window spread) = IsSpread spread
+IsKindInLimits columns place (reference_kind parent window spread nulls) = IsSpread spread
 IsKindInLimits columns place _ = ⊤
 
 -- a kind whose fields may be drawn anew where a row changes: no key, no unit, and none that other rows tell
@@ -127,14 +128,15 @@ can_change (template_kind parts) = true
 can_change (case_kind on branches) = true
 can_change _ = false
 
--- the unit of a row's last change
-abbrev pub is_change_unit : KindLayout → Bool
-is_change_unit changed_kind = true
-is_change_unit _ = false
+-- a kind whose fields move though nothing is drawn anew: the unit of a row's last change, and a reference that becomes null
+abbrev pub is_moving_kind : KindLayout → Bool
+is_moving_kind changed_kind = true
+is_moving_kind (reference_kind parent window spread nulls) = nulls
+is_moving_kind _ = false
 
--- whether a column moves: it is drawn anew where a row changes, or holds the unit of that change
+-- whether a column moves: it is drawn anew where a row changes, or is of such a kind
 abbrev pub moves : ColumnLayout → Bool
-moves column = column.changes || is_change_unit column.kind
+moves column = column.changes || is_moving_kind column.kind
 
 -- a part of a template that cites no column that moves
 abbrev pub IsStillPart : List ColumnLayout → PartLayout → Type 0
@@ -147,10 +149,11 @@ CitesStill columns (template_kind parts) = All (IsStillPart columns) parts
 CitesStill columns (case_kind on branches) = moves (column_at columns on) ≡ false
 CitesStill columns _ = ⊤
 
--- a lookup by an earlier reference of its table, of a column of the parent's table that doesn't move and is no lookup
+-- a lookup by an earlier reference of its table, with whose parent the row is deleted, of a column of the parent's table that doesn't
+-- move and is no lookup
 pub record IsLookup (tables : List TableLayout) (columns : List ColumnLayout) (place via parent column : ℕ) : Type 0 where
   pub earlier : via < place
-  pub reference : IsReferenceTo parent (column_at columns via).kind
+  pub reference : IsCascadeTo parent (column_at columns via).kind
   pub within : column < length (table_at tables parent).columns
   pub still : moves (column_at (table_at tables parent).columns column) ≡ false
   pub no_lookup : is_lookup_kind (column_at (table_at tables parent).columns column).kind ≡ false
@@ -175,8 +178,14 @@ pub record IsUpdatePeriod (units : ℕ) : Type 0 where
   pub some_unit : 1 ≤ units
   pub unit_limit : units ≤ 10000
 
+-- births within their limits, up to a last unit
+pub record AreBirthsInLimits (units : ℕ) (births : Births) : Type 0 where
+  pub rates : AreRates births.rates
+  pub row_limit : born_count births units ≤ 2 ^ 40
+
 -- a table within its limits, up to a last unit: its first column is its key, and no other is
 pub record IsTableInLimits (units : ℕ) (table : TableLayout) : Type 0 where
+  pub rates : AreRates table.births.rates
   pub row_limit : born_count table.births units ≤ 2 ^ 40
   pub life : IfSome table.life IsLife
   pub update : IfSome table.update IsUpdatePeriod

@@ -1,5 +1,5 @@
 -- What a plan keeps of the columns, so that nothing that stays the same is worked out for a row.
-use Rattle.std.specs.Prelude.{ℕ, ◌+◌, ◌-◌, ◌^◌, List, encode_utf8, length, map, Option, sum}
+use Rattle.std.specs.Prelude.{ℕ, ◌+◌, ◌-◌, ◌^◌, Bool, List, encode_utf8, length, map, Option, sum}
 use Rattle.std.specs.Str.{chars}
 use Rattle.weight_tables.specs.Harmonic.{harmonic_weights}
 use Rattle.row_text.specs.Fields.{piece_text}
@@ -34,9 +34,9 @@ ready_part delimiter (literal_part bytes) = part.Literal (piece_text delimiter b
 ready_part delimiter (cited_part column) = part.Cited column
 
 -- a reference: the weights of its spread with their number and their sum
-abbrev pub ready_reference : ℕ → Option ℕ → List ℕ → ReadyReference
-ready_reference parent window spread =
-    record { parent = parent; window = window; spread = spread; groups = length spread; total = sum spread }
+abbrev pub ready_reference : ℕ → Option ℕ → List ℕ → Bool → ReadyReference
+ready_reference parent window spread nulls =
+    record { parent = parent; window = window; spread = spread; groups = length spread; total = sum spread; nulls = nulls }
 
 -- what a column holds of this kind
 abbrev pub ready_kind : ℕ → KindLayout → ReadyKind
@@ -46,7 +46,7 @@ ready_kind delimiter changed_kind = kind.Changed
 ready_kind delimiter (leaf_kind drawn) = kind.Drawn (ready_leaf delimiter drawn)
 ready_kind delimiter (template_kind parts) = kind.Template (map (ready_part delimiter) parts)
 ready_kind delimiter (case_kind on branches) = kind.Case on (map (ready_leaf delimiter) branches)
-ready_kind delimiter (reference_kind parent window spread) = kind.Reference (ready_reference parent window spread)
+ready_kind delimiter (reference_kind parent window spread nulls) = kind.Reference (ready_reference parent window spread nulls)
 ready_kind delimiter (lookup_kind via parent column) = kind.Lookup (record { via = via; parent = parent; column = column })
 
 -- a column

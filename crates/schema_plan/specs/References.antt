@@ -1,23 +1,23 @@
 -- What columns that refer to other tables say of the rows that a row may have as its parents.
-use Rattle.std.specs.Prelude.{ℕ, ◌-◌, ◌<◌, ◌≤◌, ◌≡◌, ⊤, List, All, filter_map, length, Option, Some, None}
+use Rattle.std.specs.Prelude.{ℕ, ◌-◌, ◌<◌, ◌≤◌, ◌≡◌, ⊤, Bool, not, List, All, filter, filter_map, length, Option, Some, None}
 use Rattle.std.specs.List.{enumerate_from}
-use Rattle.schema_plan.specs.declared.layout.Births.{Births}
-use Rattle.schema_plan.specs.Cohorts.{born_count, cohort_size, first_ordinal}
+use Rattle.cohort_sizes.specs.Births.{Births, born_count, cohort_size, first_ordinal}
 use Rattle.schema_plan.specs.Layout.{KindLayout, reference_kind, ColumnLayout, TableLayout, column_at, table_at}
 use Rattle.schema_plan.specs.Lineage.{sure_life}
 
--- a reference: the place of its column, that of its parent's table, by how many units a parent may be older (None: by any), and
--- the weights of its spread
+-- a reference: the place of its column, that of its parent's table, by how many units a parent may be older (None: by any), the
+-- weights of its spread, and whether it becomes null where the parent is deleted; else its row is deleted with the parent
 pub record Reference : Type 0 where
   pub column : ℕ
   pub parent : ℕ
   pub window : Option ℕ
   pub spread : List ℕ
+  pub nulls : Bool
 
 -- the reference of the column at a place; None where the column is of another kind
 abbrev pub reference_of : ℕ → KindLayout → Option Reference
-reference_of column (reference_kind parent window spread) =
-    Some (record { column = column; parent = parent; window = window; spread = spread })
+reference_of column (reference_kind parent window spread nulls) =
+    Some (record { column = column; parent = parent; window = window; spread = spread; nulls = nulls })
 reference_of column _ = None
 
 -- that of the column at a place of a table
@@ -28,6 +28,14 @@ reference_at table column = reference_of column (column_at table.columns column)
 abbrev pub references_of : TableLayout → List Reference
 references_of table =
     filter_map (λ (at : ℕ × ColumnLayout). reference_of at.0 at.1.kind) (enumerate_from 0 table.columns)
+
+-- those whose parents take the row with them when they are deleted
+abbrev pub cascades_of : TableLayout → List Reference
+cascades_of table = filter (λ (reference : Reference). not reference.nulls) (references_of table)
+
+-- those that become null when their parents are deleted
+abbrev pub nullings_of : TableLayout → List Reference
+nullings_of table = filter (λ (reference : Reference). reference.nulls) (references_of table)
 
 -- the first unit of a window that ends at a unit
 abbrev pub window_start : Option ℕ → ℕ → ℕ

@@ -1,5 +1,5 @@
 -- The rules of a schema, each at the sites where it asks something, and the first that is broken.
-use Rattle.std.specs.Prelude.{◌≡◌, ℕ, zero, suc, ℤ, pos, neg_ℤ, ◌+ℤ◌, ◌-ℤ◌, ◌+◌, ◌-◌, ◌^◌, ◌==◌, List, [], ◌∷◌, length, map, sum, take, Bool, true, false, not, ◌&&◌, ◌||◌, nat_le, nat_lt, int_le, count_by, Option, Some, None, is_none, is_some, slice_index_or, if◌then◌else◌}
+use Rattle.std.specs.Prelude.{◌≡◌, ℕ, zero, suc, ℤ, pos, neg_ℤ, ◌+ℤ◌, ◌-ℤ◌, ◌+◌, ◌-◌, ◌^◌, ◌==◌, List, [], ◌∷◌, length, map, sum, take, Bool, true, false, not, ◌&&◌, ◌||◌, nat_le, nat_lt, int_le, int_lt, count_by, Option, Some, None, is_none, is_some, slice_index_or, if◌then◌else◌}
 use Rattle.std.specs.List.{list_all, list_any, range_with_len}
 use Rattle.std.specs.Option.{option_or, option_map}
 use Rattle.std.specs.Ordering.{int_eq}
@@ -7,26 +7,27 @@ use Rattle.std.specs.Str.{chars}
 use Rattle.schema_model.specs.declared.table.Schema.{Schema}
 use Rattle.schema_model.specs.declared.table.Table.{Table}
 use Rattle.schema_model.specs.declared.table.Life.{Life}
+use Rattle.schema_model.specs.declared.table.Phase.{Phase}
 use Rattle.schema_model.specs.declared.column.Column.{Column}
 use Rattle.schema_model.specs.declared.column.Kind.{Kind}
 use Rattle.schema_model.specs.declared.column.Kind.TheVariants as kind
 use Rattle.schema_model.specs.declared.column.Leaf.{Leaf}
 use Rattle.schema_model.specs.declared.column.Leaf.TheVariants as drawn
+use Rattle.schema_model.specs.declared.column.OnDelete.TheVariants.{Cascade}
 use Rattle.schema_model.specs.declared.column.Part.{Part}
 use Rattle.schema_model.specs.declared.column.Part.TheVariants as part
 use Rattle.schema_model.specs.declared.column.Window.{Window}
 use Rattle.schema_model.specs.declared.column.Window.TheVariants as window
 use Rattle.schema_plan.specs.declared.broken.Broken.{Broken}
-use Rattle.schema_plan.specs.declared.layout.Births.{Births}
+use Rattle.cohort_sizes.specs.Births.{Births, born_count, cohort_size}
 use Rattle.schema_plan.specs.declared.rules.Rule.{Rule}
 use Rattle.schema_plan.specs.declared.rules.Rule.TheVariants.{Dictionaries, CitedNames, SeedAndUnits, TableCount, TableNames, Columns, KeyColumn, RowCount, LifeRange, UpdatePeriod, NumberRange, DateRange, PickEntries, SkewRange, LengthRange, TemplateParts, CaseBranches, StillCitations, ReferenceTargets, ReferenceWindows, ParentRows, SpreadWeights, LookupColumns, RowCost, LineSize, ChangesAndNulls}
 use Rattle.schema_plan.specs.declared.site.Site.{Site}
 use Rattle.schema_plan.specs.declared.site.Site.TheVariants.{Whole, OfTable, OfColumn}
 use Rattle.schema_plan.specs.Citations.{cited_names, leaves_of, may_cite, may_cite_all, names_in_leaf}
-use Rattle.schema_plan.specs.Cohorts.{born_count, cohort_size}
 use Rattle.schema_plan.specs.Counts.{count}
 use Rattle.schema_plan.specs.Dictionaries.{Project, dictionary_named}
-use Rattle.schema_plan.specs.Layout.{births_of, columns_of, layout_of, place_of_column, place_of_table, window_layout}
+use Rattle.schema_plan.specs.Layout.{becomes_null, births_of, columns_of, layout_of, place_of_column, place_of_table, window_layout}
 use Rattle.schema_plan.specs.Lineage.{sure_life}
 use Rattle.schema_plan.specs.Names.{same_text, is_name}
 use Rattle.schema_plan.specs.References.{first_in_window}
@@ -79,16 +80,33 @@ abbrev pub is_key_first : ℕ → Kind → Bool
 is_key_first zero kind = is_key_in_range kind
 is_key_first (suc place) kind = not (is_key kind)
 
--- the table at a place; past the last one, the table without rows and columns
-abbrev pub schema_table : Schema → ℕ → Table
-schema_table schema place =
-    slice_index_or schema.tables place
-    (record { name = []; rows = pos 0; insert = pos 0; life = None; update = None; columns = [] })
+-- the one at a place of some tables; past the last one, the table without rows and columns
+abbrev pub table_in : List Table → ℕ → Table
+table_in tables place =
+    slice_index_or tables place (record { name = []; rows = pos 0; insert = []; life = None; update = None; columns = [] })
 
--- no negative number of rows, and at most 2^40 by the last unit
+-- the table at a place of a schema
+abbrev pub schema_table : Schema → ℕ → Table
+schema_table schema place = table_in schema.tables place
+
+-- each phase begins after the one before it, the first of them after a unit, and none after unit 10,000; and by none is a negative
+-- number of rows born
+abbrev pub do_phases_rise : ℤ → List Phase → Bool
+do_phases_rise unit [] = true
+do_phases_rise unit (phase ∷ phases) =
+    int_lt unit phase.from && int_le phase.from (pos 10000) && int_le (pos 0) phase.rate && do_phases_rise phase.from phases
+
+-- there are 1 to 64 such phases, and the first begins at unit 1
+abbrev pub are_phases : List Phase → Bool
+are_phases [] = false
+are_phases (phase ∷ phases) = int_eq phase.from (pos 1) && nat_le (length phases) 63 && do_phases_rise (pos 0) (phase ∷ phases)
+
+-- no negative number of rows, and at most 2^40 by the last unit. Past 10,000 units, where an earlier rule is broken, nothing is asked of
+-- the sum
 abbrev pub is_row_count : ℤ → Table → Bool
 is_row_count units table =
-    int_le (pos 0) table.rows && int_le (pos 0) table.insert && nat_le (born_count (births_of table) (count units)) (2 ^ 40)
+    int_le (pos 0) table.rows && are_phases table.insert
+    && (nat_lt 10000 (count units) || nat_le (born_count (births_of table) (count units)) (2 ^ 40))
 
 -- a life of at least 1 unit, from lo to hi, which is at most 20,000
 abbrev pub is_life : Option Life → Bool
@@ -197,13 +215,15 @@ is_case columns place _ = true
 abbrev pub changes_at : List Column → ℕ → Bool
 changes_at columns place = slice_index_or (map (λ (column : Column). column.changes) columns) place false
 
-abbrev pub is_changed : Kind → Bool
-is_changed kind.Changed = true
-is_changed _ = false
+-- a kind whose fields move though nothing is drawn anew: the unit of a row's last change, and a reference that becomes null
+abbrev pub is_moving_kind : Kind → Bool
+is_moving_kind kind.Changed = true
+is_moving_kind (kind.Ref table window spread on_delete) = becomes_null on_delete
+is_moving_kind _ = false
 
--- whether the column at a place moves: it is drawn anew where a row changes, or holds the unit of that change
+-- whether the column at a place moves: it is drawn anew where a row changes, or is of such a kind
 abbrev pub moves_at : List Column → ℕ → Bool
-moves_at columns place = changes_at columns place || is_changed (kind_at columns place)
+moves_at columns place = changes_at columns place || is_moving_kind (kind_at columns place)
 
 -- a part of a template that cites no column that moves
 abbrev pub is_still_part : List Column → Part → Bool
@@ -234,13 +254,13 @@ is_change kind changes = not changes || may_change kind
 -- how many of a thousand fields of a kind are null: at most 999, and of keys and references none
 abbrev pub is_null_share : Kind → ℤ → Bool
 is_null_share (kind.Key base scramble) null = int_eq null (pos 0)
-is_null_share (kind.Ref table window spread) null = int_eq null (pos 0)
+is_null_share (kind.Ref table window spread on_delete) null = int_eq null (pos 0)
 is_null_share _ null = is_between 0 999 null
 
 -- ---- what rules ask of references
 
 abbrev pub is_reference : Kind → Bool
-is_reference (kind.Ref table window spread) = true
+is_reference (kind.Ref table window spread on_delete) = true
 is_reference _ = false
 
 -- how many of the columns before a place are references
@@ -249,7 +269,7 @@ references_before columns place = count_by (λ (column : Column). is_reference c
 
 -- a reference of the table at a place names an earlier table, and is one of at most 8
 abbrev pub is_target : List Table → ℕ → ℕ → Kind → Bool
-is_target tables place earlier (kind.Ref table window spread) = nat_lt (place_of_table tables table) place && nat_lt earlier 8
+is_target tables place earlier (kind.Ref table window spread on_delete) = nat_lt (place_of_table tables table) place && nat_lt earlier 8
 is_target tables place earlier _ = true
 
 -- a window in which each row is alive at its end, by how long rows live for sure
@@ -260,7 +280,7 @@ is_within_life (Some life) (window.Units units) = int_le (pos 0) units && nat_lt
 
 -- a reference has such a window. Of a table past the first 64, where an earlier rule is broken, nothing is asked
 abbrev pub is_window : Project → Kind → Bool
-is_window project (kind.Ref table window spread) =
+is_window project (kind.Ref table window spread on_delete) =
     nat_le 64 (place_of_table project.schema.tables table)
     || is_within_life (sure_life (layout_of project).tables (place_of_table project.schema.tables table)) window
 is_window project _ = true
@@ -274,16 +294,17 @@ has_parent_row child parent window unit =
 abbrev pub has_parent_rows : ℕ → Births → Births → Option ℕ → Bool
 has_parent_rows units child parent window = list_all (has_parent_row child parent window) (range_with_len 0 (units + 1))
 
--- a reference of the table at a place has parents at each unit
+-- a reference of the table at a place has parents at each unit. Past 10,000 units, where an earlier rule is broken, nothing is asked
 abbrev pub has_parents : Schema → ℕ → Kind → Bool
-has_parents schema place (kind.Ref table window spread) =
-    has_parent_rows (count schema.units) (births_of (schema_table schema place))
+has_parents schema place (kind.Ref table window spread on_delete) =
+    nat_lt 10000 (count schema.units)
+    || has_parent_rows (count schema.units) (births_of (schema_table schema place))
     (births_of (schema_table schema (place_of_table schema.tables table))) (window_layout window)
 has_parents schema place _ = true
 
 -- a spread has 1 to 64 weights, each from 1 to 1,000
 abbrev pub is_spread : Kind → Bool
-is_spread (kind.Ref table window spread) =
+is_spread (kind.Ref table window spread on_delete) =
     nat_le 1 (length spread) && nat_le (length spread) 64 && list_all (is_between 1 1000) spread
 is_spread _ = true
 
@@ -299,12 +320,12 @@ has_still_column columns name =
     nat_lt (place_of_column columns name) (length columns) && not (moves_at columns (place_of_column columns name))
     && not (is_lookup_kind (kind_at columns (place_of_column columns name)))
 
--- a kind is a reference to a table with such a column
+-- a kind is a reference, with whose parent the row is deleted, to a table with such a column
 abbrev pub is_looked_up : List Table → Kind → List ℕ → Bool
-is_looked_up tables (kind.Ref table window spread) name = has_still_column (columns_of tables (place_of_table tables table)) name
+is_looked_up tables (kind.Ref table window spread Cascade) name = has_still_column (columns_of tables (place_of_table tables table)) name
 is_looked_up tables _ name = false
 
--- a lookup names an earlier reference, and such a column of the parent's table
+-- a lookup names an earlier column that is so
 abbrev pub is_lookup : List Table → List Column → ℕ → Kind → Bool
 is_lookup tables columns place (kind.Lookup via column) =
     nat_lt (place_of_column columns via) place && is_looked_up tables (kind_at columns (place_of_column columns via)) column
@@ -330,7 +351,8 @@ holds Columns project (OfTable table) = is_one_to_64 (length (columns_at project
 holds Columns project (OfColumn table column) = is_new_at (column_names project.schema table) column
 -- V5: the first column is the key, its base is from 0 to 2^62, and no other column is a key
 holds KeyColumn project (OfColumn table column) = is_key_first column (kind_at (columns_at project.schema table) column)
--- V6: a table gains no negative number of rows, and at most 2^40 by the last unit
+-- V6: a table has 1 to 64 phases of births, the first from unit 1 on and each after the one before, up to unit 10,000; it gains no
+-- negative number of rows, and at most 2^40 by the last unit
 holds RowCount project (OfTable table) = is_row_count project.schema.units (schema_table project.schema table)
 -- V7: a life is from 1 unit on, from lo to hi, which is at most 20,000
 holds LifeRange project (OfTable table) = is_life (schema_table project.schema table).life
@@ -366,7 +388,8 @@ holds ReferenceWindows project (OfColumn table column) = is_window project (kind
 holds ParentRows project (OfColumn table column) = has_parents project.schema table (kind_at (columns_at project.schema table) column)
 -- V21: a spread has 1 to 64 weights, each from 1 to 1,000
 holds SpreadWeights project (OfColumn table column) = is_spread (kind_at (columns_at project.schema table) column)
--- V22: a lookup names an earlier reference of its table, and a column of the parent's table that doesn't move and is no lookup
+-- V22: a lookup names an earlier reference of its table, with whose parent the row is deleted, and a column of the parent's table that
+-- doesn't move and is no lookup
 holds LookupColumns project (OfColumn table column) =
     is_lookup project.schema.tables (columns_at project.schema table) column (kind_at (columns_at project.schema table) column)
 -- V23: the cost of a row is at most 4,096. Past 64 tables, where an earlier rule is broken, nothing is asked

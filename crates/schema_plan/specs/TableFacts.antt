@@ -1,7 +1,7 @@
 -- What doesn't change from row to row in a table.
 use Rattle.std.specs.Prelude.{ℕ, ◌+◌, List, is_some, sum_by}
 use Rattle.schema_plan.specs.Layout.{Layout, TableLayout, table_at}
-use Rattle.schema_plan.specs.Lineage.{one_if, death_cost, lineages, lineage_at}
+use Rattle.schema_plan.specs.Lineage.{one_if, death_cost, lineages, lineage_at, loss_cost, null_cost}
 use Rattle.schema_plan.specs.FieldBounds.{greatest_by, bounds_of_fields}
 use Rattle.schema_plan.specs.declared.facts.TableFacts.{TableFacts}
 use Rattle.schema_plan.specs.declared.field_bounds.FieldBounds.{FieldBounds}
@@ -30,14 +30,18 @@ max_line layout place = line_of_table layout (table_at layout.tables place)
 unfoldable pub reach : Layout → ℕ
 reach layout = greatest_by (line_of_table layout) layout.tables
 
--- how many permutations the fields of a row ask
+-- how many permutations the fields of a row ask at most, once it is known which references are null
 abbrev pub fields_cost : Layout → TableLayout → ℕ
 fields_cost layout table = line_permutations (bounds_of_fields layout.delimiter layout.tables table)
+
+-- how many permutations the unit of a row's last change takes at most: that of its updates, and those that tell when it lost parents
+abbrev pub change_cost : Layout → ℕ → ℕ
+change_cost layout place = one_if (is_some (table_at layout.tables place).update) + loss_cost layout.tables place
 
 -- how many permutations the line of a row asks at most, with the change unit that it is drawn by
 unfoldable pub line_cost : Layout → ℕ → ℕ
 line_cost layout place =
-    one_if (is_some (table_at layout.tables place).update) + fields_cost layout (table_at layout.tables place)
+    change_cost layout place + (null_cost layout.tables place + fields_cost layout (table_at layout.tables place))
 
 -- the cost of a row of the table at a place, which bounds the permutations of its report: one that finds the row by its key, and
 -- those of its death and of its line
@@ -47,7 +51,6 @@ cost layout place = 1 + death_cost layout.tables place + line_cost layout place
 -- what doesn't change from row to row in the table at a place
 abbrev pub facts_at : Layout → ℕ → TableFacts
 facts_at layout place = record {
-  births = (table_at layout.tables place).births;
   keys = (table_at layout.tables place).key;
   lineage = lineage_at (lineages layout.tables) place;
   cost = cost layout place;

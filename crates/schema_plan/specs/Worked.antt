@@ -1,17 +1,24 @@
 -- Schemas whose lives, costs and sizes are worked out by hand.
 use Rattle.std.specs.Prelude.{ℕ, pos, true, false, List, [], ◌∷◌, map, Some, None, codes}
+use Rattle.schema_model.specs.declared.table.Phase.{Phase}
 use Rattle.schema_model.specs.declared.table.Table.{Table}
 use Rattle.schema_model.specs.declared.table.Delimiter.TheVariants.{Tab}
 use Rattle.schema_model.specs.declared.column.Column.{Column}
 use Rattle.schema_model.specs.declared.column.Kind.{Kind}
 use Rattle.schema_model.specs.declared.column.Kind.TheVariants.{Key, Born, Changed, Leaf as Drawn, Template, Ref, Lookup}
 use Rattle.schema_model.specs.declared.column.Leaf.TheVariants.{Pick, Dict, Words, Chars}
+use Rattle.schema_model.specs.declared.column.OnDelete.TheVariants.{Cascade, Null}
 use Rattle.schema_model.specs.declared.column.Part.TheVariants.{Literal, Cited}
 use Rattle.schema_plan.specs.declared.field_bounds.FieldBounds.{FieldBounds}
 use Rattle.schema_plan.specs.Dictionaries.{Project, project_of}
 use Rattle.schema_plan.specs.FieldBounds.{bounds_of_fields}
 use Rattle.schema_plan.specs.Layout.{Layout, TableLayout}
+use Rattle.schema_model.specs.declared.column.OnDelete.TheVariants.{Cascade}
 use Rattle.schema_model.specs.declared.column.Window.TheVariants.{Units}
+
+-- the one phase in which as many rows are born at each unit after the first
+abbrev pub at_each_unit : ℕ → List Phase
+at_each_unit rows = record { from = pos 1; rate = pos rows } ∷ []
 
 -- a column that neither changes nor is null
 abbrev pub plain : List ℕ → Kind → Column
@@ -22,14 +29,14 @@ key = plain (codes "id") (Key (pos 1) false)
 
 -- a reference to the rows of a table that were born in a window of units
 abbrev pub reference : List ℕ → ℕ → Column
-reference table units = plain table (Ref table (Units (pos units)) (pos 1 ∷ []))
+reference table units = plain table (Ref table (Units (pos units)) (pos 1 ∷ []) Cascade)
 
 -- customers live three units and change every two
 abbrev pub customer : Table
 customer = record {
   name = codes "customer";
   rows = pos 1;
-  insert = pos 1;
+  insert = at_each_unit 1;
   life = Some (record { lo = pos 3; hi = pos 3 });
   update = Some (pos 2);
   columns = key ∷ plain (codes "born") Born ∷ plain (codes "changed") Changed ∷ [];
@@ -40,7 +47,7 @@ abbrev pub orders : Table
 orders = record {
   name = codes "orders";
   rows = pos 1;
-  insert = pos 1;
+  insert = at_each_unit 1;
   life = Some (record { lo = pos 9; hi = pos 9 });
   update = None;
   columns = key ∷ reference (codes "customer") 2 ∷ [];
@@ -51,7 +58,7 @@ abbrev pub lines : Table
 lines = record {
   name = codes "lines";
   rows = pos 1;
-  insert = pos 1;
+  insert = at_each_unit 1;
   life = None;
   update = None;
   columns = key ∷ reference (codes "orders") 0 ∷ [];
@@ -60,12 +67,29 @@ lines = record {
 abbrev pub sales : Project
 sales = project_of (record { seed = pos 7; units = pos 5; delimiter = Tab; tables = customer ∷ orders ∷ lines ∷ [] }) []
 
+-- remarks stay when their customer goes; a label cites the customer too
+abbrev pub remark : Table
+remark = record {
+  name = codes "remark";
+  rows = pos 1;
+  insert = at_each_unit 1;
+  life = None;
+  update = None;
+  columns =
+      key ∷ plain (codes "customer") (Ref (codes "customer") (Units (pos 2)) (pos 1 ∷ []) Null)
+      ∷ plain (codes "label") (Template (Literal (codes "of ") ∷ Cited (codes "customer") ∷ []))
+      ∷ [];
+}
+
+abbrev pub talks : Project
+talks = project_of (record { seed = pos 7; units = pos 5; delimiter = Tab; tables = customer ∷ remark ∷ [] }) []
+
 -- cities with a scrambled key, a picked name and a text made of it
 abbrev pub city : Table
 city = record {
   name = codes "city";
   rows = pos 3;
-  insert = pos 0;
+  insert = at_each_unit 0;
   life = None;
   update = None;
   columns =
@@ -81,7 +105,7 @@ abbrev pub house : Table
 house = record {
   name = codes "house";
   rows = pos 9;
-  insert = pos 0;
+  insert = at_each_unit 0;
   life = None;
   update = None;
   columns =
@@ -99,7 +123,7 @@ abbrev pub person : Table
 person = record {
   name = codes "person";
   rows = pos 2;
-  insert = pos 0;
+  insert = at_each_unit 0;
   life = None;
   update = None;
   columns = key ∷ plain (codes "name") (Drawn (Dict (codes "n"))) ∷ plain (codes "remark") (Drawn (Words (codes "n") (pos 0) (pos 3))) ∷ [];

@@ -6,12 +6,11 @@ ghost use Rattle.schema_plan.specs.Capped.{capped_bounds, capped_facts, first_fa
 ghost use Rattle.schema_plan.specs.Delimiters.{delimiter_byte as byte_of};
 ghost use Rattle.schema_plan.specs.Dictionaries.{project_of};
 ghost use Rattle.schema_plan.specs.FieldBounds.{bounds_of_fields, greatest_by};
-ghost use Rattle.schema_plan.specs.Layout.{births_of, layout_of, table_layout, table_layouts};
+ghost use Rattle.schema_plan.specs.Layout.{layout_of, table_layout, table_layouts};
 ghost use Rattle.schema_plan.specs.TableFacts.{facts_at, line_bounds};
 
-use crate::counts::count;
 use crate::field_bounds::{FieldBounds, bounds_of};
-use crate::layout::{Births, Keys};
+use crate::layout::Keys;
 use crate::lineage::{ENDLESS, Lineage, lineage_of};
 use crate::places::keys_of;
 use crate::word_lists::Dictionaries;
@@ -20,7 +19,6 @@ use schema_model::{Delimiter, Schema, Table};
 /// What doesn't change from row to row in a table.
 #[derive(Clone, Copy, Debug, PartialEq, Eq)]
 pub struct TableFacts {
-    pub births: Births,
     pub keys: Keys,
     pub lineage: Lineage,
     /// The cost of a row, which bounds the permutations of its report.
@@ -31,7 +29,6 @@ pub struct TableFacts {
 
 /// Of a table without rows and columns.
 pub const NO_FACTS: TableFacts = TableFacts {
-    births: Births { rows: 0, insert: 0 },
     keys: Keys {
         base: 0,
         scramble: false,
@@ -72,12 +69,14 @@ fn facts_of(
         table,
     );
     let death = lineage.death_cost.saturating_add(1);
-    let change = u64::from(table.update.is_some());
+    let change = lineage
+        .loss_cost
+        .saturating_add(u64::from(table.update.is_some()));
+    let fields = lineage.null_cost.saturating_add(line.permutations);
     TableFacts {
-        births: births_of(table),
         keys: keys_of(table.columns.as_slice()),
         lineage,
-        cost: death.saturating_add(line.permutations.saturating_add(change)),
+        cost: death.saturating_add(change.saturating_add(fields)),
         max_line: line.size,
     }
 }
@@ -99,16 +98,6 @@ fn line_bounds(
         permutations = permutations.saturating_add(taken.permutations);
     }
     FieldBounds { size, permutations }
-}
-
-/// The births of a table.
-pub fn births_of(table: &Table) -> Births
-    ensures { result ≡ births_of table.now }
-{
-    Births {
-        rows: count(table.rows),
-        insert: count(table.insert),
-    }
 }
 
 /// The byte between two fields.

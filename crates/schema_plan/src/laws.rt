@@ -1,20 +1,13 @@
 //! Laws of the definitions that the contracts cite, each the contract of a function without a body.
 
-ghost use Rattle.std.specs.Prelude.{◌≡◌, ℕ, ◌+◌, ◌*◌, ◌∷◌, [], Some, None, map};
-ghost use Rattle.schema_plan.specs.declared.layout.Births.{Births};
-ghost use Rattle.schema_plan.specs.Cohorts.{born_count};
+ghost use Rattle.std.specs.Prelude.{◌≡◌, ◌∷◌, [], Some, None, map};
 ghost use Rattle.schema_plan.specs.Layout.{layout_of};
 ghost use Rattle.schema_plan.specs.Lineage.{longest_life, sure_life};
 ghost use Rattle.schema_plan.specs.TableFacts.{cost, max_line, reach};
-ghost use Rattle.schema_plan.specs.Worked.{people, places, sales, sizes_of};
-
-/// The rows of a table are those of unit 0 and as many more for each unit after it.
-pub fn tables_grow_by_their_inserts()
-    ensures { (births : Births) (unit : ℕ) → born_count births unit ≡ births.rows + unit * births.insert }
-{}
+ghost use Rattle.schema_plan.specs.Worked.{people, places, sales, sizes_of, talks};
 
 /// Lives worked out by hand: orders may name a customer who is two units older, lines an order of their own unit, and
-/// rows of tables without lives and parents have no end.
+/// rows of tables without lives and parents have no end, nor have those that outlive their parents.
 pub fn worked_lives()
     ensures customer { sure_life (layout_of sales).tables 0 ≡ Some 3 }
     ensures orders { sure_life (layout_of sales).tables 1 ≡ Some 1 }
@@ -25,15 +18,18 @@ pub fn worked_lives()
     ensures city { sure_life (layout_of places).tables 0 ≡ None }
     ensures house { sure_life (layout_of places).tables 1 ≡ None }
     ensures house_at_most { longest_life (layout_of places).tables 1 ≡ None }
+    ensures remark { sure_life (layout_of talks).tables 1 ≡ None }
+    ensures remark_at_most { longest_life (layout_of talks).tables 1 ≡ None }
 {}
 
-/// Costs worked out by hand.
+/// Costs worked out by hand: that a customer is dead is asked for the change of a remark, and for each field that shows the customer.
 pub fn worked_costs()
     ensures customer { cost (layout_of sales) 0 ≡ 3 }
     ensures orders { cost (layout_of sales) 1 ≡ 5 }
     ensures lines { cost (layout_of sales) 2 ≡ 6 }
     ensures city { cost (layout_of places) 0 ≡ 2 }
     ensures house { cost (layout_of places) 1 ≡ 9 }
+    ensures remark { cost (layout_of talks) 1 ≡ 7 }
 {}
 
 /// Sizes worked out by hand: a tab and a backslash are written as two bytes; the words of a text have spaces between.

@@ -1,13 +1,9 @@
-//! What a layout says of a table's rows and keys.
+//! What a layout says of a table's rows, keys and references.
 
-/// How many rows of a table are born at each unit.
-#[derive(Clone, Copy, Debug, PartialEq, Eq)]
-pub struct Births {
-    /// The number of rows that are born at unit 0.
-    pub rows: u64,
-    /// The number of rows that are born at each later unit.
-    pub insert: u64,
-}
+ghost use Rattle.std.specs.Prelude.{◌≡◌};
+ghost use Rattle.schema_plan.specs.Layout.{becomes_null};
+
+use schema_model::OnDelete;
 
 /// The keys of a table.
 #[derive(Clone, Copy, Debug, PartialEq, Eq)]
@@ -25,4 +21,14 @@ pub struct Span {
     pub least: u64,
     /// The longest life, in units.
     pub most: u64,
+}
+
+/// Whether a reference becomes null where its parent is deleted; else its row is deleted too.
+pub fn becomes_null(on_delete: OnDelete) -> bool
+    ensures { result ≡ becomes_null on_delete }
+{
+    match on_delete {
+        OnDelete::Cascade => false,
+        OnDelete::Null => true,
+    }
 }

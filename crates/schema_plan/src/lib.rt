@@ -5,6 +5,7 @@
 //! doesn't change from row to row. Which schemas keep the rules is defined here, and tried by the crate that stands on this one.
 #![tactic(auto)]
 
+mod births;
 mod broken;
 mod counts;
 mod facts;
@@ -13,6 +14,7 @@ pub mod laws;
 mod layout;
 mod lineage;
 mod memory;
+mod null_costs;
 mod places;
 mod plan;
 mod ready;
@@ -24,10 +26,11 @@ mod rules;
 mod site;
 mod word_lists;
 
+pub use births::cohort_size;
 pub use broken::Broken;
 pub use counts::count;
-pub use facts::{NO_FACTS, TableFacts, births_of, fill_facts};
-pub use layout::{Births, Keys, Span};
+pub use facts::{NO_FACTS, TableFacts, fill_facts};
+pub use layout::{Keys, Span, becomes_null};
 pub use lineage::{Lineage, lineage_at};
 pub use memory::Memory;
 pub use places::{columns_of, parent_via, place_of_column, place_of_table};

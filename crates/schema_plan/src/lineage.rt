@@ -4,7 +4,7 @@ ghost use Rattle.std.specs.Prelude.{◌≡◌, List, length, map};
 ghost use Rattle.schema_plan.specs.Capped.{capped_lineage};
 ghost use Rattle.schema_plan.specs.Dictionaries.{Dictionary};
 ghost use Rattle.schema_plan.specs.Layout.{kind_layout, span_of, table_layout, table_layouts, window_layout};
-ghost use Rattle.schema_plan.specs.Lineage.{lesser_life, lineage_at, lineage_of, own_lineage, with_kind, with_parent};
+ghost use Rattle.schema_plan.specs.Lineage.{lesser_life, lineage_at, lineage_of, own_lineage, with_kind, with_loss, with_parent};
 ghost use Rattle.std.specs.Option.{option_map};
 ghost use Rattle.schema_model.specs.declared.column.Column.{Column};
 ghost use Rattle.schema_plan.specs.declared.lineage.Lineage.{Lineage};
@@ -12,10 +12,11 @@ ghost use Rattle.schema_plan.specs.declared.lineage.Lineage.{Lineage};
 use crate::counts::count;
 use crate::facts::TableFacts;
 use crate::layout::Span;
+use crate::null_costs::null_cost_of_line;
 use crate::places::place_of_table;
-use schema_model::{Kind, Life, Table, Window};
+use schema_model::{Kind, Life, OnDelete, Table, Window};
 
-/// For how long the rows of a table live, and what their death costs.
+/// For how long the rows of a table live, what their death costs, and what it costs to tell which of their parents they have lost.
 #[derive(Clone, Copy, Debug, PartialEq, Eq)]
 pub struct Lineage {
     /// For how many units at least; None where that is unbounded.
@@ -24,6 +25,10 @@ pub struct Lineage {
     pub longest_life: Option<u64>,
     /// How many permutations are asked at most to find the unit of a row's death.
     pub death_cost: u64,
+    /// How many are asked at most to find when a row lost the parents that it outlives.
+    pub loss_cost: u64,
+    /// How many are asked at most to tell which of the references that a row's line shows are null.
+    pub null_cost: u64,
 }
 
 /// A table that nothing ends.
@@ -31,6 +36,8 @@ pub(crate) const ENDLESS: Lineage = Lineage {
     sure_life: None,
     longest_life: None,
     death_cost: 0,
+    loss_cost: 0,
+    null_cost: 0,
 };
 
 /// The lineage of a table, by what is known of the tables before it.
@@ -38,11 +45,15 @@ pub(crate) fn lineage_of(tables: &[Table], earlier: &[TableFacts], table: &Table
     ensures { (dictionaries : List Dictionary) (given : List Lineage) → map (λ facts. facts.lineage) earlier.now ≡ map capped_lineage given →
         result ≡ capped_lineage (lineage_of given (table_layout dictionaries tables.now table.now)) }
 {
+    let columns = table.columns.as_slice();
     let mut lineage = own_lineage(table.life);
-    for column in table.columns.as_slice() {
+    for column in columns {
         lineage = with_kind(tables, earlier, lineage, &column.kind);
     }
-    lineage
+    Lineage {
+        null_cost: null_cost_of_line(tables, earlier, columns),
+        ..lineage
+    }
 }
 
 /// The lineage of a table's own life.
@@ -55,6 +66,8 @@ fn own_lineage(life: Option<Life>) -> Lineage
             sure_life: Some(count(life.lo)),
             longest_life: Some(count(life.hi)),
             death_cost: 1,
+            loss_cost: 0,
+            null_cost: 0,
         },
     }
 }
@@ -69,16 +82,25 @@ pub(crate) fn span_of(life: Life) -> Span
     }
 }
 
-/// A lineage with what a column of this kind adds: a reference has a parent, and no other kind has.
+/// A lineage with what a column of this kind adds: a reference has a parent, with whom the row is deleted or whom it outlives, and
+/// no other kind has.
 fn with_kind(tables: &[Table], earlier: &[TableFacts], own: Lineage, kind: &Kind) -> Lineage
     ensures { (dictionaries : List Dictionary) (given : List Lineage) (before : Lineage) (columns : List Column) →
         map (λ facts. facts.lineage) earlier.now ≡ map capped_lineage given → own ≡ capped_lineage before →
         result ≡ capped_lineage (with_kind given before (kind_layout dictionaries tables.now columns kind.now)) }
 {
     match kind {
-        Kind::Ref { table, window, .. } => {
+        Kind::Ref {
+            table,
+            window,
+            on_delete,
+            ..
+        } => {
             let parent = lineage_at(earlier, place_of_table(tables, table));
-            with_parent(own, parent, *window)
+            match on_delete {
+                OnDelete::Cascade => with_parent(own, parent, *window),
+                OnDelete::Null => with_loss(own, parent),
+            }
         }
         _ => own,
     }
@@ -95,7 +117,7 @@ pub fn lineage_at(earlier: &[TableFacts], place: usize) -> Lineage
     }
 }
 
-/// A lineage with a parent.
+/// A lineage with a parent, with whom the row is deleted.
 fn with_parent(own: Lineage, parent: Lineage, window: Window) -> Lineage
     ensures { result ≡ capped_lineage (with_parent own parent (window_layout window)) }
 {
@@ -110,6 +132,18 @@ fn with_parent(own: Lineage, parent: Lineage, window: Window) -> Lineage
         death_cost: own
             .death_cost
             .saturating_add(parent.death_cost.saturating_add(1)),
+        ..own
+    }
+}
+
+/// A lineage with a parent whom the row outlives.
+fn with_loss(own: Lineage, parent: Lineage) -> Lineage
+    ensures { result ≡ capped_lineage (with_loss own parent) }
+{
+    let asked = parent.death_cost.saturating_add(1);
+    Lineage {
+        loss_cost: own.loss_cost.saturating_add(asked),
+        ..own
     }
 }
 

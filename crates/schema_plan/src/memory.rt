@@ -18,6 +18,12 @@ impl<T: Drop> From<AllocFailed<T>> for Memory {
     }
 }
 
+impl From<cohort_sizes::Memory> for Memory {
+    fn from(_error: cohort_sizes::Memory) -> Memory {
+        Memory
+    }
+}
+
 impl From<row_text::Memory> for Memory {
     fn from(_error: row_text::Memory) -> Memory {
         Memory

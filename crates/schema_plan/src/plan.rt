@@ -1,6 +1,6 @@
 //! The plan of an accepted schema.
 
-ghost use Rattle.std.specs.Prelude.{◌≡◌, ◌<◌, ◌≤◌, false, true, All, Some, length, map, max, slice_get, IfOk, IfSome};
+ghost use Rattle.std.specs.Prelude.{◌≡◌, ◌<◌, ◌≤◌, Some, length, slice_get, IfOk, IfSome};
 ghost use Rattle.std.specs.List.{position};
 ghost use Rattle.std.specs.Option.{option_copied};
 ghost use Rattle.schema_plan.specs.Capped.{first_facts};
@@ -14,16 +14,17 @@ ghost use Rattle.schema_plan.specs.Ready.{ready_columns};
 ghost use Rattle.schema_plan.specs.Rules.{IsAccepted};
 ghost use Rattle.schema_plan.specs.TableFacts.{cost, facts_at, max_line, reach};
 
+use crate::births::cohorts_of_tables;
 use crate::counts::count;
 use crate::facts::{TableFacts, greatest_line};
-use crate::layout::{Births, Keys, Span};
+use crate::layout::{Keys, Span};
 use crate::lineage::span_of;
 use crate::memory::Memory;
 use crate::ready::ReadyColumn;
 use crate::ready_columns::ready_tables;
 use crate::word_lists::Dictionaries;
+use cohort_sizes::Cohorts;
 use dictionaries::Dictionary;
-use fixed_divisors::FixedDivisor;
 use schema_model::{Schema, Sequence, Table};
 use std::alloc::Global;
 use std::marker::Model;
@@ -37,7 +38,7 @@ pub struct Plan {
     dictionaries: Dictionaries,
     facts: Vec<TableFacts>,
     ready: Vec<Sequence<ReadyColumn>>,
-    inserts: Vec<FixedDivisor>,
+    cohorts: Vec<Cohorts>,
     reach: u64,
 }
 
@@ -49,7 +50,7 @@ impl Model for Plan {
 
     ghost view = { λ p. project_of p.schema p.dictionaries };
 
-    ghost invariant = { λ p. IsPlan (project_of p.schema p.dictionaries) p.facts.items p.ready.items p.inserts.items p.reach };
+    ghost invariant = { λ p. IsPlan (project_of p.schema p.dictionaries) p.facts.items p.ready.items p.cohorts.items p.reach };
 }
 
 impl Plan {
@@ -66,7 +67,7 @@ impl Plan {
         ensures { IfOk result (λ plan. plan ≡ project_of schema dictionaries) }
     {
         let reach = greatest_line(facts);
-        let inserts = insert_divisors(alloc, facts)?;
+        let cohorts = cohorts_of_tables(alloc, schema.tables.as_slice(), count(schema.units))?;
         let facts = Vec::from_slice(alloc, facts)?;
         let ready = ready_tables(alloc, &schema, &dictionaries)?;
         Ok(Plan {
@@ -74,7 +75,7 @@ impl Plan {
             dictionaries,
             facts,
             ready,
-            inserts,
+            cohorts,
             reach,
         })
     }
@@ -147,21 +148,13 @@ impl Plan {
         self.ready[table as usize].as_slice()
     }
 
-    /// How many rows of a table are born at each unit.
-    pub fn births(&self, table: u32) -> Births
-        requires { table < length self.now.schema.tables }
-        ensures { result ≡ (table_at (layout_of self.now).tables table).births }
-    {
-        self.facts_of(table).births
-    }
-
-    /// The number of rows that are born at each unit from 1 on, to divide by; 1 where none are born.
+    /// The cohorts of a table, the rows that are born at each unit.
     #[inline]
-    pub fn insert_divisor(&self, table: u32) -> FixedDivisor
+    pub fn cohorts(&self, table: u32) -> &Cohorts
         requires { table < length self.now.schema.tables }
-        ensures { result ≡ max 1 (table_at (layout_of self.now).tables table).births.insert }
+        ensures { result.now ≡ record { births = (table_at (layout_of self.now).tables table).births; last = (layout_of self.now).units } }
     {
-        self.inserts[table as usize]
+        &self.cohorts[table as usize]
     }
 
     /// The keys of a table.
@@ -244,17 +237,6 @@ impl Plan {
     {
         &self.facts[table as usize]
     }
-}
-
-/// For each of some tables, how many of its rows are born at a unit from 1 on, to divide by; 1 where none are born.
-fn insert_divisors(alloc: Global, facts: &[TableFacts]) -> Result<Vec<FixedDivisor>, Memory>
-    ensures { IfOk result (λ divisors. divisors.items ≡ map (λ fact. max 1 fact.births.insert) facts.now) }
-{
-    let mut divisors = Vec::with_capacity(alloc, facts.len())?;
-    for fact in facts {
-        divisors.push(FixedDivisor::new(fact.births.insert.max(1)))?;
-    }
-    Ok(divisors)
 }
 
 /// The place of the first of some tables that has a name.

@@ -56,6 +56,8 @@ pub struct ReadyReference {
     pub groups: u64,
     /// Their sum.
     pub total: FixedDivisor,
+    /// Whether the reference becomes null where the parent is deleted; else its row is deleted too.
+    pub nulls: bool,
 }
 
 /// Where a lookup finds what it shows.

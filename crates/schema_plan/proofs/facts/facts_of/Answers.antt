@@ -16,13 +16,19 @@ returns c =
     let project = project_of schema dictionaries in
     let place = c.args.place in
     let table = c.index-tables-place.result in
+    let lineage = c.lineage_of-lineage.result in
     let same = c.as_slice-tables.ensures in
     let line = c.line_bounds-line.ensures
     ∙ ap (λ delimiter. capped_bounds (line_bounds (bounds_of_fields delimiter (table_layouts dictionaries c.as_slice-tables.result.now) (table_layout dictionaries c.as_slice-tables.result.now table)))) c.delimiter_byte.ensures
     ∙ ap (λ tables. capped_bounds (line_bounds (bounds_of_fields (layout_of project).delimiter (table_layouts dictionaries tables) (table_layout dictionaries tables table)))) same in
-    facts_are project place table c.births_of.result c.keys_of.result c.lineage_of-lineage.result c.from-change.result c.line_bounds-line.result.permutations c.line_bounds-line.result.size c.saturating_add-2.result
-    c.requires.place (rw same at c.index-tables-place.is) c.births_of.ensures (c.keys_of.ensures ∙ ap keys_of c.as_slice.ensures)
+    facts_are project place table c.keys_of.result lineage c.from.result c.line_bounds-line.result.permutations c.line_bounds-line.result.size c.saturating_add-2.result
+    c.requires.place (rw same at c.index-tables-place.is) (c.keys_of.ensures ∙ ap keys_of c.as_slice.ensures)
     (lineage_is project place table c.args.earlier.now c.lineage_of-lineage.result c.requires.place (rw same at c.index-tables-place.is) c.requires.earlier (rw same at (c.lineage_of-lineage.ensures dictionaries)))
-    (c.from-change.ensures ∙ bool_byte-is c.is_some.result ∙ ap one_if c.is_some.ensures)
+    (c.from.ensures ∙ bool_byte-is c.is_some.result ∙ ap one_if c.is_some.ensures)
     (ap (λ (b : FieldBounds). b.permutations) line) (ap (λ (b : FieldBounds). b.size) line)
-    (c.saturating_add-2.ensures ∙ ap (λ n. capped (n + c.saturating_add.result)) c.saturating_add-death.ensures ∙ ap (λ n. capped (capped (c.lineage_of-lineage.result.death_cost + 1) + n)) c.saturating_add.ensures)
+    (c.saturating_add-2.ensures
+    ∙ ap (λ n. capped (n + c.saturating_add.result)) c.saturating_add-death.ensures
+    ∙ ap (λ n. capped (capped (lineage.death_cost + 1) + n))
+    (c.saturating_add.ensures
+    ∙ ap (λ n. capped (n + c.saturating_add-fields.result)) c.saturating_add-change.ensures
+    ∙ ap (λ n. capped (capped (lineage.loss_cost + c.from.result) + n)) c.saturating_add-fields.ensures))

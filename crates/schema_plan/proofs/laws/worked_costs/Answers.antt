@@ -5,4 +5,4 @@ use Rattle.schema_plan.proofs.laws.worked_costs.Goals as goal
 
 pub returns : goal.returns
 unfolding lineages line_cost
-returns c = record { customer = refl; orders = refl; lines = refl; city = refl; house = refl }
+returns c = record { customer = refl; orders = refl; lines = refl; city = refl; house = refl; remark = refl }

@@ -14,4 +14,6 @@ returns c = record {
   city = refl;
   house = refl;
   house_at_most = refl;
+  remark = refl;
+  remark_at_most = refl;
 }

@@ -12,4 +12,4 @@ abbrev pub invariant-loop-column : goal.invariant-loop-column
 invariant-loop-column l =
     (dictionaries : List Dictionary) (given : List Lineage) → map (λ facts. facts.lineage) l.earlier ≡ map capped_lineage given →
     l.lineage ≡ capped_lineage (fold (λ own (column : Column). with_kind given own (kind_layout dictionaries l.tables l.table.columns column.kind))
-    (own_lineage (table_layout dictionaries l.tables l.table).life) (take l.column-index l.column-items))
+    (own_lineage (table_layout dictionaries l.tables l.table).life) (take l.column-index l.columns))

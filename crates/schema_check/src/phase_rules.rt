@@ -1,0 +1,66 @@
+//! The rule on the phases of a table's births.
+
+ghost use Rattle.std.specs.Prelude.{◌≡◌, ◌≤◌, pos};
+ghost use Rattle.cohort_sizes.specs.Births.{born_count};
+ghost use Rattle.schema_plan.specs.Capped.{capped};
+ghost use Rattle.schema_plan.specs.Layout.{births_of};
+ghost use Rattle.schema_plan.specs.Rules.{are_phases, do_phases_rise, is_row_count};
+
+use crate::rules::MAX_UNITS;
+use schema_model::{Phase, Table};
+use schema_plan::{cohort_size, count};
+
+/// The most phases of a table.
+const MAX_PHASES: usize = 64;
+
+/// The last unit from which on a phase may begin.
+const MAX_BEGIN: i64 = 10_000;
+
+/// The most rows that a table may gain up to the last unit.
+const MAX_ROWS: u64 = 1 << 40;
+
+/// Whether a table gains no negative number of rows, by phases one after the other, and not too many by the last unit.
+pub(crate) fn is_row_count(units: i64, table: &Table) -> bool
+    ensures { result ≡ is_row_count units table.now }
+{
+    0 <= table.rows
+        && are_phases(table.insert.as_slice())
+        && (MAX_UNITS < units || rows_by(count(units), table) <= MAX_ROWS)
+}
+
+/// How many rows of a table are born by a unit.
+fn rows_by(unit: u64, table: &Table) -> u64
+    requires { unit ≤ 10000 }
+    ensures { result ≡ capped (born_count (births_of table.now) unit) }
+{
+    let mut rows: u64 = 0;
+    for born in 0..unit + 1 {
+        rows = rows.saturating_add(cohort_size(table, born));
+    }
+    rows
+}
+
+/// Whether there are 1 to 64 phases, the first from unit 1 on, that rise.
+fn are_phases(phases: &[Phase]) -> bool
+    ensures { result ≡ are_phases phases.now }
+{
+    match phases.first() {
+        Some(first) => first.from == 1 && phases.len() <= MAX_PHASES && do_phases_rise(phases),
+        None => false,
+    }
+}
+
+/// Whether each phase begins after the one before it, the first of them after unit 0, and none too late; and by none is a negative
+/// number of rows born.
+fn do_phases_rise(phases: &[Phase]) -> bool
+    ensures { result ≡ do_phases_rise (pos 0) phases.now }
+{
+    let mut before = 0;
+    for phase in phases {
+        if phase.from <= before || MAX_BEGIN < phase.from || phase.rate < 0 {
+            return false;
+        }
+        before = phase.from;
+    }
+    true
+}
