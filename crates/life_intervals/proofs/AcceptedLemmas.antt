@@ -1,7 +1,8 @@
 -- The tables of an accepted schema are sound.
-use Rattle.std.proofs.Common.{◌≡◌, ℕ, ◌<◌, ◌≤◌, Option, Some, None, List, length, ap, arith, refl}
+use Rattle.std.proofs.Common.{◌≡◌, ℕ, ◌<◌, ◌≤◌, Option, Some, None, List, length, map, take, ap, arith, refl}
 use Rattle.std.specs.Prelude.{All, IfSome}
 use Rattle.std.proofs.lemmas.List.{length-map}
+use Rattle.cohort_sizes.specs.Births.{Births, birth, index_at}
 use Rattle.schema_plan.specs.declared.layout.Span.{Span}
 use Rattle.schema_plan.specs.Counts.{count}
 use Rattle.schema_plan.specs.Dictionaries.{Project}
@@ -9,10 +10,11 @@ use Rattle.schema_plan.specs.Layout.{TableLayout, no_table, table_at, table_layo
 use Rattle.schema_plan.specs.Limits.{IsInLimits, IsLife, IsSpan, IsTableInLimits, IsUpdatePeriod}
 use Rattle.schema_plan.specs.References.{IsReferenceInLimits, Reference, references_of}
 use Rattle.life_intervals.specs.Generator.{Generator, generator_of, last_unit, table_of}
-use Rattle.life_intervals.specs.Intervals.{birth, change_unit, index_at, row_at}
+use Rattle.life_intervals.specs.Intervals.{change_unit, held_parent, known_tables, loss_of, row_at}
 use Rattle.life_intervals.specs.Changes.{change_by}
 use Rattle.life_intervals.specs.Sound.{AreSound, IsSoundReference}
 use Rattle.life_intervals.proofs.KnownLemmas.{length-known_before}
+use Rattle.life_intervals.proofs.RowLemmas.{parents_held-references}
 
 -- there are as many layouts as tables
 pub length-tables : (project : Project) → length (generator_of project).tables ≡ length project.schema.tables
@@ -26,7 +28,7 @@ span-life : (life : Option Span) → IfSome life IsLife → IfSome life IsSpan
 span-life None is = tt
 span-life (Some life) is = is.span
 
-some-period : (update : Option ℕ) → IfSome update IsUpdatePeriod → IfSome update (λ period. 1 ≤ period)
+pub some-period : (update : Option ℕ) → IfSome update IsUpdatePeriod → IfSome update (λ period. 1 ≤ period)
 some-period None is = tt
 some-period (Some period) is = is.some_unit
 
@@ -54,4 +56,12 @@ pub row_at-changed : (generator : Generator) (place unit ordinal : ℕ) → plac
     (row_at generator place unit ordinal).changed ≡ change_unit generator place unit ordinal
 row_at-changed generator place unit ordinal below =
     let table : TableLayout = table_at generator.tables place in
-    ap (λ (p : ℕ). change_by generator.order p table (birth table.births unit ordinal) (index_at table.births unit ordinal) unit) (length-known_before generator place below)
+    let losses : List (Option ℕ) = map (loss_of generator place unit ordinal) (references_of table) in
+    ap (λ (p : ℕ). change_by generator.order p table losses (birth table.births unit ordinal) (index_at table.births unit ordinal) unit) (length-known_before generator place below)
+
+-- its parents are those that it still has
+pub row_at-parents : (generator : Generator) (place unit ordinal : ℕ) →
+    (row_at generator place unit ordinal).parents ≡ map (held_parent generator place unit ordinal) (references_of (table_at generator.tables place))
+row_at-parents generator place unit ordinal =
+    let births : Births = (table_at generator.tables place).births in
+    parents_held-references generator.order (take place (known_tables generator)) (birth births unit ordinal) (index_at births unit ordinal) unit (references_of (table_at generator.tables place))

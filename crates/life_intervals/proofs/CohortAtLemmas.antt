@@ -1,36 +1,44 @@
 -- Which rows of a cohort are alive, and when they changed last, by their places in its orders.
-use Rattle.std.proofs.Common.{◌≡◌, ◌<◌, ◌≤◌, ℕ, ◌+◌, ◌-◌, ◌%◌, true, false, Option, Some, None, inl, inr, length, option_map, refl, ap, arith, subst, sym, ◌∙◌}
+use Rattle.std.proofs.Common.{◌≡◌, ◌<◌, ◌≤◌, ◌⊎◌, ℕ, ◌+◌, ◌-◌, ◌%◌, min, Bool, true, false, ◌||◌, Option, Some, None, List, [], ◌∷◌, inl, inr, length, map, take, is_some, option_map, refl, ap, arith, subst, sym, ◌∙◌}
+use Rattle.std.specs.Prelude.{IfSome, if◌then◌else◌}
+use Rattle.std.specs.List.{list_any}
 use Rattle.std.specs.Option.{option_map_or}
-use Rattle.std.proofs.lemmas.Bool.{cases_Bool, cases_lt, le-ltb, lt-ltb}
+use Rattle.std.proofs.lemmas.Bool.{cases_Bool, cases_lt, le-ltb, lt-ltb, true≢false}
+use Rattle.std.proofs.lemmas.Nat.{div-add-mod', mod_below}
 use Rattle.id_permutation.specs.Order.{Arrangement, place_in}
 use Rattle.philox_seeds.specs.SeedTree.{update_column}
-use Rattle.schema_plan.specs.declared.layout.Births.{Births}
+use Rattle.cohort_sizes.specs.Births.{Births, birth, born_count, cohort_size, first_ordinal, index_at}
 use Rattle.schema_plan.specs.declared.layout.Span.{Span}
-use Rattle.schema_plan.specs.Cohorts.{born_count, cohort_size, first_ordinal}
 use Rattle.schema_plan.specs.Layout.{TableLayout, layout_of, table_at}
 use Rattle.schema_plan.specs.Limits.{IsInLimits}
+use Rattle.schema_plan.specs.References.{Reference, references_of}
 use Rattle.schema_plan.specs.Lineage.{lesser_life, longest_life, sure_life}
 use Rattle.life_intervals.specs.declared.lives.Survival.TheVariants.{Sure, Over}
 use Rattle.life_intervals.specs.CohortKeys.{CohortOf}
-use Rattle.life_intervals.specs.Changes.{change_by, first_due, last_due}
-use Rattle.life_intervals.specs.CohortLives.{AreLivesOf, CohortAt, change_in, cohort_of, death_in, is_live_in, ordinal_in, own_death_in, size_of, survival_by, survival_of}
+use Rattle.life_intervals.specs.Changes.{change_by, change_span, due_by, first_due, has_nullings, last_change, last_due, may_change}
+use Rattle.life_intervals.specs.CohortLives.{AreChangesOf, AreLivesOf, CohortAt, change_in, cohort_of, death_in, due_in, is_live_in, ordinal_in, own_death_in, size_of, survival_by, survival_of}
 use Rattle.life_intervals.specs.CohortOrders.{life_order, update_order}
-use Rattle.life_intervals.specs.CohortParents.{parents_death_in}
+use Rattle.life_intervals.specs.CohortParents.{losses_in, parents_death_in}
 use Rattle.life_intervals.specs.Generator.{Generator, generator_of, last_unit, table_of}
-use Rattle.life_intervals.specs.Intervals.{Known, birth, change_unit, index_at, is_after, known_of, own_death, own_death_by}
+use Rattle.life_intervals.specs.Intervals.{Known, change_unit, is_after, known_of, known_tables, loss_by, own_death, own_death_by, parent_death_by}
 use Rattle.life_intervals.specs.Rows.{life_by}
+use Rattle.life_intervals.specs.Sound.{AreSound}
 use Rattle.life_intervals.proofs.AcceptedLemmas.{AreSound-accepted, length-tables}
-use Rattle.life_intervals.proofs.ChangeLemmas.{change-born}
-use Rattle.life_intervals.proofs.CohortLemmas.{birth-first_ordinal, born_count-le, cohort-within}
+use Rattle.life_intervals.proofs.ChangeLemmas.{change-born, change-le, last_change-from, last_change-le}
+use Rattle.cohort_sizes.proofs.CohortLemmas.{birth-first_ordinal, born_count-le, cohort-within}
 use Rattle.life_intervals.proofs.CohortParentLemmas.{death-parents}
-use Rattle.life_intervals.proofs.KnownLemmas.{IsSure-known_of}
-use Rattle.life_intervals.proofs.LifeLemmas.{death-later, own_death-later}
+use Rattle.life_intervals.proofs.KnownLemmas.{IsSure-known_of, refers-of}
+use Rattle.life_intervals.proofs.LifeLemmas.{death-later, due_by-none, losses_by-deaths, own_death-later}
 use Rattle.life_intervals.proofs.LongestLifeLemmas.{EndsBy-known_of}
 use Rattle.life_intervals.proofs.OrderLemmas.{first_due-update_order, life_by-life_order}
 
 -- what is kept is of the cohort that a contract sees
 pub AreLivesOf-view : (inside of : CohortAt) (parents : CohortOf) (life : Option Span) (placed : Arrangement) → inside ≡ of → AreLivesOf inside parents life placed → AreLivesOf of parents life placed
 AreLivesOf-view inside of parents life placed same known = subst (λ (at : CohortAt). AreLivesOf at parents life placed) same known
+
+pub AreChangesOf-view : (inside of : CohortAt) (update : Option ℕ) (placed : Arrangement) (nulls : Bool) (parents : CohortOf) → inside ≡ of → AreChangesOf inside update placed nulls parents →
+    AreChangesOf of update placed nulls parents
+AreChangesOf-view inside of update placed nulls parents same known = subst (λ (at : CohortAt). AreChangesOf at update placed nulls parents) same known
 
 -- what a birth unit and an index tell, of the row that has them
 by_index : {X : Type 0} (f : ℕ → ℕ → X) (table : TableLayout) (born unit index : ℕ) → born ≤ unit → index < cohort_size table.births born →
@@ -46,9 +54,12 @@ own_death-index generator place born unit index within below =
     by_index (own_death_by generator.order place (table_at generator.tables place)) (table_at generator.tables place) born unit index within below
 
 pub change_unit-index : (generator : Generator) (place born unit index : ℕ) → born ≤ unit → index < cohort_size (table_at generator.tables place).births born →
-    change_unit generator place unit (first_ordinal (table_at generator.tables place).births born + index) ≡ change_by generator.order place (table_at generator.tables place) born index unit
+    change_unit generator place unit (first_ordinal (table_at generator.tables place).births born + index)
+    ≡ last_change unit (due_by generator.order place (table_at generator.tables place) born index unit)
+    (map (loss_by generator.order (take place (known_tables generator)) born index) (references_of (table_at generator.tables place)))
 change_unit-index generator place born unit index within below =
-    by_index (λ b i. change_by generator.order place (table_at generator.tables place) b i unit) (table_at generator.tables place) born unit index within below
+    let table : TableLayout = table_at generator.tables place in
+    by_index (λ b i. change_by generator.order place table (map (loss_by generator.order (take place (known_tables generator)) b i) (references_of table)) b i unit) table born unit index within below
 
 -- ---- lives
 
@@ -140,31 +151,149 @@ is_live_in-over cohort limits place last within over index below =
 
 -- ---- changes
 
--- where a row changes, its last change is the last due unit, by its place in the order of updates
-pub change_in-some : (cohort : CohortAt) (index period : ℕ) → cohort.born ≤ cohort.unit → index < size_of cohort → (table_of cohort.plan cohort.table).update ≡ Some period → 1 ≤ period →
-    last_due cohort.born (cohort.born + (1 + place_in (update_order cohort.plan cohort.table cohort.born) index % period)) period cohort.unit ≡ change_in cohort index
-change_in-some cohort index period within below is some =
+-- what no test passes, neither passes
+neither : (x y : Bool) → (x || y) ≡ false → (x ≡ false) × (y ≡ false)
+neither true y none = absurd (true≢false none)
+neither false y none = (refl, none)
+
+-- where no reference becomes null, nothing is lost
+no_losses : (unit change : ℕ) (d : Reference → Option ℕ) (references : List Reference) → list_any (λ (reference : Reference). reference.nulls) references ≡ false →
+    last_change unit change (map (λ (reference : Reference). if reference.nulls then d reference else None) references) ≡ change
+no_losses unit change d [] none = refl
+no_losses unit change d (reference ∷ others) none =
+    let parts = neither reference.nulls (list_any (λ (reference : Reference). reference.nulls) others) none in
+    ap (λ (lost : Bool). last_change unit change ((if lost then d reference else None) ∷ map (λ (reference : Reference). if reference.nulls then d reference else None) others)) parts.0
+    ∙ no_losses unit change d others parts.1
+
+none-from_is_some : (update : Option ℕ) → is_some update ≡ false → update ≡ None
+none-from_is_some None none = refl
+none-from_is_some (Some period) none = absurd (true≢false none)
+
+-- a due unit is no earlier than the birth
+due-from : (update : Option ℕ) (unit born : ℕ) (place : ℕ → ℕ) → born ≤ option_map_or (λ period. last_due born (born + (1 + place period % period)) period unit) update born
+due-from None unit born place = omega arith
+due-from (Some period) unit born place =
+    let first : ℕ = born + (1 + place period % period) in
+    elim (cases_lt unit first) [
+      | inl before ↦ rw (lt-ltb unit first before) (omega arith)
+      | inr after ↦ rw (le-ltb unit first after) (omega (arith, after, div-add-mod' (unit - first) period))
+    ]
+
+-- a change after the birth is among the last units that changes may be in
+span-reaches : (update : Option ℕ) (nulls : Bool) (unit born change : ℕ) (place : ℕ → ℕ) → IfSome update (λ period. 1 ≤ period) → born ≤ change →
+    option_map_or (λ period. last_due born (born + (1 + place period % period)) period unit) update born ≤ change →
+    (nulls ≡ false → change ≡ option_map_or (λ period. last_due born (born + (1 + place period % period)) period unit) update born) →
+    (change ≡ born) ⊎ (unit < change + option_map_or (λ period. min period unit) update (if nulls then unit else 0))
+span-reaches None false unit born change place some from due same = inl (same refl)
+span-reaches None true unit born change place some from due same = elim (cases_lt born change) [
+  | inl later ↦ inr (omega (arith, later))
+  | inr early ↦ inl (omega (arith, early, from))
+]
+span-reaches (Some period) nulls unit born change place some from due same = elim (cases_lt born change) [
+  | inr early ↦ inl (omega (arith, early, from))
+  | inl later ↦
+      let first : ℕ = born + (1 + place period % period) in
+      let start : place period % period < period = mod_below (place period) period (omega (arith, some)) in
+      elim (cases_lt unit first) [
+        | inl before ↦ inr (omega (arith, before, later, start))
+        | inr after ↦
+            let rest : (unit - first) % period < period = mod_below (unit - first) period (omega (arith, some)) in
+            let last : unit - (unit - first) % period ≤ change = rw (le-ltb unit first after) at due in
+            inr (omega (arith, after, later, rest, last))
+      ]
+]
+
+-- where rows are updated, the last due unit is by the place in the order of updates
+pub due_in-some : (cohort : CohortAt) (index period : ℕ) → index < size_of cohort → (table_of cohort.plan cohort.table).update ≡ Some period → 1 ≤ period →
+    last_due cohort.born (cohort.born + (1 + place_in (update_order cohort.plan cohort.table cohort.born) index % period)) period cohort.unit ≡ due_in cohort index
+due_in-some cohort index period below is some =
     let generator : Generator = generator_of cohort.plan in
     let by : Option ℕ → ℕ =
     λ update. option_map_or (λ (p : ℕ). last_due cohort.born (first_due generator.order cohort.table cohort.born index p) p cohort.unit) update cohort.born in
     ap (λ (first : ℕ). last_due cohort.born first period cohort.unit) (first_due-update_order cohort.plan cohort.table cohort.born index period below is some)
-    ∙ sym (change_unit-index generator cohort.table cohort.born cohort.unit index within below ∙ ap by is)
+    ∙ sym (ap by is)
 
--- where rows don't change it is their birth
-pub change_in-none : (cohort : CohortAt) (index : ℕ) → cohort.born ≤ cohort.unit → index < size_of cohort → (table_of cohort.plan cohort.table).update ≡ None →
-    cohort.born ≡ change_in cohort index
-change_in-none cohort index within below is =
-    let generator : Generator = generator_of cohort.plan in
-    let by : Option ℕ → ℕ =
-    λ update. option_map_or (λ (p : ℕ). last_due cohort.born (first_due generator.order cohort.table cohort.born index p) p cohort.unit) update cohort.born in
-    sym (change_unit-index generator cohort.table cohort.born cohort.unit index within below ∙ ap by is)
+-- where they aren't it is the birth
+pub due_in-none : (cohort : CohortAt) (index : ℕ) → (table_of cohort.plan cohort.table).update ≡ None → cohort.born ≡ due_in cohort index
+due_in-none cohort index is = sym (due_by-none (generator_of cohort.plan).order cohort.table (table_of cohort.plan cohort.table) cohort.born index cohort.unit is)
 
 -- and so it is at the birth itself
-pub change_in-birth : (cohort : CohortAt) (index : ℕ) → cohort.unit ≡ cohort.born → index < size_of cohort → cohort.born ≡ change_in cohort index
-change_in-birth cohort index at below =
+pub due_in-birth : (cohort : CohortAt) (index : ℕ) → cohort.unit ≡ cohort.born → cohort.born ≡ due_in cohort index
+due_in-birth cohort index at =
     let generator : Generator = generator_of cohort.plan in
     let table : TableLayout = table_of cohort.plan cohort.table in
     sym (
-    change_unit-index generator cohort.table cohort.born cohort.unit index (omega arith) below
-    ∙ ap (λ (unit : ℕ). change_by generator.order cohort.table table cohort.born index unit) at
+    ap (λ (unit : ℕ). due_by generator.order cohort.table table cohort.born index unit) at
     ∙ change-born table.update cohort.born (generator.order cohort.table update_column cohort.born index))
+
+-- the last change is the last of the last due unit and of the losses
+pub change_in-losses : (cohort : CohortAt) (index : ℕ) → IsInLimits cohort.plan → cohort.table < length cohort.plan.schema.tables → cohort.unit ≤ last_unit cohort.plan → cohort.born ≤ cohort.unit →
+    index < size_of cohort → last_change cohort.unit (due_in cohort index) (losses_in (cohort_of cohort) index) ≡ change_in cohort index
+change_in-losses cohort index limits place last within below =
+    let generator : Generator = generator_of cohort.plan in
+    let table : TableLayout = table_of cohort.plan cohort.table in
+    let in_tables : cohort.table < length generator.tables = omega (arith, place, length-tables cohort.plan) in
+    let sound : AreSound (last_unit cohort.plan) generator.tables = AreSound-accepted cohort.plan limits in
+    ap (last_change cohort.unit (due_in cohort index))
+    (sym (losses_by-deaths (last_unit cohort.plan) generator sound cohort.table in_tables cohort.born index (omega (arith, last, within)) below (last_unit cohort.plan) (omega (arith, last, within))
+    (references_of table) (refers-of (last_unit cohort.plan) generator sound cohort.table in_tables)))
+    ∙ sym (change_unit-index generator cohort.table cohort.born cohort.unit index within below)
+
+-- where no reference becomes null it is the last due unit
+pub change_in-due : (cohort : CohortAt) (index : ℕ) → cohort.born ≤ cohort.unit → index < size_of cohort → has_nullings (table_of cohort.plan cohort.table) ≡ false →
+    due_in cohort index ≡ change_in cohort index
+change_in-due cohort index within below none =
+    let generator : Generator = generator_of cohort.plan in
+    let table : TableLayout = table_of cohort.plan cohort.table in
+    sym (
+    change_unit-index generator cohort.table cohort.born cohort.unit index within below
+    ∙ no_losses cohort.unit (due_in cohort index) (λ reference. parent_death_by generator.order (take cohort.table (known_tables generator)) cohort.born index reference) (references_of table) none)
+
+-- and where rows aren't updated either it is the birth
+pub change_in-none : (cohort : CohortAt) (index : ℕ) → cohort.born ≤ cohort.unit → index < size_of cohort → may_change (table_of cohort.plan cohort.table) ≡ false →
+    cohort.born ≡ change_in cohort index
+change_in-none cohort index within below never =
+    let table : TableLayout = table_of cohort.plan cohort.table in
+    let parts = neither (is_some table.update) (has_nullings table) never in
+    due_in-none cohort index (none-from_is_some table.update parts.0) ∙ change_in-due cohort index within below parts.1
+
+-- it is no earlier than the birth, and no later than the unit
+pub change_in-from : (cohort : CohortAt) (index : ℕ) → cohort.born ≤ cohort.unit → index < size_of cohort → cohort.born ≤ change_in cohort index
+change_in-from cohort index within below =
+    let generator : Generator = generator_of cohort.plan in
+    let table : TableLayout = table_of cohort.plan cohort.table in
+    let losses : List (Option ℕ) = map (loss_by generator.order (take cohort.table (known_tables generator)) cohort.born index) (references_of table) in
+    omega (
+      arith,
+      change_unit-index generator cohort.table cohort.born cohort.unit index within below,
+      last_change-from cohort.unit (due_in cohort index) losses,
+      due-from table.update cohort.unit cohort.born (λ period. generator.order cohort.table update_column cohort.born index),
+    )
+
+pub change_in-le : (cohort : CohortAt) (index : ℕ) → cohort.born ≤ cohort.unit → index < size_of cohort → change_in cohort index ≤ cohort.unit
+change_in-le cohort index within below =
+    let generator : Generator = generator_of cohort.plan in
+    let table : TableLayout = table_of cohort.plan cohort.table in
+    let losses : List (Option ℕ) = map (loss_by generator.order (take cohort.table (known_tables generator)) cohort.born index) (references_of table) in
+    omega (
+      arith,
+      change_unit-index generator cohort.table cohort.born cohort.unit index within below,
+      last_change-le cohort.unit (due_in cohort index) losses
+          (change-le table.update cohort.unit cohort.born (first_due generator.order cohort.table cohort.born index) within),
+    )
+
+-- and where it isn't the birth, it is among the last units that changes of the table may be in
+pub change_in-recent : (cohort : CohortAt) (index : ℕ) → cohort.born ≤ cohort.unit → index < size_of cohort → IfSome (table_of cohort.plan cohort.table).update (λ period. 1 ≤ period) →
+    (change_in cohort index ≡ cohort.born) ⊎ (cohort.unit < change_in cohort index + change_span (table_of cohort.plan cohort.table) cohort.unit)
+change_in-recent cohort index within below some =
+    let generator : Generator = generator_of cohort.plan in
+    let table : TableLayout = table_of cohort.plan cohort.table in
+    let losses : List (Option ℕ) = map (loss_by generator.order (take cohort.table (known_tables generator)) cohort.born index) (references_of table) in
+    span-reaches table.update (has_nullings table) cohort.unit cohort.born (change_in cohort index) (λ period. generator.order cohort.table update_column cohort.born index) some
+    (change_in-from cohort index within below)
+    (omega (
+      arith,
+      change_unit-index generator cohort.table cohort.born cohort.unit index within below,
+      last_change-from cohort.unit (due_in cohort index) losses,
+    ))
+    (λ none. sym (change_in-due cohort index within below none))

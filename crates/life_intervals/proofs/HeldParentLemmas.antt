@@ -1,22 +1,22 @@
 -- The parents of the rows that a table holds are held by their own tables.
-use Rattle.std.proofs.Common.{◌≡◌, ℕ, ◌<◌, ◌≤◌, true, Option, List, [], ◌∷◌, length, map, take, inl, inr, ap, arith, subst, sym, ◌∙◌}
-use Rattle.std.specs.Prelude.{All}
+use Rattle.std.proofs.Common.{◌≡◌, ℕ, ◌<◌, ◌≤◌, Bool, true, false, ◌||◌, Option, None, List, [], ◌∷◌, filter, length, map, take, inl, inr, ap, arith, subst, sym, ◌∙◌}
+use Rattle.std.specs.Prelude.{All, IfSome, if◌then◌else◌}
 use Rattle.std.specs.List.{AllByRecursion}
-use Rattle.std.proofs.lemmas.Bool.{cases_lt, false≢true}
+use Rattle.std.proofs.lemmas.Bool.{and_parts, cases_Bool, cases_lt, false≢true}
 use Rattle.std.proofs.lemmas.List.Elements.{All-from_recursion}
-use Rattle.schema_plan.specs.declared.layout.Births.{Births}
-use Rattle.schema_plan.specs.Cohorts.{born_count}
+use Rattle.cohort_sizes.specs.Births.{Births, birth, born_count, index_at}
 use Rattle.schema_plan.specs.Layout.{table_at}
 use Rattle.schema_plan.specs.Lineage.{sure_life}
-use Rattle.schema_plan.specs.References.{Reference, references_of}
+use Rattle.schema_plan.specs.References.{Reference, cascades_of, references_of}
 use Rattle.life_intervals.specs.Generator.{Generator}
-use Rattle.life_intervals.specs.Intervals.{Known, birth, death, first_death, index_at, is_after, is_live, known_tables, own_death, parent_of}
+use Rattle.life_intervals.specs.Intervals.{Known, death, first_death, held_parent, held_until, is_after, is_live, known_tables, loss_of, own_death, parent_of}
 use Rattle.life_intervals.specs.Simulation.{holds_row, rows_at}
 use Rattle.life_intervals.specs.Sound.{AreSound}
-use Rattle.life_intervals.proofs.CohortLemmas.{birth-le, born_count-le, index_at-below}
+use Rattle.life_intervals.proofs.CascadeLemmas.{is_after-cascades, is_cascading}
+use Rattle.cohort_sizes.proofs.CohortLemmas.{birth-le, born_count-le, index_at-below}
 use Rattle.life_intervals.proofs.DeathLemmas.{is_after-lesser_parts}
 use Rattle.life_intervals.proofs.KnownLemmas.{known_at-before, length-known_before, refers-of}
-use Rattle.life_intervals.proofs.LifeLemmas.{death-first}
+use Rattle.life_intervals.proofs.LifeLemmas.{death-first, loss_by-death}
 use Rattle.life_intervals.proofs.LiveLemmas.{holds_row-live, holds_row-unborn}
 use Rattle.life_intervals.proofs.ParentLemmas.{Refers, parent_by-lies}
 
@@ -28,7 +28,7 @@ module _ (units : ℕ) (generator : Generator) (sound : AreSound units generator
   earlier = take place (known_tables generator)
 
   abbrev IsParentHeld : Reference → Type 0
-  IsParentHeld reference = holds_row (rows_at generator reference.parent unit) (parent_of generator place unit ordinal reference) ≡ true
+  IsParentHeld reference = IfSome (held_parent generator place unit ordinal reference) (λ parent. holds_row (rows_at generator reference.parent unit) parent ≡ true)
 
   abbrev death_of_parent : Reference → Option ℕ
   death_of_parent reference = death generator reference.parent unit (parent_of generator place unit ordinal reference)
@@ -44,27 +44,43 @@ module _ (units : ℕ) (generator : Generator) (sound : AreSound units generator
       (parent_by-lies units generator.order earlier (sure_life generator.tables) births (birth births unit ordinal) (index_at births unit ordinal) (omega (arith, early, within)) (index_at-below births unit ordinal born) reference refers).1 in
       omega (arith, lies, born_count-le (table_at generator.tables reference.parent).births (birth births unit ordinal) unit early)
 
-  -- where none of the parents' deaths has come, each parent is held
+  -- a parent whose death hasn't come is held, and so is one that isn't lost
+  held-until : (reference : Reference) (nulls : Bool) → Refers units earlier (sure_life generator.tables) births reference → (nulls || is_after (death_of_parent reference) unit) ≡ true →
+      IfSome (held_until (if nulls then death_of_parent reference else None) unit (parent_of generator place unit ordinal reference)) (λ parent. holds_row (rows_at generator reference.parent unit) parent ≡ true)
+  held-until reference false refers after =
+      holds_row-live units generator reference.parent unit (parent_of generator place unit ordinal reference) sound within (parent-born reference refers) ∙ after
+  held-until reference true refers after = elim (cases_Bool (is_after (death_of_parent reference) unit)) [
+    | inl alive ↦ rw alive (holds_row-live units generator reference.parent unit (parent_of generator place unit ordinal reference) sound within (parent-born reference refers) ∙ alive)
+    | inr dead ↦ rw dead tt
+  ]
+
+  held-parent : (reference : Reference) → Refers units earlier (sure_life generator.tables) births reference → (reference.nulls || is_after (death_of_parent reference) unit) ≡ true → IsParentHeld reference
+  held-parent reference refers after =
+      let early : birth births unit ordinal ≤ unit = birth-le births unit ordinal born in
+      let loss : loss_of generator place unit ordinal reference ≡ (if reference.nulls then death_of_parent reference else None) =
+      loss_by-death units generator sound place below (birth births unit ordinal) (index_at births unit ordinal) (omega (arith, early, within)) (index_at-below births unit ordinal born) unit early reference refers in
+      subst (λ (d : Option ℕ). IfSome (held_until d unit (parent_of generator place unit ordinal reference)) (λ parent. holds_row (rows_at generator reference.parent unit) parent ≡ true))
+      (sym loss) (held-until reference reference.nulls refers after)
+
+  -- where none of the deaths has come with which a row dies, each parent that it still has is held
   each-held : (references : List Reference) → AllByRecursion (Refers units earlier (sure_life generator.tables) births) references →
-      is_after (first_death (map death_of_parent references)) unit ≡ true → AllByRecursion IsParentHeld references
+      is_after (first_death (map death_of_parent (filter is_cascading references))) unit ≡ true → AllByRecursion IsParentHeld references
   each-held [] refers after = _
   each-held (reference ∷ others) refers after =
-      let parts = is_after-lesser_parts (death_of_parent reference) (first_death (map death_of_parent others)) unit after in (
-        holds_row-live units generator reference.parent unit (parent_of generator place unit ordinal reference) sound within (parent-born reference refers.0) ∙ parts.0,
-        each-held others refers.1 parts.1,
-      )
+      let parts = and_parts _ _ (sym (is_after-cascades death_of_parent reference others unit) ∙ after) in
+      (held-parent reference refers.0 parts.0, each-held others refers.1 parts.1)
 
   all-held : is_live generator place unit ordinal ≡ true → All IsParentHeld (references_of (table_at generator.tables place))
   all-held alive =
       All-from_recursion IsParentHeld (references_of (table_at generator.tables place))
       (each-held (references_of (table_at generator.tables place)) (refers-of units generator sound place below)
-      (is_after-lesser_parts (own_death generator place unit ordinal) (first_death (map death_of_parent (references_of (table_at generator.tables place)))) unit
+      (is_after-lesser_parts (own_death generator place unit ordinal) (first_death (map death_of_parent (cascades_of (table_at generator.tables place)))) unit
       (ap (λ (d : Option ℕ). is_after d unit) (sym (death-first units generator sound place below unit ordinal within born)) ∙ alive)).1)
 
--- a table holds no row of which a parent isn't held
+-- a table holds no row of which a parent that it still has isn't held
 pub parents-held : (units : ℕ) (generator : Generator) → AreSound units generator.tables → (place : ℕ) → place < length generator.tables → (unit ordinal : ℕ) → unit ≤ units →
     holds_row (rows_at generator place unit) ordinal ≡ true →
-    All (λ (reference : Reference). holds_row (rows_at generator reference.parent unit) (parent_of generator place unit ordinal reference) ≡ true) (references_of (table_at generator.tables place))
+    All (λ (reference : Reference). IfSome (held_parent generator place unit ordinal reference) (λ parent. holds_row (rows_at generator reference.parent unit) parent ≡ true)) (references_of (table_at generator.tables place))
 parents-held units generator sound place below unit ordinal within held = elim (cases_lt ordinal (born_count (table_at generator.tables place).births unit)) [
   | inl born ↦
       all-held units generator sound place below unit within ordinal born

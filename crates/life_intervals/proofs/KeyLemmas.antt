@@ -4,14 +4,12 @@ use Rattle.std.specs.Prelude.{if◌then◌else◌}
 use Rattle.philox_seeds.specs.SeedTree as seeds
 use Rattle.id_permutation.specs.Walk.{IsBijectionBelow}
 use Rattle.id_permutation.proofs.PlacementLaws.{IsBijectionBelow-place}
-use Rattle.schema_plan.specs.declared.layout.Births.{Births}
-use Rattle.schema_plan.specs.Cohorts.{born_count, cohort_size, first_ordinal}
+use Rattle.cohort_sizes.specs.Births.{Births, LiesIn, birth, born_count, cohort_size, first_ordinal}
 use Rattle.schema_plan.specs.Dictionaries.{Project}
 use Rattle.schema_plan.specs.Layout.{TableLayout, layout_of, table_at}
 use Rattle.life_intervals.specs.Generator.{Generator, generator_of, table_of}
-use Rattle.life_intervals.specs.Intervals.{LiesIn, birth}
 use Rattle.life_intervals.specs.Keys.{place_in_cohort, key_in_cohort, key_of, OrdersCohorts}
-use Rattle.life_intervals.proofs.CohortLemmas.{LiesIn-birth, birth-first_ordinal, cohort-within}
+use Rattle.cohort_sizes.proofs.CohortLemmas.{LiesIn-birth, birth-first_ordinal, cohort-within}
 
 -- the seeds of a schema order its cohorts
 pub OrdersCohorts-generator_of : (project : Project) (place : ℕ) → OrdersCohorts (generator_of project) place

@@ -1,16 +1,17 @@
 -- What is known of the tables of a generator, place by place: each reference is to rows that are alive.
-use Rattle.std.proofs.Common.{◌≡◌, ℕ, zero, suc, ◌+◌, ◌<◌, ◌≤◌, true, List, [], length, take, sym, subst, arith, ◌∙◌}
+use Rattle.std.proofs.Common.{◌≡◌, ℕ, zero, suc, ◌+◌, ◌<◌, ◌≤◌, true, List, [], filter, length, take, sym, subst, arith, ◌∙◌}
 use Rattle.std.specs.List.{AllByRecursion}
 use Rattle.std.proofs.lemmas.List.{get_or-take, length-take-le}
-use Rattle.schema_plan.specs.Cohorts.{born_count, cohort_size}
+use Rattle.cohort_sizes.specs.Births.{born_count, cohort_size}
 use Rattle.schema_plan.specs.Layout.{TableLayout, no_table, table_at}
 use Rattle.schema_plan.specs.Lineage.{endless, lineages, sure_life}
 use Rattle.schema_plan.proofs.Lists.{get_or-in_turn, length-in_turn}
 use Rattle.philox_seeds.specs.SeedTree.{life_column}
 use Rattle.life_intervals.specs.Generator.{Generator}
 use Rattle.life_intervals.specs.Intervals.{Known, is_after, known_at, known_by, known_of, known_tables, nothing_known}
-use Rattle.schema_plan.specs.References.{Reference, first_in_window, references_of}
+use Rattle.schema_plan.specs.References.{Reference, cascades_of, first_in_window, references_of}
 use Rattle.life_intervals.specs.Sound.{AreSound, IsSoundReference}
+use Rattle.life_intervals.proofs.CascadeLemmas.{AllByRecursion-filter, is_cascading}
 use Rattle.life_intervals.proofs.DeathLemmas.{is_after-lesser_from}
 use Rattle.life_intervals.proofs.ParentLemmas.{IsSure, Refers, less_window, parents-alive}
 use Rattle.life_intervals.proofs.SureLifeLemmas.{AllByRecursion-all, AllByRecursion-both, IsPastParent, own_death-sure, sure_life-parts}
@@ -48,16 +49,17 @@ module _ (units : ℕ) (generator : Generator) (sound : AreSound units generator
       (references_of (table_at generator.tables place)) (sound place below).references
 
   -- an age that is past a table's sure life is past what each of its parents leaves
-  past_parents : (place age : ℕ) → place < length generator.tables → AllByRecursion (IsPastParent (take place (lineages generator.tables)) age) (references_of (table_at generator.tables place)) →
-      AllByRecursion (λ (reference : Reference). is_after (less_window reference.window (sure_life generator.tables reference.parent)) age ≡ true) (references_of (table_at generator.tables place))
+  past_parents : (place age : ℕ) → place < length generator.tables → AllByRecursion (IsPastParent (take place (lineages generator.tables)) age) (cascades_of (table_at generator.tables place)) →
+      AllByRecursion (λ (reference : Reference). is_after (less_window reference.window (sure_life generator.tables reference.parent)) age ≡ true) (cascades_of (table_at generator.tables place))
   past_parents place age below past =
       let references : List Reference = references_of (table_at generator.tables place) in
       AllByRecursion-both (λ (reference : Reference). reference.parent < place) (IsPastParent (take place (lineages generator.tables)) age)
       (λ (reference : Reference). is_after (less_window reference.window (sure_life generator.tables reference.parent)) age ≡ true)
       (λ reference earlier is.
       subst (λ lineage. is_after (less_window reference.window lineage.sure_life) age ≡ true) (get_or-take place (lineages generator.tables) reference.parent endless earlier) is)
-      references
-      (AllByRecursion-all (IsSoundReference units generator.tables place) (λ (reference : Reference). reference.parent < place) (λ reference is. is.earlier) references (sound place below).references)
+      (filter is_cascading references)
+      (AllByRecursion-filter (λ (reference : Reference). reference.parent < place) is_cascading references
+      (AllByRecursion-all (IsSoundReference units generator.tables place) (λ (reference : Reference). reference.parent < place) (λ reference is. is.earlier) references (sound place below).references))
       past
 
   IsSure-by : (place : ℕ) → place < length generator.tables → ((parent : ℕ) → parent < place → IsSure units (known_of generator parent) (sure_life generator.tables parent)) →
@@ -68,8 +70,8 @@ module _ (units : ℕ) (generator : Generator) (sound : AreSound units generator
       let parts = sure_life-parts generator.tables place age below past in
       is_after-lesser_from _ _ (unit + age)
       (own_death-sure unit (generator.order (length earlier) life_column unit index) age table.life parts.0)
-      (parents-alive units generator.order earlier (sure_life generator.tables) table.births unit index within inside age (references_of table)
-      (refers-by place below are_sure) (past_parents place age below parts.1))
+      (parents-alive units generator.order earlier (sure_life generator.tables) table.births unit index within inside age (cascades_of table)
+      (AllByRecursion-filter (Refers units earlier (sure_life generator.tables) table.births) is_cascading (references_of table) (refers-by place below are_sure)) (past_parents place age below parts.1))
 
   IsSure-below : (bound place : ℕ) → place < bound → place < length generator.tables → IsSure units (known_of generator place) (sure_life generator.tables place)
   IsSure-below zero place before below = absurd (omega (arith, before))
@@ -84,3 +86,10 @@ module _ (units : ℕ) (generator : Generator) (sound : AreSound units generator
   pub refers-of : (place : ℕ) → place < length generator.tables →
       AllByRecursion (Refers units (take place (known_tables generator)) (sure_life generator.tables) (table_at generator.tables place).births) (references_of (table_at generator.tables place))
   refers-of place below = refers-by place below (λ parent earlier. IsSure-known_of parent (omega (arith, below, earlier)))
+
+  -- and those with whose parents a row dies
+  pub cascades-of : (place : ℕ) → place < length generator.tables →
+      AllByRecursion (Refers units (take place (known_tables generator)) (sure_life generator.tables) (table_at generator.tables place).births) (cascades_of (table_at generator.tables place))
+  cascades-of place below =
+      AllByRecursion-filter (Refers units (take place (known_tables generator)) (sure_life generator.tables) (table_at generator.tables place).births) is_cascading
+      (references_of (table_at generator.tables place)) (refers-of place below)

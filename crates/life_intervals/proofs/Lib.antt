@@ -1,8 +1,8 @@
 pub mod Ranges
 pub mod FilterMaps
 pub mod InTurnLemmas
-pub mod CohortLemmas
 pub mod DeathLemmas
+pub mod CascadeLemmas
 pub mod ChangeLemmas
 pub mod RowLemmas
 pub mod ParentLemmas

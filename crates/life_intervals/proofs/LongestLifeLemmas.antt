@@ -1,25 +1,25 @@
 -- Longest lives: no row lives longer than its table's longest life.
-use Rattle.std.proofs.Common.{◌≡◌, ℕ, zero, suc, ◌+◌, ◌-◌, ◌%◌, ◌<◌, ◌≤◌, true, false, Bool, ◌&&◌, List, [], ◌∷◌, length, map, take, Option, Some, None, option_map, inl, inr, refl, ap, arith, sym, subst, le-ltb, ltb-false, ◌∙◌}
+use Rattle.std.proofs.Common.{◌≡◌, ℕ, zero, suc, ◌+◌, ◌-◌, ◌%◌, ◌<◌, ◌≤◌, true, false, Bool, ◌&&◌, List, [], ◌∷◌, filter, length, map, take, Option, Some, None, option_map, inl, inr, refl, ap, arith, sym, subst, le-ltb, ltb-false, ◌∙◌}
 use Rattle.std.specs.Prelude.{IfSome}
 use Rattle.std.specs.List.{AllByRecursion, fold}
 use Rattle.std.proofs.lemmas.Bool.{cases_Bool, false≢true}
 use Rattle.std.proofs.lemmas.List.{get_or-take}
 use Rattle.std.proofs.lemmas.Nat.{mod_below}
 use Rattle.philox_seeds.specs.SeedTree.{life_column}
-use Rattle.schema_plan.specs.declared.layout.Births.{Births}
+use Rattle.cohort_sizes.specs.Births.{Births, birth, cohort_size, index_at}
 use Rattle.schema_plan.specs.declared.layout.Span.{Span}
 use Rattle.schema_plan.specs.declared.lineage.Lineage.{Lineage}
-use Rattle.schema_plan.specs.Cohorts.{cohort_size}
 use Rattle.schema_plan.specs.Layout.{KindLayout, reference_kind, ColumnLayout, TableLayout, table_at}
 use Rattle.schema_plan.specs.Limits.{IsSpan}
 use Rattle.schema_plan.specs.Lineage.{endless, lineage_at, lineages, longest_life, own_lineage, sure_life, with_kind}
-use Rattle.schema_plan.specs.References.{Reference, references_of}
+use Rattle.schema_plan.specs.References.{Reference, cascades_of, references_of}
 use Rattle.schema_plan.proofs.LineageLemmas.{lineage_at-lineages}
 use Rattle.life_intervals.specs.Generator.{Generator}
-use Rattle.life_intervals.specs.Intervals.{Known, birth, death_by, first_death, index_at, is_after, known_at, known_of, known_tables, own_death_by, parent_by, parent_death_by}
+use Rattle.life_intervals.specs.Intervals.{Known, death_by, first_death, is_after, known_at, known_of, known_tables, own_death_by, parent_by, parent_death_by}
 use Rattle.life_intervals.specs.Rows.{life_by}
 use Rattle.life_intervals.specs.Sound.{AreSound}
-use Rattle.life_intervals.proofs.CohortLemmas.{LiesIn-birth}
+use Rattle.life_intervals.proofs.CascadeLemmas.{is_cascading}
+use Rattle.cohort_sizes.proofs.CohortLemmas.{LiesIn-birth}
 use Rattle.life_intervals.proofs.DeathLemmas.{is_after-before, is_after-lesser_life}
 use Rattle.life_intervals.proofs.KnownLemmas.{known_at-before, length-known_before, refers-of}
 use Rattle.life_intervals.proofs.ParentLemmas.{Refers, parent_by-lies}
@@ -61,17 +61,19 @@ abbrev Ends : List Lineage → ℕ → ℕ → (Reference → Option ℕ) → Li
 Ends earlier age unit d columns place own x =
     is_after (fold (λ own (column : ColumnLayout). with_kind earlier own column.kind) own columns).longest_life age ≡ false →
     (is_after own.longest_life age ≡ false → x ≡ false) → AllByRecursion (EndsWith earlier age d unit) (references_in place columns) →
-    (x && is_after (first_death (map d (references_in place columns))) unit) ≡ false
+    (x && is_after (first_death (map d (filter is_cascading (references_in place columns)))) unit) ≡ false
 
 ends-kind : (earlier : List Lineage) (age unit : ℕ) (d : Reference → Option ℕ) (held : KindLayout) (changes : Bool) (null : ℕ) (others : List ColumnLayout) (place : ℕ) (own : Lineage) (x : Bool) →
     ((after : Lineage) (y : Bool) → Ends earlier age unit d others (place + 1) after y) →
     Ends earlier age unit d (record { kind = held; changes = changes; null = null } ∷ others) place own x
-ends-kind earlier age unit d (reference_kind parent window spread) changes null others place own x next over from_own each =
-    let reference : Reference = record { column = place; parent = parent; window = window; spread = spread } in
-    let rest : Option ℕ = first_death (map d (references_in (place + 1) others)) in
+ends-kind earlier age unit d (reference_kind parent window spread true) changes null others place own x next over from_own each =
+    next (with_kind earlier own (reference_kind parent window spread true)) x over from_own each.1
+ends-kind earlier age unit d (reference_kind parent window spread false) changes null others place own x next over from_own each =
+    let reference : Reference = record { column = place; parent = parent; window = window; spread = spread; nulls = false } in
+    let rest : Option ℕ = first_death (map d (filter is_cascading (references_in (place + 1) others))) in
     ap (λ (t : Bool). x && t) (is_after-lesser_life (d reference) rest unit)
     ∙ and-assoc x (is_after (d reference) unit) (is_after rest unit)
-    ∙ next (with_kind earlier own (reference_kind parent window spread)) (x && is_after (d reference) unit) over
+    ∙ next (with_kind earlier own (reference_kind parent window spread false)) (x && is_after (d reference) unit) over
     (λ ended. over-lesser own.longest_life (lineage_at earlier parent).longest_life age x (is_after (d reference) unit) from_own each.0
     (sym (is_after-lesser_life own.longest_life (lineage_at earlier parent).longest_life age) ∙ ended))
     each.1
@@ -132,7 +134,7 @@ module _ (units : ℕ) (generator : Generator) (sound : AreSound units generator
       let earlier : List Known = take place (known_tables generator) in
       let own : Option ℕ = own_death_by generator.order (length earlier) table unit index in
       let parents : Reference → Option ℕ = parent_death_by generator.order earlier unit index in
-      is_after-lesser_life own (first_death (map parents (references_of table))) (unit + age)
+      is_after-lesser_life own (first_death (map parents (cascades_of table))) (unit + age)
       ∙ ends-columns (take place (lineages generator.tables)) age (unit + age) parents table.columns 0 (own_lineage table.life) (is_after own (unit + age))
       (subst (λ (lineage : Lineage). is_after lineage.longest_life age ≡ false) (lineage_at-lineages generator.tables place below) over)
       (own_death-over unit (generator.order (length earlier) life_column unit index) age table.life (sound place below).life)

@@ -8,7 +8,7 @@ use Rattle.philox_seeds.specs.SeedTree.{key_order_seed, life_column, life_order_
 use Rattle.id_permutation.specs.Order.{order_steps, place_by, place_in, steps_by}
 use Rattle.id_permutation.specs.Placement as placement
 use Rattle.schema_plan.specs.declared.layout.Span.{Span}
-use Rattle.schema_plan.specs.Cohorts.{cohort_size}
+use Rattle.cohort_sizes.specs.Births.{cohort_size}
 use Rattle.schema_plan.specs.Dictionaries.{Project}
 use Rattle.schema_plan.specs.Layout.{layout_of}
 use Rattle.schema_plan.specs.Lineage.{one_if}

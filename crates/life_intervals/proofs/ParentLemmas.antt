@@ -1,24 +1,25 @@
 -- Parents: where their ordinals lie, that they are alive, and that the simulation chooses them.
-use Rattle.std.proofs.Common.{◌≡◌, ℕ, zero, suc, ◌+◌, ◌-◌, ◌<◌, ◌≤◌, true, false, ◌&&◌, Option, Some, None, option_map, unwrap_or, List, [], ◌∷◌, ◌++◌, map, length, get_or, filter_map, inl, inr, arith, refl, sym, ◌∙◌, ap, ap₂, lt-ltb, ltb-true, le-leb, eq-eqb, ne_eqb, subst}
+use Rattle.std.proofs.Common.{◌≡◌, ℕ, zero, suc, ◌+◌, ◌-◌, ◌<◌, ◌≤◌, Bool, true, false, not, ◌&&◌, ◌||◌, Option, Some, None, option_map, unwrap_or, List, [], ◌∷◌, ◌++◌, map, length, get_or, filter_map, inl, inr, arith, refl, sym, ◌∙◌, ap, ap₂, lt-ltb, ltb-true, le-leb, eq-eqb, ne_eqb, subst}
+use Rattle.std.specs.Prelude.{if◌then◌else◌}
 use Rattle.std.specs.List.{range_with_len, AllByRecursion}
 use Rattle.std.proofs.lemmas.Bool.{cases_eq, cases_Bool, lt-leb}
 use Rattle.std.proofs.lemmas.Nat.{mod_below}
 use Rattle.std.proofs.lemmas.List.{get_or-map, map-append}
 use Rattle.std.proofs.lemmas.List.Elements.{filter_map-append, filter-append}
 use Rattle.std.proofs.lemmas.List.FromFn.{get_or-range_with_len, length-range_with_len}
-use Rattle.schema_plan.specs.declared.layout.Births.{Births}
-use Rattle.schema_plan.specs.Cohorts.{born_count, cohort_size, first_ordinal}
+use Rattle.cohort_sizes.specs.Births.{Births, LiesIn, birth, born_count, cohort_size, first_ordinal, index_at}
 use Rattle.life_intervals.specs.Generator.{Order}
-use Rattle.life_intervals.specs.Intervals.{Known, LiesIn, birth, death_by, first_death, index_at, is_after, known_at, nothing_known, parent_by, parent_death_by, row_by}
+use Rattle.life_intervals.specs.Intervals.{Known, death_by, first_death, held_until, is_after, is_at, known_at, nothing_known, parent_by, parent_death_by, row_by}
 use Rattle.schema_plan.specs.References.{Reference, count_in_window, first_in_window, window_start}
 use Rattle.life_intervals.specs.References.{choice}
-use Rattle.life_intervals.specs.Rows.{Row, candidates, is_in_window, parent_choice}
-use Rattle.life_intervals.specs.Simulation.{hold_parents, holds_row}
+use Rattle.life_intervals.specs.Rows.{Row, State, candidates, is_in_window, parent_choice}
+use Rattle.life_intervals.specs.Simulation.{holds_row, is_gone, is_lost}
 use Rattle.schema_plan.specs.References.{IsWithinLife}
-use Rattle.life_intervals.proofs.CohortLemmas.{LiesIn-birth, birth-before, birth-from, birth-later, born_count-le}
-use Rattle.life_intervals.proofs.DeathLemmas.{is_after-lesser_from, is_after-lesser_life}
+use Rattle.life_intervals.proofs.CascadeLemmas.{is_after-cascades}
+use Rattle.cohort_sizes.proofs.CohortLemmas.{LiesIn-birth, birth-before, birth-from, birth-later, born_count-le}
+use Rattle.life_intervals.proofs.DeathLemmas.{is_after-lesser_from, is_after-suc, is_at-later, is_at-now, is_at-passed}
 use Rattle.life_intervals.proofs.Ranges.{range_with_len-add}
-use Rattle.life_intervals.proofs.RowLemmas.{aged_row, aged_rows, live_row, live_rows}
+use Rattle.life_intervals.proofs.RowLemmas.{Finds, aged_row, aged_rows, held_each, live_row, live_rows}
 
 -- up to a last unit, rows of a known table live at least for a sure life
 abbrev pub IsSure : ℕ → Known → Option ℕ → Type 0
@@ -165,6 +166,39 @@ pub death_by-later : (known : Known) (unit last ordinal : ℕ) → ordinal < bor
 death_by-later known unit last ordinal born within =
     ap (λ (b : ℕ). known.death b (ordinal - first_ordinal known.table.births b)) (birth-later known.table.births unit last ordinal born within)
 
+-- ---- one parent, which its table holds exactly while it is alive
+
+-- what the deletions of the unit after `last` find of it
+pub record FindsOne (state : State) (reference : Reference) (death : Option ℕ) (parent last : ℕ) : Type 0 where
+  pub held : (reference.nulls || not (is_gone state (reference, held_until (if reference.nulls then death else None) last parent))) ≡ (reference.nulls || is_after death (suc last))
+  pub lost : is_lost state (reference, held_until (if reference.nulls then death else None) last parent) ≡ is_at (if reference.nulls then death else None) (suc last)
+  pub left : (if is_lost state (reference, held_until (if reference.nulls then death else None) last parent) then None else held_until (if reference.nulls then death else None) last parent)
+      ≡ held_until (if reference.nulls then death else None) (suc last) parent
+
+not-not : (x : Bool) → not (not x) ≡ x
+not-not true = refl
+not-not false = refl
+
+find_one : (state : State) (column place : ℕ) (window : Option ℕ) (spread : List ℕ) (nulls : Bool) (death : Option ℕ) (parent last : ℕ) → holds_row (get_or state place []) parent ≡ is_after death (suc last) →
+    FindsOne state (record { column = column; parent = place; window = window; spread = spread; nulls = nulls }) death parent last
+find_one state column place window spread false death parent last holds = record { held = not-not _ ∙ holds; lost = refl; left = refl }
+find_one state column place window spread true death parent last holds = elim (cases_Bool (is_after death last)) [
+  | inr passed ↦ record { held = refl; lost = rw passed (sym (is_at-passed death last passed)); left = rw (passed, is_after-suc death last passed) refl }
+  | inl alive ↦ elim (cases_Bool (is_after death (suc last))) [
+    | inl on ↦
+        let gone : not (holds_row (get_or state place []) parent) ≡ false = ap not (holds ∙ on) in
+        record { held = refl; lost = rw (alive, gone) (sym (is_at-later death (suc last) on)); left = rw (alive, gone, on) refl }
+    | inr over ↦
+        let gone : not (holds_row (get_or state place []) parent) ≡ true = ap not (holds ∙ over) in
+        record { held = refl; lost = rw (alive, gone) (sym (is_at-now death last alive over)); left = rw (alive, gone, over) refl }
+  ]
+]
+
+-- it isn't lost while it is alive
+held-unlost : (nulls : Bool) (death : Option ℕ) (parent unit : ℕ) → is_after death unit ≡ true → held_until (if nulls then death else None) unit parent ≡ Some parent
+held-unlost false death parent unit alive = refl
+held-unlost true death parent unit alive = rw alive refl
+
 -- ---- the parents of the row with an index in a unit's cohort
 
 module _ (units : ℕ) (order : Order) (earlier : List Known) (sure : ℕ → Option ℕ) (births : Births) (unit index : ℕ) (in_units : unit ≤ units) (below : index < cohort_size births unit) where
@@ -205,21 +239,43 @@ module _ (units : ℕ) (order : Order) (earlier : List Known) (sure : ℕ → Op
       (parents-alive 0 references refers (sure-all_now references refers))
 
   -- their tables hold them after the deletions of a unit exactly while they are alive
-  pub hold_parents-aged : (last : ℕ) → unit ≤ last → (references : List Reference) → AllByRecursion (Refers units earlier sure births) references →
-      hold_parents (map (λ known. aged_rows order known last) earlier) references (map (parent_by order earlier unit index) references)
-      ≡ is_after (first_death (map (parent_death_by order earlier unit index) references)) (suc last)
-  hold_parents-aged last within [] refers = refl
-  hold_parents-aged last within (reference ∷ others) refers =
+  holds_row-parent : (last : ℕ) → unit ≤ last → (reference : Reference) → Refers units earlier sure births reference →
+      holds_row (get_or (map (λ known. aged_rows order known last) earlier) reference.parent []) (parent_by order earlier unit index reference)
+      ≡ is_after (parent_death_by order earlier unit index reference) (suc last)
+  holds_row-parent last within reference refers =
       let parent : Known = known_at earlier reference.parent in
       let ordinal : ℕ = parent_by order earlier unit index reference in
-      let lies = parent_by-lies reference refers.0 in
+      let lies = parent_by-lies reference refers in
       let later : born_count parent.table.births unit ≤ born_count parent.table.births last = born_count-le parent.table.births unit last within in
-      ap₂ (λ x y. x && y)
-      (ap (λ rows. holds_row rows ordinal) (get_or-map (λ known. aged_rows order known last) earlier reference.parent nothing_known [] refers.0.is_earlier)
+      ap (λ rows. holds_row rows ordinal) (get_or-map (λ known. aged_rows order known last) earlier reference.parent nothing_known [] refers.is_earlier)
       ∙ holds_row-aged order parent last ordinal 0 (born_count parent.table.births last) (omega arith) (omega (arith, lies.1, later))
-      ∙ ap (λ (death : Option ℕ). is_after death (suc last)) (death_by-later parent unit last ordinal lies.1 within))
-      (hold_parents-aged last within others refers.1)
-      ∙ sym (is_after-lesser_life (parent_death_by order earlier unit index reference) _ (suc last))
+      ∙ ap (λ (death : Option ℕ). is_after death (suc last)) (death_by-later parent unit last ordinal lies.1 within)
+
+  -- so the deletions find which of them die
+  pub Finds-aged : (last : ℕ) → unit ≤ last → (references : List Reference) → AllByRecursion (Refers units earlier sure births) references →
+      Finds order earlier (map (λ known. aged_rows order known last) earlier) references unit index last
+  Finds-aged last within [] refers = record { held = refl; lost = refl; left = refl }
+  Finds-aged last within (reference ∷ others) refers =
+      let state : State = map (λ known. aged_rows order known last) earlier in
+      let death : Option ℕ = parent_death_by order earlier unit index reference in
+      let ordinal : ℕ = parent_by order earlier unit index reference in
+      let here : FindsOne state reference death ordinal last =
+      find_one state reference.column reference.parent reference.window reference.spread reference.nulls death ordinal last (holds_row-parent last within reference refers.0) in
+      let rest = Finds-aged last within others refers.1 in
+      record {
+        held = ap₂ (λ x y. x && y) here.held rest.held ∙ sym (is_after-cascades (parent_death_by order earlier unit index) reference others (suc last));
+        lost = ap₂ (λ x y. x || y) here.lost rest.lost;
+        left = ap₂ (λ x xs. x ∷ xs) here.left rest.left;
+      }
+
+  -- each of them is alive when the row is born
+  each-alive_now : (reference : Reference) → Refers units earlier sure births reference → is_after (parent_death_by order earlier unit index reference) unit ≡ true
+  each-alive_now reference refers =
+      let at : unit + 0 ≡ unit = omega arith in
+      let lies = parent_by-lies reference refers in
+      subst (λ (u : ℕ). is_after (parent_death_by order earlier unit index reference) u ≡ true) at
+      (window-alive units (known_at earlier reference.parent) (sure reference.parent) refers.is_sure reference.window unit
+      (parent_by order earlier unit index reference) 0 in_units refers.within_life lies.0 lies.1 (sure-now reference.window (sure reference.parent) refers.within_life))
 
   -- the simulation chooses them
   parent_choice-live : (reference : Reference) → Refers units earlier sure births reference →
@@ -237,13 +293,15 @@ module _ (units : ℕ) (order : Order) (earlier : List Known) (sure : ℕ → Op
       ∙ get_or-range_with_len from count (choice reference.spread count place) 0 (mod_below _ count (omega (arith, some)))
 
   pub parent_choice-all : (last : ℕ) → last ≡ length earlier → (references : List Reference) → AllByRecursion (Refers units earlier sure births) references →
-      map (λ (reference : Reference). parent_choice reference unit (get_or (map (λ known. live_rows order known unit) earlier) reference.parent []) (order last reference.column unit index)) references
-      ≡ map (parent_by order earlier unit index) references
+      map (λ (reference : Reference). Some (parent_choice reference unit (get_or (map (λ known. live_rows order known unit) earlier) reference.parent []) (order last reference.column unit index))) references
+      ≡ held_each order earlier unit index unit references
   parent_choice-all last is [] refers = refl
   parent_choice-all last is (reference ∷ others) refers =
       ap₂ (λ x xs. x ∷ xs)
+      (ap Some
       (ap (λ (place : ℕ). parent_choice reference unit (get_or (map (λ known. live_rows order known unit) earlier) reference.parent []) (order place reference.column unit index)) is
       ∙ ap (λ rows. parent_choice reference unit rows (order (length earlier) reference.column unit index))
       (get_or-map (λ known. live_rows order known unit) earlier reference.parent nothing_known [] refers.0.is_earlier)
       ∙ parent_choice-live reference refers.0)
+      ∙ sym (held-unlost reference.nulls (parent_death_by order earlier unit index reference) (parent_by order earlier unit index reference) unit (each-alive_now reference refers.0)))
       (parent_choice-all last is others refers.1)

@@ -6,22 +6,23 @@ use Rattle.std.proofs.lemmas.Bool.{cases_lt}
 use Rattle.std.proofs.lemmas.List.{append-nil, get_or-map, get_or_past, length-map}
 use Rattle.std.proofs.lemmas.List.Elements.{filter_map-append}
 use Rattle.std.proofs.lemmas.List.FromFn.{fill_by_all}
-use Rattle.schema_plan.specs.Cohorts.{born_count, cohort_size, first_ordinal}
+use Rattle.cohort_sizes.specs.Births.{birth, born_count, cohort_size, first_ordinal, index_at}
 use Rattle.schema_plan.specs.InTurn.{in_turn}
 use Rattle.schema_plan.specs.Layout.{TableLayout, no_table, table_at}
 use Rattle.schema_plan.specs.Lineage.{sure_life}
 use Rattle.life_intervals.specs.Generator.{Generator, Order}
-use Rattle.life_intervals.specs.Intervals.{Known, birth, index_at, interval_state, is_live, known_by, known_of, known_tables, nothing_known, row_at, rows_of}
-use Rattle.schema_plan.specs.References.{references_of}
+use Rattle.life_intervals.specs.Intervals.{Known, interval_state, is_live, known_by, known_of, known_tables, nothing_known, row_at, rows_of}
+use Rattle.schema_plan.specs.References.{cascades_of, references_of}
 use Rattle.life_intervals.specs.Rows.{Row, State, cohort, new_row}
 use Rattle.life_intervals.specs.Simulation.{kept, rows_at, simulation, step, waited, with_changes, with_cohort, with_deletions, with_insertions, with_updates, without_dead}
 use Rattle.schema_plan.specs.Limits.{IsSpan}
 use Rattle.life_intervals.specs.Sound.{AreSound}
-use Rattle.life_intervals.proofs.CohortLemmas.{birth-le, born_count-by_units, born_count-next, index_at-below}
+use Rattle.life_intervals.proofs.CascadeLemmas.{AllByRecursion-filter, is_cascading}
+use Rattle.cohort_sizes.proofs.CohortLemmas.{birth-le, born_count-next, first_ordinal-none, index_at-below}
 use Rattle.life_intervals.proofs.FilterMaps.{filter_map-filter_map, filter_map-range_same, map-filter, map-filter_map, map-filter_map_range}
 use Rattle.life_intervals.proofs.InTurnLemmas.{in_turn-zip_known}
 use Rattle.life_intervals.proofs.KnownLemmas.{known_at-known_of, length-known_tables, refers-of}
-use Rattle.life_intervals.proofs.ParentLemmas.{Refers, hold_parents-aged, parent_choice-all, parents-alive_now}
+use Rattle.life_intervals.proofs.ParentLemmas.{Finds-aged, Refers, parent_choice-all, parents-alive_now}
 use Rattle.life_intervals.proofs.Ranges.{flat_map-range_with_len_more, range_with_len-add}
 use Rattle.life_intervals.proofs.RowLemmas.{aged_row, aged_rows, kept-live_row, live_row, live_rows, new_row-live_row, older_rows, waited-aged_row}
 
@@ -54,17 +55,17 @@ range-cohorts table (suc unit) =
 -- the deletions of the unit after one
 pub without_dead-live : (units : ℕ) (order : Order) (earlier : List Known) (sure : ℕ → Option ℕ) (table : TableLayout) (unit : ℕ) → unit ≤ units →
     AllByRecursion (Refers units earlier sure table.births) (references_of table) →
-    without_dead (map (λ known. aged_rows order known unit) earlier) (table, live_rows order (known_by order earlier table) unit) ≡ aged_rows order (known_by order earlier table) unit
+    without_dead (suc unit) (map (λ known. aged_rows order known unit) earlier) (table, live_rows order (known_by order earlier table) unit) ≡ aged_rows order (known_by order earlier table) unit
 without_dead-live units order earlier sure table unit within refers =
     let known : Known = known_by order earlier table in
     let stepped : State = map (λ known. aged_rows order known unit) earlier in
-    filter_map-filter_map (kept stepped table) (live_row order known unit) (range_with_len 0 (born_count table.births unit))
-    ∙ filter_map-range_same (λ ordinal. option_and_then (kept stepped table) (live_row order known unit ordinal)) (aged_row order known unit) 0 (born_count table.births unit)
+    filter_map-filter_map (kept (suc unit) stepped table) (live_row order known unit) (range_with_len 0 (born_count table.births unit))
+    ∙ filter_map-range_same (λ ordinal. option_and_then (kept (suc unit) stepped table) (live_row order known unit ordinal)) (aged_row order known unit) 0 (born_count table.births unit)
     (λ ordinal low high.
     let born : ordinal < born_count table.births unit = omega (arith, high) in
     let early : birth table.births unit ordinal ≤ unit = birth-le table.births unit ordinal born in
-    kept-live_row order earlier table unit ordinal stepped
-    (hold_parents-aged units order earlier sure table.births (birth table.births unit ordinal) (index_at table.births unit ordinal) (omega (arith, early, within))
+    kept-live_row order earlier table unit ordinal stepped born
+    (Finds-aged units order earlier sure table.births (birth table.births unit ordinal) (index_at table.births unit ordinal) (omega (arith, early, within))
     (index_at-below table.births unit ordinal born) unit early (references_of table) refers))
 
 -- its updates
@@ -90,7 +91,8 @@ cohort-live units order earlier sure table unit within life refers =
     let below : index < cohort_size table.births unit = omega (arith, high) in
     new_row-live_row order earlier table unit index state places below life
     (parent_choice-all units order earlier sure table.births unit index within below (length state) places (references_of table) refers)
-    (parents-alive_now units order earlier sure table.births unit index within below (references_of table) refers))
+    (parents-alive_now units order earlier sure table.births unit index within below (cascades_of table)
+    (AllByRecursion-filter (Refers units earlier sure table.births) is_cascading (references_of table) refers)))
     ∙ ap (λ (a : ℕ). filter_map (live_row order known unit) (range_with_len a (cohort_size table.births unit))) (omega arith)
 
 -- the insertions of a unit
@@ -121,12 +123,12 @@ empty_tables-older order (table ∷ tables) given = ap (λ state. [] ∷ state) 
 
 module _ (units : ℕ) (generator : Generator) (sound : AreSound units generator.tables) where
   pub with_deletions-live : (unit : ℕ) → unit ≤ units →
-      with_deletions generator (map (λ known. live_rows generator.order known unit) (known_tables generator)) ≡ map (λ known. aged_rows generator.order known unit) (known_tables generator)
+      with_deletions generator (suc unit) (map (λ known. live_rows generator.order known unit) (known_tables generator)) ≡ map (λ known. aged_rows generator.order known unit) (known_tables generator)
   with_deletions-live unit within =
-      in_turn-tables generator without_dead (λ known. live_rows generator.order known unit) (λ known. aged_rows generator.order known unit)
+      in_turn-tables generator (without_dead (suc unit)) (λ known. live_rows generator.order known unit) (λ known. aged_rows generator.order known unit)
       (λ place below. without_dead-live units generator.order (take place (known_tables generator)) (sure_life generator.tables) (table_at generator.tables place) unit within (refers-of units generator sound place below))
 
-  with_updates-aged : (unit : ℕ) →
+  pub with_updates-aged : (unit : ℕ) →
       with_updates generator (suc unit) (map (λ known. aged_rows generator.order known unit) (known_tables generator)) ≡ map (λ known. older_rows generator.order known (suc unit)) (known_tables generator)
   with_updates-aged unit =
       in_turn-tables generator (with_changes (suc unit)) (λ known. aged_rows generator.order known unit) (λ known. older_rows generator.order known (suc unit))
@@ -171,7 +173,7 @@ simulation-interval_state units generator unit sound within = simulation-live un
 rows_of-past : (generator : Generator) (place unit : ℕ) → length generator.tables ≤ place → rows_of generator place unit ≡ []
 rows_of-past generator place unit past =
     let none : born_count (table_at generator.tables place).births unit ≡ 0 =
-    ap (λ (table : TableLayout). born_count table.births unit) (get_or_past generator.tables place no_table past) ∙ omega (arith, born_count-by_units no_table.births unit) in
+    ap (λ (table : TableLayout). born_count table.births unit) (get_or_past generator.tables place no_table past) ∙ first_ordinal-none (unit + 1) in
     rows_of-live generator place unit ∙ ap (λ (n : ℕ). filter_map (live_row generator.order (known_of generator place) unit) (range_with_len 0 n)) none
 
 -- the rows of the table at a place are those of the living

@@ -1,89 +1,62 @@
 -- What a unit deletes, updates and inserts, in closed form.
 use Rattle.std.proofs.Common.{◌≡◌, ℕ, zero, suc, ◌+◌, ◌-◌, ◌<◌, ◌≤◌, Bool, true, false, ◌&&◌, ◌==◌, Option, Some, None, is_none, option_and_then, List, [], ◌++◌, filter, filter_map, length, map, take, get_or, unwrap_or, inl, inr, add-one, ap, ap₂, arith, refl, sym, subst, eq-eqb, ne_eqb, ◌∙◌}
-use Rattle.std.specs.Prelude.{IfSome, if◌then◌else◌}
+use Rattle.std.specs.Prelude.{if◌then◌else◌}
 use Rattle.std.specs.List.{range_with_len, take-map}
 use Rattle.std.proofs.lemmas.Bool.{cases_Bool}
 use Rattle.std.proofs.lemmas.List.{get_or-map, length-map}
 use Rattle.std.proofs.lemmas.Option.{none-some}
 use Rattle.std.proofs.lemmas.List.Elements.{filter-append, filter_map-append}
-use Rattle.schema_plan.specs.Cohorts.{born_count, cohort_size, first_ordinal}
+use Rattle.cohort_sizes.specs.Births.{birth, born_count, cohort_size, first_ordinal, index_at}
 use Rattle.schema_plan.specs.Layout.{TableLayout, table_at}
 use Rattle.schema_plan.specs.Lineage.{sure_life}
-use Rattle.life_intervals.specs.Changes.{change_by, first_due}
 use Rattle.life_intervals.specs.Generator.{Generator, Order}
-use Rattle.life_intervals.specs.Intervals.{Known, birth, change_unit, changing, death, death_by, dying, index_at, is_after, is_at, is_live, known_by, known_of, known_tables, newborn, nothing_known, row_at, row_by}
-use Rattle.schema_plan.specs.References.{references_of}
+use Rattle.life_intervals.specs.Intervals.{Known, change_unit, changing, death, death_by, dying, is_after, is_at, is_live, known_by, known_of, known_tables, newborn, nothing_known, row_at, row_by}
+use Rattle.schema_plan.specs.References.{cascades_of, references_of}
 use Rattle.life_intervals.specs.Rows.{Row, State, cohort, new_row}
-use Rattle.life_intervals.specs.Simulation.{hold_parents, is_due, kept, rows_at, simulation, waited, with_deletions}
+use Rattle.life_intervals.specs.Simulation.{kept, rows_at, simulation, with_deletions, with_updates}
 use Rattle.life_intervals.specs.Sound.{AreSound}
 use Rattle.life_intervals.specs.Streams.{deleted, inserted, updated}
-use Rattle.life_intervals.proofs.ChangeLemmas.{change-le}
-use Rattle.life_intervals.proofs.CohortLemmas.{birth-before, birth-early, birth-le, born_count-next, index_at-below}
+use Rattle.life_intervals.proofs.AcceptedLemmas.{row_at-changed}
+use Rattle.cohort_sizes.proofs.CohortLemmas.{birth-before, birth-le, born_count-next, index_at-below}
 use Rattle.life_intervals.proofs.DeathLemmas.{is_at-later, is_at-now, is_at-passed}
 use Rattle.life_intervals.proofs.FilterMaps.{filter-filter_map, filter-map_all, filter_map-filter_map, filter_map-range_none, filter_map-range_same, map-filter}
-use Rattle.life_intervals.proofs.KnownLemmas.{known_at-known_of, length-known_before, length-known_tables, refers-of}
-use Rattle.life_intervals.proofs.ParentLemmas.{hold_parents-aged, parent_choice-all, parents-alive_now}
+use Rattle.life_intervals.proofs.KnownLemmas.{cascades-of, known_at-known_of, length-known_tables, refers-of}
+use Rattle.life_intervals.proofs.ParentLemmas.{Finds-aged, parent_choice-all, parents-alive_now}
 use Rattle.life_intervals.proofs.Ranges.{map-range_with_len_same}
-use Rattle.life_intervals.proofs.RowLemmas.{NextChange-row, aged, aged_row, aged_rows, death_by-early, kept-live_row, live_row, live_rows, new_row-live_row, older_rows, parents_by, parents_death, waited-aged}
-use Rattle.life_intervals.proofs.SimulationLemmas.{cohort-live, ordinals_of, range-cohort, rows_at-rows_of, rows_of-live, simulation-live, with_deletions-live}
+use Rattle.life_intervals.proofs.RowLemmas.{Finds, aged_row, aged_rows, death_by-early, kept-live_row, live_row, live_rows, new_row-live_row, older_rows}
+use Rattle.life_intervals.proofs.SimulationLemmas.{cohort-live, ordinals_of, range-cohort, rows_at-rows_of, rows_of-live, simulation-live, with_deletions-live, with_updates-aged}
 
 -- ---- one row
 
 -- the deletions of the next unit don't keep a row exactly where it dies then
 unkept-row : (order : Order) (earlier : List Known) (table : TableLayout) (unit ordinal : ℕ) (state : State) → ordinal < born_count table.births unit →
-    (let births = table.births in
-    hold_parents state (references_of table) (parents_by order earlier table (birth births unit ordinal) (index_at births unit ordinal))
-    ≡ is_after (parents_death order earlier table (birth births unit ordinal) (index_at births unit ordinal)) (suc unit)) →
-    option_and_then (λ row. if is_none (kept state table row) then Some row else None) (live_row order (known_by order earlier table) unit ordinal)
+    Finds order earlier state (references_of table) (birth table.births unit ordinal) (index_at table.births unit ordinal) unit →
+    option_and_then (λ row. if is_none (kept (suc unit) state table row) then Some row else None) (live_row order (known_by order earlier table) unit ordinal)
     ≡ (if is_at (death_by (known_by order earlier table) (suc unit) ordinal) (suc unit) then Some (row_by order (known_by order earlier table) unit ordinal) else None)
-unkept-row order earlier table unit ordinal state born held =
+unkept-row order earlier table unit ordinal state born finds =
     let known : Known = known_by order earlier table in
     let row : Row = row_by order known unit ordinal in
     let dies : Option ℕ = death_by known unit ordinal in
-    let goal : Option ℕ → Type 0 = λ d. option_and_then (λ row. if is_none (kept state table row) then Some row else None) (live_row order known unit ordinal) ≡ (if is_at d (suc unit) then Some row else None) in
+    let goal : Option ℕ → Type 0 = λ d. option_and_then (λ row. if is_none (kept (suc unit) state table row) then Some row else None) (live_row order known unit ordinal) ≡ (if is_at d (suc unit) then Some row else None) in
     subst goal (sym (death_by-early known unit ordinal born))
     (elim (cases_Bool (is_after dies unit)) [
       | inr dead ↦ rw (dead, is_at-passed dies unit dead) refl
       | inl alive ↦
-          let keeps : kept state table row ≡ aged_row order known unit ordinal = rw alive at (kept-live_row order earlier table unit ordinal state held) in
+          let keeps : kept (suc unit) state table row ≡ aged_row order known unit ordinal = rw alive at (kept-live_row order earlier table unit ordinal state born finds) in
           elim (cases_Bool (is_after dies (suc unit))) [
             | inl on ↦ rw (alive, keeps, on, is_at-later dies (suc unit) on) refl
             | inr over ↦ rw (alive, keeps, over, is_at-now dies unit alive over) refl
           ]
     ])
 
--- the unit of the last change of a known row
-abbrev change_of : Order → Known → ℕ → ℕ → ℕ
-change_of order known unit ordinal =
-    change_by order known.place known.table (birth known.table.births unit ordinal) (index_at known.table.births unit ordinal) unit
-
--- a kept row is due exactly where the next unit is that of its last change then
-updated-row : (order : Order) (known : Known) (unit ordinal : ℕ) → IfSome known.table.update (λ period. 1 ≤ period) → ordinal < born_count known.table.births unit →
-    option_and_then (λ (row : Row). if is_due row then Some (waited (suc unit) known.table row) else None) (aged_row order known unit ordinal)
-    ≡ (if is_after (death_by known (suc unit) ordinal) (suc unit) && change_of order known (suc unit) ordinal == suc unit then Some (row_by order known (suc unit) ordinal) else None)
-updated-row order known unit ordinal some born =
-    let births = known.table.births in
-    let moved : waited (suc unit) known.table (aged order known unit ordinal) ≡ row_by order known (suc unit) ordinal = waited-aged order known unit ordinal some born in
-    let change = NextChange-row order known unit ordinal some in
-    let at : ℕ → ℕ = change_by order known.place known.table (birth births unit ordinal) (index_at births unit ordinal) in
-    let later : change_of order known (suc unit) ordinal ≡ at (suc unit) =
-    ap (λ (b : ℕ). change_by order known.place known.table b (ordinal - first_ordinal births b) (suc unit)) (birth-early births unit ordinal born) in
-    let early : at unit ≤ unit =
-    change-le known.table.update unit (birth births unit ordinal) (first_due order known.place (birth births unit ordinal) (index_at births unit ordinal)) (birth-le births unit ordinal born) in
-    let result : Option ℕ → ℕ → Row → Option Row = λ d c row. if is_after d (suc unit) && c == suc unit then Some row else None in
-    let moved_row : Row = waited (suc unit) known.table (aged order known unit ordinal) in
-    let dies : Option ℕ = death_by known unit ordinal in
-    let here : option_and_then (λ (row : Row). if is_due row then Some (waited (suc unit) known.table row) else None) (aged_row order known unit ordinal) ≡ result dies (at (suc unit)) moved_row =
-    elim (cases_Bool (is_after dies (suc unit))) [
-      | inr dead ↦ rw dead refl
-      | inl alive ↦ elim (cases_Bool (is_due (aged order known unit ordinal))) [
-        | inl due ↦ rw (alive, due, eq-eqb (at (suc unit)) (suc unit) ((change.ends due).0)) refl
-        | inr on ↦ rw (alive, on, ne_eqb (at (suc unit)) (suc unit) (λ same. omega (arith, same, (change.goes_on on).0, early))) refl
-      ]
-    ] in
-    here
-    ∙ ap (λ (d : Option ℕ). result d (at (suc unit)) moved_row) (sym (death_by-early known unit ordinal born))
-    ∙ ap₂ (result (death_by known (suc unit) ordinal)) (sym later) moved
+-- a row that lives on past the next unit is the one that it updates exactly where it changes then
+updated-row : (order : Order) (known : Known) (unit ordinal : ℕ) →
+    option_and_then (λ (row : Row). if row.changed == unit then Some row else None) (live_row order known unit ordinal)
+    ≡ (if is_after (death_by known unit ordinal) unit && (row_by order known unit ordinal).changed == unit then Some (row_by order known unit ordinal) else None)
+updated-row order known unit ordinal = elim (cases_Bool (is_after (death_by known unit ordinal) unit)) [
+  | inl alive ↦ rw alive refl
+  | inr dead ↦ rw dead refl
+]
 
 -- what a test lets through is what it is
 some-passed : {X : Type 0} (passes : Bool) (x y : X) → Some x ≡ (if passes then Some y else None) → x ≡ y
@@ -95,19 +68,21 @@ some-passed false x y same = absurd (none-some x (sym same))
 module _ (units : ℕ) (generator : Generator) (sound : AreSound units generator.tables) (place : ℕ) (below : place < length generator.tables) where
   -- the rows of the tables before it after the deletions of a unit
   deletions-before : (unit : ℕ) → unit ≤ units →
-      take place (with_deletions generator (simulation generator unit)) ≡ map (λ known. aged_rows generator.order known unit) (take place (known_tables generator))
+      take place (with_deletions generator (suc unit) (simulation generator unit)) ≡ map (λ known. aged_rows generator.order known unit) (take place (known_tables generator))
   deletions-before unit within =
-      ap (λ state. take place (with_deletions generator state)) (simulation-live units generator sound unit within)
+      ap (λ state. take place (with_deletions generator (suc unit) state)) (simulation-live units generator sound unit within)
       ∙ ap (take place) (with_deletions-live units generator sound unit within)
       ∙ take-map (λ known. aged_rows generator.order known unit) place (known_tables generator)
 
-  -- and its own
-  deletions-at : (unit : ℕ) → unit ≤ units → get_or (with_deletions generator (simulation generator unit)) place [] ≡ aged_rows generator.order (known_of generator place) unit
-  deletions-at unit within =
-      ap (λ state. get_or (with_deletions generator state) place []) (simulation-live units generator sound unit within)
-      ∙ ap (λ (state : State). get_or state place []) (with_deletions-live units generator sound unit within)
-      ∙ get_or-map (λ known. aged_rows generator.order known unit) (known_tables generator) place nothing_known [] (omega (arith, length-known_tables generator, below))
-      ∙ ap (λ known. aged_rows generator.order known unit) (known_at-known_of generator place below)
+  -- and its own, after its updates
+  updates-at : (unit : ℕ) → unit ≤ units →
+      get_or (with_updates generator (suc unit) (with_deletions generator (suc unit) (simulation generator unit))) place [] ≡ older_rows generator.order (known_of generator place) (suc unit)
+  updates-at unit within =
+      ap (λ state. get_or (with_updates generator (suc unit) (with_deletions generator (suc unit) state)) place []) (simulation-live units generator sound unit within)
+      ∙ ap (λ (state : State). get_or (with_updates generator (suc unit) state) place []) (with_deletions-live units generator sound unit within)
+      ∙ ap (λ (state : State). get_or state place []) (with_updates-aged units generator sound unit)
+      ∙ get_or-map (λ known. older_rows generator.order known (suc unit)) (known_tables generator) place nothing_known [] (omega (arith, length-known_tables generator, below))
+      ∙ ap (λ known. older_rows generator.order known (suc unit)) (known_at-known_of generator place below)
 
   rows_at-live : (unit : ℕ) → unit ≤ units → rows_at generator place unit ≡ live_rows generator.order (known_of generator place) unit
   rows_at-live unit within = rows_at-rows_of units generator place unit sound within ∙ rows_of-live generator place unit
@@ -120,11 +95,11 @@ module _ (units : ℕ) (generator : Generator) (sound : AreSound units generator
       let known : Known = known_of generator place in
       let earlier : List Known = take place (known_tables generator) in
       let stepped : State = map (λ known. aged_rows generator.order known unit) earlier in
-      let test : Row → Bool = λ row. is_none (kept stepped table row) in
-      let keep : Row → Option Row = λ row. if is_none (kept stepped table row) then Some row else None in
+      let test : Row → Bool = λ row. is_none (kept (suc unit) stepped table row) in
+      let keep : Row → Option Row = λ row. if is_none (kept (suc unit) stepped table row) then Some row else None in
       let all : born_count table.births unit ≡ first_ordinal table.births (suc unit) = ap (first_ordinal table.births) (add-one unit) in
       let before : suc unit - 1 ≡ unit = omega arith in
-      ap₂ (λ (earlier : State) (rows : List Row). filter (λ row. is_none (kept earlier table row)) rows) (deletions-before unit (omega (arith, within))) (rows_at-live unit (omega (arith, within)))
+      ap₂ (λ (earlier : State) (rows : List Row). filter (λ row. is_none (kept (suc unit) earlier table row)) rows) (deletions-before unit (omega (arith, within))) (rows_at-live unit (omega (arith, within)))
       ∙ filter-filter_map test (live_rows generator.order known unit)
       ∙ filter_map-filter_map keep (live_row generator.order known unit) (range_with_len 0 (born_count table.births unit))
       ∙ filter_map-range_same (λ ordinal. option_and_then keep (live_row generator.order known unit ordinal))
@@ -133,7 +108,7 @@ module _ (units : ℕ) (generator : Generator) (sound : AreSound units generator
       let born : ordinal < born_count table.births unit = omega (arith, high) in
       let early : birth table.births unit ordinal ≤ unit = birth-le table.births unit ordinal born in
       unkept-row generator.order earlier table unit ordinal stepped born
-      (hold_parents-aged units generator.order earlier (sure_life generator.tables) table.births (birth table.births unit ordinal) (index_at table.births unit ordinal) (omega (arith, early, within))
+      (Finds-aged units generator.order earlier (sure_life generator.tables) table.births (birth table.births unit ordinal) (index_at table.births unit ordinal) (omega (arith, early, within))
       (index_at-below table.births unit ordinal born) unit early (references_of table) (refers-of units generator sound place below)))
       ∙ sym (map-filter (λ ordinal. is_at (death generator place (suc unit) ordinal) (suc unit)) (row_at generator place unit) (range_with_len 0 (born_count table.births unit)))
       ∙ ap₂ (λ (u n : ℕ). map (row_at generator place u) (filter (λ ordinal. is_at (death generator place (suc unit) ordinal) (suc unit)) (range_with_len 0 n))) (sym before) all
@@ -144,22 +119,20 @@ module _ (units : ℕ) (generator : Generator) (sound : AreSound units generator
   updated-changing (suc unit) within =
       let table : TableLayout = table_at generator.tables place in
       let known : Known = known_of generator place in
-      let keep : Row → Option Row = λ row. if is_due row then Some (waited (suc unit) table row) else None in
-      let all : born_count table.births unit ≡ first_ordinal table.births (suc unit) = ap (first_ordinal table.births) (add-one unit) in
+      let test : Row → Bool = λ row. row.changed == suc unit in
+      let keep : Row → Option Row = λ row. if row.changed == suc unit then Some row else None in
+      let count : ℕ = first_ordinal table.births (suc unit) in
       let changes : ℕ → Bool = λ ordinal. is_live generator place (suc unit) ordinal && change_unit generator place (suc unit) ordinal == suc unit in
-      ap (λ (rows : List Row). map (waited (suc unit) table) (filter is_due rows)) (deletions-at unit (omega (arith, within)))
-      ∙ map-filter is_due (waited (suc unit) table) (aged_rows generator.order known unit)
-      ∙ filter_map-filter_map keep (aged_row generator.order known unit) (range_with_len 0 (born_count table.births unit))
-      ∙ filter_map-range_same (λ ordinal. option_and_then keep (aged_row generator.order known unit ordinal))
-      (λ ordinal. if changes ordinal then Some (row_at generator place (suc unit) ordinal) else None) 0 (born_count table.births unit)
+      ap (filter test) (updates-at unit (omega (arith, within)))
+      ∙ filter-filter_map test (older_rows generator.order known (suc unit))
+      ∙ filter_map-filter_map keep (live_row generator.order known (suc unit)) (range_with_len 0 count)
+      ∙ filter_map-range_same (λ ordinal. option_and_then keep (live_row generator.order known (suc unit) ordinal))
+      (λ ordinal. if changes ordinal then Some (row_at generator place (suc unit) ordinal) else None) 0 count
       (λ ordinal low high.
-      updated-row generator.order known unit ordinal ((sound place below).period) (omega (arith, high))
-      ∙ ap (λ (p : ℕ).
-      if is_live generator place (suc unit) ordinal && change_by generator.order p table (birth table.births (suc unit) ordinal) (index_at table.births (suc unit) ordinal) (suc unit) == suc unit
-      then Some (row_at generator place (suc unit) ordinal) else None)
-      (length-known_before generator place below))
-      ∙ sym (map-filter changes (row_at generator place (suc unit)) (range_with_len 0 (born_count table.births unit)))
-      ∙ ap (λ (n : ℕ). map (row_at generator place (suc unit)) (filter changes (range_with_len 0 n))) all
+      updated-row generator.order known (suc unit) ordinal
+      ∙ ap (λ (changed : ℕ). if is_live generator place (suc unit) ordinal && changed == suc unit then Some (row_at generator place (suc unit) ordinal) else None)
+      (row_at-changed generator place (suc unit) ordinal below))
+      ∙ sym (map-filter changes (row_at generator place (suc unit)) (range_with_len 0 count))
 
   -- the rows that the tables before it hold after the insertions of a unit
   simulation-before : (unit : ℕ) → unit ≤ units → take place (simulation generator unit) ≡ map (λ known. live_rows generator.order known unit) (take place (known_tables generator))
@@ -218,7 +191,7 @@ module _ (units : ℕ) (generator : Generator) (sound : AreSound units generator
       ∙ some-passed (is_live generator place unit (first_ordinal table.births unit + index)) _ _
       (new_row-live_row generator.order earlier table unit index state places inside (sound place below).life
       (parent_choice-all units generator.order earlier (sure_life generator.tables) table.births unit index within inside (length state) places (references_of table) (refers-of units generator sound place below))
-      (parents-alive_now units generator.order earlier (sure_life generator.tables) table.births unit index within inside (references_of table) (refers-of units generator sound place below))))
+      (parents-alive_now units generator.order earlier (sure_life generator.tables) table.births unit index within inside (cascades_of table) (cascades-of units generator sound place below))))
 
   pub inserted-newborn : (unit : ℕ) → unit ≤ units → inserted generator place unit ≡ map (row_at generator place unit) (newborn generator place unit)
   inserted-newborn unit within = inserted-cohort unit within ∙ cohort-newborn unit within

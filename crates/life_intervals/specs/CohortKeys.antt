@@ -1,9 +1,9 @@
 -- The keys of one cohort, and what the code keeps of them.
 use Rattle.std.specs.Prelude.{◌≡◌, ◌≤◌, ℕ, ◌+◌, ◌^◌}
 use Rattle.id_permutation.specs.Order.{Arrangement}
-use Rattle.schema_plan.specs.Cohorts.{cohort_size, first_ordinal}
+use Rattle.cohort_sizes.specs.Births.{cohort_size, first_ordinal}
 use Rattle.schema_plan.specs.Dictionaries.{Project}
-use Rattle.life_intervals.specs.declared.cohorts.Cohort.{Cohort}
+use Rattle.cohort_sizes.specs.declared.cohort.Cohort.{Cohort}
 use Rattle.life_intervals.specs.Generator.{table_of}
 use Rattle.life_intervals.specs.CohortOrders.{key_order}
 

@@ -3,13 +3,14 @@ use Rattle.std.specs.Prelude.{◌≡◌, ◌<◌, ◌≤◌, ℕ, ◌+◌, lengt
 use Rattle.std.specs.Option.{option_map}
 use Rattle.id_permutation.specs.Order.{Arrangement}
 use Rattle.schema_plan.specs.declared.layout.Span.{Span}
-use Rattle.schema_plan.specs.Cohorts.{cohort_size, first_ordinal}
+use Rattle.cohort_sizes.specs.Births.{cohort_size, first_ordinal}
 use Rattle.schema_plan.specs.Dictionaries.{Project}
 use Rattle.schema_plan.specs.Limits.{IsInLimits, IsLife, IsUpdatePeriod}
 use Rattle.schema_plan.specs.Layout.{layout_of}
 use Rattle.schema_plan.specs.Lineage.{longest_life, sure_life}
 use Rattle.life_intervals.specs.declared.lives.Survival.{Survival}
 use Rattle.life_intervals.specs.declared.lives.Survival.TheVariants.{Sure, Drawn, Over}
+use Rattle.life_intervals.specs.Changes.{due_by, has_nullings}
 use Rattle.life_intervals.specs.CohortKeys.{CohortOf}
 use Rattle.life_intervals.specs.CohortOrders.{life_order, update_order}
 use Rattle.life_intervals.specs.Generator.{generator_of, last_unit, table_of}
@@ -62,6 +63,11 @@ death_in cohort index = death (generator_of cohort.plan) cohort.table cohort.uni
 abbrev pub is_live_in : CohortAt → ℕ → Bool
 is_live_in cohort index = is_live (generator_of cohort.plan) cohort.table cohort.unit (ordinal_in cohort index)
 
+-- the last unit at which it is due, or its birth
+abbrev pub due_in : CohortAt → ℕ → ℕ
+due_in cohort index =
+    due_by (generator_of cohort.plan).order cohort.table (table_of cohort.plan cohort.table) cohort.born index cohort.unit
+
 -- the unit of its last change
 abbrev pub change_in : CohortAt → ℕ → ℕ
 change_in cohort index = change_unit (generator_of cohort.plan) cohort.table cohort.unit (ordinal_in cohort index)
@@ -83,7 +89,10 @@ pub record AreLivesOf (cohort : CohortAt) (parents : CohortOf) (life : Option Sp
   pub order : placed ≡ life_order cohort.plan cohort.table cohort.born
 
 -- what is kept is of its changes
-pub record AreChangesOf (cohort : CohortAt) (update : Option ℕ) (placed : Arrangement) : Type 0 where
+pub record AreChangesOf (cohort : CohortAt) (update : Option ℕ) (placed : Arrangement) (nulls : Bool) (parents : CohortOf) : Type 0 where
+  pub sound : IsInLimits cohort.plan
+  pub nulls_are : nulls ≡ has_nullings (table_of cohort.plan cohort.table)
+  pub parents_are : parents ≡ cohort_of cohort
   pub cohort_is : IsCohortAt cohort
   pub update_is : update ≡ (table_of cohort.plan cohort.table).update
   pub limits : IfSome update IsUpdatePeriod

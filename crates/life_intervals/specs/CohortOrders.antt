@@ -5,7 +5,7 @@ use Rattle.std.specs.Option.{option_map_or}
 use Rattle.philox_seeds.specs.SeedTree.{key_order_seed, life_order_seed, update_order_seed}
 use Rattle.id_permutation.specs.Order.{Arrangement}
 use Rattle.schema_plan.specs.declared.layout.Span.{Span}
-use Rattle.schema_plan.specs.Cohorts.{cohort_size}
+use Rattle.cohort_sizes.specs.Births.{cohort_size}
 use Rattle.schema_plan.specs.Dictionaries.{Project}
 use Rattle.schema_plan.specs.Layout.{layout_of}
 use Rattle.life_intervals.specs.declared.orders.CohortOrders.{CohortOrders}

@@ -1,5 +1,5 @@
 -- The parents of a cohort's rows, and what the code keeps of the rows that they are chosen of.
-use Rattle.std.specs.Prelude.{◌≡◌, ◌<◌, ◌≤◌, ◌⊎◌, ℕ, ◌+◌, max, Bool, true, false, if◌then◌else◌, List, [], length, map, sum_by, Option, take}
+use Rattle.std.specs.Prelude.{◌≡◌, ◌<◌, ◌≤◌, ◌⊎◌, ℕ, ◌+◌, max, Bool, true, false, if◌then◌else◌, List, [], length, map, sum_by, Option, None, take}
 use Rattle.std.specs.List.{list_any, range_with_len}
 use Rattle.std.specs.Option.{option_map}
 use Rattle.philox_seeds.specs.SeedTree.{reference_order_seed}
@@ -10,18 +10,19 @@ use Rattle.schema_plan.specs.declared.ready.ReadyKind.TheVariants as kind
 use Rattle.schema_plan.specs.Dictionaries.{Project}
 use Rattle.schema_plan.specs.Layout.{TableLayout, column_at, layout_of, table_at}
 use Rattle.schema_plan.specs.Limits.{IsInLimits}
-use Rattle.schema_plan.specs.Lineage.{death_cost, one_if}
+use Rattle.schema_plan.specs.Lineage.{death_cost, loss_cost, one_if}
 use Rattle.schema_plan.specs.Ready.{ready_columns, ready_kind}
-use Rattle.schema_plan.specs.References.{Reference, count_in_window, first_in_window, reference_at, references_of}
+use Rattle.schema_plan.specs.References.{Reference, cascades_of, count_in_window, first_in_window, reference_at, references_of}
 use Rattle.life_intervals.specs.declared.candidates.Candidates.{Candidates}
 use Rattle.life_intervals.specs.CohortKeys.{CohortOf}
-use Rattle.life_intervals.specs.CohortOrders.{do_lives_differ, order_by}
+use Rattle.life_intervals.specs.CohortOrders.{do_lives_differ, do_updates_differ, order_by}
 use Rattle.life_intervals.specs.Generator.{generator_of, last_unit, table_of}
-use Rattle.life_intervals.specs.Intervals.{death, first_death, known_tables, parent_by}
+use Rattle.life_intervals.specs.Intervals.{death, first_death, held_until, known_tables, parent_by}
 
 -- the reference that is ready in the column at a place
 abbrev pub reference_by : ℕ → ReadyReference → Reference
-reference_by column ready = record { column = column; parent = ready.parent; window = ready.window; spread = ready.spread }
+reference_by column ready =
+    record { column = column; parent = ready.parent; window = ready.window; spread = ready.spread; nulls = ready.nulls }
 
 -- a reference is ready in the column at a place of the table at a place
 pub record IsReferenceOf (plan : Project) (table column : ℕ) (ready : ReadyReference) : Type 0 where
@@ -49,6 +50,14 @@ is_reference column = is_reference_kind column.kind
 abbrev pub has_references : Project → ℕ → Bool
 has_references plan table = list_any is_reference (ready_columns (layout_of plan) table)
 
+abbrev pub is_nulling_kind : ReadyKind → Bool
+is_nulling_kind (kind.Reference ready) = ready.nulls
+is_nulling_kind _ = false
+
+-- a column that is ready as a reference that may become null
+abbrev pub is_nulling : ReadyColumn → Bool
+is_nulling column = is_nulling_kind column.kind
+
 -- for each column of the table at a place, None where it is no reference; for no column where the table has none
 abbrev pub cohort_candidates : Project → ℕ → ℕ → List (Option Candidates)
 cohort_candidates plan table unit =
@@ -69,20 +78,49 @@ abbrev pub parent_in : CohortOf → ℕ → Reference → ℕ
 parent_in cohort index reference =
     parent_by (generator_of cohort.plan).order (take cohort.table (known_tables (generator_of cohort.plan))) cohort.unit index reference
 
--- the unit at which the first of its parents dies; None where none ever does
+-- the unit at which it loses that parent; None where it never does, and where the parent takes it along
+abbrev pub loss_in : CohortOf → ℕ → Reference → Option ℕ
+loss_in cohort index reference =
+    if reference.nulls
+    then death (generator_of cohort.plan) reference.parent (last_unit cohort.plan) (parent_in cohort index reference)
+    else None
+
+-- those of all its parents
+abbrev pub losses_in : CohortOf → ℕ → List (Option ℕ)
+losses_in cohort index = map (loss_in cohort index) (references_of (table_of cohort.plan cohort.table))
+
+-- the ordinal of that parent, where the row still has it at a unit
+abbrev pub held_in : CohortOf → ℕ → ℕ → Reference → Option ℕ
+held_in cohort index unit reference =
+    held_until (loss_in cohort index reference) unit (parent_in cohort index reference)
+
+-- the unit at which the first of the parents dies that take it along; None where none ever does
 abbrev pub parents_death_in : CohortOf → ℕ → Option ℕ
 parents_death_in cohort index =
     first_death (map (λ (reference : Reference). death (generator_of cohort.plan) reference.parent (last_unit cohort.plan) (parent_in cohort index reference))
-    (references_of (table_of cohort.plan cohort.table)))
+    (cascades_of (table_of cohort.plan cohort.table)))
 
--- how many permutations the deaths of all parents of a row of the table at a place take at most
-abbrev pub references_cost : List TableLayout → ℕ → ℕ
-references_cost tables table = sum_by (λ (reference : Reference). 1 + death_cost tables reference.parent) (references_of (table_at tables table))
+-- how many permutations the death of the parent by a reference takes at most, with the one that finds the parent
+abbrev pub parent_cost : List TableLayout → Reference → ℕ
+parent_cost tables reference = 1 + death_cost tables reference.parent
+
+-- how many the deaths of all parents take that take a row of the table at a place along
+abbrev pub cascades_cost : List TableLayout → ℕ → ℕ
+cascades_cost tables table = sum_by (parent_cost tables) (cascades_of (table_at tables table))
+
+-- how many permutations tell at most the parent that a row still has by a reference
+abbrev pub held_cost : List TableLayout → Reference → ℕ
+held_cost tables reference = if reference.nulls then parent_cost tables reference else 1
 
 -- how many permutations the death of a row takes at most, by its cohort: that of its own life where lives of the table differ, and
--- those of the deaths of all parents
+-- those of the deaths of all parents that take it along
 abbrev pub asked_for_death : Project → ℕ → ℕ
-asked_for_death plan table = one_if (do_lives_differ (table_of plan table).life) + references_cost (layout_of plan).tables table
+asked_for_death plan table = one_if (do_lives_differ (table_of plan table).life) + cascades_cost (layout_of plan).tables table
+
+-- how many the last change of a row takes at most, by its cohort: that of its updates where rows of a cohort may be due at different
+-- units, and those of the deaths of all parents that it may lose
+abbrev pub asked_for_change : Project → ℕ → ℕ
+asked_for_change plan table = one_if (do_updates_differ (table_of plan table).update) + loss_cost (layout_of plan).tables table
 
 -- what is kept is of a cohort of a plan
 pub record AreParentsOf (cohort : CohortOf) (kept : List (Option Candidates)) : Type 0 where

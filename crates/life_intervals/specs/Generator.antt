@@ -2,7 +2,7 @@
 use Rattle.std.specs.Prelude.{ℕ, List}
 use Rattle.philox_seeds.specs.SeedTree.{field_draw, permutation_seed}
 use Rattle.id_permutation.specs.Placement as placement
-use Rattle.schema_plan.specs.Cohorts.{born_count, cohort_size}
+use Rattle.cohort_sizes.specs.Births.{born_count, cohort_size}
 use Rattle.schema_plan.specs.Dictionaries.{Project}
 use Rattle.schema_plan.specs.Layout.{Layout, layout_of, TableLayout, table_at}
 

@@ -1,47 +1,32 @@
 -- The closed form of the simulation: what an ordinal alone tells of its row.
-use Rattle.std.specs.Prelude.{ℕ, zero, suc, ◌+◌, ◌-◌, ◌<◌, ◌≤◌, ◌==◌, Bool, true, false, ◌&&◌, if◌then◌else◌, nat_lt, List, [], ◌∷◌, filter, length, map, slice_index_or, take, Option, Some, None}
+use Rattle.std.specs.Prelude.{ℕ, ◌+◌, ◌-◌, ◌==◌, Bool, true, false, ◌&&◌, if◌then◌else◌, nat_lt, List, [], ◌∷◌, filter, length, map, slice_index_or, take, zip, Option, Some, None}
 use Rattle.std.specs.List.{range_with_len}
 use Rattle.std.specs.Option.{option_map}
 use Rattle.philox_seeds.specs.SeedTree.{life_column}
-use Rattle.schema_plan.specs.declared.layout.Births.{Births}
-use Rattle.schema_plan.specs.Cohorts.{born_count, cohort_size, first_ordinal}
+use Rattle.cohort_sizes.specs.Births.{birth, born_count, cohort_size, first_ordinal, index_at}
 use Rattle.schema_plan.specs.InTurn.{in_turn}
 use Rattle.schema_plan.specs.Layout.{TableLayout, no_table, table_at}
 use Rattle.schema_plan.specs.Lineage.{lesser_life}
 use Rattle.life_intervals.specs.Changes.{change_by, wait_by}
 use Rattle.life_intervals.specs.Generator.{Generator, Order}
-use Rattle.schema_plan.specs.References.{Reference, count_in_window, first_in_window, references_of}
+use Rattle.schema_plan.specs.References.{Reference, cascades_of, count_in_window, first_in_window, references_of}
 use Rattle.life_intervals.specs.References.{choice}
 use Rattle.life_intervals.specs.Rows.{Row, State, life_by}
 
--- ---- births
-
--- an ordinal lies in the cohort of a unit
-pub record LiesIn (births : Births) (unit ordinal : ℕ) : Type 0 where
-  pub begun : first_ordinal births unit ≤ ordinal
-  pub not_ended : ordinal < first_ordinal births unit + cohort_size births unit
-
--- the birth unit of an ordinal that is born by a last unit: the last one, where no unit before it has the ordinal
-unfoldable pub birth : Births → ℕ → ℕ → ℕ
-birth births zero ordinal = 0
-birth births (suc unit) ordinal = if nat_lt ordinal (born_count births unit) then birth births unit ordinal else suc unit
-
--- the index of such an ordinal in its cohort
-abbrev pub index_at : Births → ℕ → ℕ → ℕ
-index_at births last ordinal = ordinal - first_ordinal births (birth births last ordinal)
-
 -- ---- parents and deaths, by birth unit and index
 
--- the table at a place, with the parents of the row that has an index in a unit's cohort, and with its death
+-- the table at a place, with the parents of the row that has an index in a unit's cohort, with when it loses each (None: never), and
+-- with its death
 pub record Known : Type 0 where
   pub table : TableLayout
   pub place : ℕ
   pub parents : ℕ → ℕ → List ℕ
+  pub losses : ℕ → ℕ → List (Option ℕ)
   pub death : ℕ → ℕ → Option ℕ
 
 -- what stands past the last table
 abbrev pub nothing_known : Known
-nothing_known = record { table = no_table; place = 0; parents = λ unit index. []; death = λ unit index. None }
+nothing_known = record { table = no_table; place = 0; parents = λ unit index. []; losses = λ unit index. []; death = λ unit index. None }
 
 -- the table at a place among those that are known
 abbrev pub known_at : List Known → ℕ → Known
@@ -69,20 +54,28 @@ abbrev pub parent_death_by : Order → List Known → ℕ → ℕ → Reference 
 parent_death_by order earlier unit index reference =
     death_by (known_at earlier reference.parent) unit (parent_by order earlier unit index reference)
 
+-- the unit at which a row loses its parent by a reference: the death of that one, where the reference becomes null. None where it never
+-- does, and where the parent takes it along
+abbrev pub loss_by : Order → List Known → ℕ → ℕ → Reference → Option ℕ
+loss_by order earlier unit index reference =
+    if reference.nulls then parent_death_by order earlier unit index reference else None
+
 -- the first of some deaths; None never comes
 abbrev pub first_death : List (Option ℕ) → Option ℕ
 first_death [] = None
 first_death (death ∷ others) = lesser_life death (first_death others)
 
--- what is known of a table, by what is known of those before it: a row dies when its own life ends or a parent dies
+-- what is known of a table, by what is known of those before it: a row dies when its own life ends or a parent dies that takes it
+-- along
 abbrev pub known_by : Order → List Known → TableLayout → Known
 known_by order earlier table = record {
   table = table;
   place = length earlier;
   parents = λ unit index. map (parent_by order earlier unit index) (references_of table);
+  losses = λ unit index. map (loss_by order earlier unit index) (references_of table);
   death =
       λ unit index. first_death (own_death_by order (length earlier) table unit index
-      ∷ map (parent_death_by order earlier unit index) (references_of table));
+      ∷ map (parent_death_by order earlier unit index) (cascades_of table));
 }
 
 -- what is known of each table, in order
@@ -106,6 +99,10 @@ abbrev pub is_at : Option ℕ → ℕ → Bool
 is_at None unit = false
 is_at (Some death) unit = death == unit
 
+-- a parent, up to when it is lost
+abbrev pub held_until : Option ℕ → ℕ → ℕ → Option ℕ
+held_until loss unit parent = if is_after loss unit then Some parent else None
+
 -- the row of an ordinal of a known table, at a unit by which it is born
 abbrev pub row_by : Order → Known → ℕ → ℕ → Row
 row_by order known unit ordinal =
@@ -115,10 +112,11 @@ row_by order known unit ordinal =
     record {
       ordinal = ordinal;
       born = born;
-      changed = change_by order known.place known.table born index unit;
+      changed = change_by order known.place known.table (known.losses born index) born index unit;
       left = option_map (λ death. death - unit) (own_death_by order known.place known.table born index);
       wait = wait_by order known.place known.table born index unit;
-      parents = known.parents born index;
+      parents =
+          map (λ (at : ℕ × Option ℕ). held_until at.1 unit at.0) (zip (known.parents born index) (known.losses born index));
     }
 
 -- ---- the table at a place of a generator, by ordinals that are born by a unit
@@ -140,11 +138,24 @@ parent_of generator place unit ordinal reference =
     parent_by generator.order (take place (known_tables generator))
     (birth births unit ordinal) (index_at births unit ordinal) reference
 
+-- the unit at which the row loses that parent
+abbrev pub loss_of : Generator → ℕ → ℕ → ℕ → Reference → Option ℕ
+loss_of generator place unit ordinal reference =
+    let births = (table_at generator.tables place).births in
+    loss_by generator.order (take place (known_tables generator))
+    (birth births unit ordinal) (index_at births unit ordinal) reference
+
+-- the parent, where the row still has it at the unit
+abbrev pub held_parent : Generator → ℕ → ℕ → ℕ → Reference → Option ℕ
+held_parent generator place unit ordinal reference =
+    held_until (loss_of generator place unit ordinal reference) unit (parent_of generator place unit ordinal reference)
+
 -- the unit of a row's last change by the unit
 abbrev pub change_unit : Generator → ℕ → ℕ → ℕ → ℕ
 change_unit generator place unit ordinal =
     let table = table_at generator.tables place in
-    change_by generator.order place table (birth table.births unit ordinal) (index_at table.births unit ordinal) unit
+    change_by generator.order place table (map (loss_of generator place unit ordinal) (references_of table))
+    (birth table.births unit ordinal) (index_at table.births unit ordinal) unit
 
 -- whether a row is alive at the unit
 abbrev pub is_live : Generator → ℕ → ℕ → ℕ → Bool

@@ -2,10 +2,9 @@
 use Rattle.std.specs.Prelude.{ℕ, ◌+◌, ◌-◌, ◌<◌, if◌then◌else◌}
 use Rattle.philox_seeds.specs.SeedTree as seeds
 use Rattle.id_permutation.specs.Walk.{IsBijectionBelow}
-use Rattle.schema_plan.specs.Cohorts.{cohort_size, first_ordinal}
+use Rattle.cohort_sizes.specs.Births.{birth, cohort_size, first_ordinal}
 use Rattle.schema_plan.specs.Layout.{table_at}
 use Rattle.life_intervals.specs.Generator.{Generator}
-use Rattle.life_intervals.specs.Intervals.{birth}
 
 -- the place of an index among the keys of a unit's cohort of the table at a place: its own where they aren't scrambled
 abbrev pub place_in_cohort : Generator → ℕ → ℕ → ℕ → ℕ

@@ -4,21 +4,22 @@ use Rattle.std.specs.List.{range_with_len}
 use Rattle.std.specs.Option.{option_map}
 use Rattle.philox_seeds.specs.SeedTree.{life_column, update_column}
 use Rattle.schema_plan.specs.declared.layout.Span.{Span}
-use Rattle.schema_plan.specs.Cohorts.{cohort_size, first_ordinal}
+use Rattle.cohort_sizes.specs.Births.{cohort_size, first_ordinal}
 use Rattle.schema_plan.specs.Layout.{TableLayout}
 use Rattle.life_intervals.specs.Generator.{Order}
 use Rattle.schema_plan.specs.References.{Reference, references_of}
 use Rattle.life_intervals.specs.References.{choice}
 
 -- a row: its place in the order of birth in its table, its birth unit, the unit of its last change, how many units are left to the
--- end of its own life and to its next update (None: it has none), and for each reference of its table the ordinal of its parent
+-- end of its own life and to its next update (None: it has none), and for each reference of its table the ordinal of its parent (None:
+-- it lost it)
 pub record Row : Type 0 where
   pub ordinal : ℕ
   pub born : ℕ
   pub changed : ℕ
   pub left : Option ℕ
   pub wait : Option ℕ
-  pub parents : List ℕ
+  pub parents : List (Option ℕ)
 
 -- the rows that each table holds: tables in schema order, rows in order of birth
 abbrev pub State : Type 0
@@ -55,8 +56,8 @@ new_row order unit earlier table index = record {
   left = life_by table.life (order (length earlier) life_column unit index);
   wait = first_age_by table.update (order (length earlier) update_column unit index);
   parents =
-      map (λ (reference : Reference). parent_choice reference unit (slice_index_or earlier reference.parent [])
-      (order (length earlier) reference.column unit index)) (references_of table);
+      map (λ (reference : Reference). Some (parent_choice reference unit (slice_index_or earlier reference.parent [])
+      (order (length earlier) reference.column unit index))) (references_of table);
 }
 
 -- the rows that are born at a unit, in order of index

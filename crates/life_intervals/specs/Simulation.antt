@@ -1,5 +1,5 @@
 -- The simulation: lists of rows, one for each table, stepped unit by unit.
-use Rattle.std.specs.Prelude.{ℕ, zero, suc, ◌-◌, ◌==◌, Bool, false, not, ◌&&◌, if◌then◌else◌, List, [], ◌++◌, filter_map, map, zip, slice_index_or, Option, Some, None}
+use Rattle.std.specs.Prelude.{ℕ, zero, suc, ◌-◌, ◌==◌, Bool, false, not, ◌&&◌, ◌||◌, if◌then◌else◌, List, [], ◌++◌, filter_map, map, zip, slice_index_or, Option, Some, None}
 use Rattle.std.specs.List.{list_all, list_any}
 use Rattle.std.specs.Option.{option_map}
 use Rattle.schema_plan.specs.InTurn.{in_turn}
@@ -23,17 +23,42 @@ is_over (Some n) = n == 0
 abbrev pub holds_row : List Row → ℕ → Bool
 holds_row rows ordinal = list_any (λ (row : Row). row.ordinal == ordinal) rows
 
--- whether each parent is in its table
-abbrev pub hold_parents : State → List Reference → List ℕ → Bool
+-- whether the parent that a row has by a reference is gone from its table; one that it lost before isn't any more
+abbrev pub is_gone : State → Reference × Option ℕ → Bool
+is_gone state (reference, None) = false
+is_gone state (reference, Some parent) = not (holds_row (slice_index_or state reference.parent []) parent)
+
+-- whether none is that takes it along
+abbrev pub hold_parents : State → List Reference → List (Option ℕ) → Bool
 hold_parents state references parents =
-    list_all (λ (at : Reference × ℕ). holds_row (slice_index_or state at.0.parent []) at.1) (zip references parents)
+    list_all (λ (at : Reference × Option ℕ). at.0.nulls || not (is_gone state at)) (zip references parents)
+
+-- whether it loses the parent: that is gone, and the reference becomes null
+abbrev pub is_lost : State → Reference × Option ℕ → Bool
+is_lost state at = at.0.nulls && is_gone state at
+
+-- whether it loses one
+abbrev pub lose_parents : State → List Reference → List (Option ℕ) → Bool
+lose_parents state references parents = list_any (is_lost state) (zip references parents)
+
+-- the parents that it still has
+abbrev pub parents_left : State → List Reference → List (Option ℕ) → List (Option ℕ)
+parents_left state references parents =
+    map (λ (at : Reference × Option ℕ). if is_lost state at then None else at.1) (zip references parents)
 
 -- a row after the deletions of a unit, which `earlier`, the tables before its own, have behind them; None where its own life ends
--- or a parent is gone
-abbrev pub kept : State → TableLayout → Row → Option Row
-kept earlier table row =
+-- or a parent is gone that takes it along. Where it loses another it changes
+abbrev pub kept : ℕ → State → TableLayout → Row → Option Row
+kept unit earlier table row =
     let left = one_less row.left in
-    if not (is_over left) && hold_parents earlier (references_of table) row.parents then Some (record row { left = left }) else None
+    let references = references_of table in
+    if not (is_over left) && hold_parents earlier references row.parents
+    then Some (record row {
+      changed = if lose_parents earlier references row.parents then unit else row.changed;
+      left = left;
+      parents = parents_left earlier references row.parents;
+    })
+    else None
 
 -- whether a row is updated at the next unit, where it is kept
 abbrev pub is_due : Row → Bool
@@ -47,8 +72,8 @@ waited unit table row =
 -- ---- a step
 
 -- a table's rows after the deletions of a unit
-abbrev pub without_dead : State → TableLayout × List Row → List Row
-without_dead earlier (table, rows) = filter_map (kept earlier table) rows
+abbrev pub without_dead : ℕ → State → TableLayout × List Row → List Row
+without_dead unit earlier (table, rows) = filter_map (kept unit earlier table) rows
 
 -- a table's rows after the updates of a unit
 abbrev pub with_changes : ℕ → State → TableLayout × List Row → List Row
@@ -59,8 +84,8 @@ abbrev pub with_cohort : Order → ℕ → State → TableLayout × List Row →
 with_cohort order unit earlier (table, rows) = rows ++ cohort order unit earlier table
 
 -- the deletions of a unit, table by table
-abbrev pub with_deletions : Generator → State → State
-with_deletions generator state = in_turn without_dead [] (zip generator.tables state)
+abbrev pub with_deletions : Generator → ℕ → State → State
+with_deletions generator unit state = in_turn (without_dead unit) [] (zip generator.tables state)
 
 -- the updates of a unit
 abbrev pub with_updates : Generator → ℕ → State → State
@@ -72,7 +97,7 @@ with_insertions generator unit state = in_turn (with_cohort generator.order unit
 
 -- a step to a unit from the unit before it
 abbrev pub step : Generator → ℕ → State → State
-step generator unit state = with_insertions generator unit (with_updates generator unit (with_deletions generator state))
+step generator unit state = with_insertions generator unit (with_updates generator unit (with_deletions generator unit state))
 
 -- ---- the units
 

@@ -1,6 +1,6 @@
 -- Tables of which the simulation has a closed form.
 use Rattle.std.specs.Prelude.{ℕ, ◌<◌, ◌≤◌, All, IfSome, List, length}
-use Rattle.schema_plan.specs.Cohorts.{born_count, cohort_size}
+use Rattle.cohort_sizes.specs.Births.{born_count, cohort_size}
 use Rattle.schema_plan.specs.Layout.{TableLayout, table_at}
 use Rattle.schema_plan.specs.Limits.{IsSpan}
 use Rattle.schema_plan.specs.Lineage.{sure_life}

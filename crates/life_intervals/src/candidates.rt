@@ -2,7 +2,7 @@
 
 ghost use Rattle.std.specs.Prelude.{◌≡◌, ◌+◌, ◌-◌, ◌<◌, ◌≤◌, ◌^◌, IfOk, length, max, sum};
 ghost use Rattle.id_permutation.specs.Order.{order_steps, place_in};
-ghost use Rattle.schema_plan.specs.Cohorts.{born_count};
+ghost use Rattle.cohort_sizes.specs.Births.{born_count};
 ghost use Rattle.schema_plan.specs.References.{IsSpread, count_in_window, first_in_window};
 ghost use Rattle.life_intervals.specs.CohortParents.{IsReferenceOf, candidates_by, cohort_candidates, has_references, is_reference, reference_by, table_candidates};
 ghost use Rattle.life_intervals.specs.Generator.{last_unit, table_of};

@@ -1,16 +1,17 @@
 //! Which rows of a cohort are alive at a unit, and when they changed last, with what doesn't change from row to row taken once.
 
-ghost use Rattle.std.specs.Prelude.{◌≡◌, ◌+◌, ◌<◌, ◌≤◌, ◌⊎◌, ℕ, IfSome, false, length, min, true};
+ghost use Rattle.std.specs.Prelude.{◌≡◌, ◌+◌, ◌<◌, ◌≤◌, ◌⊎◌, ℕ, false, length, true};
 ghost use Rattle.schema_plan.specs.Lineage.{one_if};
-ghost use Rattle.life_intervals.specs.CohortLives.{change_in, cohort_of, death_in, is_live_in, own_death_in, size_of, survival_of};
-ghost use Rattle.schema_plan.specs.Cohorts.{born_count};
-ghost use Rattle.life_intervals.specs.CohortParents.{AreCandidates, IsReferenceOf, asked_for_death, parent_in, reference_by};
+ghost use Rattle.life_intervals.specs.Changes.{change_span};
+ghost use Rattle.life_intervals.specs.CohortLives.{change_in, cohort_of, death_in, due_in, is_live_in, own_death_in, size_of, survival_of};
+ghost use Rattle.cohort_sizes.specs.Births.{born_count};
+ghost use Rattle.life_intervals.specs.CohortParents.{AreCandidates, IsReferenceOf, asked_for_change, asked_for_death, parent_in, reference_by};
 ghost use Rattle.life_intervals.specs.CohortOrders.{do_lives_differ, do_updates_differ, life_order, update_order};
 ghost use Rattle.life_intervals.specs.Generator.{last_unit, table_of};
 
 use crate::candidates::Candidates;
 use crate::lives::{Survival, last_due, lifetime, survival_at};
-use crate::parents::{CohortParents, earlier};
+use crate::parents::{CohortParents, earlier, has_nullings};
 use id_permutation::Order;
 use schema_plan::{Plan, ReadyReference, Span};
 use std::marker::Model;
@@ -110,9 +111,9 @@ impl<'a> CohortLives<'a> {
         }
     }
 
-    /// The unit at which the row with this index in the cohort dies, by its own life or with the first of its parents; None where it
-    /// never does. It takes one step where lives of the table differ, and for each reference one and at most as many as the cost of
-    /// the parent's death says.
+    /// The unit at which the row with this index in the cohort dies, by its own life or with the first of the parents that take it along;
+    /// None where it never does. It takes one step where lives of the table differ, and for each reference that doesn't become null one
+    /// and at most as many as the cost of the parent's death says.
     #[inline]
     pub fn death<L: Ledger>(&self, index: u64, steps: &mut Steps<L>) -> Option<u64>
         requires { index < size_of self.now }
@@ -146,6 +147,8 @@ pub struct CohortChanges<'a> {
     unit: u64,
     update: Option<u64>,
     order: &'a Order,
+    nulls: bool,
+    parents: CohortParents<'a>,
 }
 
 impl<'a> Model for CohortChanges<'a> {
@@ -155,22 +158,25 @@ impl<'a> Model for CohortChanges<'a> {
 
     ghost view = { λ c. record { plan = c.plan.now; table = c.table; born = c.born; unit = c.unit } };
 
-    ghost invariant = { λ c. AreChangesOf (record { plan = c.plan.now; table = c.table; born = c.born; unit = c.unit }) c.update c.order.now };
+    ghost invariant = { λ c. AreChangesOf (record { plan = c.plan.now; table = c.table; born = c.born; unit = c.unit }) c.update c.order.now c.nulls c.parents };
 }
 
 impl<'a> CohortChanges<'a> {
-    /// The changes up to `unit` of the rows of a table that are born at unit `born`, by the order of their updates.
+    /// The changes up to `unit` of the rows of a table that are born at unit `born`, by the order of their updates and the candidates of
+    /// their parents.
     pub fn new(
         plan: &'a Plan,
         table: u32,
         born: u64,
         unit: u64,
         order: &'a Order,
+        candidates: &'a [Option<Candidates>],
     ) -> CohortChanges<'a>
         requires table { table < length plan.now.schema.tables }
         requires born { born ≤ unit }
         requires unit { unit ≤ last_unit plan.now }
         requires order { order.now ≡ update_order plan.now table born }
+        requires candidates { AreCandidates plan.now table born candidates.now }
         ensures { result ≡ record { plan = plan.now; table = table; born = born; unit = unit } }
     {
         let _limits = plan.schema(); // there are at most 10,000 units
@@ -181,18 +187,16 @@ impl<'a> CohortChanges<'a> {
             unit,
             update: plan.update(table),
             order,
+            nulls: has_nullings(plan, table),
+            parents: CohortParents::new(plan, table, born, candidates),
         }
     }
 
-    /// The unit at which the row with this index in the cohort changed last: that of its birth where it didn't change yet. It takes
-    /// no notice of the row's death. It takes at most one step, and none where all rows of a cohort change at the same units, or never.
+    /// The last unit at which the row with this index in the cohort is due, or its birth.
     #[inline]
-    pub fn unit<L: Ledger>(&self, index: u64, steps: &mut Steps<L>) -> u64
+    fn due<L: Ledger>(&self, index: u64, steps: &mut Steps<L>) -> u64
         requires { index < size_of self.now }
-        ensures unit { result ≡ change_in self.now index }
-        ensures from { self.now.born ≤ result }
-        ensures within { result ≤ self.now.unit }
-        ensures recent { result ≡ self.now.born ⊎ IfSome (table_of self.now.plan self.now.table).update (λ period. self.now.unit < result + min period self.now.unit) }
+        ensures unit { result ≡ due_in self.now index }
         ensures steps { steps.new ≤ steps.old + one_if (do_updates_differ (table_of self.now.plan self.now.table).update) }
     {
         match self.update {
@@ -206,6 +210,27 @@ impl<'a> CohortChanges<'a> {
                 )
             }
             _ => self.born,
+        }
+    }
+
+    /// The unit at which the row with this index in the cohort changed last: that of its birth where it didn't change yet. It changes
+    /// where it is due and where it loses a parent. It takes no notice of the row's death. It takes at most one step, and none where
+    /// all rows of a cohort are due at the same units, or never; and for each reference that may become null one and at most as many as
+    /// the cost of the parent's death says.
+    #[inline]
+    pub fn unit<L: Ledger>(&self, index: u64, steps: &mut Steps<L>) -> u64
+        requires { index < size_of self.now }
+        ensures unit { result ≡ change_in self.now index }
+        ensures from { self.now.born ≤ result }
+        ensures within { result ≤ self.now.unit }
+        ensures recent { result ≡ self.now.born ⊎ (self.now.unit < result + change_span (table_of self.now.plan self.now.table) self.now.unit) }
+        ensures steps { steps.new ≤ steps.old + asked_for_change self.now.plan self.now.table }
+    {
+        let due = self.due(index, steps);
+        if self.nulls {
+            self.parents.last_change(index, due, self.unit, steps)
+        } else {
+            due
         }
     }
 }

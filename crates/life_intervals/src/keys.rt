@@ -2,15 +2,15 @@
 //! where they are scrambled.
 
 ghost use Rattle.std.specs.Prelude.{◌≡◌, ◌≢◌, ◌<◌, ◌≤◌, ◌↔◌, ℕ, ◌+◌, Some, IfSome, IsNone, length};
-ghost use Rattle.schema_plan.specs.Cohorts.{cohort_size};
+ghost use Rattle.cohort_sizes.specs.Births.{cohort_size};
 ghost use Rattle.schema_plan.specs.Lineage.{one_if};
 ghost use Rattle.life_intervals.specs.Generator.{generator_of, last_unit, rows_in_all, table_of};
 ghost use Rattle.life_intervals.specs.CohortOrders.{key_order};
 ghost use Rattle.life_intervals.specs.Keys.{key_in_cohort, key_of, place_in_cohort};
 
 use crate::births::{birth, born, cohort};
-use crate::cohorts::Cohort;
 use crate::orders::key_order;
+use cohort_sizes::Cohort;
 use id_permutation::Order;
 use schema_plan::Plan;
 use std::marker::Model;

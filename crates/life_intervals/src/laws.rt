@@ -3,41 +3,26 @@
 //! A table is named by its place in the schema from 0. Units and ordinals count from 0, and so do the indices of a
 //! cohort's rows.
 
-ghost use Rattle.std.specs.Prelude.{◌≡◌, ℕ, ◌+◌, ◌*◌, ◌/◌, ◌-◌, ◌<◌, ◌≤◌, All, if◌then◌else◌, length, map, nat_lt, take, false, true, List, [], ◌∷◌, Some};
+ghost use Rattle.std.specs.Prelude.{◌≡◌, ℕ, ◌+◌, ◌*◌, ◌/◌, ◌-◌, ◌<◌, ◌≤◌, All, IfSome, if◌then◌else◌, length, map, nat_lt, take, false, true, List, [], ◌∷◌, Some, None};
 ghost use Rattle.std.specs.List.{range_with_len};
-ghost use Rattle.schema_plan.specs.declared.layout.Births.{Births};
-ghost use Rattle.schema_plan.specs.Cohorts.{born_count, cohort_size, first_ordinal};
+ghost use Rattle.cohort_sizes.specs.Births.{Births, LiesIn, birth, born_count, cohort_size, first_ordinal, index_at};
 ghost use Rattle.schema_plan.specs.Dictionaries.{Project};
 ghost use Rattle.schema_plan.specs.Layout.{TableLayout, layout_of, table_at};
 ghost use Rattle.schema_plan.specs.Limits.{IsInLimits};
 ghost use Rattle.schema_plan.specs.Lineage.{death_cost, longest_life, sure_life};
-ghost use Rattle.life_intervals.specs.Changes.{IsLastDue, first_due};
-ghost use Rattle.life_intervals.specs.CohortParents.{asked_for_death};
-ghost use Rattle.life_intervals.specs.Generator.{Generator, generator_of, last_unit, table_of};
-ghost use Rattle.life_intervals.specs.Intervals.{LiesIn, birth, change_unit, changing, death, dying, first_death, index_at, interval_state, is_after, known_of, newborn, own_death, parent_of, row_at, rows_of};
+ghost use Rattle.life_intervals.specs.Changes.{IsLastChange, IsLastDue, due_by, first_due};
+ghost use Rattle.life_intervals.specs.CohortParents.{asked_for_change, asked_for_death};
+ghost use Rattle.life_intervals.specs.Generator.{Generator, Order, generator_of, last_unit, table_of};
+ghost use Rattle.life_intervals.specs.Intervals.{change_unit, changing, death, dying, first_death, held_parent, interval_state, is_after, known_of, loss_of, newborn, own_death, parent_of, row_at, rows_of};
 ghost use Rattle.life_intervals.specs.Keys.{OrdersCohorts, key_in_cohort, key_of};
-ghost use Rattle.schema_plan.specs.References.{count_in_window, first_in_window, references_of};
+ghost use Rattle.schema_plan.specs.TableFacts.{change_cost};
+ghost use Rattle.schema_plan.specs.References.{cascades_of, count_in_window, first_in_window, references_of};
 ghost use Rattle.life_intervals.specs.References.{choice};
 ghost use Rattle.life_intervals.specs.Rows.{candidates, cohort};
 ghost use Rattle.life_intervals.specs.Simulation.{holds_row, rows_at, simulation};
 ghost use Rattle.life_intervals.specs.Sound.{AreSound};
 ghost use Rattle.life_intervals.specs.Streams.{deleted, inserted, updated};
-ghost use Rattle.life_intervals.specs.Worked.{customer_row, line_row, order_row, sales_in_place};
-
-/// The birth of an ordinal is the one unit whose cohort has it, whatever the last unit.
-pub fn birth_is_the_unit_of_the_cohort()
-    ensures lies { (births : Births) (last ordinal : ℕ) → ordinal < born_count births last →
-        (birth births last ordinal ≤ last) × LiesIn births (birth births last ordinal) ordinal }
-    ensures only { (births : Births) (last unit ordinal : ℕ) → unit ≤ last → LiesIn births unit ordinal →
-        birth births last ordinal ≡ unit }
-{}
-
-/// Where as many rows are born at each later unit, a division finds the birth.
-pub fn birth_by_division()
-    ensures { (births : Births) (last ordinal : ℕ) → ordinal < born_count births last →
-        birth births last ordinal
-        ≡ (if nat_lt ordinal births.rows then 0 else (ordinal - births.rows) / births.insert + 1) }
-{}
+ghost use Rattle.life_intervals.specs.Worked.{customer_row, line_row, order_row, remark_row, sales_in_place, talks_in_place};
 
 /// The permutations that the seed of a schema gives its cohorts are bijections, for each purpose.
 pub fn seeds_order_each_cohort()
@@ -114,7 +99,7 @@ pub fn candidates_are_those_of_the_window()
         (references_of (table_at tables place)) }
 {}
 
-/// A row dies when its own life ends or a parent dies.
+/// A row dies when its own life ends or a parent dies that takes it along.
 pub fn death_is_the_first_of_its_own_and_the_parents()
     ensures { (units : ℕ) (generator : Generator) → AreSound units generator.tables →
         (place : ℕ) → place < length generator.tables → (unit ordinal : ℕ) → unit ≤ units →
@@ -122,22 +107,53 @@ pub fn death_is_the_first_of_its_own_and_the_parents()
         death generator place unit ordinal
         ≡ first_death (own_death generator place unit ordinal
         ∷ map (λ reference. death generator reference.parent unit (parent_of generator place unit ordinal reference))
-        (references_of (table_at generator.tables place))) }
+        (cascades_of (table_at generator.tables place))) }
 {}
 
-/// Where a table holds a row, the tables of its parents hold these at the same unit.
+/// A row has the parents that it still has at the unit, reference by reference.
+pub fn rows_have_the_parents_that_they_hold()
+    ensures { (generator : Generator) (place unit ordinal : ℕ) →
+        (row_at generator place unit ordinal).parents
+        ≡ map (held_parent generator place unit ordinal) (references_of (table_at generator.tables place)) }
+{}
+
+/// A row loses a parent when that dies, where the reference becomes null, and else never. Until then it has the parent.
+pub fn parents_are_lost_where_they_die()
+    ensures { (units : ℕ) (generator : Generator) → AreSound units generator.tables →
+        (place : ℕ) → place < length generator.tables → (unit ordinal : ℕ) → unit ≤ units →
+        ordinal < born_count (table_at generator.tables place).births unit →
+        All (λ reference. loss_of generator place unit ordinal reference
+        ≡ (if reference.nulls then death generator reference.parent unit (parent_of generator place unit ordinal reference) else None))
+        (references_of (table_at generator.tables place)) }
+{}
+
+/// The references of a row that a table holds name rows that the tables of its parents hold at the same unit, but for those that are
+/// null.
 pub fn parents_are_held()
     ensures { (units : ℕ) (generator : Generator) → AreSound units generator.tables →
         (place : ℕ) → place < length generator.tables → (unit ordinal : ℕ) → unit ≤ units →
         holds_row (rows_at generator place unit) ordinal ≡ true →
-        All (λ reference. holds_row (rows_at generator reference.parent unit) (parent_of generator place unit ordinal reference) ≡ true)
+        All (λ reference. IfSome (held_parent generator place unit ordinal reference) (λ parent. holds_row (rows_at generator reference.parent unit) parent ≡ true))
         (references_of (table_at generator.tables place)) }
+{}
+
+/// No row that a table holds has changed later, so those that a unit updates are those that it finds due or takes a parent from.
+pub fn rows_change_by_their_unit()
+    ensures { (units : ℕ) (generator : Generator) → AreSound units generator.tables →
+        (place : ℕ) → place < length generator.tables → (unit : ℕ) → unit ≤ units →
+        All (λ row. row.changed ≤ unit) (rows_at generator place unit) }
 {}
 
 /// A death asks at most as many permutations as it costs.
 pub fn deaths_ask_at_most_their_cost()
     ensures { (project : Project) → IsInLimits project → (place : ℕ) → place < length project.schema.tables →
         asked_for_death project place ≤ death_cost (layout_of project).tables place }
+{}
+
+/// A row's last change asks at most as many permutations as it costs.
+pub fn changes_ask_at_most_their_cost()
+    ensures { (project : Project) → IsInLimits project → (place : ℕ) → place < length project.schema.tables →
+        asked_for_change project place ≤ change_cost (layout_of project) place }
 {}
 
 /// A row's death is the same, whatever the unit by which it is born, and so is the end of its own life.
@@ -150,14 +166,16 @@ pub fn death_is_for_good()
         own_death generator place last ordinal ≡ own_death generator place unit ordinal }
 {}
 
-/// The change unit of a row is the last of its due units.
-pub fn change_unit_is_the_last_due()
-    ensures { (generator : Generator) (place unit ordinal period : ℕ) →
-        (table_at generator.tables place).update ≡ Some period → 1 ≤ period →
-        let births = (table_at generator.tables place).births in
-        let born = birth births unit ordinal in
-        IsLastDue born (first_due generator.order place born (index_at births unit ordinal) period) period unit
-        (change_unit generator place unit ordinal) }
+/// The change unit of a row is the last of its due units, or of its birth where it has none, and of those at which it loses a parent.
+pub fn change_unit_is_the_last_due_or_loss()
+    ensures due { (order : Order) (place : ℕ) (table : TableLayout) (born index unit period : ℕ) → table.update ≡ Some period → 1 ≤ period →
+        IsLastDue born (first_due order place born index period) period unit (due_by order place table born index unit) }
+    ensures never_due { (order : Order) (place : ℕ) (table : TableLayout) (born index unit : ℕ) → table.update ≡ None →
+        due_by order place table born index unit ≡ born }
+    ensures last { (generator : Generator) (place unit ordinal : ℕ) →
+        let table = table_at generator.tables place in
+        let due = due_by generator.order place table (birth table.births unit ordinal) (index_at table.births unit ordinal) unit in
+        IsLastChange unit due (map (loss_of generator place unit ordinal) (references_of table)) (change_unit generator place unit ordinal) }
 {}
 
 /// The tables of an accepted schema are sound up to its last unit.
@@ -190,9 +208,10 @@ pub fn worked_choices()
         ≡ 0 ∷ 1 ∷ 1 ∷ 2 ∷ 2 ∷ 2 ∷ 3 ∷ 0 ∷ 0 ∷ 1 ∷ 1 ∷ 1 ∷ 2 ∷ [] }
 {}
 
-/// The tables of customers, orders and lines are sound up to the last unit of their schema.
+/// The tables of customers, orders and lines are sound up to the last unit of their schema, and so are those of customers and remarks.
 pub fn worked_soundness()
-    ensures { AreSound 5 sales_in_place.tables }
+    ensures sales { AreSound 5 sales_in_place.tables }
+    ensures talks { AreSound 5 talks_in_place.tables }
 {}
 
 /// Customers, orders and lines at unit 3, by the steps of the simulation and by the closed form.
@@ -213,4 +232,17 @@ pub fn worked_streams()
     ensures customers_inserted { inserted sales_in_place 0 3 ≡ customer_row 3 3 3 1 ∷ [] }
     ensures orders_inserted { inserted sales_in_place 1 3 ≡ order_row 3 9 1 ∷ [] }
     ensures lines_inserted { inserted sales_in_place 2 3 ≡ line_row 3 ∷ [] }
+{}
+
+/// With the first customer unit 3 takes from three remarks whom they are on, by the steps of the simulation and by the closed form. It
+/// deletes none of them, and updates these.
+pub fn worked_losses()
+    ensures simulated { simulation talks_in_place 3
+        ≡ (customer_row 1 2 1 1 ∷ customer_row 2 3 2 2 ∷ customer_row 3 3 3 1 ∷ [])
+        ∷ (remark_row 0 3 None ∷ remark_row 1 3 None ∷ remark_row 2 3 None ∷ remark_row 3 3 (Some 1) ∷ []) ∷ [] }
+    ensures closed { interval_state talks_in_place 3
+        ≡ (customer_row 1 2 1 1 ∷ customer_row 2 3 2 2 ∷ customer_row 3 3 3 1 ∷ [])
+        ∷ (remark_row 0 3 None ∷ remark_row 1 3 None ∷ remark_row 2 3 None ∷ remark_row 3 3 (Some 1) ∷ []) ∷ [] }
+    ensures remarks_deleted { deleted talks_in_place 1 3 ≡ [] }
+    ensures remarks_updated { updated talks_in_place 1 3 ≡ remark_row 0 3 None ∷ remark_row 1 3 None ∷ remark_row 2 3 None ∷ [] }
 {}

@@ -4,8 +4,8 @@
 //! The rows that are born at one unit are a cohort. A row is named by its ordinal, its place in the order of birth in
 //! its table, or by its index, its place in its cohort; both count from 0. The rules of these numbers stand in
 //! `specs/`, beside the simulation that defines the generated data, lists of rows stepped unit by unit; `laws` has its
-//! laws, among them that the simulation of sound tables is its closed form, with lives, updates, references and what dies
-//! with their parents.
+//! laws, among them that the simulation of sound tables is its closed form, with lives, updates, references, what dies with
+//! its parents and what outlives them.
 //!
 //! A table is named by its place in the schema, counted from 0. Only `table_orders`,
 //! `table_candidates` and `cohort_candidates` take memory.
@@ -14,7 +14,6 @@
 mod births;
 mod candidates;
 mod cohort_lives;
-mod cohorts;
 mod keys;
 pub mod laws;
 mod lives;
@@ -26,9 +25,9 @@ mod wanted;
 pub use births::{birth, born, cohort};
 pub use candidates::{Candidates, cohort_candidates, table_candidates};
 pub use cohort_lives::{CohortChanges, CohortLives};
-pub use cohorts::Cohort;
+pub use cohort_sizes::Cohort;
 pub use keys::{CohortKeys, key, row_of_key};
-pub use lives::{Survival, last_change, own_death, survival_at};
+pub use lives::{Survival, last_change, may_change, own_death, survival_at};
 pub use memory::Memory;
 pub use orders::{CohortOrders, cohort_orders, key_order, life_order, table_orders, update_order};
-pub use parents::{CohortParents, death, parent};
+pub use parents::{CohortParents, death, held_parent, parent};

@@ -2,17 +2,19 @@
 
 ghost use Rattle.std.specs.Prelude.{◌≡◌, ◌+◌, ◌<◌, ◌≤◌, Some, length};
 ghost use Rattle.std.specs.Option.{option_map};
-ghost use Rattle.schema_plan.specs.Cohorts.{born_count};
+ghost use Rattle.cohort_sizes.specs.Births.{born_count, cohort_size};
 ghost use Rattle.schema_plan.specs.Lineage.{one_if};
-ghost use Rattle.life_intervals.specs.Changes.{last_due};
+ghost use Rattle.life_intervals.specs.Changes.{due_by, last_due, may_change};
 ghost use Rattle.life_intervals.specs.CohortLives.{survival_at};
 ghost use Rattle.life_intervals.specs.CohortOrders.{do_lives_differ, do_updates_differ};
+ghost use Rattle.life_intervals.specs.CohortParents.{asked_for_change};
 ghost use Rattle.life_intervals.specs.Generator.{generator_of, last_unit, rows_in_all, table_of};
 ghost use Rattle.life_intervals.specs.Intervals.{change_unit, is_after, own_death};
 ghost use Rattle.life_intervals.specs.Rows.{life_by};
 
 use crate::births::{birth, cohort};
 use crate::orders::{life_order, update_order};
+use crate::parents::{CohortParents, has_nullings};
 use schema_plan::{Plan, Span};
 use std::sync::ledger::Ledger;
 use step_count::Steps;
@@ -97,23 +99,53 @@ pub fn own_death<L: Ledger>(plan: &Plan, table: u32, j: u64, steps: &mut Steps<L
     Some(born + lifetime(life, place))
 }
 
-/// The unit at which the row of ordinal `j`, which is born by unit `t`, changed last: its birth where it didn't change yet.
-/// It takes no notice of the row's death. It takes one step where rows of a cohort may change at different units, else
-/// none.
+/// The last unit up to `t` at which the row with this index in the cohort of unit `born` is due, or its birth. It takes one step where
+/// rows of a cohort may be due at different units, else none.
+fn last_due_unit<L: Ledger>(
+    plan: &Plan,
+    table: u32,
+    born: u64,
+    index: u64,
+    t: u64,
+    steps: &mut Steps<L>,
+) -> u64
+    requires table { table < length plan.now.schema.tables }
+    requires unit { born ≤ last_unit plan.now }
+    requires row { index < cohort_size (table_of plan.now table).births born }
+    ensures unit { result ≡ due_by (generator_of plan.now).order table (table_of plan.now table) born index t }
+    ensures steps { steps.new ≡ steps.old + one_if (do_updates_differ (table_of plan.now table).update) }
+{
+    let Some(period) = plan.update(table) else {
+        return born;
+    };
+    let _limits = plan.schema(); // there are at most 10,000 units
+    let place = update_order(plan, table, born).place(index, steps);
+    last_due(born, born + (1 + place % period), period, t)
+}
+
+/// Whether rows of a table may change after their birth: they are updated, or may lose a parent.
+pub fn may_change(plan: &Plan, table: u32) -> bool
+    requires { table < length plan.now.schema.tables }
+    ensures { result ≡ may_change (table_of plan.now table) }
+{
+    plan.update(table).is_some() || has_nullings(plan, table)
+}
+
+/// The unit at which the row of ordinal `j`, which is born by unit `t`, changed last: its birth where it didn't change yet. It changes
+/// where it is due and where it loses a parent. It takes no notice of the row's death. It takes one step where rows of a cohort may be
+/// due at different units, and for each reference that may become null one and at most as many as the cost of the parent's death says.
 pub fn last_change<L: Ledger>(plan: &Plan, table: u32, j: u64, t: u64, steps: &mut Steps<L>) -> u64
     requires table { table < length plan.now.schema.tables }
     requires unit { t ≤ last_unit plan.now }
     requires born { j < born_count (table_of plan.now table).births t }
     ensures unit { result ≡ change_unit (generator_of plan.now) table t j }
     ensures within { result ≤ t }
-    ensures steps { steps.new ≡ steps.old + one_if (do_updates_differ (table_of plan.now table).update) }
+    ensures least { steps.old + one_if (do_updates_differ (table_of plan.now table).update) ≤ steps.new }
+    ensures most { steps.new ≤ steps.old + asked_for_change plan.now table }
 {
+    let _sound = plan.schema(); // so a row loses a parent when that dies
     let born = birth(plan, table, j);
-    let Some(period) = plan.update(table) else {
-        return born;
-    };
-    let _limits = plan.schema(); // there are at most 10,000 units
     let index = j - cohort(plan, table, born).first;
-    let place = update_order(plan, table, born).place(index, steps);
-    last_due(born, born + (1 + place % period), period, t)
+    let due = last_due_unit(plan, table, born, index, t, steps);
+    CohortParents::new(plan, table, born, &[]).last_change(index, due, t, steps)
 }

@@ -1,18 +1,20 @@
-//! The parents of rows, and when the first of a row's parents dies.
+//! The parents of rows, until when rows have them, and when the first of those dies that take a row along.
 
-ghost use Rattle.std.specs.Prelude.{◌≡◌, ◌+◌, ◌<◌, ◌≤◌, Some, is_some, length, true};
-ghost use Rattle.schema_plan.specs.Cohorts.{born_count, cohort_size};
+ghost use Rattle.std.specs.Prelude.{◌≡◌, ◌+◌, ◌<◌, ◌≤◌, IfSome, Some, is_some, length, true};
+ghost use Rattle.std.specs.List.{list_any};
+ghost use Rattle.cohort_sizes.specs.Births.{born_count, cohort_size};
 ghost use Rattle.schema_plan.specs.Layout.{layout_of};
-ghost use Rattle.schema_plan.specs.Lineage.{death_cost, lesser_life};
+ghost use Rattle.schema_plan.specs.Lineage.{death_cost, lesser_life, loss_cost};
 ghost use Rattle.schema_plan.specs.References.{Reference, reference_at};
-ghost use Rattle.life_intervals.specs.CohortParents.{AreCandidates, IsReferenceOf, candidates_by, parent_in, parents_death_in, reference_by, references_cost};
+ghost use Rattle.life_intervals.specs.Changes.{has_nullings, last_change, later_change};
+ghost use Rattle.life_intervals.specs.CohortParents.{AreCandidates, IsReferenceOf, candidates_by, cascades_cost, held_cost, held_in, is_nulling, losses_in, parent_in, parents_death_in, reference_by};
 ghost use Rattle.life_intervals.specs.Generator.{generator_of, last_unit, rows_in_all, table_of};
-ghost use Rattle.life_intervals.specs.Intervals.{death, parent_of};
+ghost use Rattle.life_intervals.specs.Intervals.{death, held_parent, held_until, parent_of};
 
 use crate::births::{birth, cohort};
 use crate::candidates::Candidates;
 use crate::lives::own_death;
-use schema_plan::{Plan, ReadyKind, ReadyReference};
+use schema_plan::{Plan, ReadyColumn, ReadyKind, ReadyReference};
 use std::marker::Model;
 use std::sync::ledger::Ledger;
 use step_count::Steps;
@@ -107,20 +109,76 @@ impl<'a> CohortParents<'a> {
         candidates.parent(reference, index, steps)
     }
 
-    /// The unit at which the first parent of the row with this index in the cohort dies; None where none ever does. For each
-    /// reference it takes one step, and at most as many as the cost of the parent's death says.
+    /// The ordinal of the parent that the row with this index in the cohort still has at unit `t` by a reference, which is ready in
+    /// the column at a place; None where the reference has become null. It takes one step, and where the reference may become null
+    /// at most as many more as the cost of the parent's death says.
+    pub fn held<L: Ledger>(
+        &self,
+        column: u32,
+        reference: &ReadyReference,
+        index: u64,
+        t: u64,
+        steps: &mut Steps<L>,
+    ) -> Option<u64>
+        requires row { index < cohort_size (table_of self.now.plan self.now.table).births self.now.unit }
+        requires reference { IsReferenceOf self.now.plan self.now.table column reference.now }
+        ensures held { result ≡ held_in self.now index t (reference_by column reference.now) }
+        ensures born { IfSome result (λ parent. parent < born_count (table_of self.now.plan reference.now.parent).births self.now.unit) }
+        ensures steps { steps.new ≤ steps.old + held_cost (layout_of self.now.plan).tables (reference_by column reference.now) }
+    {
+        let parent = self.parent(column, reference, index, steps);
+        if !reference.nulls {
+            return Some(parent);
+        }
+        let loss = death(self.plan, reference.parent, parent, steps);
+        held_until(loss, t, parent)
+    }
+
+    /// The last of `change` and of the units up to `t` at which the row with this index in the cohort loses a parent. For each
+    /// reference that may become null it takes one step, and at most as many as the cost of the parent's death says.
+    pub(crate) fn last_change<L: Ledger>(
+        &self,
+        index: u64,
+        change: u64,
+        t: u64,
+        steps: &mut Steps<L>,
+    ) -> u64
+        requires { index < cohort_size (table_of self.now.plan self.now.table).births self.now.unit }
+        ensures change { result ≡ last_change t change (losses_in self.now index) }
+        ensures least { steps.old ≤ steps.new }
+        ensures most { steps.new ≤ steps.old + loss_cost (layout_of self.now.plan).tables self.now.table }
+    {
+        let mut last = change;
+        for (column, ready) in self.plan.columns(self.table).iter().enumerate() {
+            if let ReadyKind::Reference(reference) = &ready.kind {
+                if reference.nulls {
+                    let parent = self.parent(column as u32, reference, index, steps);
+                    let loss = death(self.plan, reference.parent, parent, steps);
+                    last = later_change(last, loss, t);
+                }
+            }
+        }
+        last
+    }
+
+    /// The unit at which the first parent of the row with this index in the cohort dies, of those that take it along; None where none
+    /// ever does. For each reference that doesn't become null it takes one step, and at most as many as the cost of the parent's
+    /// death says.
     #[cycle(deaths)]
     pub fn first_death<L: Ledger>(&self, index: u64, steps: &mut Steps<L>) -> Option<u64>
         requires { index < cohort_size (table_of self.now.plan self.now.table).births self.now.unit }
         ensures death { result ≡ parents_death_in self.now index }
-        ensures steps { steps.new ≤ steps.old + references_cost (layout_of self.now.plan).tables self.now.table }
+        ensures least { steps.old ≤ steps.new }
+        ensures steps { steps.new ≤ steps.old + cascades_cost (layout_of self.now.plan).tables self.now.table }
     {
         let mut first = None;
         for (column, ready) in self.plan.columns(self.table).iter().enumerate() {
             if let ReadyKind::Reference(reference) = &ready.kind {
-                let parent = self.parent(column as u32, reference, index, steps);
-                let death = death(self.plan, reference.parent, parent, steps);
-                first = earlier(first, death);
+                if !reference.nulls {
+                    let parent = self.parent(column as u32, reference, index, steps);
+                    let death = death(self.plan, reference.parent, parent, steps);
+                    first = earlier(first, death);
+                }
             }
         }
         first
@@ -139,7 +197,30 @@ pub(crate) fn earlier(death: Option<u64>, other: Option<u64>) -> Option<u64>
     }
 }
 
-/// The ordinal of the parent that the row of ordinal `j` has by the reference in the column at a place. It takes one step.
+/// A parent at unit `t`, up to when it is lost; None never comes.
+#[inline(always)]
+fn held_until(loss: Option<u64>, t: u64, parent: u64) -> Option<u64>
+    ensures { result ≡ held_until loss t parent }
+{
+    match loss {
+        Some(loss) if loss <= t => None,
+        _ => Some(parent),
+    }
+}
+
+/// The later of a change and a loss, where that has come by unit `t`; None never comes.
+#[inline(always)]
+fn later_change(change: u64, loss: Option<u64>, t: u64) -> u64
+    ensures { result ≡ later_change t change loss }
+{
+    match loss {
+        Some(loss) if loss <= t => change.max(loss),
+        _ => change,
+    }
+}
+
+/// The ordinal of the parent that the row of ordinal `j` is born with by the reference in the column at a place. It takes one
+/// step.
 pub fn parent<L: Ledger>(plan: &Plan, table: u32, j: u64, column: u32, steps: &mut Steps<L>) -> u64
     requires table { table < length plan.now.schema.tables }
     requires row { j < rows_in_all plan.now table }
@@ -158,13 +239,68 @@ pub fn parent<L: Ledger>(plan: &Plan, table: u32, j: u64, column: u32, steps: &m
     CohortParents::new(plan, table, unit, &[]).parent(column, reference, index, steps)
 }
 
-/// The unit at which the row of ordinal `j` dies, by its own life or with the first of its parents; None where it never does. It
-/// takes at most as many steps as the cost of a death says.
+/// The ordinal of the parent that the row of ordinal `j`, which is born by unit `t`, still has then by the reference in the column at a
+/// place; None where that has become null. It takes one step, and where the reference may become null at most as many more as the
+/// cost of the parent's death says.
+pub fn held_parent<L: Ledger>(
+    plan: &Plan,
+    table: u32,
+    j: u64,
+    column: u32,
+    t: u64,
+    steps: &mut Steps<L>,
+) -> Option<u64>
+    requires table { table < length plan.now.schema.tables }
+    requires unit { t ≤ last_unit plan.now }
+    requires born { j < born_count (table_of plan.now table).births t }
+    requires reference { is_some (reference_at (table_of plan.now table) column) ≡ true }
+    ensures held { (reference : Reference) → reference_at (table_of plan.now table) column ≡ Some reference →
+        result ≡ held_parent (generator_of plan.now) table t j reference }
+    ensures within { (reference : Reference) → reference_at (table_of plan.now table) column ≡ Some reference →
+        IfSome result (λ parent. parent < rows_in_all plan.now reference.parent) }
+    ensures steps { (reference : Reference) → reference_at (table_of plan.now table) column ≡ Some reference →
+        steps.new ≤ steps.old + held_cost (layout_of plan.now).tables reference }
+{
+    let _sound = plan.schema(); // so a row loses a parent when that dies
+    let unit = birth(plan, table, j);
+    let index = j - cohort(plan, table, unit).first;
+    let ReadyKind::Reference(reference) = &plan.columns(table)[column as usize].kind else {
+        unreachable!()
+    };
+    CohortParents::new(plan, table, unit, &[]).held(column, reference, index, t, steps)
+}
+
+/// Whether a table has references that become null.
+pub(crate) fn has_nullings(plan: &Plan, table: u32) -> bool
+    requires { table < length plan.now.schema.tables }
+    ensures { result ≡ has_nullings (table_of plan.now table) }
+{
+    has_nulling_column(plan.columns(table))
+}
+
+fn has_nulling_column(columns: &[ReadyColumn]) -> bool
+    ensures { result ≡ list_any is_nulling columns.now }
+{
+    columns.iter().any(|column| is_nulling(column))
+}
+
+fn is_nulling(column: &ReadyColumn) -> bool
+    ensures { result ≡ is_nulling column.now }
+{
+    match &column.kind {
+        ReadyKind::Reference(reference) => reference.nulls,
+        _ => false,
+    }
+}
+
+/// The unit at which the row of ordinal `j` dies, by its own life or with the first of the parents that take it along; None where it
+/// never does. It takes at most as many steps as the cost of a death says.
 #[cycle(deaths)]
 pub fn death<L: Ledger>(plan: &Plan, table: u32, j: u64, steps: &mut Steps<L>) -> Option<u64>
     requires table { table < length plan.now.schema.tables }
     requires row { j < rows_in_all plan.now table }
     ensures death { result ≡ death (generator_of plan.now) table (last_unit plan.now) j }
+    ensures least { steps.old ≤ steps.new }
     ensures steps { steps.new ≤ steps.old + death_cost (layout_of plan.now).tables table }
 {
     let _sound = plan.schema(); // so a row dies with its parents

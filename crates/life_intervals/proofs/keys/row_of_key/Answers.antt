@@ -1,12 +1,11 @@
 use Rattle.std.proofs.Common.{◌≡◌, ◌≢◌, ◌<◌, ◌≤◌, ◌+◌, ◌-◌, ℕ, Some, refl, ap, arith, sym, subst, ◌∙◌}
 use Rattle.schema_plan.specs.declared.layout.Keys.{Keys}
-use Rattle.schema_plan.specs.Cohorts.{born_count, cohort_size}
+use Rattle.cohort_sizes.specs.Births.{birth, born_count, cohort_size}
 use Rattle.schema_plan.specs.Layout.{table_at}
 use Rattle.life_intervals.specs.CohortKeys.{CohortOf}
 use Rattle.life_intervals.specs.Generator.{Generator, generator_of, last_unit, rows_in_all, table_of}
-use Rattle.life_intervals.specs.Intervals.{birth}
 use Rattle.life_intervals.specs.Keys.{key_of, place_in_cohort, OrdersCohorts}
-use Rattle.life_intervals.proofs.CohortLemmas.{cohort-within}
+use Rattle.cohort_sizes.proofs.CohortLemmas.{cohort-within}
 use Rattle.life_intervals.proofs.KeyLemmas.{OrdersCohorts-generator_of, key_of-from_base, key_of-within, key_of-row, row_of_key-found}
 use Rattle.life_intervals.proofs.keys.row_of_key.Goals as goal
 use Rattle.life_intervals.proofs.keys.row_of_key.Goals.{then-key-base-via-then-key-base, then-key-base-via-else-key-base+then-key-base-2}

@@ -1,6 +1,6 @@
 use Rattle.std.proofs.Common.{refl}
 use Rattle.weight_tables.specs.Weights.{selected}
-use Rattle.life_intervals.specs.Intervals.{birth}
+use Rattle.cohort_sizes.specs.Births.{birth}
 use Rattle.life_intervals.specs.Simulation.{simulation}
 use Rattle.life_intervals.proofs.laws.worked_state.Goals as goal
 

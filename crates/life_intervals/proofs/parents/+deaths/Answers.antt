@@ -1,20 +1,20 @@
-use Rattle.std.proofs.Common.{◌≡◌, ◌<◌, ◌-◌, ℕ, List, length, map, sum_by, ap, ap₂, arith, subst, sym, ◌∙◌}
+use Rattle.std.proofs.Common.{◌≡◌, ◌<◌, ◌-◌, ℕ, List, filter, length, map, sum_by, ap, ap₂, arith, subst, sym, ◌∙◌}
 use Rattle.schema_plan.specs.declared.ready.ReadyReference.{ReadyReference}
-use Rattle.schema_plan.specs.declared.layout.Births.{Births}
-use Rattle.schema_plan.specs.Cohorts.{first_ordinal}
+use Rattle.cohort_sizes.specs.Births.{Births, first_ordinal}
 use Rattle.schema_plan.specs.Dictionaries.{Project}
 use Rattle.schema_plan.specs.Layout.{layout_of}
 use Rattle.schema_plan.specs.Lineage.{death_cost, lesser_life}
 use Rattle.schema_plan.specs.Ready.{ready_columns}
 use Rattle.schema_plan.specs.References.{Reference}
 use Rattle.life_intervals.specs.CohortKeys.{CohortOf}
-use Rattle.life_intervals.specs.CohortParents.{parents_death_in, references_cost}
+use Rattle.life_intervals.specs.CohortParents.{parents_death_in, cascades_cost}
 use Rattle.life_intervals.specs.Generator.{generator_of, last_unit, rows_in_all, table_of}
 use Rattle.life_intervals.specs.Intervals.{death, first_death}
-use Rattle.life_intervals.proofs.CohortLemmas.{born_count-le}
-use Rattle.life_intervals.proofs.CohortParentLemmas.{AreParentsOf-view, before-none, cost_before-some, cost_of_reference, death-parents, death_by_reference, first_before-some, limits_of, asked_for_death-cost, none_from_columns, reference_from_columns}
+use Rattle.life_intervals.proofs.CascadeLemmas.{is_cascading}
+use Rattle.cohort_sizes.proofs.CohortLemmas.{born_count-le}
+use Rattle.life_intervals.proofs.CohortParentLemmas.{AreParentsOf-view, before-none, cost_before-nulls, cost_before-some, cost_of_reference, death-parents, death_by_reference, first_before-nulls, first_before-some, limits_of, asked_for_death-cost, none_from_columns, reference_from_columns}
 use Rattle.life_intervals.proofs.parents.+deaths.Goals as goal
-use Rattle.life_intervals.proofs.parents.+deaths.Goals.{CohortParents::first_death-in-Reference, CohortParents::first_death-in_default}
+use Rattle.life_intervals.proofs.parents.+deaths.Goals.{CohortParents::first_death-in-Reference+then-not-reference, CohortParents::first_death-in-Reference+else-not-reference, CohortParents::first_death-in_default}
 
 pub CohortParents::first_death-death-death-requires : goal.CohortParents::first_death-death-death-requires
 CohortParents::first_death-death-death-requires g t c κs outlives =
@@ -46,7 +46,7 @@ CohortParents::first_death-loop-column-preserved g t c =
     let same : c.self.inside.plan.now ≡ of.plan = ap (λ (cohort : CohortOf). cohort.plan) c.self.view_is in
     let at : ℕ = c.loop-column.column in
     elim c.match-ready.branch [
-      | CohortParents::first_death-in-Reference w ↦
+      | CohortParents::first_death-in-Reference+then-not-reference w ↦
           let reference : ReadyReference = w.in-Reference.reference in
           let is = reference_from_columns of.plan of.table at c.columns-ready-items.result.now c.ready-item.result reference columns c.loop-column-test.true c.ready-item.is w.in-Reference.is in
           record {
@@ -56,7 +56,8 @@ CohortParents::first_death-loop-column-preserved g t c =
                 (w.death-death.ensures.death
                 ∙ ap (λ (plan : Project). death (generator_of plan) reference.parent (last_unit plan) w.parent-parent.result) same
                 ∙ ap (death (generator_of of.plan) reference.parent (last_unit of.plan)) w.parent-parent.ensures.parent)
-                ∙ sym (first_before-some of c.args.index at reference is);
+                ∙ sym (first_before-some of c.args.index at reference is w.if-not-reference.true);
+            least = omega (arith, w.steps-is, w.death-death.ensures.least, w.parent-parent.ensures.one_step, c.loop-column.invariant.least);
             steps = omega (
               arith,
               w.steps-is,
@@ -64,15 +65,24 @@ CohortParents::first_death-loop-column-preserved g t c =
               ap (λ (plan : Project). death_cost (layout_of plan).tables reference.parent) same,
               w.parent-parent.ensures.one_step,
               c.loop-column.invariant.steps,
-              cost_before-some of at reference is,
+              cost_before-some of at reference is w.if-not-reference.true,
             );
+          }
+      | CohortParents::first_death-in-Reference+else-not-reference w ↦
+          let reference : ReadyReference = w.in-Reference.reference in
+          let is = reference_from_columns of.plan of.table at c.columns-ready-items.result.now c.ready-item.result reference columns c.loop-column-test.true c.ready-item.is w.in-Reference.is in
+          record {
+            first = w.first-is ∙ c.loop-column.invariant.first ∙ sym (first_before-nulls of c.args.index at reference is w.if-not-reference.false);
+            least = omega (arith, w.steps-is, c.loop-column.invariant.least);
+            steps = omega (arith, w.steps-is, c.loop-column.invariant.steps, cost_before-nulls of at reference is w.if-not-reference.false);
           }
       | CohortParents::first_death-in_default w ↦
           let none = none_from_columns of.plan of.table at c.columns-ready-items.result.now c.ready-item.result columns c.loop-column-test.true c.ready-item.is w.in_default.not-Reference in
           let rest = before-none of at none.0 none.1 in
           record {
-            first = w.first-is ∙ c.loop-column.invariant.first ∙ sym (ap (λ (references : List Reference). first_death (map (death_by_reference of c.args.index) references)) rest);
-            steps = omega (arith, w.steps-is, c.loop-column.invariant.steps, ap (λ (references : List Reference). sum_by (cost_of_reference of) references) rest);
+            first = w.first-is ∙ c.loop-column.invariant.first ∙ sym (ap (λ (references : List Reference). first_death (map (death_by_reference of c.args.index) (filter is_cascading references))) rest);
+            least = omega (arith, w.steps-is, c.loop-column.invariant.least);
+            steps = omega (arith, w.steps-is, c.loop-column.invariant.steps, ap (λ (references : List Reference). sum_by (cost_of_reference of) (filter is_cascading references)) rest);
           }
     ]
 
@@ -93,6 +103,6 @@ death-returns-clause-steps g t c =
       arith,
       c.own_death-own.ensures.steps,
       c.first_death.ensures.steps,
-      ap (λ (cohort : CohortOf). references_cost (layout_of cohort.plan).tables cohort.table) c.new-parents.ensures,
+      ap (λ (cohort : CohortOf). cascades_cost (layout_of cohort.plan).tables cohort.table) c.new-parents.ensures,
       asked_for_death-cost plan c.schema-sound.ensures.limits c.args.table c.requires.table,
     )

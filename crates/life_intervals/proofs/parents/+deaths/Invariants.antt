@@ -14,5 +14,6 @@ abbrev pub invariant-CohortParents::first_death-loop-column :
     goal.invariant-CohortParents::first_death-loop-column
 invariant-CohortParents::first_death-loop-column g l = record {
   first : l.first ≡ first_before l.fn.self l.index l.column;
+  least : l.fn.steps ≤ l.steps;
   steps : l.steps ≤ l.fn.steps + cost_before l.fn.self l.column;
 }

@@ -1,14 +1,12 @@
 use Rattle.std.proofs.Common.{◌≡◌, ◌<◌, ◌-◌, ℕ, length, Some, ap, arith, subst, sym, ◌∙◌}
-use Rattle.schema_plan.specs.declared.layout.Births.{Births}
+use Rattle.cohort_sizes.specs.Births.{Births, born_count, first_ordinal, index_at}
 use Rattle.schema_plan.specs.declared.ready.ReadyColumn.{ReadyColumn}
-use Rattle.schema_plan.specs.Cohorts.{born_count, first_ordinal}
 use Rattle.schema_plan.specs.Dictionaries.{Project}
 use Rattle.schema_plan.specs.References.{Reference, reference_at}
 use Rattle.life_intervals.specs.CohortKeys.{CohortOf}
 use Rattle.life_intervals.specs.CohortParents.{parent_in, reference_by}
 use Rattle.life_intervals.specs.Generator.{last_unit, rows_in_all, table_of}
-use Rattle.life_intervals.specs.Intervals.{index_at}
-use Rattle.life_intervals.proofs.CohortLemmas.{born_count-le}
+use Rattle.cohort_sizes.proofs.CohortLemmas.{born_count-le}
 use Rattle.life_intervals.proofs.CohortParentLemmas.{length-ready_columns, ready_is, reference_from_columns}
 use Rattle.life_intervals.proofs.ReferenceLemmas.{reference_at-within}
 use Rattle.life_intervals.proofs.parents.parent.Goals as goal

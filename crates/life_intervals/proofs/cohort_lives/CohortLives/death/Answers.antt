@@ -3,7 +3,7 @@ use Rattle.schema_plan.specs.Layout.{layout_of}
 use Rattle.schema_plan.specs.Lineage.{lesser_life}
 use Rattle.life_intervals.specs.CohortKeys.{CohortOf}
 use Rattle.life_intervals.specs.CohortLives.{CohortAt}
-use Rattle.life_intervals.specs.CohortParents.{parents_death_in, references_cost}
+use Rattle.life_intervals.specs.CohortParents.{parents_death_in, cascades_cost}
 use Rattle.life_intervals.proofs.CohortAtLemmas.{AreLivesOf-view, death_in-parents}
 use Rattle.life_intervals.proofs.cohort_lives.CohortLives.death.Goals as goal
 
@@ -23,5 +23,5 @@ returns-clause-steps g c =
       arith,
       c.own_death-own.ensures.steps,
       c.first_death.ensures.steps,
-      ap (λ (cohort : CohortOf). references_cost (layout_of cohort.plan).tables cohort.table) is.parents_are,
+      ap (λ (cohort : CohortOf). cascades_cost (layout_of cohort.plan).tables cohort.table) is.parents_are,
     )

@@ -1,7 +1,7 @@
 use Rattle.std.proofs.Common.{◌≡◌, ◌<◌, ◌+◌, ℕ, List, Option, ap, subst, sym, ◌∙◌}
 use Rattle.id_permutation.specs.Order.{place_in}
 use Rattle.schema_plan.specs.declared.ready.ReadyReference.{ReadyReference}
-use Rattle.schema_plan.specs.Cohorts.{born_count, cohort_size}
+use Rattle.cohort_sizes.specs.Births.{born_count, cohort_size}
 use Rattle.life_intervals.specs.declared.candidates.Candidates.{Candidates}
 use Rattle.life_intervals.specs.CohortKeys.{CohortOf}
 use Rattle.life_intervals.specs.CohortParents.{AreParentsOf, IsReferenceOf, candidates_by, reference_by}
