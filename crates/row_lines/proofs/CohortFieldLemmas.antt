@@ -7,7 +7,7 @@ use Rattle.schema_plan.specs.declared.ready.ReadyColumn.{ReadyColumn}
 use Rattle.schema_plan.specs.declared.ready.ReadyKind.TheVariants.{Key, Reference, Template}
 use Rattle.schema_plan.specs.declared.ready.ReadyPart.{ReadyPart}
 use Rattle.schema_plan.specs.declared.ready.ReadyReference.{ReadyReference}
-use Rattle.schema_plan.specs.Cohorts.{cohort_size, first_ordinal}
+use Rattle.cohort_sizes.specs.Births.{cohort_size, first_ordinal}
 use Rattle.schema_plan.specs.FieldBounds.{bounds_of}
 use Rattle.schema_plan.specs.Layout.{ColumnLayout, KindLayout, born_kind, case_kind, changed_kind, column_at, key_kind, layout_of, leaf_kind, no_column, reference_kind, template_kind}
 use Rattle.schema_plan.specs.Limits.{is_lookup_kind}
@@ -21,7 +21,7 @@ use Rattle.life_intervals.specs.Generator.{Generator, generator_of, last_unit}
 use Rattle.life_intervals.specs.Intervals.{row_at}
 use Rattle.life_intervals.specs.Keys.{key_in_cohort}
 use Rattle.life_intervals.specs.Rows.{Row, index_in_cohort}
-use Rattle.life_intervals.proofs.CohortLemmas.{birth-first_ordinal, cohort-within}
+use Rattle.cohort_sizes.proofs.CohortLemmas.{birth-first_ordinal, cohort-within}
 use Rattle.row_lines.specs.CohortLines.{AreFieldsOf, LinesOf, asked_alone, asked_by, asked_for, key_for, layout_for, ordinal_of, row_changed, size_for, text_in_table, values_at}
 use Rattle.row_lines.specs.Lines.{field_in_table}
 use Rattle.row_lines.proofs.FieldLemmas.{in_table-key, in_table-own}
@@ -60,7 +60,7 @@ own_from_ready delimiter changed_kind no_lookup no_key no_template no_reference 
 own_from_ready delimiter (leaf_kind leaf) no_lookup no_key no_template no_reference = refl
 own_from_ready delimiter (template_kind parts) no_lookup no_key no_template no_reference = absurd (no_template _ refl)
 own_from_ready delimiter (case_kind on branches) no_lookup no_key no_template no_reference = refl
-own_from_ready delimiter (reference_kind parent window spread) no_lookup no_key no_template no_reference = absurd (no_reference _ refl)
+own_from_ready delimiter (reference_kind parent window spread nulls) no_lookup no_key no_template no_reference = absurd (no_reference _ refl)
 own_from_ready delimiter _ no_lookup no_key no_template no_reference = cc
 
 -- a key is never null

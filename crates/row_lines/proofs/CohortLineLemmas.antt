@@ -1,25 +1,27 @@
 -- The line of a row of a cohort, field by field.
-use Rattle.std.proofs.Common.{◌≡◌, ◌<◌, ◌≤◌, ◌^◌, ℕ, zero, suc, ◌+◌, ◌-◌, ◌==◌, if◌then◌else◌, Bool, false, true, List, [], ◌∷◌, ◌++◌, map, length, min, sum_by, take, codes, is_some, Option, Some, None, refl, ap, subst, ◌∙◌, arith}
+use Rattle.std.proofs.Common.{◌≡◌, ◌<◌, ◌≤◌, ◌^◌, ℕ, zero, suc, ◌+◌, ◌-◌, ◌==◌, if◌then◌else◌, Bool, false, true, List, [], ◌∷◌, ◌++◌, map, length, min, sum_by, take, codes, refl, ap, subst, ◌∙◌, arith}
 use Rattle.std.specs.List.{join_with_byte, range_with_len}
 use Rattle.std.proofs.lemmas.Bool.Decides.{nat_tests}
 use Rattle.std.proofs.lemmas.List.Folds.{fold-map}
 use Rattle.std.proofs.lemmas.List.Sums.{sum_by-cons}
 use Rattle.schema_plan.specs.declared.ready.ReadyColumn.{ReadyColumn}
-use Rattle.schema_plan.specs.Cohorts.{cohort_size}
+use Rattle.cohort_sizes.specs.Births.{cohort_size}
 use Rattle.schema_plan.specs.FieldBounds.{bounds_alone, bounds_of, bounds_of_part}
 use Rattle.schema_plan.specs.Layout.{ColumnLayout, KindLayout, PartLayout, TableLayout, born_kind, case_kind, changed_kind, cited_part, column_at, key_kind, layout_of, leaf_kind, literal_part, lookup_kind, reference_kind, template_kind}
-use Rattle.schema_plan.specs.Lineage.{one_if}
-use Rattle.schema_plan.specs.Limits.{IsTableInLimits}
+use Rattle.schema_plan.specs.Lineage.{lineages, null_cost_of, null_cost_of_field, null_cost_of_part, one_if}
+use Rattle.schema_plan.specs.Limits.{IsInLimits, IsTableInLimits}
 use Rattle.schema_plan.specs.TableFacts.{line_cost, max_line}
 use Rattle.draw_values.specs.UnitDraws.{DrawsOf}
 use Rattle.life_intervals.specs.CohortKeys.{CohortOf}
 use Rattle.life_intervals.specs.CohortLives.{CohortAt}
-use Rattle.life_intervals.specs.CohortOrders.{do_updates_differ}
+use Rattle.life_intervals.specs.CohortParents.{asked_for_change}
 use Rattle.life_intervals.specs.Generator.{generator_of, last_unit}
-use Rattle.life_intervals.proofs.CohortLemmas.{cohort-within}
+use Rattle.cohort_sizes.proofs.CohortLemmas.{cohort-within}
+use Rattle.life_intervals.proofs.CohortParentLemmas.{asked_for_change-cost}
 use Rattle.life_intervals.proofs.LifeLemmas.{change_unit-le}
 use Rattle.row_lines.specs.CohortLines.{AreLinesOf, LinesOf, asked_alone, asked_by, asked_by_part, asked_for_line, change_for, layout_for, line_in_cohort, ordinal_of, text_in_cohort}
 use Rattle.row_lines.specs.Lines.{line, line_of}
+use Rattle.row_lines.proofs.NullCostLemmas.{null_cost-fields}
 
 -- what the field of a column takes at most: bytes, with the one behind, and permutations
 abbrev pub room_in : LinesOf → ColumnLayout → ℕ
@@ -28,7 +30,8 @@ room_in lines column =
 
 abbrev permutations_in : LinesOf → ColumnLayout → ℕ
 permutations_in lines column =
-    (bounds_of (layout_of lines.plan).delimiter (layout_of lines.plan).tables (layout_for lines) column.kind).permutations
+    null_cost_of_field (lineages (layout_of lines.plan).tables) (layout_for lines).columns column.kind
+    + (bounds_of (layout_of lines.plan).delimiter (layout_of lines.plan).tables (layout_for lines) column.kind).permutations
 
 -- what the fields before a place take at most
 abbrev pub bytes_before : LinesOf → ℕ → ℕ
@@ -44,6 +47,11 @@ asked_before lines place = sum_by (asked_in lines) (take place (layout_for lines
 pub asked_for_line-is : (lines : LinesOf) → asked_for_line lines ≡ sum_by (asked_in lines) (layout_for lines).columns
 unfolding asked_for_line
 asked_for_line-is lines = refl
+
+sum_by-both : {A : Type 0} (f g : A → ℕ) (xs : List A) → sum_by (λ x. f x + g x) xs ≡ sum_by f xs + sum_by g xs
+sum_by-both f g [] = refl
+sum_by-both f g (x ∷ xs) =
+    omega (arith, sum_by-both f g xs, sum_by-cons (λ y. f y + g y) x xs, sum_by-cons f x xs, sum_by-cons g x xs)
 
 sum_by-map : {A B : Type 0} (h : A → B) (xs : List A) (g : B → ℕ) → sum_by g (map h xs) ≡ sum_by (λ x. g (h x)) xs
 sum_by-map h xs g = fold-map (λ all y. all + g y) h 0 xs
@@ -65,45 +73,61 @@ sum_by-each : {A : Type 0} (f g : A → ℕ) → ((x : A) → f x ≤ g x) → (
 sum_by-each f g each [] = omega arith
 sum_by-each f g each (x ∷ xs) = omega (arith, each x, sum_by-each f g each xs, sum_by-cons f x xs, sum_by-cons g x xs)
 
-asked_alone-le : (known : Bool) (delimiter : ℕ) (tables : List TableLayout) (table : TableLayout) (kind : KindLayout) → asked_alone known delimiter tables table kind ≤ (bounds_alone delimiter tables table kind).permutations
+asked_alone-le : (known : Bool) (delimiter : ℕ) (tables : List TableLayout) (table : TableLayout) (kind : KindLayout) →
+    asked_alone known delimiter tables table kind ≤ null_cost_of (lineages tables) kind + (bounds_alone delimiter tables table kind).permutations
 asked_alone-le true delimiter tables table key_kind = omega arith
 asked_alone-le false delimiter tables table key_kind = omega arith
 asked_alone-le known delimiter tables table _ = omega arith
 
 key_first : (delimiter : ℕ) (tables : List TableLayout) (table : TableLayout) (kind : KindLayout) → kind ≡ key_kind →
-    one_if table.key.scramble + asked_by true delimiter tables table kind ≤ (bounds_of delimiter tables table kind).permutations
+    one_if table.key.scramble + asked_by true delimiter tables table kind
+    ≤ null_cost_of_field (lineages tables) table.columns kind + (bounds_of delimiter tables table kind).permutations
 key_first delimiter tables table key_kind is = omega arith
 key_first delimiter tables table _ is = absurd (cc)
 
 asked_by_part-le : (known : Bool) (delimiter : ℕ) (tables : List TableLayout) (table : TableLayout) (part : PartLayout) →
-    asked_by_part known delimiter tables table part ≤ (bounds_of_part delimiter tables table part).permutations
+    asked_by_part known delimiter tables table part ≤ null_cost_of_part (lineages tables) table.columns part + (bounds_of_part delimiter tables table part).permutations
 asked_by_part-le known delimiter tables table (literal_part bytes) = omega arith
 asked_by_part-le known delimiter tables table (cited_part column) = asked_alone-le known delimiter tables table (column_at table.columns column).kind
 
-pub asked_by-le : (known : Bool) (delimiter : ℕ) (tables : List TableLayout) (table : TableLayout) (kind : KindLayout) → asked_by known delimiter tables table kind ≤ (bounds_of delimiter tables table kind).permutations
-asked_by-le known delimiter tables table (template_kind parts) = sum_by-each (asked_by_part known delimiter tables table) (λ part. (bounds_of_part delimiter tables table part).permutations) (asked_by_part-le known delimiter tables table) parts
+pub asked_by-le : (known : Bool) (delimiter : ℕ) (tables : List TableLayout) (table : TableLayout) (kind : KindLayout) →
+    asked_by known delimiter tables table kind ≤ null_cost_of_field (lineages tables) table.columns kind + (bounds_of delimiter tables table kind).permutations
+asked_by-le known delimiter tables table (template_kind parts) =
+    let null : PartLayout → ℕ = null_cost_of_part (lineages tables) table.columns in
+    let permutations : PartLayout → ℕ = λ part. (bounds_of_part delimiter tables table part).permutations in
+    omega (
+      arith,
+      sum_by-each (asked_by_part known delimiter tables table) (λ part. null part + permutations part) (asked_by_part-le known delimiter tables table) parts,
+      sum_by-both null permutations parts,
+    )
 asked_by-le known delimiter tables table (lookup_kind via parent column) = omega arith
 asked_by-le known delimiter tables table key_kind = asked_alone-le known delimiter tables table key_kind
 asked_by-le known delimiter tables table born_kind = omega arith
 asked_by-le known delimiter tables table changed_kind = omega arith
 asked_by-le known delimiter tables table (leaf_kind leaf) = omega arith
 asked_by-le known delimiter tables table (case_kind on branches) = omega arith
-asked_by-le known delimiter tables table (reference_kind parent window spread) = omega arith
+asked_by-le known delimiter tables table (reference_kind parent window spread nulls) = omega arith
 
--- a line may ask the permutation of its key, which is its first field, that of its update, and those of its other fields
+-- a line may ask the permutation of its key, which is its first field, those of its change, and those of its other fields
 line_cost-columns : (asked permutations : ColumnLayout → ℕ) (columns : List ColumnLayout) (scramble : ℕ) → ((column : ColumnLayout) → asked column ≤ permutations column) → 1 ≤ length columns →
     scramble + asked (column_at columns 0) ≤ permutations (column_at columns 0) → scramble + sum_by asked columns ≤ sum_by permutations columns
 line_cost-columns asked permutations [] scramble each some first = absurd (omega (arith, some))
 line_cost-columns asked permutations (column ∷ others) scramble each some first =
     omega (arith, first, sum_by-cons asked column others, sum_by-cons permutations column others, sum_by-each asked permutations each others)
 
-pub steps-line_cost : (lines : LinesOf) → IsTableInLimits (last_unit lines.plan) (layout_for lines) →
-    one_if (layout_for lines).key.scramble + one_if (is_some (layout_for lines).update) + asked_for_line lines ≤ line_cost (layout_of lines.plan) lines.table
+pub steps-line_cost : (lines : LinesOf) → IsInLimits lines.plan → lines.table < length lines.plan.schema.tables → IsTableInLimits (last_unit lines.plan) (layout_for lines) →
+    one_if (layout_for lines).key.scramble + asked_for_change lines.plan lines.table + asked_for_line lines ≤ line_cost (layout_of lines.plan) lines.table
 unfolding line_cost
-steps-line_cost lines limits =
+steps-line_cost lines sound table limits =
     let columns : List ColumnLayout = (layout_for lines).columns in
+    let null : ColumnLayout → ℕ = λ column. null_cost_of_field (lineages (layout_of lines.plan).tables) columns column.kind in
+    let permutations : ColumnLayout → ℕ =
+    λ column. (bounds_of (layout_of lines.plan).delimiter (layout_of lines.plan).tables (layout_for lines) column.kind).permutations in
     omega (
       arith,
+      asked_for_change-cost lines.plan sound lines.table table,
+      null_cost-fields lines.plan sound lines.table table,
+      sum_by-both null permutations columns,
       line_cost-columns (asked_in lines) (permutations_in lines) columns (one_if (layout_for lines).key.scramble)
           (λ column. asked_by-le true (layout_of lines.plan).delimiter (layout_of lines.plan).tables (layout_for lines) column.kind) limits.some_column
           (key_first (layout_of lines.plan).delimiter (layout_of lines.plan).tables (layout_for lines) (column_at columns 0).kind limits.key_first),
@@ -111,15 +135,6 @@ steps-line_cost lines limits =
       sum_by-map (λ (column : ColumnLayout). bounds_of (layout_of lines.plan).delimiter (layout_of lines.plan).tables (layout_for lines) column.kind)
           (layout_for lines).columns (λ bounds. bounds.permutations),
     )
-
--- a change costs at most the permutation of updates
-pub updates_cost : (update : Option ℕ) → one_if (do_updates_differ update) ≤ one_if (is_some update)
-updates_cost None = omega arith
-updates_cost (Some period) = one_if-le (do_updates_differ (Some period))
-  where
-    one_if-le : (test : Bool) → one_if test ≤ 1
-    one_if-le true = omega arith
-    one_if-le false = omega arith
 
 pub length-delimiter : (column delimiter : ℕ) → length (if column == 0 then [] else delimiter ∷ []) ≡ min column 1
 length-delimiter zero delimiter = refl

@@ -2,7 +2,7 @@
 use Rattle.std.proofs.Common.{◌≡◌, ℕ, zero, suc, ◌+◌, ◌<◌, ◌≤◌, ◌==◌, true, false, filter, map, Option, Some, None, inl, inr, ne_eqb, eq-eqb, refl, ap, arith, sym, ◌∙◌}
 use Rattle.std.specs.List.{find, range_with_len}
 use Rattle.std.proofs.lemmas.Bool.{cases_Bool, cases_lt, false≢true}
-use Rattle.schema_plan.specs.Cohorts.{born_count}
+use Rattle.cohort_sizes.specs.Births.{born_count}
 use Rattle.schema_plan.specs.Layout.{table_at}
 use Rattle.life_intervals.specs.Generator.{Generator}
 use Rattle.life_intervals.specs.Intervals.{is_live, row_at}

@@ -4,6 +4,7 @@ pub mod LineLemmas
 pub mod HeldRowLemmas
 pub mod FieldLemmas
 pub mod ReferenceFieldLemmas
+mod NullCostLemmas
 pub mod CohortLineLemmas
 pub mod CohortFieldLemmas
 pub mod PartLemmas

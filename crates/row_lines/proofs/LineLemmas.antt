@@ -3,14 +3,13 @@ use Rattle.std.proofs.Common.{◌≡◌, ◌<◌, ◌≤◌, ℕ, ◌+◌, ◌-�
 use Rattle.std.proofs.lemmas.List.{append_assoc}
 use Rattle.std.proofs.lemmas.List.Folds.{flat_map-map}
 use Rattle.std.specs.List.{range_with_len, flat_map}
-use Rattle.schema_plan.specs.declared.layout.Births.{Births}
-use Rattle.schema_plan.specs.Cohorts.{born_count, cohort_size, first_ordinal}
+use Rattle.cohort_sizes.specs.Births.{Births, birth, born_count, cohort_size, first_ordinal}
 use Rattle.schema_plan.specs.Layout.{TableLayout, table_at}
 use Rattle.life_intervals.specs.Generator.{Generator}
-use Rattle.life_intervals.specs.Intervals.{birth, is_live, living, row_at}
+use Rattle.life_intervals.specs.Intervals.{is_live, living, row_at}
 use Rattle.life_intervals.specs.Keys.{key_in_cohort, key_of}
 use Rattle.life_intervals.specs.Sound.{AreSound}
-use Rattle.life_intervals.proofs.CohortLemmas.{LiesIn-birth, birth-only}
+use Rattle.cohort_sizes.proofs.CohortLemmas.{LiesIn-birth, birth-only}
 use Rattle.life_intervals.proofs.Ranges.{flat_map-range_with_len_more, flat_map-range_with_len_front}
 use Rattle.life_intervals.proofs.SimulationLemmas.{ordinals_of, range-cohorts, rows_at-rows_of}
 use Rattle.row_lines.specs.Lines.{cohort_text, first_lines, line, line_if_live, line_of, table_text, text_before}

@@ -1,27 +1,28 @@
 -- What a lookup shows is what the parent holds, which its table holds as long as the row is alive.
 use Rattle.std.proofs.Common.{◌≡◌, ◌<◌, ◌≤◌, ℕ, ◌+◌, true, false, Bool, List, length, codes, Option, Some, None, if◌then◌else◌, refl, ap, subst, sym, ◌∙◌, arith}
+use Rattle.std.specs.Prelude.{IfSome}
 use Rattle.std.specs.Option.{option_and_then}
 use Rattle.row_text.specs.Fields.{field_text}
-use Rattle.schema_plan.specs.declared.layout.Births.{Births}
+use Rattle.cohort_sizes.specs.Births.{Births, birth, born_count, cohort_size}
 use Rattle.schema_plan.specs.declared.ready.ReadyKind.TheVariants as kind
 use Rattle.schema_plan.specs.declared.ready.ReadyLookup.{ReadyLookup}
 use Rattle.schema_plan.specs.declared.ready.ReadyReference.{ReadyReference}
-use Rattle.schema_plan.specs.Cohorts.{born_count, cohort_size}
 use Rattle.schema_plan.specs.FieldBounds.{bounds_at, bounds_in_table, bounds_of}
 use Rattle.schema_plan.specs.Layout.{KindLayout, TableLayout, born_kind, case_kind, changed_kind, column_at, key_kind, layout_of, leaf_kind, lookup_kind, reference_kind, table_at, template_kind}
-use Rattle.schema_plan.specs.Limits.{IsInLimits, IsLookup, IsLookupInLimits, IsReferenceTo, IsTableInLimits, is_lookup_kind}
+use Rattle.schema_plan.specs.Limits.{IsCascadeTo, IsInLimits, IsLookup, IsLookupInLimits, IsTableInLimits, is_lookup_kind, is_moving_kind}
+use Rattle.schema_plan.specs.Lineage.{lineages}
 use Rattle.schema_plan.specs.Ready.{ready_kind, ready_reference}
 use Rattle.schema_plan.specs.References.{Reference, reference_at}
 use Rattle.draw_values.specs.CohortValues.{ValuesOf, is_null_for}
 use Rattle.draw_values.specs.Values.{is_null, unless_null}
 use Rattle.life_intervals.specs.CohortParents.{IsReferenceOf, parent_in, reference_by}
 use Rattle.life_intervals.specs.Generator.{Generator, generator_of, last_unit, table_of}
-use Rattle.life_intervals.specs.Intervals.{birth, is_live, parent_of, row_at}
+use Rattle.life_intervals.specs.Intervals.{held_parent, is_after, is_live, loss_of, parent_of, row_at}
 use Rattle.life_intervals.specs.Rows.{Row}
 use Rattle.life_intervals.specs.Simulation.{holds_row, rows_at}
 use Rattle.life_intervals.specs.Sound.{AreSound}
 use Rattle.life_intervals.proofs.AcceptedLemmas.{AreSound-accepted, length-tables, row_at-changed}
-use Rattle.life_intervals.proofs.CohortLemmas.{birth-first_ordinal, birth-le, born_count-le, cohort-within}
+use Rattle.cohort_sizes.proofs.CohortLemmas.{birth-first_ordinal, birth-le, born_count-le, cohort-within}
 use Rattle.life_intervals.proofs.HeldParentLemmas.{parents-held}
 use Rattle.life_intervals.proofs.LifeLemmas.{parent_of-born}
 use Rattle.life_intervals.proofs.LiveLemmas.{holds_row-live}
@@ -32,9 +33,10 @@ use Rattle.row_lines.specs.Lookups.{IsLookupOf, IsStillColumn, text_held}
 use Rattle.row_lines.proofs.CohortLineLemmas.{asked_by-le}
 use Rattle.row_lines.proofs.FieldLemmas.{field-in_table}
 use Rattle.row_lines.proofs.HeldRowLemmas.{held_row-live}
+use Rattle.row_lines.proofs.NullCostLemmas.{null_cost-still}
 use Rattle.row_lines.proofs.PartLemmas.{null-drawn}
-use Rattle.row_lines.proofs.ReferenceFieldLemmas.{index_here, parent_of_row-by, reference_here}
-use Rattle.row_lines.proofs.StillLemmas.{still_field}
+use Rattle.row_lines.proofs.ReferenceFieldLemmas.{held_parent-cascades, index_here, parent_of_row-by, parents-held_parent, reference_here}
+use Rattle.row_lines.proofs.StillLemmas.{still_field, still_parts}
 
 -- ---- what fields take
 
@@ -47,7 +49,7 @@ bounds_of-in_table delimiter tables table changed_kind no_lookup = refl
 bounds_of-in_table delimiter tables table (leaf_kind leaf) no_lookup = refl
 bounds_of-in_table delimiter tables table (template_kind parts) no_lookup = refl
 bounds_of-in_table delimiter tables table (case_kind on branches) no_lookup = refl
-bounds_of-in_table delimiter tables table (reference_kind parent window spread) no_lookup = refl
+bounds_of-in_table delimiter tables table (reference_kind parent window spread nulls) no_lookup = refl
 bounds_of-in_table delimiter tables table _ no_lookup = cc
 
 -- each has room for a null one
@@ -58,7 +60,7 @@ room_for_null delimiter tables table changed_kind = omega arith
 room_for_null delimiter tables table (leaf_kind leaf) = omega arith
 room_for_null delimiter tables table (template_kind parts) = omega arith
 room_for_null delimiter tables table (case_kind on branches) = omega arith
-room_for_null delimiter tables table (reference_kind parent window spread) = omega arith
+room_for_null delimiter tables table (reference_kind parent window spread nulls) = omega arith
 room_for_null delimiter tables table (lookup_kind via parent name) = omega arith
 
 -- ---- a column that is ready as a lookup
@@ -75,15 +77,22 @@ no_lookup-ready delimiter (lookup_kind via parent column) other = absurd (other 
 no_lookup-ready delimiter _ other = refl
 
 -- a reference is ready as one, to the same table
-pub reference_ready : (delimiter place : ℕ) (held : KindLayout) → IsReferenceTo place held → (ready : ReadyReference) × (ready_kind delimiter held ≡ kind.Reference ready)
-reference_ready delimiter place (reference_kind parent window spread) is = (ready_reference parent window spread, refl)
+pub reference_ready : (delimiter place : ℕ) (held : KindLayout) → IsCascadeTo place held → (ready : ReadyReference) × (ready_kind delimiter held ≡ kind.Reference ready)
+reference_ready delimiter place (reference_kind parent window spread false) is = (ready_reference parent window spread false, refl)
 reference_ready delimiter place _ is = absurd is
 
-pub reference_to : (delimiter place : ℕ) (held : KindLayout) (ready : ReadyReference) → IsReferenceTo place held → ready_kind delimiter held ≡ kind.Reference ready → ready.parent ≡ place
-reference_to delimiter place (reference_kind parent window spread) ready is held =
-    let same : ready_reference parent window spread ≡ ready = cc in
+pub reference_to : (delimiter place : ℕ) (held : KindLayout) (ready : ReadyReference) → IsCascadeTo place held → ready_kind delimiter held ≡ kind.Reference ready → ready.parent ≡ place
+reference_to delimiter place (reference_kind parent window spread false) ready is held =
+    let same : ready_reference parent window spread false ≡ ready = cc in
     sym (ap (λ (r : ReadyReference). r.parent) same) ∙ is
 reference_to delimiter place _ ready is held = absurd is
+
+-- that doesn't become null
+pub reference_cascades : (delimiter place : ℕ) (held : KindLayout) (ready : ReadyReference) → IsCascadeTo place held → ready_kind delimiter held ≡ kind.Reference ready → ready.nulls ≡ false
+reference_cascades delimiter place (reference_kind parent window spread false) ready is held =
+    let same : ready_reference parent window spread false ≡ ready = cc in
+    sym (ap (λ (r : ReadyReference). r.nulls) same)
+reference_cascades delimiter place _ ready is held = absurd is
 
 module _ (lines : LinesOf) (limits : IsInLimits lines.plan) (table : lines.table < length lines.plan.schema.tables) (column : ℕ) (lookup : ReadyLookup) (of : IsLookupOf lines column lookup) where
   -- it is that of the layout
@@ -115,12 +124,12 @@ module _ (lines : LinesOf) (limits : IsInLimits lines.plan) (table : lines.table
 
 -- ---- what it shows
 
--- what a living row looks up is what its parent holds, as the parent's ordinal tells
+-- what a living row looks up is what the parent holds that it still has, as the parent's ordinal tells
 pub looked_up-held : (units : ℕ) (generator : Generator) → AreSound units generator.tables → (place : ℕ) → place < length generator.tables → (unit : ℕ) → unit ≤ units →
     (ordinal : ℕ) → ordinal < born_count (table_at generator.tables place).births unit → is_live generator place unit ordinal ≡ true →
     (via name : ℕ) (reference : Reference) → reference_at (table_at generator.tables place) via ≡ Some reference →
     looked_up generator unit place (row_at generator place unit ordinal) via reference.parent name
-    ≡ field_in_table generator reference.parent (row_at generator reference.parent unit (parent_of generator place unit ordinal reference)) name
+    ≡ option_and_then (λ (parent : ℕ). field_in_table generator reference.parent (row_at generator reference.parent unit parent) name) (held_parent generator place unit ordinal reference)
 looked_up-held units generator sound place below unit within ordinal born alive via name reference is =
     let table : TableLayout = table_at generator.tables place in
     let parent : ℕ = parent_of generator place unit ordinal reference in
@@ -130,15 +139,23 @@ looked_up-held units generator sound place below unit within ordinal born alive 
       parent_of-born units generator sound place below unit within ordinal born via reference is,
       born_count-le (table_at generator.tables reference.parent).births (birth table.births unit ordinal) unit early,
     ) in
-    let held : holds_row (rows_at generator reference.parent unit) parent ≡ true =
-    at_column (λ (r : Reference). holds_row (rows_at generator r.parent unit) (parent_of generator place unit ordinal r) ≡ true) table
+    let held : IfSome (held_parent generator place unit ordinal reference) (λ p. holds_row (rows_at generator reference.parent unit) p ≡ true) =
+    at_column (λ (r : Reference). IfSome (held_parent generator place unit ordinal r) (λ p. holds_row (rows_at generator r.parent unit) p ≡ true)) table
     (parents-held units generator sound place below unit ordinal within (holds_row-live units generator place unit ordinal sound within born ∙ alive))
     via reference (reference_at-within table via reference is) is in
-    let parent_alive : is_live generator reference.parent unit parent ≡ true =
-    sym (holds_row-live units generator reference.parent unit parent sound within parent_born) ∙ held in
-    ap (λ (j : ℕ). option_and_then (λ (row : Row). field_in_table generator reference.parent row name) (held_row generator reference.parent unit j))
-    (parent_of_row-by table (row_at generator place unit ordinal) (parent_of generator place unit ordinal) via reference refl is)
-    ∙ ap (option_and_then (λ (row : Row). field_in_table generator reference.parent row name)) (held_row-live units generator reference.parent unit parent sound within parent_born parent_alive)
+    ap (λ (o : Option ℕ). option_and_then (λ (row : Row). field_in_table generator reference.parent row name) (option_and_then (held_row generator reference.parent unit) o))
+    (parent_of_row-by table (row_at generator place unit ordinal) (held_parent generator place unit ordinal) via reference (parents-held_parent generator place unit ordinal) is)
+    ∙ shown (is_after (loss_of generator place unit ordinal reference) unit) parent parent_born held
+  where
+    shown : (test : Bool) (parent : ℕ) → parent < born_count (table_at generator.tables reference.parent).births unit →
+        IfSome (if test then Some parent else None) (λ p. holds_row (rows_at generator reference.parent unit) p ≡ true) →
+        option_and_then (λ (row : Row). field_in_table generator reference.parent row name) (option_and_then (held_row generator reference.parent unit) (if test then Some parent else None))
+        ≡ option_and_then (λ (p : ℕ). field_in_table generator reference.parent (row_at generator reference.parent unit p) name) (if test then Some parent else None)
+    shown true parent parent_born held =
+        ap (option_and_then (λ (row : Row). field_in_table generator reference.parent row name))
+        (held_row-live units generator reference.parent unit parent sound within parent_born
+        (sym (holds_row-live units generator reference.parent unit parent sound within parent_born) ∙ held))
+    shown false parent parent_born held = refl
 
 -- so that is the field of a lookup, unless it is drawn to be null
 field-lookup : (units : ℕ) (generator : Generator) → AreSound units generator.tables → (place : ℕ) → place < length generator.tables → (unit : ℕ) → unit ≤ units →
@@ -147,7 +164,7 @@ field-lookup : (units : ℕ) (generator : Generator) → AreSound units generato
     reference_at (table_at generator.tables place) via ≡ Some reference →
     field generator unit place (row_at generator place unit ordinal) column
     ≡ unless_null (column_at (table_at generator.tables place).columns column).null (draws_of generator place (row_at generator place unit ordinal) column)
-    (field_in_table generator reference.parent (row_at generator reference.parent unit (parent_of generator place unit ordinal reference)) name)
+    (option_and_then (λ (parent : ℕ). field_in_table generator reference.parent (row_at generator reference.parent unit parent) name) (held_parent generator place unit ordinal reference))
 field-lookup units generator sound place below unit within ordinal born alive column via name reference held is =
     let row : Row = row_at generator place unit ordinal in
     let null : ℕ = (column_at (table_at generator.tables place).columns column).null in
@@ -162,11 +179,17 @@ pub lookup-field : (units : ℕ) (generator : Generator) → AreSound units gene
     is_lookup_kind (column_at (table_at generator.tables reference.parent).columns shown).kind ≡ false →
     field generator unit place (row_at generator place unit ordinal) column
     ≡ unless_null (column_at (table_at generator.tables place).columns column).null (draws_of generator place (row_at generator place unit ordinal) column)
-    (field generator unit reference.parent (row_at generator reference.parent unit (parent_of generator place unit ordinal reference)) shown)
+    (option_and_then (λ (parent : ℕ). field generator unit reference.parent (row_at generator reference.parent unit parent) shown) (held_parent generator place unit ordinal reference))
 lookup-field units generator sound place below unit within ordinal born alive column via shown reference held is no_lookup =
     field-lookup units generator sound place below unit within ordinal born alive column via shown reference held is
     ∙ ap (unless_null (column_at (table_at generator.tables place).columns column).null (draws_of generator place (row_at generator place unit ordinal) column))
-    (sym (field-in_table generator unit reference.parent shown (row_at generator reference.parent unit (parent_of generator place unit ordinal reference)) no_lookup))
+    (each_held (held_parent generator place unit ordinal reference))
+  where
+    each_held : (o : Option ℕ) →
+        option_and_then (λ (parent : ℕ). field_in_table generator reference.parent (row_at generator reference.parent unit parent) shown) o
+        ≡ option_and_then (λ (parent : ℕ). field generator unit reference.parent (row_at generator reference.parent unit parent) shown) o
+    each_held None = refl
+    each_held (Some parent) = sym (field-in_table generator unit reference.parent shown (row_at generator reference.parent unit parent) no_lookup)
 
 -- the parent of a row of a cohort, by its ordinal and by its index
 parent_of-for : (lines : LinesOf) (index : ℕ) (reference : Reference) → lines.born ≤ lines.unit → index < cohort_size (layout_for lines).births lines.born →
@@ -180,10 +203,10 @@ parent_of-for lines index reference early inside =
 -- how it is written for a row of a cohort
 pub text-lookup : (lines : LinesOf) → IsInLimits lines.plan → lines.table < length lines.plan.schema.tables → lines.born ≤ lines.unit → lines.unit ≤ last_unit lines.plan →
     (column index : ℕ) (lookup : ReadyLookup) (reference : ReadyReference) (null : Bool) → IsLookupOf lines column lookup →
-    IsReferenceOf lines.plan lines.table lookup.via reference → reference.parent ≡ lookup.parent → index < cohort_size (layout_for lines).births lines.born → is_live_for lines index ≡ true →
+    IsReferenceOf lines.plan lines.table lookup.via reference → reference.parent ≡ lookup.parent → reference.nulls ≡ false → index < cohort_size (layout_for lines).births lines.born → is_live_for lines index ≡ true →
     is_null (column_at (layout_for lines).columns column).null (draws_of (generator_of lines.plan) lines.table (row_at (generator_of lines.plan) lines.table lines.unit (ordinal_of lines index)) column) ≡ null →
     text_in_cohort lines index column ≡ (if null then codes "\\N" else text_held lines.plan lookup.parent lines.unit (parent_for lines index (reference_by lookup.via reference)) lookup.column)
-text-lookup lines limits table early within column index lookup reference null of refers to inside alive null_is =
+text-lookup lines limits table early within column index lookup reference null of refers to cascades inside alive null_is =
     let generator : Generator = generator_of lines.plan in
     let d : ℕ = (layout_of lines.plan).delimiter in
     let by : Reference = reference_by lookup.via reference in
@@ -194,6 +217,8 @@ text-lookup lines limits table early within column index lookup reference null o
     ap (field_text d)
     (field-lookup (last_unit lines.plan) generator (AreSound-accepted lines.plan limits) lines.table (omega (arith, table, length-tables lines.plan)) lines.unit within
     (ordinal_of lines index) (cohort_born lines index early inside) alive column lookup.via lookup.column by kind is
+    ∙ ap (λ (o : Option ℕ). unless_null (column_at (layout_for lines).columns column).null (draws_of generator lines.table (row_at generator lines.table lines.unit (ordinal_of lines index)) column) (option_and_then (shown by.parent) o))
+    (held_parent-cascades generator lines.table lines.unit (ordinal_of lines index) by cascades)
     ∙ ap (λ (b : Bool). if b then None else shown by.parent (parent_of generator lines.table lines.unit (ordinal_of lines index) by)) null_is
     ∙ ap (λ (j : ℕ). if null then None else shown by.parent j) (parent_of-for lines index by early inside)
     ∙ ap (λ (place : ℕ). if null then None else shown place (parent_for lines index by)) to)
@@ -257,12 +282,14 @@ pub size-still : (lines : LinesOf) (column : ℕ) → IsStillColumn (layout_for 
 size-still lines column still =
     ap (λ bounds. bounds.size) (bounds_of-in_table (layout_of lines.plan).delimiter (layout_of lines.plan).tables (layout_for lines) (column_at (layout_for lines).columns column).kind still.no_lookup)
 
-pub asked-still : (lines : LinesOf) (column : ℕ) → IsStillColumn (layout_for lines) column →
+pub asked-still : (lines : LinesOf) (column : ℕ) → IsTableInLimits (last_unit lines.plan) (layout_for lines) → IsStillColumn (layout_for lines) column →
     asked_for false lines column ≤ (bounds_at (layout_of lines.plan).delimiter (layout_of lines.plan).tables (layout_for lines) column).permutations
-asked-still lines column still =
+asked-still lines column limits still =
     let kind : KindLayout = (column_at (layout_for lines).columns column).kind in
+    let parts = still_parts (column_at (layout_for lines).columns column).changes (is_moving_kind kind) still.still in
     omega (
       arith,
+      null_cost-still (lineages (layout_of lines.plan).tables) (layout_for lines).columns kind parts.1 (limits.still column still.within parts.0),
       asked_by-le false (layout_of lines.plan).delimiter (layout_of lines.plan).tables (layout_for lines) kind,
       ap (λ bounds. bounds.permutations) (bounds_of-in_table (layout_of lines.plan).delimiter (layout_of lines.plan).tables (layout_for lines) kind still.no_lookup),
     )

@@ -10,7 +10,7 @@ use Rattle.row_text.proofs.DigitLemmas.{piece_text-decimal}
 use Rattle.schema_plan.specs.declared.ready.ReadyKind.TheVariants.{Key, Reference, Template}
 use Rattle.schema_plan.specs.declared.ready.ReadyPart.{ReadyPart}
 use Rattle.schema_plan.specs.declared.ready.ReadyReference.{ReadyReference}
-use Rattle.schema_plan.specs.Cohorts.{cohort_size}
+use Rattle.cohort_sizes.specs.Births.{cohort_size}
 use Rattle.schema_plan.specs.FieldBounds.{bounds_alone, bounds_of, bounds_of_part}
 use Rattle.schema_plan.specs.Layout.{KindLayout, PartLayout, TableLayout, born_kind, changed_kind, cited_part, column_at, key_kind, layout_of, leaf_kind, literal_part, reference_kind, template_kind}
 use Rattle.schema_plan.specs.Limits.{AreParts, IsKindInLimits, IsPart, is_cited}
@@ -33,7 +33,7 @@ own_from_cited delimiter key_kind cited no_key no_reference = absurd (no_key ref
 own_from_cited delimiter born_kind cited no_key no_reference = refl
 own_from_cited delimiter (leaf_kind leaf) cited no_key no_reference = refl
 own_from_cited delimiter changed_kind cited no_key no_reference = refl
-own_from_cited delimiter (reference_kind parent window spread) cited no_key no_reference = absurd (no_reference _ refl)
+own_from_cited delimiter (reference_kind parent window spread nulls) cited no_key no_reference = absurd (no_reference _ refl)
 own_from_cited delimiter _ cited no_key no_reference = cc
 
 -- it takes what its own field takes
@@ -43,7 +43,7 @@ bounds_of-cited delimiter tables table key_kind cited = refl
 bounds_of-cited delimiter tables table born_kind cited = refl
 bounds_of-cited delimiter tables table changed_kind cited = refl
 bounds_of-cited delimiter tables table (leaf_kind leaf) cited = refl
-bounds_of-cited delimiter tables table (reference_kind parent window spread) cited = refl
+bounds_of-cited delimiter tables table (reference_kind parent window spread nulls) cited = refl
 bounds_of-cited delimiter tables table _ cited = cc
 
 -- a key takes 20 bytes
@@ -57,7 +57,7 @@ size_for-cited lines column citable =
     (bounds_of-cited (layout_of lines.plan).delimiter (layout_of lines.plan).tables (layout_for lines) (column_at (layout_for lines).columns column).kind citable.cited)
 
 -- and it holds what its own field holds
-cited_for-held : (lines : LinesOf) (index changed column : ℕ) → IsCitable lines column → cited_for lines index changed column ≡ held_in_table lines index changed column
+pub cited_for-held : (lines : LinesOf) (index changed column : ℕ) → IsCitable lines column → cited_for lines index changed column ≡ held_in_table lines index changed column
 cited_for-held lines index changed column citable =
     sym (in_table-cited (generator_of lines.plan) lines.table column (row_changed lines index changed) citable.cited)
 

@@ -5,23 +5,22 @@ use Rattle.std.proofs.lemmas.Bool.{and_parts, cases_lt, le-leb, leb-true, lt-leb
 use Rattle.std.proofs.lemmas.Option.{same_Some}
 use Rattle.line_pages.specs.Pages.{Page}
 use Rattle.philox_seeds.specs.SeedTree.{life_column}
-use Rattle.schema_plan.specs.declared.layout.Births.{Births}
+use Rattle.cohort_sizes.specs.Births.{Births, born_count, index_at}
 use Rattle.schema_plan.specs.declared.layout.Span.{Span}
-use Rattle.schema_plan.specs.Cohorts.{born_count}
 use Rattle.schema_plan.specs.Dictionaries.{Project}
 use Rattle.schema_plan.specs.Layout.{table_at}
 use Rattle.schema_plan.specs.Limits.{IsInLimits, IsSpan}
 use Rattle.schema_plan.specs.Lineage.{sure_life}
-use Rattle.schema_plan.specs.References.{references_of}
+use Rattle.schema_plan.specs.References.{cascades_of}
 use Rattle.life_intervals.specs.Generator.{Generator, generator_of, last_unit, rows_in_all}
-use Rattle.life_intervals.specs.Intervals.{Known, change_unit, death, index_at, is_after, is_live, known_tables, row_at}
+use Rattle.life_intervals.specs.Intervals.{Known, change_unit, death, is_after, is_live, known_tables, row_at}
 use Rattle.life_intervals.specs.Keys.{key_of}
 use Rattle.life_intervals.specs.Rows.{Row, life_by}
 use Rattle.life_intervals.specs.Sound.{AreSound}
 use Rattle.life_intervals.proofs.AcceptedLemmas.{AreSound-accepted, place-below, row_at-changed}
-use Rattle.life_intervals.proofs.CohortLemmas.{LiesIn-birth, birth-le, cohort-within, index_at-below}
+use Rattle.cohort_sizes.proofs.CohortLemmas.{LiesIn-birth, birth-le, cohort-within, index_at-below}
 use Rattle.life_intervals.proofs.DeathLemmas.{is_after-lesser_from}
-use Rattle.life_intervals.proofs.KnownLemmas.{refers-of}
+use Rattle.life_intervals.proofs.KnownLemmas.{cascades-of}
 use Rattle.life_intervals.proofs.LifeLemmas.{death-later}
 use Rattle.life_intervals.proofs.ParentLemmas.{parents-alive_now}
 use Rattle.row_lines.specs.Lines.{held_row, line_of}
@@ -84,7 +83,7 @@ module _ (plan : Project) (limits : IsInLimits plan) (place : ℕ) (below : plac
       is_after-lesser_from _ _ birth_unit
       (own_death-past_birth birth_unit (generator.order (length earlier) life_column birth_unit index) (table_at generator.tables place).life (sound place within_tables).life)
       (parents-alive_now last generator.order earlier (sure_life generator.tables) births birth_unit index (birth-le births last ordinal born) (index_at-below births last ordinal born)
-      (references_of (table_at generator.tables place)) (refers-of last generator sound place within_tables))
+      (cascades_of (table_at generator.tables place)) (cascades-of last generator sound place within_tables))
 
   -- it is born by each unit from its birth on
   born-from : (unit : ℕ) → birth_unit ≤ unit → ordinal < born_count births unit

@@ -3,15 +3,15 @@ use Rattle.std.proofs.Common.{◌≡◌, ◌<◌, ◌≤◌, ℕ, ◌||◌, Bool
 use Rattle.std.specs.Option.{option_and_then}
 use Rattle.std.proofs.lemmas.List.Elements.{All-head, All-tail}
 use Rattle.schema_plan.specs.Layout.{ColumnLayout, KindLayout, PartLayout, born_kind, case_kind, changed_kind, cited_part, column_at, key_kind, leaf_kind, literal_part, lookup_kind, reference_kind, table_at, template_kind}
-use Rattle.schema_plan.specs.Limits.{CitesStill, IsKindInLimits, IsPart, IsStillPart, IsTableInLimits, is_change_unit, moves}
+use Rattle.schema_plan.specs.Limits.{CitesStill, IsKindInLimits, IsPart, IsStillPart, IsTableInLimits, is_moving_kind, moves}
 use Rattle.draw_values.specs.Values.{Draws, branch_at, held_entry, leaf_value, unless_null}
 use Rattle.life_intervals.specs.Generator.{Generator}
 use Rattle.life_intervals.specs.Rows.{Row}
 use Rattle.row_lines.specs.Lines.{draws_of, field_alone, field_in_table, part_text, value_alone, value_in_table}
 use Rattle.row_lines.proofs.FieldLemmas.{draws_of-born}
 
--- a column that doesn't move isn't drawn anew and holds no unit of a change
-still_parts : (changes unit : Bool) → (changes || unit) ≡ false → (changes ≡ false) × (unit ≡ false)
+-- a column that doesn't move isn't drawn anew, and is of no kind that moves
+pub still_parts : (changes unit : Bool) → (changes || unit) ≡ false → (changes ≡ false) × (unit ≡ false)
 still_parts true unit h = absurd (cc)
 still_parts false unit h = (refl, h)
 
@@ -24,10 +24,10 @@ module _ (generator : Generator) (place : ℕ) (row : Row) (changed units : ℕ)
 
   still_draws : (column : ℕ) → moves (column_at columns column) ≡ false → draws_of generator place later column ≡ draws_of generator place row column
   still_draws column still =
-      let unchanged = (still_parts (column_at columns column).changes (is_change_unit (column_at columns column).kind) still).0 in
+      let unchanged = (still_parts (column_at columns column).changes (is_moving_kind (column_at columns column).kind) still).0 in
       draws_of-born generator place column later unchanged ∙ sym (draws_of-born generator place column row unchanged)
 
-  still_alone : (column : ℕ) (kind : KindLayout) → moves (column_at columns column) ≡ false → is_change_unit kind ≡ false → CitesStill columns kind →
+  still_alone : (column : ℕ) (kind : KindLayout) → moves (column_at columns column) ≡ false → is_moving_kind kind ≡ false → CitesStill columns kind →
       value_alone generator place later column kind ≡ value_alone generator place row column kind
   still_alone column key_kind still no_unit cites = refl
   still_alone column born_kind still no_unit cites = refl
@@ -37,13 +37,13 @@ module _ (generator : Generator) (place : ℕ) (row : Row) (changed units : ℕ)
   still_alone column (case_kind on branches) still no_unit cites =
       ap (λ (draw : Draws). option_and_then (λ entry. leaf_value (branch_at branches entry) draw) (held_entry (column_at columns on) (draws_of generator place later on))) (still_draws column still)
       ∙ ap (λ (draw : Draws). option_and_then (λ entry. leaf_value (branch_at branches entry) (draws_of generator place row column)) (held_entry (column_at columns on) draw)) (still_draws on cites)
-  still_alone column (reference_kind parent window spread) still no_unit cites = refl
+  still_alone column (reference_kind parent window spread nulls) still no_unit cites = refl
   still_alone column (lookup_kind via parent name) still no_unit cites = refl
 
   still_field_alone : (column : ℕ) → column < length columns → moves (column_at columns column) ≡ false → field_alone generator place later column ≡ field_alone generator place row column
   still_field_alone column within still =
       let of : ColumnLayout = column_at columns column in
-      let parts = still_parts of.changes (is_change_unit of.kind) still in
+      let parts = still_parts of.changes (is_moving_kind of.kind) still in
       ap (λ (draw : Draws). unless_null of.null draw (value_alone generator place later column of.kind)) (still_draws column still)
       ∙ ap (unless_null of.null (draws_of generator place row column)) (still_alone column of.kind still parts.1 (limits.still column within parts.0))
 
@@ -62,7 +62,7 @@ module _ (generator : Generator) (place : ℕ) (row : Row) (changed units : ℕ)
       ∙ ap (λ (text : List ℕ). part_text generator place row part ++ text)
       (still_template bound within parts (All-tail (IsPart columns bound) part parts are) (All-tail (IsStillPart columns) part parts still))
 
-  still_in_table : (column : ℕ) (kind : KindLayout) → column ≤ length columns → moves (column_at columns column) ≡ false → is_change_unit kind ≡ false → CitesStill columns kind → IsKindInLimits columns column kind →
+  still_in_table : (column : ℕ) (kind : KindLayout) → column ≤ length columns → moves (column_at columns column) ≡ false → is_moving_kind kind ≡ false → CitesStill columns kind → IsKindInLimits columns column kind →
       value_in_table generator place later column kind ≡ value_in_table generator place row column kind
   still_in_table column (template_kind parts) within still no_unit cites of =
       ap Some (still_template column within parts of.each cites)
@@ -71,13 +71,13 @@ module _ (generator : Generator) (place : ℕ) (row : Row) (changed units : ℕ)
   still_in_table column changed_kind within still no_unit cites of = cc
   still_in_table column (leaf_kind leaf) within still no_unit cites of = still_alone column (leaf_kind leaf) still no_unit cites
   still_in_table column (case_kind on branches) within still no_unit cites of = still_alone column (case_kind on branches) still no_unit cites
-  still_in_table column (reference_kind parent window spread) within still no_unit cites of = refl
+  still_in_table column (reference_kind parent window spread nulls) within still no_unit cites of = refl
   still_in_table column (lookup_kind via parent name) within still no_unit cites of = refl
 
   pub still_field : (column : ℕ) → column < length columns → moves (column_at columns column) ≡ false → field_in_table generator place later column ≡ field_in_table generator place row column
   still_field column within still =
       let of : ColumnLayout = column_at columns column in
-      let parts = still_parts of.changes (is_change_unit of.kind) still in
+      let parts = still_parts of.changes (is_moving_kind of.kind) still in
       ap (λ (draw : Draws). unless_null of.null draw (value_in_table generator place later column of.kind)) (still_draws column still)
       ∙ ap (unless_null of.null (draws_of generator place row column))
       (still_in_table column of.kind (omega (arith, within)) still parts.1 (limits.still column within parts.0) (limits.kinds column within))

@@ -1,10 +1,12 @@
 -- The lines of one cohort, and what the code keeps of them.
-use Rattle.std.specs.Prelude.{◌≡◌, ◌<◌, ◌≤◌, ℕ, ◌+◌, Bool, List, if◌then◌else◌, length, sum_by, true}
+use Rattle.std.specs.Prelude.{◌≡◌, ◌<◌, ◌≤◌, ℕ, ◌+◌, Bool, List, Option, decimal, if◌then◌else◌, length, sum_by, true}
+use Rattle.std.specs.Option.{option_map}
 use Rattle.row_text.specs.Fields.{field_text}
-use Rattle.schema_plan.specs.Cohorts.{first_ordinal}
+use Rattle.cohort_sizes.specs.Births.{first_ordinal}
 use Rattle.schema_plan.specs.FieldBounds.{bounds_alone, bounds_of}
 use Rattle.schema_plan.specs.Layout.{PartLayout, literal_part, cited_part, KindLayout, key_kind, template_kind, lookup_kind, ColumnLayout, column_at, layout_of, TableLayout}
 use Rattle.schema_plan.specs.Limits.{IsInLimits, IsTableInLimits}
+use Rattle.schema_plan.specs.Lineage.{lineages, null_cost_of}
 use Rattle.schema_plan.specs.Dictionaries.{Project}
 use Rattle.schema_plan.specs.declared.ready.ReadyColumn.{ReadyColumn}
 use Rattle.schema_plan.specs.Ready.{ready_columns}
@@ -15,7 +17,7 @@ use Rattle.life_intervals.specs.CohortLives.{CohortAt}
 use Rattle.life_intervals.specs.Generator.{generator_of, last_unit, table_of}
 use Rattle.life_intervals.specs.Intervals.{change_unit, is_live, row_at}
 use Rattle.life_intervals.specs.Keys.{key_in_cohort, key_of}
-use Rattle.life_intervals.specs.CohortParents.{parent_in}
+use Rattle.life_intervals.specs.CohortParents.{held_in, parent_in}
 use Rattle.schema_plan.specs.References.{Reference}
 use Rattle.life_intervals.specs.Rows.{Row}
 use Rattle.row_lines.specs.Lines.{field, field_in_table, line_if_live, line_of}
@@ -39,13 +41,21 @@ ordinal_of lines index = first_ordinal (layout_for lines).births lines.born + in
 abbrev pub key_for : LinesOf → ℕ → ℕ
 key_for lines index = key_in_cohort (generator_of lines.plan) lines.table lines.born index
 
--- the ordinal of the parent that it has by a reference, and the key of that
+-- the ordinal of the parent that it is born with by a reference
 abbrev pub parent_for : LinesOf → ℕ → Reference → ℕ
 parent_for lines index reference = parent_in (record { plan = lines.plan; table = lines.table; unit = lines.born }) index reference
 
-abbrev pub parent_key_for : LinesOf → ℕ → Reference → ℕ
-parent_key_for lines index reference =
-    key_of (generator_of lines.plan) reference.parent (last_unit lines.plan) (parent_for lines index reference)
+-- that of the parent that it still has at the unit, and the key of this one; None where it has lost it
+abbrev pub held_for : LinesOf → ℕ → Reference → Option ℕ
+held_for lines index reference = held_in (record { plan = lines.plan; table = lines.table; unit = lines.born }) index lines.unit reference
+
+abbrev pub held_key_for : LinesOf → ℕ → Reference → Option ℕ
+held_key_for lines index reference =
+    option_map (key_of (generator_of lines.plan) reference.parent (last_unit lines.plan)) (held_for lines index reference)
+
+-- what it holds in the reference
+abbrev pub reference_value : LinesOf → ℕ → Reference → Option (List ℕ)
+reference_value lines index reference = option_map decimal (held_key_for lines index reference)
 
 -- the line of the row with an index in the cohort
 abbrev pub line_in_cohort : LinesOf → ℕ → List ℕ
@@ -117,10 +127,12 @@ size_for lines column =
     (bounds_of (layout_of lines.plan).delimiter (layout_of lines.plan).tables (layout_for lines)
     (column_at (layout_for lines).columns column).kind).size
 
--- how many permutations a field takes that needs no other column: as many as the schema counts for it, but none for a key that is known
+-- how many permutations a field takes at most that needs no other column: as many as the schema counts for it and for whether it is
+-- null, but none for a key that is known
 abbrev pub asked_alone : Bool → ℕ → List TableLayout → TableLayout → KindLayout → ℕ
 asked_alone known delimiter tables table key_kind = if known then 0 else (bounds_alone delimiter tables table key_kind).permutations
-asked_alone known delimiter tables table kind = (bounds_alone delimiter tables table kind).permutations
+asked_alone known delimiter tables table kind =
+    null_cost_of (lineages tables) kind + (bounds_alone delimiter tables table kind).permutations
 
 -- how many a part of a template takes
 abbrev pub asked_by_part : Bool → ℕ → List TableLayout → TableLayout → PartLayout → ℕ

@@ -1,9 +1,9 @@
 -- The text of a table: a line for each row, in COPY text form (PostgreSQL's manual, "COPY").
 use Rattle.std.specs.Prelude.{ℕ, ◌==◌, List, [], ◌++◌, filter, find, map, flat_map, length, zip, Option, Some, codes, decimal, if◌then◌else◌, unwrap_or}
 use Rattle.std.specs.List.{join_with_byte, range_with_len}
-use Rattle.std.specs.Option.{option_and_then, option_map_or}
+use Rattle.std.specs.Option.{option_and_then, option_map}
 use Rattle.row_text.specs.Fields.{field_text}
-use Rattle.schema_plan.specs.Cohorts.{cohort_size, first_ordinal}
+use Rattle.cohort_sizes.specs.Births.{cohort_size, first_ordinal}
 use Rattle.schema_plan.specs.Layout.{PartLayout, literal_part, cited_part, KindLayout, key_kind, template_kind, reference_kind, lookup_kind, TableLayout, table_at, column_at}
 use Rattle.schema_plan.specs.References.{Reference, references_of}
 use Rattle.draw_values.specs.declared.values.RowAt.{RowAt}
@@ -27,18 +27,19 @@ abbrev pub draws_of : Generator → ℕ → Row → RowDraws
 draws_of generator place row column =
     generator.draw place column (draw_unit (column_at (table_at generator.tables place).columns column) (at_row row)) row.ordinal
 
--- the ordinal of the parent that a row of a table has by the reference in the column at a place
-abbrev pub parent_of_row : TableLayout → Row → ℕ → ℕ
+-- the ordinal of the parent that a row of a table has by the reference in the column at a place; None where it has lost it
+abbrev pub parent_of_row : TableLayout → Row → ℕ → Option ℕ
 parent_of_row table row column =
-    option_map_or (λ (at : Reference × ℕ). at.1) (find (λ (at : Reference × ℕ). at.0.column == column) (zip (references_of table) row.parents)) 0
+    option_and_then (λ (at : Reference × Option ℕ). at.1)
+    (find (λ (at : Reference × Option ℕ). at.0.column == column) (zip (references_of table) row.parents))
 
 -- what a row of the table at a place holds in the column at a place, which is of this kind and puts no fields together, where that
--- isn't null by its own draw: in a reference the key of its parent, which is born by the row's birth
+-- isn't null by its own draw: in a reference the key of its parent, which is born by the row's birth, and None where it has lost it
 abbrev pub value_alone : Generator → ℕ → Row → ℕ → KindLayout → Option (List ℕ)
 value_alone generator place row column key_kind =
     Some (decimal (key_in_cohort generator place row.born (index_in_cohort (table_at generator.tables place) row)))
-value_alone generator place row column (reference_kind parent window spread) =
-    Some (decimal (key_of generator parent row.born (parent_of_row (table_at generator.tables place) row column)))
+value_alone generator place row column (reference_kind parent window spread nulls) =
+    option_map (λ ordinal. decimal (key_of generator parent row.born ordinal)) (parent_of_row (table_at generator.tables place) row column)
 value_alone generator place row column kind =
     own_value (table_at generator.tables place).columns (at_row row) (draws_of generator place row) column kind
 
@@ -70,7 +71,7 @@ field_in_table generator place row column =
 abbrev pub looked_up : Generator → ℕ → ℕ → Row → ℕ → ℕ → ℕ → Option (List ℕ)
 looked_up generator unit place row via parent name =
     option_and_then (λ (held : Row). field_in_table generator parent held name)
-    (held_row generator parent unit (parent_of_row (table_at generator.tables place) row via))
+    (option_and_then (held_row generator parent unit) (parent_of_row (table_at generator.tables place) row via))
 
 -- what a row of the table at a place holds at a unit in the column at a place, which is of this kind, where that isn't null by its own draw
 abbrev pub value : Generator → ℕ → ℕ → Row → ℕ → KindLayout → Option (List ℕ)

@@ -5,7 +5,7 @@ use Rattle.std.specs.Option.{option_map}
 use Rattle.schema_plan.specs.Dictionaries.{Project}
 use Rattle.schema_plan.specs.Layout.{table_at}
 use Rattle.life_intervals.specs.Generator.{Generator, generator_of, last_unit, rows_in_all}
-use Rattle.life_intervals.specs.Intervals.{birth}
+use Rattle.cohort_sizes.specs.Births.{birth}
 use Rattle.life_intervals.specs.Keys.{key_of}
 use Rattle.life_intervals.specs.Rows.{Row}
 use Rattle.row_lines.specs.Lines.{held_row, line}

@@ -1,6 +1,6 @@
 -- Small generators, whose tables can be worked out by hand.
 use Rattle.std.specs.Prelude.{ℕ, ◌-◌, Bool, false, true, List, [], ◌∷◌, Some, None, codes}
-use Rattle.schema_plan.specs.Layout.{literal_part, cited_part, KindLayout, key_kind, born_kind, template_kind, reference_kind, lookup_kind, ColumnLayout, TableLayout}
+use Rattle.schema_plan.specs.Layout.{literal_part, cited_part, KindLayout, key_kind, born_kind, changed_kind, template_kind, reference_kind, lookup_kind, ColumnLayout, TableLayout}
 use Rattle.life_intervals.specs.Generator.{Order, Draw, in_place, Generator}
 use Rattle.life_intervals.specs.Rows.{Row}
 
@@ -11,7 +11,7 @@ plain kind = record { kind = kind; changes = false; null = 0 }
 -- a table of keys from a base and birth units, as many columns of these as are given
 abbrev pub table : ℕ → ℕ → ℕ → Bool → List ColumnLayout → TableLayout
 table rows insert base scramble births = record {
-  births = record { rows = rows; insert = insert };
+  births = record { rows = rows; rates = record { from = 1; rows = insert } ∷ [] };
   life = None;
   update = None;
   key = record { base = base; scramble = scramble };
@@ -69,8 +69,20 @@ labels = record {
 abbrev pub land : Generator
 land = record {
   tables = table 1 1 5 false (plain (template_kind (literal_part (codes "c") ∷ cited_part 0 ∷ [])) ∷ plain born_kind ∷ [])
-      ∷ table 1 1 1 false (plain (reference_kind 0 (Some 0) (1 ∷ [])) ∷ plain (lookup_kind 1 0 2) ∷ plain (lookup_kind 1 0 1)
+      ∷ table 1 1 1 false (plain (reference_kind 0 (Some 0) (1 ∷ []) false) ∷ plain (lookup_kind 1 0 2) ∷ plain (lookup_kind 1 0 1)
       ∷ nulled (lookup_kind 1 0 0) ∷ []) ∷ [];
+  order = in_place;
+  draw = no_draw;
+  delimiter = 9;
+}
+
+-- owners, who live two units, and notes, each born with its owner: the key, the owner, the unit of the last change, and a template of
+-- the owner; tabs between
+abbrev pub owned : Generator
+owned = record {
+  tables = record (table 1 1 1 false []) { life = Some (record { least = 2; most = 2 }) }
+      ∷ table 1 1 1 false (plain (reference_kind 0 (Some 0) (1 ∷ []) true) ∷ plain changed_kind
+      ∷ plain (template_kind (literal_part (codes "of ") ∷ cited_part 1 ∷ [])) ∷ []) ∷ [];
   order = in_place;
   draw = no_draw;
   delimiter = 9;
@@ -78,4 +90,11 @@ land = record {
 
 -- the house that is born at unit 0
 abbrev pub first_house : Row
-first_house = record { ordinal = 0; born = 0; changed = 0; left = None; wait = None; parents = 0 ∷ [] }
+first_house = record { ordinal = 0; born = 0; changed = 0; left = None; wait = None; parents = Some 0 ∷ [] }
+
+-- the note that is born at unit 0, with its owner and when it has lost it
+abbrev pub first_note : Row
+first_note = record { ordinal = 0; born = 0; changed = 0; left = None; wait = None; parents = Some 0 ∷ [] }
+
+abbrev pub first_note_alone : Row
+first_note_alone = record first_note { changed = 2; parents = None ∷ [] }

@@ -1,16 +1,17 @@
 //! The fields of the rows of a cohort, but for lookups, with what doesn't change from row to row taken once.
 
-ghost use Rattle.std.specs.Prelude.{◌≡◌, ◌<◌, ◌≤◌, ◌+◌, ◌++◌, All, IfSome, false, flat_map, if◌then◌else◌, is_some, length, sum_by, true};
+ghost use Rattle.std.specs.Prelude.{◌≡◌, ◌<◌, ◌≤◌, ◌+◌, ◌^◌, ◌++◌, All, IfSome, false, flat_map, if◌then◌else◌, is_some, length, sum_by, true};
+ghost use Rattle.row_text.specs.Fields.{field_text};
 ghost use Rattle.schema_plan.specs.declared.ready.ReadyKind.TheVariants.{Template};
-ghost use Rattle.schema_plan.specs.Cohorts.{born_count, cohort_size};
+ghost use Rattle.cohort_sizes.specs.Births.{born_count, cohort_size};
 ghost use Rattle.schema_plan.specs.Layout.{column_at, layout_of};
 ghost use Rattle.schema_plan.specs.Limits.{IsTableInLimits, is_lookup_kind};
 ghost use Rattle.schema_plan.specs.Lineage.{one_if};
 ghost use Rattle.schema_plan.specs.Ready.{ready_kind};
-ghost use Rattle.draw_values.specs.Values.{is_own};
-ghost use Rattle.life_intervals.specs.CohortParents.{AreCandidates, IsReferenceOf, reference_by};
+ghost use Rattle.draw_values.specs.Values.{is_own, put_of, written};
+ghost use Rattle.life_intervals.specs.CohortParents.{AreCandidates, IsReferenceOf, held_cost, reference_by};
 ghost use Rattle.life_intervals.specs.Generator.{last_unit, table_of};
-ghost use Rattle.row_lines.specs.CohortLines.{asked_for, key_for, layout_for, ordinal_of, parent_for, parent_key_for, size_for, text_in_table, values_at};
+ghost use Rattle.row_lines.specs.CohortLines.{asked_for, held_key_for, key_for, layout_for, ordinal_of, parent_for, reference_value, size_for, text_in_table, values_at};
 ghost use Rattle.row_lines.specs.Parts.{IsCitable, IsPartOf, cited_asked, cited_size, cited_text, part_asked, part_size, written_part};
 
 use draw_values::{CohortValues, Put};
@@ -99,8 +100,8 @@ impl<'a> CohortFields<'a> {
         }
     }
 
-    /// The ordinal of the parent that the row with this index has by a reference, which is ready in the column at a place. It takes one
-    /// step.
+    /// The ordinal of the parent that the row with this index is born with by a reference, which is ready in the column at a place. It
+    /// takes one step.
     #[inline(always)]
     pub(crate) fn parent<L: Ledger>(
         &self,
@@ -119,21 +120,56 @@ impl<'a> CohortFields<'a> {
         self.parents.parent(column, reference, index, steps)
     }
 
-    /// The key of that parent.
-    fn parent_key<L: Ledger>(
+    /// The key of the parent that the row with this index still has at the unit by a reference, which is ready in the column at a place;
+    /// None where it has lost it.
+    #[inline(always)]
+    fn held_key<L: Ledger>(
         &self,
         column: u32,
         reference: &ReadyReference,
         index: u64,
         steps: &mut Steps<L>,
-    ) -> u64
+    ) -> Option<u64>
         requires row { index < cohort_size (layout_for self.now).births self.now.born }
         requires reference { IsReferenceOf self.now.plan self.now.table column reference.now }
-        ensures key { result ≡ parent_key_for self.now index (reference_by column reference.now) }
-        ensures steps { steps.new ≡ steps.old + (1 + one_if (table_of self.now.plan reference.now.parent).key.scramble) }
+        ensures key { result ≡ held_key_for self.now index (reference_by column reference.now) }
+        ensures limit { IfSome result (λ key. key < 2 ^ 64) }
+        ensures steps { steps.new ≤ steps.old + (held_cost (layout_of self.now.plan).tables (reference_by column reference.now) + one_if (table_of self.now.plan reference.now.parent).key.scramble) }
     {
-        let parent = self.parent(column, reference, index, steps);
-        key_of(self.plan, reference.parent, parent, steps)
+        match self
+            .parents
+            .held(column, reference, index, self.unit, steps)
+        {
+            Some(parent) => Some(key_of(self.plan, reference.parent, parent, steps)),
+            None => None,
+        }
+    }
+
+    /// Appends that key; nothing where the row has lost the parent.
+    #[inline(always)]
+    fn put_parent<L: Ledger>(
+        &self,
+        column: u32,
+        reference: &ReadyReference,
+        index: u64,
+        buf: &mut PageBuf,
+        steps: &mut Steps<L>,
+    ) -> Put
+        requires row { index < cohort_size (layout_for self.now).births self.now.born }
+        requires reference { IsReferenceOf self.now.plan self.now.table column reference.now }
+        requires room { length buf.old.text + 20 ≤ buf.old.room }
+        ensures put { result ≡ put_of (reference_value self.now index (reference_by column reference.now)) }
+        ensures text { buf.new ≡ record buf.old { text = buf.old.text ++ written (layout_of self.now.plan).delimiter (reference_value self.now index (reference_by column reference.now)) } }
+        ensures size { length (field_text (layout_of self.now.plan).delimiter (reference_value self.now index (reference_by column reference.now))) ≤ 20 }
+        ensures steps { steps.new ≤ steps.old + (held_cost (layout_of self.now.plan).tables (reference_by column reference.now) + one_if (table_of self.now.plan reference.now.parent).key.scramble) }
+    {
+        match self.held_key(column, reference, index, steps) {
+            Some(key) => {
+                buf.put_number(key);
+                Put::Text
+            }
+            None => Put::Null,
+        }
     }
 
     /// Appends the field of the column at a place, which is no lookup.
@@ -164,10 +200,32 @@ impl<'a> CohortFields<'a> {
                 self.put_template(column, parts.as_slice(), index, key, values, buf, steps)
             }
             ReadyKind::Reference(reference) => {
-                let parent = self.parent_key(column as u32, reference, index, steps);
-                buf.put_number(parent)
+                self.put_reference(column as u32, reference, index, buf, steps)
             }
             _ => self.put_own(column, index, values, buf),
+        }
+    }
+
+    /// Appends the same as a field, which is null where the row has lost the parent.
+    #[inline(always)]
+    fn put_reference<L: Ledger>(
+        &self,
+        column: u32,
+        reference: &ReadyReference,
+        index: u64,
+        buf: &mut PageBuf,
+        steps: &mut Steps<L>,
+    )
+        requires row { index < cohort_size (layout_for self.now).births self.now.born }
+        requires reference { IsReferenceOf self.now.plan self.now.table column reference.now }
+        requires room { length buf.old.text + 20 ≤ buf.old.room }
+        ensures text { buf.new ≡ record buf.old { text = buf.old.text ++ field_text (layout_of self.now.plan).delimiter (reference_value self.now index (reference_by column reference.now)) } }
+        ensures size { length (field_text (layout_of self.now.plan).delimiter (reference_value self.now index (reference_by column reference.now))) ≤ 20 }
+        ensures steps { steps.new ≤ steps.old + (held_cost (layout_of self.now.plan).tables (reference_by column reference.now) + one_if (table_of self.now.plan reference.now.parent).key.scramble) }
+    {
+        match self.put_parent(column, reference, index, buf, steps) {
+            Put::Text => {}
+            Put::Null => put_null(buf),
         }
     }
 
@@ -275,8 +333,7 @@ impl<'a> CohortFields<'a> {
         match &columns[column].kind {
             ReadyKind::Key => buf.put_number(self.key(index, key, steps)),
             ReadyKind::Reference(reference) => {
-                let parent = self.parent_key(column as u32, reference, index, steps);
-                buf.put_number(parent)
+                self.put_parent(column as u32, reference, index, buf, steps);
             }
             _ => {
                 values.put(column, self.ordinal(index), buf);

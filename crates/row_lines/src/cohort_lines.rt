@@ -1,7 +1,7 @@
 //! The lines of the rows of a cohort, with what doesn't change from row to row taken once.
 
 ghost use Rattle.std.specs.Prelude.{◌≡◌, ◌≢◌, ◌<◌, ◌≤◌, ℕ, ◌+◌, ◌*◌, ◌==◌, get_or, [], ◌∷◌, ◌++◌, if◌then◌else◌, false, true, IfSome, length, min};
-ghost use Rattle.schema_plan.specs.Cohorts.{born_count, cohort_size};
+ghost use Rattle.cohort_sizes.specs.Births.{birth, born_count, cohort_size};
 ghost use Rattle.schema_plan.specs.Delimiters.{delimiter_byte as byte_of};
 ghost use Rattle.schema_plan.specs.FieldBounds.{bounds_at};
 ghost use Rattle.schema_plan.specs.Layout.{layout_of};
@@ -9,11 +9,10 @@ ghost use Rattle.schema_plan.specs.Lineage.{one_if};
 ghost use Rattle.schema_plan.specs.TableFacts.{line_cost, max_line};
 ghost use Rattle.draw_values.specs.UnitDraws.{unit_draws};
 ghost use Rattle.life_intervals.specs.CohortLives.{survival_at};
-ghost use Rattle.life_intervals.specs.CohortOrders.{cohort_orders, do_updates_differ};
-ghost use Rattle.life_intervals.specs.CohortParents.{AreCandidates, asked_for_death};
+ghost use Rattle.life_intervals.specs.CohortOrders.{cohort_orders};
+ghost use Rattle.life_intervals.specs.CohortParents.{AreCandidates, asked_for_change, asked_for_death};
 ghost use Rattle.life_intervals.specs.Generator.{last_unit, table_of};
 ghost use Rattle.row_lines.specs.CohortLines.{asked_for, asked_for_line, change_for, is_live_for, key_for, layout_for, line_in_cohort, size_for, text_in_cohort, values_at};
-ghost use Rattle.life_intervals.specs.Intervals.{birth};
 ghost use Rattle.row_lines.specs.LineDraws.{line_draws};
 ghost use Rattle.row_lines.specs.Lookups.{IsLookupOf, IsStillColumn, text_held};
 
@@ -22,6 +21,7 @@ use crate::draws::LineDraws;
 use draw_values::{CohortValues, UnitDraws};
 use life_intervals::{
     Candidates, CohortChanges, CohortKeys, CohortLives, CohortOrders, Survival, birth, cohort,
+    may_change,
 };
 use line_pages::{PageBuf, Piece};
 use row_text::put_null;
@@ -83,7 +83,7 @@ impl<'a> CohortLines<'a> {
             fields: CohortFields::new(plan, table, born, unit, candidates),
             keys: CohortKeys::new(plan, table, born, &orders.keys),
             lives: CohortLives::new(plan, table, born, unit, &orders.lives, candidates),
-            changes: CohortChanges::new(plan, table, born, unit, &orders.updates),
+            changes: CohortChanges::new(plan, table, born, unit, &orders.updates, candidates),
             births: UnitDraws::new(plan, table, born),
             columns: plan.columns(table),
             delimiter: delimiter_byte(plan.schema().delimiter),
@@ -133,7 +133,8 @@ impl<'a> CohortLines<'a> {
     }
 
     /// Puts the units of the last changes of so many rows into the list, the first that of the row with the index `first` in the
-    /// cohort. Each takes at most one step, and none where all rows of a cohort change at the same units, or never.
+    /// cohort. Each takes at most one step, and none where all rows of a cohort are due at the same units, or never; and for each
+    /// reference that may become null one and at most as many as the cost of the parent's death says.
     pub fn put_changes<L: Ledger>(
         &self,
         first: u64,
@@ -146,7 +147,29 @@ impl<'a> CohortLines<'a> {
         ensures changed { (i : ℕ) → i < count → get_or changed.new i 0 ≡ change_for self.now (first + i) }
         ensures rest { (i : ℕ) → count ≤ i → get_or changed.new i 0 ≡ get_or changed.old i 0 }
         ensures length { length changed.new ≡ length changed.old }
-        ensures steps { steps.new ≤ steps.old + count * one_if (do_updates_differ (layout_for self.now).update) }
+        ensures steps { steps.new ≤ steps.old + count * asked_for_change self.now.plan self.now.table }
+    {
+        if may_change(self.plan, self.place) {
+            self.put_drawn_changes(first, count, changed, steps);
+        } else {
+            put_all(changed, count, self.born);
+        }
+    }
+
+    /// The same by the updates and the losses of each row.
+    fn put_drawn_changes<L: Ledger>(
+        &self,
+        first: u64,
+        count: u64,
+        changed: &mut [u64],
+        steps: &mut Steps<L>,
+    )
+        requires rows { first + count ≤ cohort_size (layout_for self.now).births self.now.born }
+        requires room { count ≤ length changed.old }
+        ensures changed { (i : ℕ) → i < count → get_or changed.new i 0 ≡ change_for self.now (first + i) }
+        ensures rest { (i : ℕ) → count ≤ i → get_or changed.new i 0 ≡ get_or changed.old i 0 }
+        ensures length { length changed.new ≡ length changed.old }
+        ensures steps { steps.new ≤ steps.old + count * asked_for_change self.now.plan self.now.table }
     {
         let _limits = self.plan.table(self.place); // a table has at most 2^40 rows
         for index in 0..count {
@@ -155,8 +178,8 @@ impl<'a> CohortLines<'a> {
     }
 
     /// Puts into the list which of so many rows are alive, the first that with the index `first` in the cohort. Each takes at most one
-    /// step where lives of the table differ, and for each reference one and as many as the cost of the parent's death says; none does
-    /// where all of the cohort are alive, or none.
+    /// step where lives of the table differ, and for each reference with whose parent the row is deleted one and as many as the cost of
+    /// the parent's death says; none does where all of the cohort are alive, or none.
     pub fn put_lives<L: Ledger>(
         &self,
         first: u64,
@@ -216,7 +239,7 @@ impl<'a> CohortLines<'a> {
         requires { index < cohort_size (layout_for self.now).births self.now.born }
         ensures unit { result ≡ change_for self.now index }
         ensures within { result ≤ self.now.unit }
-        ensures steps { steps.new ≤ steps.old + one_if (do_updates_differ (layout_for self.now).update) }
+        ensures steps { steps.new ≤ steps.old + asked_for_change self.now.plan self.now.table }
     {
         self.changes.unit(index, steps)
     }
@@ -237,7 +260,8 @@ impl<'a> CohortLines<'a> {
         self.put_changed_line(index, key, changed, buf, steps);
     }
 
-    /// The same for a row whose key and whose unit of the last change are known. It asks no permutation but those of references.
+    /// The same for a row whose key and whose unit of the last change are known. It asks no permutation but those of references, and
+    /// those that tell which of these are null.
     pub fn put_changed_line<L: Ledger>(
         &self,
         index: u64,
@@ -427,10 +451,10 @@ impl<'a> CohortLines<'a> {
 }
 
 /// Puts a value into the list so many times, from its begin on.
-fn put_all(list: &mut [bool], count: u64, value: bool)
+fn put_all<T: Copy>(list: &mut [T], count: u64, value: T)
     requires { count ≤ length list.old }
-    ensures values { (i : ℕ) → i < count → get_or list.new i false ≡ value }
-    ensures rest { (i : ℕ) → count ≤ i → get_or list.new i false ≡ get_or list.old i false }
+    ensures values { (i : ℕ) (d : T) → i < count → get_or list.new i d ≡ value }
+    ensures rest { (i : ℕ) (d : T) → count ≤ i → get_or list.new i d ≡ get_or list.old i d }
     ensures length { length list.new ≡ length list.old }
 {
     for index in 0..count {

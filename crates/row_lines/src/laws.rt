@@ -6,19 +6,20 @@
 //! cohort's rows.
 
 ghost use Rattle.std.specs.Prelude.{◌≡◌, ℕ, ◌+◌, ◌<◌, ◌≤◌, ◌++◌, [], List, None, Some, codes, decimal, flat_map, if◌then◌else◌, false, length, true, unwrap_or};
+ghost use Rattle.std.specs.Option.{option_and_then, option_map};
 ghost use Rattle.row_text.specs.Fields.{field_text, piece_text};
-ghost use Rattle.schema_plan.specs.Cohorts.{born_count, cohort_size, first_ordinal};
+ghost use Rattle.cohort_sizes.specs.Births.{born_count, cohort_size, first_ordinal};
 ghost use Rattle.schema_plan.specs.Layout.{LeafLayout, PartLayout, born_kind, changed_kind, cited_part, column_at, key_kind, leaf_kind, literal_part, lookup_kind, table_at, template_kind};
 ghost use Rattle.schema_plan.specs.Limits.{is_cited, is_lookup_kind};
 ghost use Rattle.draw_values.specs.Values.{leaf_value, unless_null};
 ghost use Rattle.life_intervals.specs.Generator.{Generator};
 ghost use Rattle.schema_plan.specs.References.{Reference, reference_at};
-ghost use Rattle.life_intervals.specs.Intervals.{is_live, living, parent_of, row_at};
+ghost use Rattle.life_intervals.specs.Intervals.{held_parent, is_live, living, parent_of, row_at};
 ghost use Rattle.life_intervals.specs.Keys.{key_of};
 ghost use Rattle.life_intervals.specs.Rows.{Row};
 ghost use Rattle.life_intervals.specs.Sound.{AreSound};
-ghost use Rattle.row_lines.specs.Lines.{cohort_text, draws_of, field, first_lines, key_line_of, line_if_live, line_of, part_text, table_text, text_before};
-ghost use Rattle.row_lines.specs.Worked.{first_house, labels, land, one, pairs};
+ghost use Rattle.row_lines.specs.Lines.{cohort_text, draws_of, field, first_lines, key_line_of, line, line_if_live, line_of, part_text, table_text, text_before};
+ghost use Rattle.row_lines.specs.Worked.{first_house, first_note, first_note_alone, labels, land, one, owned, pairs};
 
 /// The text of a table at a unit is the lines of the ordinals that are born by then and alive.
 pub fn text_is_the_lines_of_the_living()
@@ -59,12 +60,13 @@ pub fn text_so_far_begins_the_text()
         ≡ (text_before generator unit place born ++ first_lines generator unit place born count) ++ rest) }
 {}
 
-/// What a row holds at a unit by which it is born: its key in a key column that is never null, and its parent's in a reference that
-/// is never null; in a lookup, where the row is alive, what that parent holds at the unit in the column that is looked up, unless draw
-/// 0 makes it null; in a column of units of birth, of units of the last change, of drawn values or of templates the unit, what its draws
-/// give, or the template's parts one after the other, unless draw 0 makes it null. A part is a text, or what the row holds in the column
-/// that is cited, and nothing where that is null. The draws are those at the unit of the row's last change in a column that changes, and
-/// those at its birth in any other.
+/// What a row holds at a unit by which it is born: its key in a key column that is never null; in a reference whose fields no draw makes
+/// null the key of the parent that it still has, and nothing where it has lost it; in a lookup, where the row is alive, what that parent
+/// holds at the unit in the column that is looked up, unless draw 0 makes it null; in a column of units of birth, of units of the last
+/// change, of drawn values or of templates the unit, what its draws give, or the template's parts one after the other, unless draw 0
+/// makes it null. A part is a text, or what the row holds in the column that is cited, and nothing where that is null. The draws are
+/// those at the unit of the row's last change in a column that changes, and those at its birth in any other. A parent with whom the row
+/// is deleted is never lost.
 pub fn fields_of_a_row()
     ensures key { (generator : Generator) (unit place ordinal column : ℕ) →
         (column_at (table_at generator.tables place).columns column).kind ≡ key_kind →
@@ -95,7 +97,7 @@ pub fn fields_of_a_row()
         (column : ℕ) (reference : Reference) → reference_at (table_at generator.tables place) column ≡ Some reference →
         (column_at (table_at generator.tables place).columns column).null ≡ 0 →
         field generator unit place (row_at generator place unit ordinal) column
-        ≡ Some (decimal (key_of generator reference.parent unit (parent_of generator place unit ordinal reference))) }
+        ≡ option_map (λ parent. decimal (key_of generator reference.parent unit parent)) (held_parent generator place unit ordinal reference) }
     ensures lookup { (units : ℕ) (generator : Generator) → AreSound units generator.tables →
         (place : ℕ) → place < length generator.tables → (unit : ℕ) → unit ≤ units →
         (ordinal : ℕ) → ordinal < born_count (table_at generator.tables place).births unit → is_live generator place unit ordinal ≡ true →
@@ -106,8 +108,10 @@ pub fn fields_of_a_row()
         field generator unit place (row_at generator place unit ordinal) column
         ≡ unless_null (column_at (table_at generator.tables place).columns column).null
         (draws_of generator place (row_at generator place unit ordinal) column)
-        (field generator unit reference.parent
-        (row_at generator reference.parent unit (parent_of generator place unit ordinal reference)) shown) }
+        (option_and_then (λ parent. field generator unit reference.parent (row_at generator reference.parent unit parent) shown)
+        (held_parent generator place unit ordinal reference)) }
+    ensures never_lost { (generator : Generator) (place unit ordinal : ℕ) (reference : Reference) → reference.nulls ≡ false →
+        held_parent generator place unit ordinal reference ≡ Some (parent_of generator place unit ordinal reference) }
     ensures template { (generator : Generator) (unit place ordinal column : ℕ) (parts : List PartLayout) →
         (column_at (table_at generator.tables place).columns column).kind ≡ template_kind parts →
         field generator unit place (row_at generator place unit ordinal) column
@@ -146,13 +150,16 @@ pub fn key_line_is_the_key_field()
 {}
 
 /// Texts worked out by hand: a row at each unit; scrambled keys in cohorts of two, none at unit 0;
-/// two rows at unit 0 alone. And what a house looks up of its city: the birth, the label, and what is null.
+/// two rows at unit 0 alone; a note before and after its owner dies. And what a house looks up of its city: the birth, the label, and
+/// what is null.
 pub fn worked_texts()
     ensures row_at_each_unit { table_text one 2 0 ≡ codes "1\t0\n2\t1\n3\t2\n" }
     ensures scrambled { table_text pairs 2 0 ≡ codes "11|1|1\n10|1|1\n13|2|2\n12|2|2\n" }
     ensures empty { table_text pairs 0 0 ≡ [] }
     ensures at_unit_0_alone { table_text pairs 2 1 ≡ codes "0\n1\n" }
     ensures past_the_tables { table_text pairs 2 2 ≡ [] }
+    ensures before_a_loss { line owned 1 1 first_note ≡ codes "1\t1\t0\tof 1\n" }
+    ensures after_a_loss { line owned 2 1 first_note_alone ≡ codes "1\t\\N\t2\tof \n" }
     ensures birth_of_a_city { field land 0 1 first_house 2 ≡ Some (codes "0") }
     ensures label_of_a_city { field land 0 1 first_house 3 ≡ Some (codes "c5") }
     ensures null_beside_a_city { field land 0 1 first_house 4 ≡ None }

@@ -1,7 +1,7 @@
 //! The report on one row.
 
 ghost use Rattle.std.specs.Prelude.{◌≡◌, ◌<◌, ◌≤◌, ◌+◌, ◌++◌, ◌&&◌, Some, [], codes, decimal, is_some, length, nat_le, true, unwrap_or};
-ghost use Rattle.schema_plan.specs.Cohorts.{born_count};
+ghost use Rattle.cohort_sizes.specs.Births.{born_count};
 ghost use Rattle.schema_plan.specs.Layout.{layout_of};
 ghost use Rattle.schema_plan.specs.Lineage.{death_cost};
 ghost use Rattle.schema_plan.specs.TableFacts.{cost, line_cost, max_line};
@@ -159,6 +159,7 @@ fn put_held<L: Ledger>(
     ensures size { length (held_text (generator_of plan.now) t table (Some (row_at (generator_of plan.now) table t j))) ≤ 29 + max_line (layout_of plan.now) table }
     ensures steps { steps.new ≤ steps.old + line_cost (layout_of plan.now) table }
 {
+    let _sound = plan.schema(); // each reference is within its limits
     let _limits = plan.table(table); // its first column is the key
     let changed = last_change(plan, table, j, t, steps);
     put_number_line(buf, b"changed ", changed);

@@ -1,7 +1,7 @@
 //! The line and the key line of one row.
 
 ghost use Rattle.std.specs.Prelude.{◌≡◌, ◌<◌, ◌≤◌, ◌+◌, ◌++◌, true, length};
-ghost use Rattle.schema_plan.specs.Cohorts.{born_count};
+ghost use Rattle.cohort_sizes.specs.Births.{born_count};
 ghost use Rattle.schema_plan.specs.Layout.{layout_of};
 ghost use Rattle.schema_plan.specs.Lineage.{death_cost, one_if};
 ghost use Rattle.schema_plan.specs.TableFacts.{line_cost, max_line};

@@ -4,16 +4,17 @@ use Rattle.std.specs.Prelude.{if◌then◌else◌}
 use Rattle.std.specs.List.{range_with_len}
 use Rattle.std.proofs.lemmas.Bool.{false≢true, le-ltb, ltb-false}
 use Rattle.std.proofs.lemmas.List.{append-nil}
-use Rattle.schema_plan.specs.Cohorts.{cohort_size, first_ordinal}
+use Rattle.cohort_sizes.specs.Births.{cohort_size, first_ordinal}
 use Rattle.schema_plan.specs.Dictionaries.{Project}
 use Rattle.schema_plan.specs.Limits.{IsInLimits}
-use Rattle.life_intervals.specs.declared.cohorts.Cohort.{Cohort}
+use Rattle.cohort_sizes.specs.declared.cohort.Cohort.{Cohort}
 use Rattle.life_intervals.specs.declared.lives.Survival.TheVariants.{Over, Sure}
+use Rattle.life_intervals.specs.Changes.{may_change}
 use Rattle.life_intervals.specs.CohortLives.{CohortAt, survival_at}
 use Rattle.life_intervals.specs.Generator.{generator_of, last_unit, table_of}
 use Rattle.life_intervals.specs.Intervals.{change_unit, death, is_after, is_at, is_live}
 use Rattle.life_intervals.proofs.CohortAtLemmas.{change_in-none, is_live_in-over, is_live_in-sure}
-use Rattle.life_intervals.proofs.CohortLemmas.{cohort-within}
+use Rattle.cohort_sizes.proofs.CohortLemmas.{cohort-within}
 use Rattle.life_intervals.proofs.DeathLemmas.{is_at-later}
 use Rattle.life_intervals.proofs.LifeLemmas.{death-later}
 use Rattle.update_box.specs.declared.scan.Fate.TheVariants.{Changes, Dies, Rests}
@@ -85,8 +86,8 @@ rested-over plan unit place born index limits within last early over below =
     let both = passed (death (generator_of plan) place unit ordinal) (unit - 1) unit (omega (arith, early)) (ap (λ (d : Option ℕ). is_after d (unit - 1)) later ∙ dead) in
     (both.0, ap (λ (alive : Bool). alive && change_unit (generator_of plan) place unit ordinal == unit) both.1)
 
--- where the shortest ends later and rows don't change, each lives on as it was
-pub rested-sure : (plan : Project) (unit place born index : ℕ) → IsInLimits plan → place < length plan.schema.tables → unit ≤ last_unit plan → (table_of plan place).update ≡ None → born < unit →
+-- where the shortest ends later and rows neither change nor lose parents, each lives on as it was
+pub rested-sure : (plan : Project) (unit place born index : ℕ) → IsInLimits plan → place < length plan.schema.tables → unit ≤ last_unit plan → may_change (table_of plan place) ≡ false → born < unit →
     survival_at plan place born unit ≡ Sure → index < cohort_size (table_of plan place).births born →
     Rested plan unit place (first_ordinal (table_of plan place).births born + index)
 rested-sure plan unit place born index limits within last still early sure below =

@@ -1,6 +1,7 @@
--- What a line holds in a reference is the key field of one line of the parent's text.
-use Rattle.std.proofs.Common.{◌≡◌, ℕ, ◌^◌, ◌<◌, ◌≤◌, Bool, true, false, List, [], count_by, decimal, length, map, Some, inl, inr, zero-add, ap, arith, sym, ◌∙◌}
-use Rattle.std.specs.Prelude.{slice_index_or}
+-- What a line holds in a reference is the key field of one line of the parent's text, or null.
+use Rattle.std.proofs.Common.{◌≡◌, ℕ, ◌^◌, ◌<◌, ◌≤◌, All, Bool, true, false, not, List, [], codes, count_by, decimal, length, map, Option, Some, None, inl, inr, zero-add, refl, ap, arith, subst, sym, ◌∙◌}
+use Rattle.std.specs.Prelude.{IfSome, IsSome, MatchOption, if◌then◌else◌, slice_index_or}
+use Rattle.std.specs.Option.{option_map}
 use Rattle.std.specs.List.{range_with_len}
 use Rattle.std.specs.Str.{bytes_eq}
 use Rattle.std.proofs.lemmas.Bool.{cases_Bool}
@@ -11,30 +12,35 @@ use Rattle.std.proofs.lemmas.List.FromFn.{get_or-map-range_with_len, get_or-rang
 use Rattle.std.proofs.lemmas.Slice.Eq.{bytes_eq-Decides}
 use Rattle.row_text.specs.Fields.{field_text}
 use Rattle.row_text.proofs.DigitLemmas.{piece_text-decimal}
-use Rattle.schema_plan.specs.Cohorts.{born_count}
+use Rattle.cohort_sizes.specs.Births.{birth, born_count}
 use Rattle.schema_plan.specs.Dictionaries.{Project}
 use Rattle.schema_plan.specs.Layout.{layout_of, no_table, table_at}
 use Rattle.schema_plan.specs.Limits.{IsInLimits, IsTableInLimits}
-use Rattle.schema_plan.specs.References.{IsReferenceInLimits, Reference, reference_at}
+use Rattle.schema_plan.specs.References.{IsReferenceInLimits, Reference, cascades_of, reference_at, references_of}
 use Rattle.life_intervals.specs.Generator.{Generator, generator_of, last_unit, table_of}
-use Rattle.life_intervals.specs.Intervals.{birth, is_live, living, parent_of, row_at}
+use Rattle.life_intervals.specs.Intervals.{held_parent, is_after, is_live, living, loss_of, parent_of, row_at}
 use Rattle.life_intervals.specs.Keys.{key_of}
 use Rattle.life_intervals.specs.Rows.{Row}
 use Rattle.life_intervals.specs.Simulation.{holds_row, rows_at}
 use Rattle.life_intervals.specs.Sound.{AreSound}
 use Rattle.life_intervals.proofs.AcceptedLemmas.{AreSound-accepted, place-below}
-use Rattle.life_intervals.proofs.CohortLemmas.{birth-le, born_count-le}
+use Rattle.cohort_sizes.proofs.CohortLemmas.{birth-le, born_count-le}
 use Rattle.life_intervals.proofs.HeldParentLemmas.{parents-held}
 use Rattle.life_intervals.proofs.KeyLemmas.{OrdersCohorts-generator_of, key_of-one_to_one, key_of-within}
 use Rattle.life_intervals.proofs.LifeLemmas.{parent_of-born}
 use Rattle.life_intervals.proofs.LiveLemmas.{holds_row-live}
 use Rattle.life_intervals.proofs.ReferenceLemmas.{at_column, reference_at-within}
 use Rattle.life_intervals.proofs.SimulationLemmas.{rows_at-rows_of}
-use Rattle.row_lines.specs.Lines.{field}
+use Rattle.row_lines.specs.Lines.{field, parent_of_row}
 use Rattle.row_lines.proofs.FieldLemmas.{field-key}
-use Rattle.row_lines.proofs.ReferenceFieldLemmas.{field-reference}
+use Rattle.row_lines.proofs.ReferenceFieldLemmas.{field-reference, held_parent-cascades, parent_of_row-by, parents-held_parent}
 use Rattle.update_box.specs.TextLaws.{field_of_line, lines_with_key}
 use Rattle.update_box.proofs.RangeLemmas.{count_by-filter_one, count_by-map}
+
+-- a test that doesn't pass
+pub not-true : (test : Bool) → not test ≡ true → test ≡ false
+not-true true is = cc
+not-true false is = refl
 
 -- what a line holds in a column of its table
 field_of_line-is : (generator : Generator) (unit place column : ℕ) (row : Row) → column < length (table_at generator.tables place).columns →
@@ -111,51 +117,107 @@ module _ (plan : Project) (limits : IsInLimits plan) (unit : ℕ) (within : unit
 
   -- ---- the line that a reference names
 
-  -- a row that is alive names the line of its parent
+  -- what a line holds in the reference to a table, where the parent is this
+  abbrev names : ℕ → Option ℕ → List ℕ
+  names parent held = field_text generator.delimiter (option_map (λ (ordinal : ℕ). decimal (key_of generator parent unit ordinal)) held)
+
+  -- it is the key of one line where there is a parent that its table holds, and null where there is none
+  names-one : (parent : ℕ) → parent < length plan.schema.tables → (held : Option ℕ) → IfSome held (λ ordinal. ordinal < born_by parent) →
+      IfSome held (λ ordinal. holds_row (rows_at generator parent unit) ordinal ≡ true) →
+      MatchOption held (names parent held ≡ codes "\\N") (λ ordinal. lines_with_key generator unit parent (names parent held) ≡ 1)
+  names-one parent below None born held = refl
+  names-one parent below (Some ordinal) born held =
+      ap (lines_with_key generator unit parent) (piece_text-decimal generator.delimiter (key_of generator parent unit ordinal) (key-small parent below ordinal born))
+      ∙ lines_with_key-live parent below ordinal born (sym (holds_row-live (last_unit plan) generator parent unit ordinal sound within born) ∙ held)
+
+  -- what holds of a parent holds of it as long as a row has it
+  of_held : (P : ℕ → Type 0) (test : Bool) (parent : ℕ) → P parent → IfSome (if test then Some parent else None) P
+  of_held P true parent holds = holds
+  of_held P false parent holds = tt
+
+  -- a row that is alive names the line of its parent, or nothing where it has lost it
   line-live : (place : ℕ) → place < length plan.schema.tables → (ordinal : ℕ) → ordinal < born_by place → is_live generator place unit ordinal ≡ true →
       (column : ℕ) (reference : Reference) → reference_at (table_of plan place) column ≡ Some reference →
-      lines_with_key generator unit reference.parent (field_of_line generator unit place column (row_at generator place unit ordinal)) ≡ 1
+      MatchOption (parent_of_row (table_of plan place) (row_at generator place unit ordinal) column)
+      (field_of_line generator unit place column (row_at generator place unit ordinal) ≡ codes "\\N")
+      (λ parent. lines_with_key generator unit reference.parent (field_of_line generator unit place column (row_at generator place unit ordinal)) ≡ 1)
   line-live place below ordinal born alive column reference is =
       let place_is : place < length generator.tables = place-below plan place below in
       let inside : column < length (table_of plan place).columns = reference_at-within (table_of plan place) column reference is in
       let earlier : reference.parent < place =
       (at_column (IsReferenceInLimits (last_unit plan) (layout_of plan).tables place) (table_of plan place) (limits.references place below) column reference inside is).earlier in
-      let parent_below : reference.parent < length plan.schema.tables = omega (arith, earlier, below) in
       let parent : ℕ = parent_of generator place unit ordinal reference in
-      let parent_born : parent < born_by reference.parent =
-      omega (
+      let kept : Option ℕ = held_parent generator place unit ordinal reference in
+      let parent_born : IfSome kept (λ p. p < born_by reference.parent) =
+      of_held (λ p. p < born_by reference.parent) (is_after (loss_of generator place unit ordinal reference) unit) parent (omega (
         arith,
         parent_of-born (last_unit plan) generator sound place place_is unit within ordinal born column reference is,
         born_count-le (table_of plan reference.parent).births (birth (table_of plan place).births unit ordinal) unit (birth-le (table_of plan place).births unit ordinal born),
-      ) in
-      let held : holds_row (rows_at generator reference.parent unit) parent ≡ true =
-      at_column (λ (to : Reference). holds_row (rows_at generator to.parent unit) (parent_of generator place unit ordinal to) ≡ true) (table_of plan place)
+      )) in
+      let held : IfSome kept (λ p. holds_row (rows_at generator reference.parent unit) p ≡ true) =
+      at_column (λ (to : Reference). IfSome (held_parent generator place unit ordinal to) (λ p. holds_row (rows_at generator to.parent unit) p ≡ true)) (table_of plan place)
       (parents-held (last_unit plan) generator sound place place_is unit ordinal within (holds_row-live (last_unit plan) generator place unit ordinal sound within born ∙ alive))
       column reference inside is in
-      let parent_alive : is_live generator reference.parent unit parent ≡ true =
-      sym (holds_row-live (last_unit plan) generator reference.parent unit parent sound within parent_born) ∙ held in
-      let key : ℕ = key_of generator reference.parent unit parent in
-      let names : field_of_line generator unit place column (row_at generator place unit ordinal) ≡ decimal key =
+      let text : field_of_line generator unit place column (row_at generator place unit ordinal) ≡ names reference.parent kept =
       field_of_line-is generator unit place column (row_at generator place unit ordinal) inside
       ∙ ap (field_text generator.delimiter)
-      (field-reference (last_unit plan) generator sound place place_is unit within ordinal born column reference is ((own place below).reference_never_null column reference inside is))
-      ∙ piece_text-decimal generator.delimiter key (key-small reference.parent parent_below parent parent_born) in
-      ap (lines_with_key generator unit reference.parent) names
-      ∙ lines_with_key-live reference.parent parent_below parent parent_born parent_alive
+      (field-reference (last_unit plan) generator sound place place_is unit within ordinal born column reference is ((own place below).reference_never_null column reference inside is)) in
+      subst (λ (bytes : List ℕ). MatchOption (parent_of_row (table_of plan place) (row_at generator place unit ordinal) column) (bytes ≡ codes "\\N") (λ p. lines_with_key generator unit reference.parent bytes ≡ 1)) (sym text)
+      (subst (λ (o : Option ℕ). MatchOption o (names reference.parent kept ≡ codes "\\N") (λ p. lines_with_key generator unit reference.parent (names reference.parent kept) ≡ 1))
+      (sym (parent_of_row-by (table_of plan place) (row_at generator place unit ordinal) (held_parent generator place unit ordinal) column reference (parents-held_parent generator place unit ordinal) is))
+      (names-one reference.parent (omega (arith, earlier, below)) kept parent_born held))
 
-  -- and so does each row that the table holds
-  pub line-held : (place : ℕ) → place < length plan.schema.tables → (i : ℕ) (d : Row) → i < length (rows_at generator place unit) →
-      (column : ℕ) (reference : Reference) → reference_at (table_of plan place) column ≡ Some reference →
-      lines_with_key generator unit reference.parent (field_of_line generator unit place column (slice_index_or (rows_at generator place unit) i d)) ≡ 1
-  line-held place below i d inside column reference is =
+  -- a row that a table holds is that of an ordinal that is born and alive
+  pub record IsRowOf (place : ℕ) (row : Row) : Type 0 where
+    pub ordinal : ℕ
+    pub is : row ≡ row_at generator place unit ordinal
+    pub born : ordinal < born_by place
+    pub alive : is_live generator place unit ordinal ≡ true
+
+  row-held : (place i : ℕ) (d : Row) → i < length (rows_at generator place unit) → IsRowOf place (slice_index_or (rows_at generator place unit) i d)
+  row-held place i d inside =
       let ordinals : List ℕ = living generator place unit in
       let rows_are : rows_at generator place unit ≡ map (row_at generator place unit) ordinals = rows_at-rows_of (last_unit plan) generator place unit sound within in
       let among : i < length ordinals = omega (arith, inside, ap length rows_are, length-map ordinals (row_at generator place unit)) in
-      let ordinal : ℕ = slice_index_or ordinals i 0 in
-      let row_is : slice_index_or (rows_at generator place unit) i d ≡ row_at generator place unit ordinal =
-      ap (λ (rows : List Row). slice_index_or rows i d) rows_are ∙ get_or-map (row_at generator place unit) ordinals i 0 d among in
-      let born : ordinal < born_by place =
-      All-filter (is_live generator place unit) (λ j. j < born_by place) (range_with_len 0 (born_by place))
-      (λ k d small. omega (arith, get_or-range_with_len 0 (born_by place) k d (omega (arith, small, length-range_with_len 0 (born_by place))), small, length-range_with_len 0 (born_by place))) i 0 among in
-      ap (λ (row : Row). lines_with_key generator unit reference.parent (field_of_line generator unit place column row)) row_is
-      ∙ line-live place below ordinal born (filter_passes (is_live generator place unit) (range_with_len 0 (born_by place)) i 0 among) column reference is
+      record {
+        ordinal = slice_index_or ordinals i 0;
+        is = ap (λ (rows : List Row). slice_index_or rows i d) rows_are ∙ get_or-map (row_at generator place unit) ordinals i 0 d among;
+        born = All-filter (is_live generator place unit) (λ j. j < born_by place) (range_with_len 0 (born_by place))
+            (λ k d small. omega (arith, get_or-range_with_len 0 (born_by place) k d (omega (arith, small, length-range_with_len 0 (born_by place))), small, length-range_with_len 0 (born_by place))) i 0 among;
+        alive = filter_passes (is_live generator place unit) (range_with_len 0 (born_by place)) i 0 among;
+      }
+
+  -- so each row that the table holds names such a line
+  pub line-held : (place : ℕ) → place < length plan.schema.tables → (i : ℕ) (d : Row) → i < length (rows_at generator place unit) →
+      (column : ℕ) (reference : Reference) → reference_at (table_of plan place) column ≡ Some reference →
+      MatchOption (parent_of_row (table_of plan place) (slice_index_or (rows_at generator place unit) i d) column)
+      (field_of_line generator unit place column (slice_index_or (rows_at generator place unit) i d) ≡ codes "\\N")
+      (λ parent. lines_with_key generator unit reference.parent (field_of_line generator unit place column (slice_index_or (rows_at generator place unit) i d)) ≡ 1)
+  line-held place below i d inside column reference is =
+      let row = row-held place i d inside in
+      subst (λ (of : Row). MatchOption (parent_of_row (table_of plan place) of column) (field_of_line generator unit place column of ≡ codes "\\N")
+      (λ parent. lines_with_key generator unit reference.parent (field_of_line generator unit place column of) ≡ 1)) (sym row.is)
+      (line-live place below row.ordinal row.born row.alive column reference is)
+
+  -- and has a parent by each reference with which it is deleted
+  pub parent-kept : (place : ℕ) → (i : ℕ) (d : Row) → i < length (rows_at generator place unit) →
+      (column : ℕ) (reference : Reference) → reference_at (table_of plan place) column ≡ Some reference → reference.nulls ≡ false →
+      IsSome (parent_of_row (table_of plan place) (slice_index_or (rows_at generator place unit) i d) column)
+  parent-kept place i d inside column reference is cascades =
+      let row = row-held place i d inside in
+      subst (λ (o : Option ℕ). IsSome o)
+      (sym (ap (λ (of : Row). parent_of_row (table_of plan place) of column) row.is
+      ∙ parent_of_row-by (table_of plan place) (row_at generator place unit row.ordinal) (held_parent generator place unit row.ordinal) column reference (parents-held_parent generator place unit row.ordinal) is
+      ∙ held_parent-cascades generator place unit row.ordinal reference cascades)) refl
+
+  -- those parents are all in their tables
+  pub cascades-held : (place : ℕ) → place < length plan.schema.tables → (ordinal : ℕ) → holds_row (rows_at generator place unit) ordinal ≡ true →
+      All (λ (reference : Reference). holds_row (rows_at generator reference.parent unit) (parent_of generator place unit ordinal reference) ≡ true) (cascades_of (table_of plan place))
+  cascades-held place below ordinal row_held = λ i d inside.
+      let is_cascading : Reference → Bool = λ reference. not reference.nulls in
+      let IsHeld : Reference → Type 0 = λ reference. IfSome (held_parent generator place unit ordinal reference) (λ p. holds_row (rows_at generator reference.parent unit) p ≡ true) in
+      let reference : Reference = slice_index_or (cascades_of (table_of plan place)) i d in
+      subst (λ (o : Option ℕ). IfSome o (λ p. holds_row (rows_at generator reference.parent unit) p ≡ true))
+      (held_parent-cascades generator place unit ordinal reference (not-true reference.nulls (filter_passes is_cascading (references_of (table_of plan place)) i d inside)))
+      (All-filter is_cascading IsHeld (references_of (table_of plan place))
+      (parents-held (last_unit plan) generator sound place (place-below plan place below) unit ordinal within row_held) i d inside)

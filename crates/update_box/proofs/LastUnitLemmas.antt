@@ -2,7 +2,7 @@
 use Rattle.std.proofs.Common.{◌≡◌, ℕ, ◌-◌, ◌<◌, ◌≤◌, List, ◌++◌, codes, decimal, flat_map, length, map, Some, ap, arith, sym, ◌∙◌}
 use Rattle.std.proofs.lemmas.List.Folds.{flat_map-map}
 use Rattle.row_text.specs.Fields.{field_text}
-use Rattle.schema_plan.specs.Cohorts.{born_count, first_ordinal}
+use Rattle.cohort_sizes.specs.Births.{born_count, first_ordinal}
 use Rattle.schema_plan.specs.Dictionaries.{Project}
 use Rattle.schema_plan.specs.Layout.{table_at}
 use Rattle.schema_plan.specs.Limits.{IsInLimits}
@@ -11,7 +11,7 @@ use Rattle.life_intervals.specs.Intervals.{death, dying, is_at, row_at}
 use Rattle.life_intervals.specs.Rows.{Row}
 use Rattle.life_intervals.specs.Streams.{deleted}
 use Rattle.life_intervals.proofs.AcceptedLemmas.{AreSound-accepted, place-below}
-use Rattle.life_intervals.proofs.CohortLemmas.{born_count-next}
+use Rattle.cohort_sizes.proofs.CohortLemmas.{born_count-next}
 use Rattle.life_intervals.proofs.StreamLemmas.{deleted-dying}
 use Rattle.row_lines.specs.Lines.{key_line_of}
 use Rattle.row_lines.proofs.LineLemmas.{key_of-by}

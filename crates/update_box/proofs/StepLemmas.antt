@@ -2,7 +2,7 @@
 use Rattle.std.proofs.Common.{◌≡◌, ℕ, ◌+◌, ◌-◌, ◌<◌, ◌≤◌, Bool, not, ◌&&◌, List, [], ◌∷◌, length, filter, map, Option, Some, None, inl, inr, eq-eqb, ne_eqb, refl, ap, ap₂, arith, sym, ◌∙◌}
 use Rattle.std.specs.List.{range_with_len}
 use Rattle.std.proofs.lemmas.Bool.{cases_Bool, cases_lt, le-ltb, lt-ltb}
-use Rattle.schema_plan.specs.Cohorts.{born_count, first_ordinal}
+use Rattle.cohort_sizes.specs.Births.{born_count, first_ordinal}
 use Rattle.schema_plan.specs.Dictionaries.{Project}
 use Rattle.schema_plan.specs.Limits.{IsInLimits}
 use Rattle.life_intervals.specs.Generator.{Generator, generator_of, last_unit, table_of}
@@ -12,7 +12,7 @@ use Rattle.life_intervals.specs.Simulation.{holds_row, rows_at}
 use Rattle.life_intervals.specs.Sound.{AreSound}
 use Rattle.life_intervals.specs.Streams.{deleted, updated}
 use Rattle.life_intervals.proofs.AcceptedLemmas.{AreSound-accepted, place-below}
-use Rattle.life_intervals.proofs.CohortLemmas.{born_count-le}
+use Rattle.cohort_sizes.proofs.CohortLemmas.{born_count-le}
 use Rattle.life_intervals.proofs.LifeLemmas.{death-later}
 use Rattle.life_intervals.proofs.LiveLemmas.{holds_row-live}
 use Rattle.life_intervals.proofs.SimulationLemmas.{rows_at-rows_of}

@@ -3,18 +3,18 @@
 //!
 //! A table is named by its place in the schema, and a row by its ordinal; both count from 0.
 
-ghost use Rattle.std.specs.Prelude.{◌≡◌, ℕ, ℤ, ◌-◌, ◌<◌, ◌≤◌, ◌==◌, ◌&&◌, All, Some, filter, flat_map, length, not, slice_index_or, true};
+ghost use Rattle.std.specs.Prelude.{◌≡◌, ℕ, ℤ, ◌-◌, ◌<◌, ◌≤◌, ◌==◌, ◌&&◌, All, IfSome, IsSome, MatchOption, Some, codes, false, filter, flat_map, length, not, slice_index_or, true};
 ghost use Rattle.std.specs.List.{range_with_len};
-ghost use Rattle.schema_plan.specs.Cohorts.{first_ordinal};
+ghost use Rattle.cohort_sizes.specs.Births.{first_ordinal};
 ghost use Rattle.schema_plan.specs.Dictionaries.{Project};
 ghost use Rattle.schema_plan.specs.Limits.{IsInLimits};
-ghost use Rattle.schema_plan.specs.References.{Reference, reference_at, references_of};
+ghost use Rattle.schema_plan.specs.References.{Reference, cascades_of, reference_at, references_of};
 ghost use Rattle.life_intervals.specs.Generator.{generator_of, last_unit, table_of};
-ghost use Rattle.life_intervals.specs.Intervals.{change_unit, is_live, parent_of};
+ghost use Rattle.life_intervals.specs.Intervals.{change_unit, held_parent, is_live, parent_of};
 ghost use Rattle.life_intervals.specs.Rows.{Row};
 ghost use Rattle.life_intervals.specs.Simulation.{holds_row, rows_at, simulation};
 ghost use Rattle.life_intervals.specs.Streams.{deleted, inserted, updated};
-ghost use Rattle.row_lines.specs.Lines.{key_line_of, line, table_text};
+ghost use Rattle.row_lines.specs.Lines.{key_line_of, line, parent_of_row, table_text};
 ghost use Rattle.update_box.specs.TextLaws.{field_of_line, lines_with_key, with_last_unit};
 ghost use Rattle.update_box.specs.UnitLists.{ordinals, table_lists};
 
@@ -36,21 +36,35 @@ pub fn deletions_are_the_rows_that_are_gone()
         (rows_at (generator_of plan) place (t - 1))) }
 {}
 
-/// Each row that a table holds at a unit has its parents in their tables at the unit, and in the tables' texts the field of a reference
-/// is the key field of exactly one line of the parent's text.
+/// Each row that a table holds at a unit has the parents that it still has in their tables at the unit, and all of those with whom it
+/// is deleted. In the tables' texts the field of a reference is the key field of exactly one line of the parent's text, or null where the
+/// row has lost the parent.
 pub fn references_name_one_line_each()
     ensures held { (plan : Project) → IsInLimits plan →
         (place : ℕ) → place < length plan.schema.tables → (unit ordinal : ℕ) → unit ≤ last_unit plan →
         holds_row (rows_at (generator_of plan) place unit) ordinal ≡ true →
+        All (λ reference. IfSome (held_parent (generator_of plan) place unit ordinal reference)
+        (λ parent. holds_row (rows_at (generator_of plan) reference.parent unit) parent ≡ true))
+        (references_of (table_of plan place)) }
+    ensures cascades { (plan : Project) → IsInLimits plan →
+        (place : ℕ) → place < length plan.schema.tables → (unit ordinal : ℕ) → unit ≤ last_unit plan →
+        holds_row (rows_at (generator_of plan) place unit) ordinal ≡ true →
         All (λ reference. holds_row (rows_at (generator_of plan) reference.parent unit)
         (parent_of (generator_of plan) place unit ordinal reference) ≡ true)
-        (references_of (table_of plan place)) }
+        (cascades_of (table_of plan place)) }
     ensures line { (plan : Project) → IsInLimits plan →
         (place : ℕ) → place < length plan.schema.tables → (unit : ℕ) → unit ≤ last_unit plan →
         (i : ℕ) (d : Row) → i < length (rows_at (generator_of plan) place unit) →
         (column : ℕ) (reference : Reference) → reference_at (table_of plan place) column ≡ Some reference →
-        lines_with_key (generator_of plan) unit reference.parent
-        (field_of_line (generator_of plan) unit place column (slice_index_or (rows_at (generator_of plan) place unit) i d)) ≡ 1 }
+        let row = slice_index_or (rows_at (generator_of plan) place unit) i d in
+        let text = field_of_line (generator_of plan) unit place column row in
+        MatchOption (parent_of_row (table_of plan place) row column) (text ≡ codes "\\N")
+        (λ parent. lines_with_key (generator_of plan) unit reference.parent text ≡ 1) }
+    ensures kept { (plan : Project) → IsInLimits plan →
+        (place : ℕ) → place < length plan.schema.tables → (unit : ℕ) → unit ≤ last_unit plan →
+        (i : ℕ) (d : Row) → i < length (rows_at (generator_of plan) place unit) →
+        (column : ℕ) (reference : Reference) → reference_at (table_of plan place) column ≡ Some reference → reference.nulls ≡ false →
+        IsSome (parent_of_row (table_of plan place) (slice_index_or (rows_at (generator_of plan) place unit) i d) column) }
 {}
 
 /// What comes later is no part of a unit: two accepted schemas that differ in their last unit alone have the same states, texts and

@@ -1,7 +1,7 @@
 //! The rows of one table that a unit changes, found by a scan of its cohorts.
 
 ghost use Rattle.std.specs.Prelude.{◌≡◌, ◌+◌, ◌<◌, ◌≤◌, IfOk, length, true};
-ghost use Rattle.schema_plan.specs.Cohorts.{first_ordinal};
+ghost use Rattle.cohort_sizes.specs.Births.{first_ordinal};
 ghost use Rattle.life_intervals.specs.CohortLives.{ordinal_in, size_of};
 ghost use Rattle.life_intervals.specs.CohortOrders.{cohort_orders};
 ghost use Rattle.life_intervals.specs.CohortParents.{AreCandidates};
@@ -11,8 +11,8 @@ ghost use Rattle.update_box.specs.TableLists.{lists_of};
 ghost use Rattle.update_box.specs.UnitLists.{table_lists};
 
 use life_intervals::{
-    Candidates, Cohort, CohortChanges, CohortLives, CohortOrders, Survival, cohort, survival_at,
-    table_candidates, table_orders,
+    Candidates, Cohort, CohortChanges, CohortLives, CohortOrders, Survival, cohort, may_change,
+    survival_at, table_candidates, table_orders,
 };
 use line_pages::Memory;
 use schema_plan::Plan;
@@ -77,8 +77,8 @@ fn put_row(rows: &mut TableRows, ordinal: u64, fate: Fate) -> Result<(), Memory>
     Ok(())
 }
 
-/// Whether lives, the parents' among them, and updates tell that unit `t` does nothing to any row of the cohort of unit `born`: all
-/// died before, or all live on in a table whose rows don't change.
+/// Whether lives, the parents' among them, updates and references tell that unit `t` does nothing to any row of the cohort of unit
+/// `born`: all died before, or all live on in a table whose rows don't change and lose no parents.
 fn is_settled(plan: &Plan, table: u32, born: u64, t: u64) -> bool
     requires table { table < length plan.now.schema.tables }
     requires born { born < t }
@@ -90,7 +90,7 @@ fn is_settled(plan: &Plan, table: u32, born: u64, t: u64) -> bool
         return true;
     }
     match survival_at(plan, table, born, t) {
-        Survival::Sure => plan.update(table).is_none(),
+        Survival::Sure => !may_change(plan, table),
         _ => false,
     }
 }
@@ -118,7 +118,7 @@ fn put_cohort<L: Ledger>(
         return Ok(());
     }
     let lives = CohortLives::new(plan, table, born, t, &orders.lives, candidates);
-    let changes = CohortChanges::new(plan, table, born, t, &orders.updates);
+    let changes = CohortChanges::new(plan, table, born, t, &orders.updates, candidates);
     let Cohort { first, size } = cohort(plan, table, born);
     for index in 0..size {
         let fate = fate_in(&lives, &changes, t, index, steps);

@@ -1,7 +1,7 @@
 use Rattle.std.proofs.Common.{refl}
 use Rattle.row_lines.proofs.FieldLemmas.{draws_of-born, draws_of-changed, field-born, field-changed, field-drawn, field-key, field-template, part_text-cited}
 use Rattle.row_lines.proofs.LookupLemmas.{lookup-field}
-use Rattle.row_lines.proofs.ReferenceFieldLemmas.{field-reference}
+use Rattle.row_lines.proofs.ReferenceFieldLemmas.{field-reference, held_parent-cascades}
 use Rattle.row_lines.proofs.laws.fields_of_a_row.Goals as goal
 
 pub returns : goal.returns
@@ -12,6 +12,7 @@ returns c = record {
   drawn = field-drawn;
   reference = field-reference;
   lookup = lookup-field;
+  never_lost = held_parent-cascades;
   template = field-template;
   text = λ generator place row bytes. refl;
   cited = part_text-cited;

@@ -6,11 +6,11 @@ use Rattle.schema_plan.specs.TableFacts.{max_line}
 use Rattle.life_intervals.specs.Generator.{generator_of, last_unit, table_of}
 use Rattle.life_intervals.specs.Intervals.{change_unit, is_live}
 use Rattle.life_intervals.proofs.AcceptedLemmas.{place-below}
-use Rattle.life_intervals.proofs.CohortLemmas.{born_count-le}
+use Rattle.cohort_sizes.proofs.CohortLemmas.{born_count-le}
 use Rattle.life_intervals.proofs.KeyLemmas.{key_of-found}
 use Rattle.row_lines.specs.CohortLines.{LinesOf, asked_for_line, change_for, is_live_for, key_for, line_in_cohort}
 use Rattle.row_lines.specs.Lines.{line_of}
-use Rattle.row_lines.proofs.CohortLineLemmas.{line_in_cohort-line_of, ordinal_of-index, steps-line_cost, updates_cost}
+use Rattle.row_lines.proofs.CohortLineLemmas.{line_in_cohort-line_of, ordinal_of-index, steps-line_cost}
 use Rattle.row_lines.proofs.LineLemmas.{birth-within}
 use Rattle.row_lines.proofs.ReportLemmas.{held_text-line}
 use Rattle.row_lines.proofs.reports.put_held.Goals as goal
@@ -85,9 +85,8 @@ pub returns-clause-steps : goal.returns-clause-steps
 returns-clause-steps g c =
     omega (
       arith,
-      c.last_change-changed.ensures.steps,
+      c.last_change-changed.ensures.most,
       c.put_changed_line.ensures.steps,
       ap asked_for_line c.new-lines.ensures,
-      updates_cost (table_of c.args.plan.now c.args.table).update,
-      steps-line_cost (record { plan = c.args.plan.now; table = c.args.table; born = c.birth-born.result; unit = c.args.t }) c.table-limits.ensures.limits,
+      steps-line_cost (record { plan = c.args.plan.now; table = c.args.table; born = c.birth-born.result; unit = c.args.t }) c.schema-sound.ensures.limits c.requires.table c.table-limits.ensures.limits,
     )

@@ -3,7 +3,7 @@ use Rattle.schema_plan.specs.Layout.{layout_of}
 use Rattle.schema_plan.specs.TableFacts.{max_line}
 use Rattle.life_intervals.specs.Generator.{generator_of, last_unit, table_of}
 use Rattle.life_intervals.specs.Intervals.{is_live}
-use Rattle.life_intervals.proofs.CohortLemmas.{born_count-le}
+use Rattle.cohort_sizes.proofs.CohortLemmas.{born_count-le}
 use Rattle.row_lines.specs.CohortLines.{LinesOf, line_in_cohort, ordinal_of}
 use Rattle.row_lines.proofs.CohortLineLemmas.{line_in_cohort-line_of, ordinal_of-index}
 use Rattle.row_lines.proofs.LineLemmas.{birth-within}

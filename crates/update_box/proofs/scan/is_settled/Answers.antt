@@ -1,16 +1,12 @@
-use Rattle.std.proofs.Common.{◌≡◌, ℕ, false, not, is_some, Option, Some, None, ap, refl, sym, ◌∙◌}
-use Rattle.std.proofs.lemmas.Bool.{false≢true}
-use Rattle.schema_plan.specs.Cohorts.{cohort_size, first_ordinal}
+use Rattle.std.proofs.Common.{◌≡◌, false, ap, sym, ◌∙◌}
+use Rattle.cohort_sizes.specs.Births.{cohort_size, first_ordinal}
+use Rattle.life_intervals.specs.Changes.{may_change}
 use Rattle.life_intervals.specs.Generator.{table_of}
-use Rattle.life_intervals.proofs.CohortLemmas.{born_count-next}
+use Rattle.cohort_sizes.proofs.CohortLemmas.{born_count-next}
 use Rattle.update_box.specs.Fates.{lists_before}
 use Rattle.update_box.proofs.FateLemmas.{lists_before-rested, rested-over, rested-sure}
+use Rattle.update_box.proofs.KeyLineLemmas.{not-true}
 use Rattle.update_box.proofs.scan.is_settled.Goals as goal
-
--- what isn't there is None
-none : (some : Option ℕ) → is_some some ≡ false → some ≡ None
-none None is = refl
-none (Some value) is = absurd (false≢true (sym is))
 
 pub returns-in-Over : goal.returns-in-Over
 returns-in-Over c settled =
@@ -24,8 +20,7 @@ returns-in-Over c settled =
 pub returns-in-Sure : goal.returns-in-Sure
 returns-in-Sure c settled =
     let births = (table_of c.args.plan.now c.args.table).births in
-    let still : (table_of c.args.plan.now c.args.table).update ≡ None =
-    sym c.update.ensures.update ∙ none c.update.result (c.is_none.ensures ∙ ap not settled) in
+    let still : may_change (table_of c.args.plan.now c.args.table) ≡ false = sym c.may_change.ensures ∙ not-true c.may_change.result settled in
     ap (lists_before c.args.plan.now c.args.t c.args.table) (born_count-next births c.args.born)
     ∙ lists_before-rested c.args.plan.now c.args.t c.args.table (first_ordinal births c.args.born) (cohort_size births c.args.born)
     (λ index inside.

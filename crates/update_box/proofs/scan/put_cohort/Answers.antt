@@ -1,8 +1,8 @@
 use Rattle.std.proofs.Common.{◌≡◌, ◌+◌, ℕ, ap, arith, sym, ◌∙◌}
-use Rattle.schema_plan.specs.Cohorts.{first_ordinal}
+use Rattle.cohort_sizes.specs.Births.{first_ordinal}
 use Rattle.life_intervals.specs.CohortLives.{CohortAt, ordinal_in}
 use Rattle.life_intervals.specs.Generator.{table_of}
-use Rattle.life_intervals.proofs.CohortLemmas.{born_count-next}
+use Rattle.cohort_sizes.proofs.CohortLemmas.{born_count-next}
 use Rattle.update_box.specs.Fates.{fate_of, lists_before, with_row}
 use Rattle.update_box.specs.TableLists.{lists_of}
 use Rattle.update_box.proofs.FateLemmas.{lists_before-next}

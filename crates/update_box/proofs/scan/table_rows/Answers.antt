@@ -1,5 +1,5 @@
 use Rattle.std.proofs.Common.{◌≡◌, ◌-◌, ℕ, get_or, length, inr, ap, arith, ◌∙◌}
-use Rattle.schema_plan.specs.Cohorts.{first_ordinal}
+use Rattle.cohort_sizes.specs.Births.{first_ordinal}
 use Rattle.life_intervals.specs.Generator.{table_of}
 use Rattle.life_intervals.proofs.OrderLemmas.{length-table_orders, table_orders-at}
 use Rattle.update_box.specs.Fates.{lists_before}

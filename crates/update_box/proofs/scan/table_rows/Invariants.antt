@@ -1,5 +1,5 @@
 use Rattle.std.proofs.Common.{◌≡◌}
-use Rattle.schema_plan.specs.Cohorts.{first_ordinal}
+use Rattle.cohort_sizes.specs.Births.{first_ordinal}
 use Rattle.life_intervals.specs.Generator.{table_of}
 use Rattle.update_box.specs.Fates.{lists_before}
 use Rattle.update_box.specs.TableLists.{lists_of}

@@ -1,7 +1,7 @@
 use Rattle.std.proofs.Common.{◌<◌, ap, arith, subst, sym, ◌∙◌}
 use Rattle.life_intervals.specs.Generator.{generator_of, last_unit, rows_in_all}
 use Rattle.life_intervals.specs.Keys.{key_of}
-use Rattle.life_intervals.proofs.CohortLemmas.{cohort-within}
+use Rattle.cohort_sizes.proofs.CohortLemmas.{cohort-within}
 use Rattle.life_intervals.proofs.KeyLemmas.{key_of-first_ordinal}
 use Rattle.row_lines.specs.CohortLines.{LinesOf, layout_for}
 use Rattle.row_lines.proofs.CohortFieldLemmas.{AreFieldsOf-view}

@@ -1,10 +1,11 @@
 use Rattle.std.proofs.Common.{◌≡◌, ◌<◌, ◌^◌, ◌++◌, ℕ, List, ap, sym, ◌∙◌, arith, decimal, is_some, length}
+use Rattle.row_text.specs.Fields.{field_text}
 use Rattle.schema_plan.specs.Layout.{column_at, key_kind, layout_of}
 use Rattle.schema_plan.specs.declared.ready.ReadyColumn.{ReadyColumn}
 use Rattle.schema_plan.specs.declared.ready.ReadyKind.TheVariants.{Key, Reference}
 use Rattle.schema_plan.specs.declared.ready.ReadyReference.{ReadyReference}
 use Rattle.life_intervals.specs.CohortParents.{IsReferenceOf, reference_by}
-use Rattle.row_lines.specs.CohortLines.{LinesOf, key_for, layout_for, parent_key_for, text_in_table}
+use Rattle.row_lines.specs.CohortLines.{LinesOf, key_for, layout_for, reference_value, text_in_table}
 use Rattle.row_lines.proofs.CohortFieldLemmas.{AreFieldsOf-view, asked_by-key, key_from_ready, key_never_null, own_from_ready, ready_at, size-key, text-key}
 use Rattle.row_lines.proofs.FieldLemmas.{length-decimal-le_20}
 use Rattle.row_lines.proofs.ReferenceFieldLemmas.{asked_by-reference, size-reference, text-reference}
@@ -81,32 +82,32 @@ here g c reference held =
       is = ap (λ (ready : ReadyColumn). ready.kind) (ready_at lines _ known.columns_are c.args.column c.index-columns-column.result c.requires.column c.index-columns-column.is) ∙ held;
     }
 
--- whose text is the parent's key
-text_is_parent : (g : _) (c : After-index-columns-column g) (reference : ReadyReference) (key : ℕ) → c.index-columns-column.result.kind ≡ Reference reference →
-    key ≡ parent_key_for c.args.self.now c.args.index (reference_by c.args.column reference) → key < 2 ^ 64 → text_in_table c.args.self.now c.args.index c.args.values.now.changed c.args.column ≡ decimal key
-text_is_parent g c reference key held is small =
+-- whose text is what the row holds in it
+text_is_held : (g : _) (c : After-index-columns-column g) (reference : ReadyReference) → c.index-columns-column.result.kind ≡ Reference reference →
+    text_in_table c.args.self.now c.args.index c.args.values.now.changed c.args.column
+    ≡ field_text (layout_of c.args.self.now.plan).delimiter (reference_value c.args.self.now c.args.index (reference_by c.args.column reference))
+text_is_held g c reference held =
     let lines : LinesOf = c.args.self.now in
     let known = AreFieldsOf-view _ lines c.self.inside.parents c.self.inside.columns.now c.self.inside.first c.self.view_is c.self.invariant in
-    text-reference lines known.sound known.limits known.table known.born known.unit c.args.column c.args.index c.args.values.now.changed key reference (here g c reference held) c.requires.row is small
+    text-reference lines known.sound known.limits known.table known.born known.unit c.args.column c.args.index c.args.values.now.changed reference (here g c reference held) c.requires.row
 
-pub put_number-requires-in-Reference : goal.put_number-requires-in-Reference
-put_number-requires-in-Reference g c =
-    let at = (goal.at.put_number-requires-in-Reference g c).After-index-columns-column in
+pub put_reference-requires-clause-reference : goal.put_reference-requires-clause-reference
+put_reference-requires-clause-reference g c =
+    here g (goal.at.put_reference-requires-clause-reference g c).After-index-columns-column c.in-Reference.reference
+    (ap (λ (column : ReadyColumn). column.kind) c.index-columns-column.is ∙ c.in-Reference.is)
+
+pub put_reference-requires-clause-room : goal.put_reference-requires-clause-room
+put_reference-requires-clause-room g c =
+    let at = (goal.at.put_reference-requires-clause-room g c).After-index-columns-column in
     let held = ap (λ (column : ReadyColumn). column.kind) c.index-columns-column.is ∙ c.in-Reference.is in
-    omega (
-      arith,
-      length-decimal-le_20 c.parent_key-parent.result c.parent_key-parent.type_inv,
-      size-reference c.args.self.now c.args.column c.in-Reference.reference (here g at c.in-Reference.reference held),
-      c.requires.room,
-    )
+    omega (arith, size-reference c.args.self.now c.args.column c.in-Reference.reference (here g at c.in-Reference.reference held), c.requires.room)
 
 pub returns-in-Reference-clause-text : goal.returns-in-Reference-clause-text
 returns-in-Reference-clause-text g c =
     let at = (goal.at.returns-in-Reference-clause-text g c).After-index-columns-column in
     let held = ap (λ (column : ReadyColumn). column.kind) c.index-columns-column.is ∙ c.in-Reference.is in
-    c.put_number-in-Reference.ensures
-    ∙ ap (λ (text : List ℕ). record { text = c.args.buf.now.text ++ text; room = c.args.buf.now.room })
-    (sym (text_is_parent g at c.in-Reference.reference c.parent_key-parent.result held c.parent_key-parent.ensures.key c.parent_key-parent.type_inv))
+    c.put_reference.ensures.text
+    ∙ ap (λ (text : List ℕ). record { text = c.args.buf.now.text ++ text; room = c.args.buf.now.room }) (sym (text_is_held g at c.in-Reference.reference held))
 
 pub returns-in-Reference-clause-size : goal.returns-in-Reference-clause-size
 returns-in-Reference-clause-size g c =
@@ -114,13 +115,13 @@ returns-in-Reference-clause-size g c =
     let held = ap (λ (column : ReadyColumn). column.kind) c.index-columns-column.is ∙ c.in-Reference.is in
     omega (
       arith,
-      length-decimal-le_20 c.parent_key-parent.result c.parent_key-parent.type_inv,
+      c.put_reference.ensures.size,
       size-reference c.args.self.now c.args.column c.in-Reference.reference (here g at c.in-Reference.reference held),
-      ap (λ (text : List ℕ). length text) (text_is_parent g at c.in-Reference.reference c.parent_key-parent.result held c.parent_key-parent.ensures.key c.parent_key-parent.type_inv),
+      ap (λ (text : List ℕ). length text) (text_is_held g at c.in-Reference.reference held),
     )
 
 pub returns-in-Reference-clause-steps : goal.returns-in-Reference-clause-steps
 returns-in-Reference-clause-steps g c =
     let at = (goal.at.returns-in-Reference-clause-steps g c).After-index-columns-column in
     let held = ap (λ (column : ReadyColumn). column.kind) c.index-columns-column.is ∙ c.in-Reference.is in
-    omega (arith, c.parent_key-parent.ensures.steps, asked_by-reference (is_some c.args.key) c.args.self.now c.args.column c.in-Reference.reference (here g at c.in-Reference.reference held))
+    omega (arith, c.put_reference.ensures.steps, asked_by-reference (is_some c.args.key) c.args.self.now c.args.column c.in-Reference.reference (here g at c.in-Reference.reference held))

@@ -1,4 +1,4 @@
-use Rattle.std.proofs.Common.{◌≡◌, ◌<◌, ◌^◌, ◌++◌, ℕ, List, Some, true, ap, sym, ◌∙◌, arith, decimal, is_some, length}
+use Rattle.std.proofs.Common.{◌≡◌, ◌<◌, ◌^◌, ◌++◌, ℕ, List, true, ap, sym, ◌∙◌, arith, decimal, is_some, length}
 use Rattle.schema_plan.specs.Layout.{column_at, key_kind, layout_of}
 use Rattle.schema_plan.specs.declared.ready.ReadyColumn.{ReadyColumn}
 use Rattle.schema_plan.specs.declared.ready.ReadyKind.TheVariants.{Key, Reference}
@@ -7,12 +7,12 @@ use Rattle.schema_plan.specs.Ready.{ready_column}
 use Rattle.life_intervals.specs.CohortParents.{IsReferenceOf, reference_by}
 use Rattle.draw_values.specs.CohortValues.{ValuesOf, layout_for as layout_of_values, size_for, value_for}
 use Rattle.draw_values.specs.Values.{is_own, written}
-use Rattle.row_lines.specs.CohortLines.{AreFieldsOf, LinesOf, key_for, layout_for, ordinal_of, parent_key_for}
+use Rattle.row_lines.specs.CohortLines.{AreFieldsOf, LinesOf, key_for, layout_for, ordinal_of, reference_value}
 use Rattle.row_lines.specs.Parts.{cited_for, cited_size, cited_text}
 use Rattle.row_lines.proofs.CohortFieldLemmas.{AreFieldsOf-view, asked-key, held-key, key_from_ready, key_never_null, ready_at}
 use Rattle.row_lines.proofs.FieldLemmas.{length-decimal-le_20}
 use Rattle.row_lines.proofs.ReferenceFieldLemmas.{asked-reference, held-reference, size-reference}
-use Rattle.row_lines.proofs.PartLemmas.{cited_for-own, cited_size-key, cited_text-number, length-written, own_from_cited, size_for-cited}
+use Rattle.row_lines.proofs.PartLemmas.{cited_for-held, cited_for-own, cited_size-key, cited_text-number, length-written, own_from_cited, size_for-cited}
 use Rattle.row_lines.proofs.cohort_fields.CohortFields.put_cited.Goals as goal
 use Rattle.row_lines.proofs.cohort_fields.CohortFields.put_cited.Goals.{After-index-columns-column}
 
@@ -130,24 +130,29 @@ here g c reference held = record {
   is = ap (λ (column : ReadyColumn). column.kind) (ready g c) ∙ held;
 }
 
--- whose text is the parent's key
-text_is_parent : (g : _) (c : After-index-columns-column g) (reference : ReadyReference) (key : ℕ) → c.index-columns-column.result.kind ≡ Reference reference →
-    key ≡ parent_key_for c.args.self.now c.args.index (reference_by c.args.column reference) → key < 2 ^ 64 → cited_text c.args.self.now c.args.index c.args.values.now.changed c.args.column ≡ decimal key
-text_is_parent g c reference key held is small =
+-- what it holds
+held_parent_is : (g : _) (c : After-index-columns-column g) (reference : ReadyReference) → c.index-columns-column.result.kind ≡ Reference reference →
+    cited_text c.args.self.now c.args.index c.args.values.now.changed c.args.column
+    ≡ written (layout_of c.args.self.now.plan).delimiter (reference_value c.args.self.now c.args.index (reference_by c.args.column reference))
+held_parent_is g c reference held =
     let lines : LinesOf = c.args.self.now in
     let is_known = known g c in
-    cited_text-number lines c.args.index c.args.values.now.changed c.args.column key c.requires.column
-    (held-reference lines is_known.sound is_known.limits is_known.table is_known.born is_known.unit c.args.column c.args.index c.args.values.now.changed reference (here g c reference held) c.requires.row
-    ∙ ap (λ (k : ℕ). Some (decimal k)) (sym is)) small
+    ap (written (layout_of lines.plan).delimiter)
+    (cited_for-held lines c.args.index c.args.values.now.changed c.args.column c.requires.column
+    ∙ held-reference lines is_known.sound is_known.limits is_known.table is_known.born is_known.unit c.args.column c.args.index c.args.values.now.changed reference (here g c reference held) c.requires.row)
 
-pub put_number-requires-in-Reference : goal.put_number-requires-in-Reference
-put_number-requires-in-Reference g c =
-    let at = (goal.at.put_number-requires-in-Reference g c).After-index-columns-column in
+pub put_parent-requires-clause-reference : goal.put_parent-requires-clause-reference
+put_parent-requires-clause-reference g c =
+    here g (goal.at.put_parent-requires-clause-reference g c).After-index-columns-column c.in-Reference.reference
+    (ap (λ (column : ReadyColumn). column.kind) c.index-columns-column.is ∙ c.in-Reference.is)
+
+pub put_parent-requires-clause-room : goal.put_parent-requires-clause-room
+put_parent-requires-clause-room g c =
+    let at = (goal.at.put_parent-requires-clause-room g c).After-index-columns-column in
     let held = ap (λ (column : ReadyColumn). column.kind) c.index-columns-column.is ∙ c.in-Reference.is in
     let lines : LinesOf = c.args.self.now in
     omega (
       arith,
-      length-decimal-le_20 c.parent_key-parent.result c.parent_key-parent.type_inv,
       size-reference lines c.args.column c.in-Reference.reference (here g at c.in-Reference.reference held),
       size_for-cited lines c.args.column c.requires.column,
       c.requires.room,
@@ -157,9 +162,8 @@ pub returns-in-Reference-clause-text : goal.returns-in-Reference-clause-text
 returns-in-Reference-clause-text g c =
     let at = (goal.at.returns-in-Reference-clause-text g c).After-index-columns-column in
     let held = ap (λ (column : ReadyColumn). column.kind) c.index-columns-column.is ∙ c.in-Reference.is in
-    c.put_number-in-Reference.ensures
-    ∙ ap (λ (text : List ℕ). record { text = c.args.buf.now.text ++ text; room = c.args.buf.now.room })
-    (sym (text_is_parent g at c.in-Reference.reference c.parent_key-parent.result held c.parent_key-parent.ensures.key c.parent_key-parent.type_inv))
+    c.put_parent.ensures.text
+    ∙ ap (λ (text : List ℕ). record { text = c.args.buf.now.text ++ text; room = c.args.buf.now.room }) (sym (held_parent_is g at c.in-Reference.reference held))
 
 pub returns-in-Reference-clause-size : goal.returns-in-Reference-clause-size
 returns-in-Reference-clause-size g c =
@@ -168,17 +172,18 @@ returns-in-Reference-clause-size g c =
     let lines : LinesOf = c.args.self.now in
     omega (
       arith,
-      length-decimal-le_20 c.parent_key-parent.result c.parent_key-parent.type_inv,
+      c.put_parent.ensures.size,
+      length-written (layout_of lines.plan).delimiter (reference_value lines c.args.index (reference_by c.args.column c.in-Reference.reference)),
       size-reference lines c.args.column c.in-Reference.reference (here g at c.in-Reference.reference held),
       size_for-cited lines c.args.column c.requires.column,
-      ap (λ (text : List ℕ). length text) (text_is_parent g at c.in-Reference.reference c.parent_key-parent.result held c.parent_key-parent.ensures.key c.parent_key-parent.type_inv),
+      ap (λ (text : List ℕ). length text) (held_parent_is g at c.in-Reference.reference held),
     )
 
 pub returns-in-Reference-clause-steps : goal.returns-in-Reference-clause-steps
 returns-in-Reference-clause-steps g c =
     let at = (goal.at.returns-in-Reference-clause-steps g c).After-index-columns-column in
     let held = ap (λ (column : ReadyColumn). column.kind) c.index-columns-column.is ∙ c.in-Reference.is in
-    omega (arith, c.parent_key-parent.ensures.steps, asked-reference (is_some c.args.key) c.args.self.now c.args.column c.in-Reference.reference (here g at c.in-Reference.reference held))
+    omega (arith, c.put_parent.ensures.steps, asked-reference (is_some c.args.key) c.args.self.now c.args.column c.in-Reference.reference (here g at c.in-Reference.reference held))
 
 pub returns-in-Key-clause-steps : goal.returns-in-Key-clause-steps
 returns-in-Key-clause-steps g c =

@@ -1,8 +1,6 @@
 use Rattle.std.proofs.Common.{◌<◌, ◌≤◌, ◌+◌, ap, subst, sym, ◌∙◌}
-use Rattle.schema_plan.specs.Lineage.{one_if}
 use Rattle.life_intervals.specs.CohortLives.{CohortAt, change_in, size_of}
-use Rattle.life_intervals.specs.CohortOrders.{do_updates_differ}
-use Rattle.life_intervals.specs.Generator.{table_of}
+use Rattle.life_intervals.specs.CohortParents.{asked_for_change}
 use Rattle.row_lines.proofs.CohortLineLemmas.{AreLinesOf-view}
 use Rattle.row_lines.proofs.cohort_lines.CohortLines.changed.Goals as goal
 
@@ -24,4 +22,4 @@ returns-clause-within g c =
 pub returns-clause-steps : goal.returns-clause-steps
 returns-clause-steps g c =
     let known = AreLinesOf-view _ c.args.self.now c.self.inside.keys c.self.inside.lives c.self.inside.changes c.self.inside.births c.self.inside.columns.now c.self.inside.fields c.self.inside.delimiter c.self.view_is c.self.invariant in
-    subst (λ (at : CohortAt). c.unit.new.steps ≤ c.args.steps.now + one_if (do_updates_differ (table_of at.plan at.table).update)) known.changes_are c.unit.ensures.steps
+    subst (λ (at : CohortAt). c.unit.new.steps ≤ c.args.steps.now + asked_for_change at.plan at.table) known.changes_are c.unit.ensures.steps

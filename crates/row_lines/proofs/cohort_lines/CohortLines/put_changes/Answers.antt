@@ -1,8 +1,16 @@
-use Rattle.std.proofs.Common.{arith}
-use Rattle.row_lines.proofs.CohortLineLemmas.{AreLinesOf-view, cohort_size-limit}
+use Rattle.std.proofs.Common.{◌+◌, ◌<◌, ap, arith, subst, sym, ◌∙◌}
+use Rattle.cohort_sizes.specs.Births.{cohort_size}
+use Rattle.life_intervals.specs.CohortLives.{CohortAt}
+use Rattle.life_intervals.proofs.CohortAtLemmas.{change_in-none}
+use Rattle.row_lines.specs.CohortLines.{LinesOf, change_for, layout_for}
 use Rattle.row_lines.proofs.cohort_lines.CohortLines.put_changes.Goals as goal
 
-pub overflow_add-first : goal.overflow_add-first
-overflow_add-first g c =
-    let known = AreLinesOf-view _ c.args.self.now c.self.inside.keys c.self.inside.lives c.self.inside.changes c.self.inside.births c.self.inside.columns.now c.self.inside.fields c.self.inside.delimiter c.self.view_is c.self.invariant in
-    omega (arith, cohort_size-limit c.args.self.now _ _ _ _ _ _ _ known, c.requires.rows, c.loop-index.auto.index-end, c.loop-index-test.true)
+-- rows that never change keep their birth
+pub returns-else-may_change-clause-changed : goal.returns-else-may_change-clause-changed
+returns-else-may_change-clause-changed g c = λ i below.
+    let at : CohortAt = record { plan = c.self.inside.plan.now; table = c.self.inside.place; born = c.self.inside.born; unit = c.self.inside.unit } in
+    c.put_all.ensures.values i 0 below
+    ∙ change_in-none at (c.args.first + i) c.self.invariant.born
+    (subst (λ (lines : LinesOf). c.args.first + i < cohort_size (layout_for lines).births lines.born) (sym c.self.view_is) (omega (arith, below, c.requires.rows)))
+    (sym c.may_change.ensures ∙ c.if-may_change.false)
+    ∙ ap (λ (lines : LinesOf). change_for lines (c.args.first + i)) c.self.view_is

@@ -1,8 +1,9 @@
 use Rattle.std.proofs.Common.{◌≡◌, ◌-◌, ℕ, List, length, get_or, ap, arith, sym, ◌∙◌}
 use Rattle.draw_values.specs.UnitDraws.{DrawsOf, unit_draws}
-use Rattle.row_lines.specs.ChangeDraws.{change_count, change_draws}
+use Rattle.row_lines.specs.ChangeDraws.{change_draws}
 use Rattle.row_lines.specs.LineDraws.{LineDrawsOf, line_draws}
 use Rattle.schema_plan.specs.Dictionaries.{Project}
+use Rattle.life_intervals.specs.Changes.{change_span}
 use Rattle.life_intervals.specs.Generator.{table_of}
 use Rattle.row_lines.specs.CohortLines.{LinesOf, layout_for}
 use Rattle.row_lines.proofs.ChangeDrawLemmas.{IsRecent, change_draws-at, change_for-recent, length-change_draws}
@@ -11,7 +12,7 @@ use Rattle.row_lines.proofs.cohort_lines.CohortLines.put_known_line.Goals as goa
 use Rattle.row_lines.proofs.cohort_lines.CohortLines.put_known_line.Goals.{Else-changed-self}
 
 -- the row changed at one of the last units
-recent : (g : _) (c : Else-changed-self g) → IsRecent (layout_for c.args.self.now).update c.args.self.now.unit c.args.changed
+recent : (g : _) (c : Else-changed-self g) → IsRecent (layout_for c.args.self.now) c.args.self.now.unit c.args.changed
 recent g c =
     let known = AreLinesOf-view _ c.args.self.now c.self.inside.keys c.self.inside.lives c.self.inside.changes c.self.inside.births c.self.inside.columns.now c.self.inside.fields c.self.inside.delimiter c.self.view_is c.self.invariant in
     change_for-recent c.args.self.now _ _ _ _ _ _ _ known c.args.index c.args.changed c.requires.row c.requires.changed
@@ -24,7 +25,7 @@ unit_is g c = ap (λ (lines : LinesOf). lines.unit) c.self.view_is
 changes_are : (kept : List DrawsOf) (draws : LineDrawsOf) (plan : Project) (table unit : ℕ) → kept ≡ draws.changes → draws ≡ line_draws plan table unit → kept ≡ change_draws plan table unit
 changes_are kept draws plan table unit is are = is ∙ ap (λ (of : LineDrawsOf). of.changes) are
 
-many : (kept : List DrawsOf) (plan : Project) (table unit : ℕ) → kept ≡ change_draws plan table unit → length kept ≡ change_count (table_of plan table).update unit
+many : (kept : List DrawsOf) (plan : Project) (table unit : ℕ) → kept ≡ change_draws plan table unit → length kept ≡ change_span (table_of plan table) unit
 many kept plan table unit are = ap length are ∙ length-change_draws plan table unit
 
 pub overflow_sub-change : goal.overflow_sub-change

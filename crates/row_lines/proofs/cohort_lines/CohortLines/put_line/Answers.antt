@@ -1,6 +1,5 @@
 use Rattle.std.proofs.Common.{arith}
-use Rattle.row_lines.specs.CohortLines.{layout_for}
-use Rattle.row_lines.proofs.CohortLineLemmas.{AreLinesOf-view, steps-line_cost, updates_cost}
+use Rattle.row_lines.proofs.CohortLineLemmas.{AreLinesOf-view, steps-line_cost}
 use Rattle.row_lines.proofs.cohort_lines.CohortLines.put_line.Goals as goal
 
 pub returns-clause-steps : goal.returns-clause-steps
@@ -11,6 +10,5 @@ returns-clause-steps g c =
       c.key-key.ensures.steps,
       c.changed-changed.ensures.steps,
       c.put_changed_line.ensures.steps,
-      updates_cost (layout_for c.args.self.now).update,
-      steps-line_cost c.args.self.now known.limits,
+      steps-line_cost c.args.self.now known.sound known.table known.limits,
     )

@@ -1,12 +1,11 @@
 use Rattle.std.proofs.Common.{◌≡◌, ◌<◌, ◌≤◌, ◌+◌, ◌-◌, ◌++◌, ℕ, List, false, length, ap, arith, subst, sym, ◌∙◌}
-use Rattle.schema_plan.specs.Cohorts.{born_count, cohort_size, first_ordinal}
+use Rattle.cohort_sizes.specs.Births.{LiesIn, birth, born_count, cohort_size, first_ordinal}
 use Rattle.schema_plan.specs.FieldBounds.{bounds_at}
 use Rattle.schema_plan.specs.Layout.{layout_of}
 use Rattle.schema_plan.specs.Limits.{IsTableInLimits}
 use Rattle.draw_values.specs.UnitDraws.{DrawsOf}
 use Rattle.life_intervals.specs.Generator.{last_unit, table_of}
-use Rattle.life_intervals.specs.Intervals.{LiesIn, birth}
-use Rattle.life_intervals.proofs.CohortLemmas.{LiesIn-birth, born_count-le}
+use Rattle.cohort_sizes.proofs.CohortLemmas.{LiesIn-birth, born_count-le}
 use Rattle.row_lines.specs.CohortLines.{LinesOf, asked_for, layout_for, size_for, text_in_table}
 use Rattle.row_lines.specs.Lookups.{IsStillColumn, text_held}
 use Rattle.row_lines.proofs.CohortLineLemmas.{AreLinesOf-view}
@@ -131,5 +130,6 @@ returns-clause-steps g c =
       arith,
       c.put.ensures.steps,
       ap (λ (of : LinesOf). asked_for false of c.args.lookup.now.column) same,
-      asked-still (parents lines table c.unit-born.result) c.args.lookup.now.column c.requires.column,
+      asked-still (parents lines table c.unit-born.result) c.args.lookup.now.column
+          (subst (λ (of : LinesOf). IsTableInLimits (last_unit of.plan) (table_of of.plan table)) c.self.view_is c.table-limits.ensures.limits) c.requires.column,
     )

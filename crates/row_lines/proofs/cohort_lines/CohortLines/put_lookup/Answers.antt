@@ -3,7 +3,7 @@ use Rattle.schema_plan.specs.declared.ready.ReadyColumn.{ReadyColumn}
 use Rattle.schema_plan.specs.declared.ready.ReadyKind.TheVariants.{Reference}
 use Rattle.schema_plan.specs.declared.ready.ReadyLookup.{ReadyLookup}
 use Rattle.schema_plan.specs.declared.ready.ReadyReference.{ReadyReference}
-use Rattle.schema_plan.specs.Cohorts.{born_count, cohort_size}
+use Rattle.cohort_sizes.specs.Births.{birth, born_count, cohort_size}
 use Rattle.schema_plan.specs.Layout.{column_at, layout_of}
 use Rattle.schema_plan.specs.Limits.{IsInLimits}
 use Rattle.schema_plan.specs.Ready.{ready_columns}
@@ -12,8 +12,8 @@ use Rattle.draw_values.specs.UnitDraws.{DrawsOf, unit_draws}
 use Rattle.draw_values.specs.Values.{is_null}
 use Rattle.life_intervals.specs.CohortParents.{IsReferenceOf, reference_by}
 use Rattle.life_intervals.specs.Generator.{generator_of, last_unit, rows_in_all, table_of}
-use Rattle.life_intervals.specs.Intervals.{birth, row_at}
-use Rattle.life_intervals.proofs.CohortLemmas.{born_count-le}
+use Rattle.life_intervals.specs.Intervals.{row_at}
+use Rattle.cohort_sizes.proofs.CohortLemmas.{born_count-le}
 use Rattle.row_lines.specs.CohortLines.{LinesOf, change_for, is_live_for, layout_for, ordinal_of, parent_for, text_in_cohort, values_at}
 use Rattle.row_lines.specs.LineDraws.{LineDrawsOf, line_draws}
 use Rattle.row_lines.specs.Lines.{draws_of}
@@ -22,7 +22,7 @@ use Rattle.row_lines.proofs.CohortFieldLemmas.{ready_at}
 use Rattle.row_lines.proofs.CohortLineLemmas.{AreLinesOf-view}
 use Rattle.row_lines.proofs.LineDrawLemmas.{draws_of_units-at, length-draws_of_units, length-parents, parents-at, some_is}
 use Rattle.row_lines.proofs.LineLemmas.{birth-within}
-use Rattle.row_lines.proofs.LookupLemmas.{asked-lookup, is_lookup, null-field, reference_ready, reference_to, room-lookup, size-lookup, text-lookup, text-null}
+use Rattle.row_lines.proofs.LookupLemmas.{asked-lookup, is_lookup, null-field, reference_cascades, reference_ready, reference_to, room-lookup, size-lookup, text-lookup, text-null}
 use Rattle.row_lines.proofs.cohort_lines.CohortLines.put_lookup.Goals as goal
 
 -- whether the field is drawn to be null, as the row has it
@@ -71,13 +71,14 @@ returns-in_default g c =
 -- one that is ready, to the lookup's table
 refers : (lines : LinesOf) → IsInLimits lines.plan → lines.table < length lines.plan.schema.tables → (columns : List ReadyColumn) → columns ≡ ready_columns (layout_of lines.plan) lines.table →
     (column : ℕ) (lookup : ReadyLookup) (found : ReadyColumn) (reference : ReadyReference) → IsLookupOf lines column lookup → found ≡ get_or columns lookup.via found → found.kind ≡ Reference reference →
-    IsReferenceOf lines.plan lines.table lookup.via reference × (reference.parent ≡ lookup.parent)
+    IsReferenceOf lines.plan lines.table lookup.via reference × (reference.parent ≡ lookup.parent) × (reference.nulls ≡ false)
 refers lines limits table columns are column lookup found reference of at held =
     let looks = is_lookup lines limits table column lookup of in
     let within : lookup.via < length (layout_for lines).columns = omega (arith, looks.earlier, of.within) in
     let is = ap (λ (column : ReadyColumn). column.kind) (ready_at lines columns are lookup.via found within at) ∙ held in (
       record { within = within; is = is },
       reference_to (layout_of lines.plan).delimiter lookup.parent (column_at (layout_for lines).columns lookup.via).kind reference looks.reference is,
+      reference_cascades (layout_of lines.plan).delimiter lookup.parent (column_at (layout_for lines).columns lookup.via).kind reference looks.reference is,
     )
 
 -- the parent's table is an earlier one, and the parent is born by the row's birth
@@ -214,13 +215,13 @@ put_looked_up-requires-in-None-clause-born g c =
 
 -- what is put is what the parent holds
 text_is : (lines fields : LinesOf) → IsInLimits lines.plan → lines.table < length lines.plan.schema.tables → lines.born ≤ lines.unit → lines.unit ≤ last_unit lines.plan → fields ≡ lines →
-    (column index parent : ℕ) (lookup : ReadyLookup) (reference : ReadyReference) → IsLookupOf lines column lookup → IsReferenceOf lines.plan lines.table lookup.via reference × (reference.parent ≡ lookup.parent) →
+    (column index parent : ℕ) (lookup : ReadyLookup) (reference : ReadyReference) → IsLookupOf lines column lookup → IsReferenceOf lines.plan lines.table lookup.via reference × (reference.parent ≡ lookup.parent) × (reference.nulls ≡ false) →
     index < cohort_size (layout_for lines).births lines.born → is_live_for lines index ≡ true →
     is_null (column_at (layout_for lines).columns column).null (draws_of (generator_of lines.plan) lines.table (row_at (generator_of lines.plan) lines.table lines.unit (ordinal_of lines index)) column) ≡ false →
     parent ≡ parent_for fields index (reference_by lookup.via reference) →
     text_in_cohort lines index column ≡ text_held lines.plan lookup.parent lines.unit parent lookup.column
 text_is lines fields limits table early within same column index parent lookup reference of refers inside alive drawn parent_is =
-    text-lookup lines limits table early within column index lookup reference false of refers.0 refers.1 inside alive drawn
+    text-lookup lines limits table early within column index lookup reference false of refers.0 refers.1 refers.2 inside alive drawn
     ∙ ap (λ (j : ℕ). text_held lines.plan lookup.parent lines.unit j lookup.column) (sym (parent_is ∙ ap (λ (of : LinesOf). parent_for of index (reference_by lookup.via reference)) same))
 
 pub returns-in-Some-clause-text : goal.returns-in-Some-clause-text
