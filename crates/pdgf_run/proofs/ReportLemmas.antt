@@ -41,6 +41,7 @@ past_limit (Job (job.Reading reading.Failed)) taken ten is = absurd (cc)
 past_limit (Job (job.Reading reading.TooLong)) taken ten is = inl (refl, is)
 past_limit (Job (job.Reading reading.Memory)) taken ten is = absurd (cc)
 past_limit (Job (job.Text (text.Schema schema.Memory))) taken ten is = absurd (cc)
+past_limit (Job (job.Text (text.Schema schema.ParseMemory))) taken ten is = absurd (cc)
 past_limit (Job (job.Text (text.Schema schema.Syntax))) taken ten is = absurd (cc)
 past_limit (Job (job.Text (text.Schema (schema.Shape place key expected)))) taken ten is = absurd (cc)
 past_limit (Job (job.Text (text.Plan (plan.Dictionary fault)))) taken ten is = past_dictionary fault.number fault.cause taken ten is

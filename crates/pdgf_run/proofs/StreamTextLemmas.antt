@@ -8,21 +8,20 @@ use Rattle.std.proofs.lemmas.List.Folds.{flat_map-map}
 use Rattle.std.proofs.lemmas.List.FromFn.{get_or-range_with_len, length-range_with_len}
 use Rattle.philox_seeds.specs.SeedTree.{life_column}
 use Rattle.schema_plan.specs.declared.layout.Span.{Span}
-use Rattle.schema_plan.specs.declared.layout.Births.{Births}
-use Rattle.schema_plan.specs.Cohorts.{born_count, cohort_size, first_ordinal}
+use Rattle.cohort_sizes.specs.Births.{Births, born_count, cohort_size, first_ordinal}
 use Rattle.schema_plan.specs.Dictionaries.{Project}
 use Rattle.schema_plan.specs.Layout.{TableLayout}
 use Rattle.schema_plan.specs.Limits.{IsInLimits, IsSpan}
 use Rattle.schema_plan.specs.Lineage.{sure_life}
-use Rattle.schema_plan.specs.References.{references_of}
+use Rattle.schema_plan.specs.References.{cascades_of}
 use Rattle.life_intervals.specs.Generator.{Generator, generator_of, last_unit, rows_in_all, table_of}
 use Rattle.life_intervals.specs.Intervals.{Known, change_unit, changing, death, is_after, is_at, is_live, known_of, known_tables, newborn, row_at}
 use Rattle.life_intervals.specs.Rows.{Row, life_by}
 use Rattle.life_intervals.specs.Streams.{deleted, updated}
 use Rattle.life_intervals.proofs.AcceptedLemmas.{AreSound-accepted, place-below}
-use Rattle.life_intervals.proofs.CohortLemmas.{born_count-next, cohort-within}
+use Rattle.cohort_sizes.proofs.CohortLemmas.{born_count-next, cohort-within}
 use Rattle.life_intervals.proofs.DeathLemmas.{is_after-lesser_from}
-use Rattle.life_intervals.proofs.KnownLemmas.{refers-of}
+use Rattle.life_intervals.proofs.KnownLemmas.{cascades-of}
 use Rattle.life_intervals.proofs.ParentLemmas.{parents-alive_now}
 use Rattle.life_intervals.proofs.RowLemmas.{death_by-first_ordinal}
 use Rattle.life_intervals.proofs.Ranges.{filter-range_with_len_all}
@@ -109,8 +108,8 @@ newborn-alive plan limits place below unit within index inside =
     let sound = AreSound-accepted plan limits in
     ap (λ (death : Option ℕ). is_after death unit) (death_by-first_ordinal (known_of generator place) unit unit index (omega arith) inside)
     ∙ is_after-lesser_from _ _ unit (own_death-born unit (generator.order (length earlier) life_column unit index) table.life (sound place (place-below plan place below)).life)
-    (parents-alive_now (last_unit plan) generator.order earlier (sure_life generator.tables) table.births unit index within inside (references_of table)
-    (refers-of (last_unit plan) generator sound place (place-below plan place below)))
+    (parents-alive_now (last_unit plan) generator.order earlier (sure_life generator.tables) table.births unit index within inside (cascades_of table)
+    (cascades-of (last_unit plan) generator sound place (place-below plan place below)))
 
 newborn-live : (plan : Project) → IsInLimits plan → (place : ℕ) → place < length plan.schema.tables → (unit : ℕ) → unit ≤ last_unit plan →
     filter (is_live (generator_of plan) place unit) (newborn (generator_of plan) place unit) ≡ newborn (generator_of plan) place unit

@@ -1,5 +1,5 @@
 -- What a job is due.
-use Rattle.std.specs.Prelude.{◌≡◌, ◌<◌, ◌≤◌, ℕ, if◌then◌else◌, List, [], ◌∷◌, length, map, All, Bool, Option, Some, None, ⊤}
+use Rattle.std.specs.Prelude.{◌≡◌, ◌<◌, ◌≤◌, ℕ, if◌then◌else◌, List, [], ◌∷◌, length, map, max, All, Bool, Option, Some, None, ⊤}
 use Rattle.std.specs.List.{range_with_len}
 use Rattle.pd_outside.specs.Files.{File}
 use Rattle.schema_plan.specs.Dictionaries.{Project}
@@ -78,13 +78,14 @@ pub record IsPartOf (plan : Project) (unit : ℕ) (part : JobPart) : Type 0 wher
   pub place : part.place < length plan.schema.tables
   pub rows : AreRowsOf plan unit part.place part.rows
 
--- a job's unit and parts are the plan's, and its buffer holds the greatest line and each key line
+-- a job's unit and parts are the plan's, and its buffer holds the greatest line and each key line, and has room for no more
 pub record CanWrite (job : FilesJob) : Type 0 where
   pub unit : job.unit ≤ last_unit job.plan
   pub small : last_unit job.plan ≤ 10000
   pub parts : All (IsPartOf job.plan job.unit) job.parts.items
   pub room : reach (layout_of job.plan) ≤ job.page.room
   pub key_room : 21 ≤ job.page.room
+  pub no_more : job.page.room ≤ max (reach (layout_of job.plan)) 21
 
 abbrev pub CanFill : Job → Type 0
 CanFill (Text bytes) = ⊤

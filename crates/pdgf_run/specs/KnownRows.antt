@@ -1,6 +1,6 @@
 -- What is known of a row before its line is written.
 use Rattle.std.specs.Prelude.{◌≡◌, ◌<◌}
-use Rattle.schema_plan.specs.Cohorts.{cohort_size}
+use Rattle.cohort_sizes.specs.Births.{cohort_size}
 use Rattle.row_lines.specs.CohortLines.{LinesOf, change_for, is_live_for, key_for, layout_for}
 use Rattle.pdgf_run.specs.declared.fill.KnownRow.{KnownRow}
 

@@ -6,7 +6,7 @@ use Rattle.dictionaries.specs.declared.fault.DictFault.{DictFault}
 use Rattle.dictionaries.specs.declared.fault.DictFault.TheVariants as grammar
 use Rattle.schema_read.specs.Keys.{key_name}
 use Rattle.schema_read.specs.declared.fault.Expected.{Expected}
-use Rattle.schema_read.specs.declared.fault.Expected.TheVariants.{Whole, TextValue, Flag, DelimiterName, TableList, TwoWholes, KindName, LeafName, DateText, TextList, Wholes, PartList, WindowValue, NoSuchKey}
+use Rattle.schema_read.specs.declared.fault.Expected.TheVariants.{Whole, TextValue, Flag, DelimiterName, TableList, TwoWholes, KindName, LeafName, DateText, TextList, Wholes, PartList, WindowValue, InsertValue, DeleteName, NoSuchKey}
 use Rattle.pd_outside.specs.declared.faults.ReadFault.{ReadFault}
 use Rattle.pd_outside.specs.declared.faults.ReadFault.TheVariants as reading
 use Rattle.schema_check.specs.declared.checker.CheckFault.TheVariants as check
@@ -54,6 +54,7 @@ plan_status (plan.Check (check.Rule number table column)) = 4
 -- the status of a text that is no schema
 abbrev pub schema_status : ReadSchemaFault → ℕ
 schema_status schema.Memory = 7
+schema_status schema.ParseMemory = 7
 schema_status schema.Syntax = 3
 schema_status (schema.Shape place key expected) = 3
 
@@ -135,6 +136,8 @@ expected_text TextList = codes "list of texts"
 expected_text Wholes = codes "list of whole numbers"
 expected_text PartList = codes "list of texts and cited columns"
 expected_text WindowValue = codes "whole number or \"all\""
+expected_text InsertValue = codes "whole number or list of pairs"
+expected_text DeleteName = codes "\"cascade\" or \"null\""
 expected_text NoSuchKey = codes "no such key"
 
 -- a key and what it wants, behind its place
@@ -160,6 +163,7 @@ abbrev pub schema_fault_text : ReadSchemaFault → List ℕ
 schema_fault_text schema.Syntax = codes "schema: not TOML"
 schema_fault_text (schema.Shape place key expected) = shape_text place key expected
 schema_fault_text schema.Memory = codes "out of memory"
+schema_fault_text schema.ParseMemory = codes "out of memory"
 
 -- what is wrong with a dictionary's bytes, behind its number
 abbrev pub grammar_text : DictFault → List ℕ

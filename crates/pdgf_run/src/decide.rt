@@ -1,8 +1,8 @@
 //! From the words to a job: all that is read and all memory that is taken, stage by stage.
 
-ghost use Rattle.std.specs.Prelude.{◌≡◌, ◌≢◌, ◌<◌, ◌≤◌, ◌+◌, ◌⊎◌, [], false, map, nat_lt, string_bytes, Err, IfErr, IfOk, IfSome, IsErrAnd, Ok, OnOk};
+ghost use Rattle.std.specs.Prelude.{◌≡◌, ◌≢◌, ◌<◌, ◌≤◌, ◌+◌, ◌⊎◌, [], false, map, nat_lt, string_bytes, Err, IfErr, IfOk, IfSome, IsErrAnd, IsOk, Ok, OnOk};
 ghost use Rattle.std.specs.Option.{option_map};
-ghost use Rattle.pd_outside.specs.Faults.{Rose};
+ghost use Rattle.pd_outside.specs.Faults.{Rose, counted};
 ghost use Rattle.pd_outside.specs.Files.{bytes_of};
 ghost use Rattle.pd_outside.specs.Library.{Content, left};
 ghost use Rattle.schema_read.specs.Schema.{schema_of};
@@ -53,6 +53,7 @@ pub(crate) fn decide<L: Library>(
     ensures schema_read { IfErr result (λ refusal. status_of refusal ≡ 3 → L.taken library.new ≤ schema_limit) }
     ensures within { OnOk result (L.taken library.new ≤ dictionary_limit) }
     ensures read_failed { IfErr result (λ refusal. status_of refusal ≡ 5 → Rose (L.faults library.old) (L.faults library.new)) }
+    ensures failed_once { IfErr result (λ refusal. status_of refusal ≡ 5 → L.faults library.new ≡ counted (L.faults library.old)) }
     ensures stopped { IfErr result (λ refusal. status_of refusal ≡ 5 → L.is_started library.new ≡ false) }
     ensures no_fault { IfErr result (λ refusal. status_of refusal ≢ 5 → L.faults library.new ≡ L.faults library.old) }
     ensures no_fault_on_ok { OnOk result (L.faults library.new ≡ L.faults library.old) }
@@ -81,6 +82,7 @@ fn job_of_request<L: Library>(
     ensures schema_read { IfErr result (λ fault. job_status fault ≡ 3 → L.taken library.new ≤ schema_limit) }
     ensures within { OnOk result (L.taken library.new ≤ dictionary_limit) }
     ensures read_failed { IfErr result (λ fault. job_status fault ≡ 5 → Rose (L.faults library.old) (L.faults library.new)) }
+    ensures failed_once { IfErr result (λ fault. job_status fault ≡ 5 → L.faults library.new ≡ counted (L.faults library.old)) }
     ensures stopped { IfErr result (λ fault. job_status fault ≡ 5 → L.is_started library.new ≡ false) }
     ensures no_fault { IfErr result (λ fault. job_status fault ≢ 5 → L.faults library.new ≡ L.faults library.old) }
     ensures no_fault_on_ok { OnOk result (L.faults library.new ≡ L.faults library.old) }
@@ -109,6 +111,7 @@ fn job_of_text<L: Library>(
     ensures schema_read { IfErr result (λ fault. text_status fault ≡ 3 → L.taken library.new ≤ schema_limit) }
     ensures within { OnOk result (L.taken library.new ≤ dictionary_limit) }
     ensures read_failed { IfErr result (λ fault. text_status fault ≡ 5 → Rose (L.faults library.old) (L.faults library.new)) }
+    ensures failed_once { IfErr result (λ fault. text_status fault ≡ 5 → L.faults library.new ≡ counted (L.faults library.old)) }
     ensures stopped { IfErr result (λ fault. text_status fault ≡ 5 → L.is_started library.new ≡ false) }
     ensures no_fault { IfErr result (λ fault. text_status fault ≢ 5 → L.faults library.new ≡ L.faults library.old) }
     ensures no_fault_on_ok { OnOk result (L.faults library.new ≡ L.faults library.old) }
@@ -133,6 +136,7 @@ fn plan_of<L: Library>(alloc: Global, library: &mut L, schema: Schema) -> Result
     ensures is_schema { IfErr result (λ fault. plan_status fault ≢ 3) }
     ensures within { OnOk result (L.taken library.new ≤ dictionary_limit) }
     ensures read_failed { IfErr result (λ fault. plan_status fault ≡ 5 → Rose (L.faults library.old) (L.faults library.new)) }
+    ensures failed_once { IfErr result (λ fault. plan_status fault ≡ 5 → L.faults library.new ≡ counted (L.faults library.old)) }
     ensures stopped { IfErr result (λ fault. plan_status fault ≡ 5 → L.is_started library.new ≡ false) }
     ensures no_fault { IfErr result (λ fault. plan_status fault ≢ 5 → L.faults library.new ≡ L.faults library.old) }
     ensures no_fault_on_ok { OnOk result (L.faults library.new ≡ L.faults library.old) }
@@ -147,10 +151,12 @@ fn plan_of<L: Library>(alloc: Global, library: &mut L, schema: Schema) -> Result
     Ok(check(alloc, schema, dictionaries)?)
 }
 
-/// The job of a request over a plan.
+/// The job of a request over a plan. Want of memory is told only where files are due: what a unit, a table and a key may be is tried
+/// before.
 fn job_of(alloc: Global, plan: Plan, request: &Request) -> Result<Job, TextFault>
     ensures job { Decides text_status due_of result (in_mode request.now.mode request.now plan) }
     ensures nothing_read { IfErr result (λ fault. text_status fault ≢ 5) }
+    ensures in_range { IfErr result (λ fault. text_status fault ≡ 7 → IsOk (in_mode request.now.mode request.now plan)) }
     ensures can { IfOk result CanFill }
 {
     match request.mode {
@@ -173,6 +179,7 @@ fn plan_snapshot(alloc: Global, plan: Plan, request: &Request) -> Result<Job, Te
     requires { request.now.mode ≡ Mode.Snapshot }
     ensures job { Decides text_status due_of result (in_mode Mode.Snapshot request.now plan) }
     ensures nothing_read { IfErr result (λ fault. text_status fault ≢ 5) }
+    ensures in_range { IfErr result (λ fault. text_status fault ≡ 7 → IsOk (in_mode Mode.Snapshot request.now plan)) }
     ensures can { IfOk result CanFill }
 {
     if is_past_last(&plan, request.unit) {
@@ -197,6 +204,7 @@ fn plan_unit<B: Ledger>(
     requires some { 0 < blank.parts }
     ensures job { Decides text_status due_of result (in_mode Mode.Unit request.now plan) }
     ensures nothing_read { IfErr result (λ fault. text_status fault ≢ 5) }
+    ensures in_range { IfErr result (λ fault. text_status fault ≡ 7 → IsOk (in_mode Mode.Unit request.now plan)) }
     ensures can { IfOk result CanFill }
 {
     if request.unit == 0 || is_past_last(&plan, request.unit) {
@@ -221,6 +229,7 @@ fn plan_row<B: Ledger>(
     requires some { 0 < blank.parts }
     ensures job { Decides text_status due_of result (in_mode Mode.Row request.now plan) }
     ensures nothing_read { IfErr result (λ fault. text_status fault ≢ 5) }
+    ensures in_range { IfErr result (λ fault. text_status fault ≡ 7 → IsOk (in_mode Mode.Row request.now plan)) }
     ensures can { IfOk result CanFill }
 {
     if is_past_last(&plan, request.unit) {

@@ -1,7 +1,7 @@
 //! The dictionaries that files hold, read one after the other.
 
 ghost use Rattle.std.specs.Prelude.{◌≡◌, ◌≢◌, ◌≤◌, ◌⊎◌, ◌+◌, ◌^◌, [], Err, IfErr, IfSome, Ok, OnErr, OnOk, false, length};
-ghost use Rattle.pd_outside.specs.Faults.{Rose};
+ghost use Rattle.pd_outside.specs.Faults.{Rose, counted};
 ghost use Rattle.pd_outside.specs.Library.{AskedAtMost, ask};
 ghost use Rattle.pdgf_run.specs.DictionaryFiles.{with_dictionaries, with_dictionary};
 ghost use Rattle.pdgf_run.specs.Limits.{dictionary_limit};
@@ -34,6 +34,7 @@ pub(crate) fn read_dictionaries<L: Library>(
     ensures longer { IfErr result (λ fault. L.taken library.new ≡ dictionary_limit + 1 → cause_status fault.cause ≡ 10) }
     ensures within { OnOk result (L.taken library.new ≤ dictionary_limit) }
     ensures read_failed { IfErr result (λ fault. cause_status fault.cause ≡ 5 → Rose (L.faults library.old) (L.faults library.new)) }
+    ensures failed_once { IfErr result (λ fault. cause_status fault.cause ≡ 5 → L.faults library.new ≡ counted (L.faults library.old)) }
     ensures stopped { IfErr result (λ fault. cause_status fault.cause ≡ 5 → L.is_started library.new ≡ false) }
     ensures no_fault { IfErr result (λ fault. cause_status fault.cause ≢ 5 → L.faults library.new ≡ L.faults library.old) }
     ensures no_fault_on_ok { OnOk result (L.faults library.new ≡ L.faults library.old) }
@@ -74,6 +75,7 @@ fn add_dictionary<L: Library>(
     ensures longer { IfErr result (λ cause. L.taken library.new ≡ dictionary_limit + 1 → cause_status cause ≡ 10) }
     ensures within { OnOk result (L.taken library.new ≤ dictionary_limit) }
     ensures read_failed { IfErr result (λ cause. cause_status cause ≡ 5 → Rose (L.faults library.old) (L.faults library.new)) }
+    ensures failed_once { IfErr result (λ cause. cause_status cause ≡ 5 → L.faults library.new ≡ counted (L.faults library.old)) }
     ensures stopped { IfErr result (λ cause. cause_status cause ≡ 5 → L.is_started library.new ≡ false) }
     ensures no_fault { IfErr result (λ cause. cause_status cause ≢ 5 → L.faults library.new ≡ L.faults library.old) }
     ensures no_fault_on_ok { OnOk result (L.faults library.new ≡ L.faults library.old) }

@@ -1,8 +1,8 @@
 //! The files of a job, line by line onto a shelf.
 
 ghost use Rattle.std.specs.Prelude.{◌≡◌, ◌<◌, ◌≤◌, ◌∷◌, [], All, false, true, IsTrue, OnErr, OnOk, length, map};
-ghost use Rattle.pd_outside.specs.Faults.{Rose};
-ghost use Rattle.schema_plan.specs.Cohorts.{born_count, cohort_size};
+ghost use Rattle.pd_outside.specs.Faults.{FailsAtLast, Rose};
+ghost use Rattle.cohort_sizes.specs.Births.{born_count, cohort_size};
 ghost use Rattle.schema_plan.specs.Layout.{layout_of};
 ghost use Rattle.schema_plan.specs.TableFacts.{max_line, reach};
 ghost use Rattle.life_intervals.specs.CohortOrders.{cohort_orders, table_orders};
@@ -59,6 +59,7 @@ fn write_row<S: Shelf, B: Ledger>(
     ensures line { Appends result (living_line lines.now row.index) (S.held shelf.old) (S.held shelf.new) }
     ensures cause { OnErr result (Rose (S.faults shelf.old) (S.faults shelf.new)) }
     ensures no_fault { OnOk result (S.faults shelf.new ≡ S.faults shelf.old) }
+    ensures at_last { FailsAtLast result (S.faults shelf.old) (S.faults shelf.new) (S.last_failed shelf.new) }
     ensures never_falls { S.faults shelf.old ≤ S.faults shelf.new }
     ensures begun { IsTrue (S.is_begun shelf.new) }
     ensures room { page.new.room ≡ page.old.room }
@@ -87,6 +88,7 @@ fn write_cohort<S: Shelf, B: Ledger>(
     ensures lines { Appends result (cohort_text (generator_of lines.now.plan) lines.now.unit lines.now.table lines.now.born) (S.held shelf.old) (S.held shelf.new) }
     ensures cause { OnErr result (Rose (S.faults shelf.old) (S.faults shelf.new)) }
     ensures no_fault { OnOk result (S.faults shelf.new ≡ S.faults shelf.old) }
+    ensures at_last { FailsAtLast result (S.faults shelf.old) (S.faults shelf.new) (S.last_failed shelf.new) }
     ensures never_falls { S.faults shelf.old ≤ S.faults shelf.new }
     ensures begun { IsTrue (S.is_begun shelf.new) }
     ensures room { page.new.room ≡ page.old.room }
@@ -151,6 +153,7 @@ fn write_born<S: Shelf, B: Ledger>(
     ensures lines { Appends result (cohort_text (generator_of at.now.plan.now) at.now.unit at.now.place born) (S.held shelf.old) (S.held shelf.new) }
     ensures cause { OnErr result (Rose (S.faults shelf.old) (S.faults shelf.new)) }
     ensures no_fault { OnOk result (S.faults shelf.new ≡ S.faults shelf.old) }
+    ensures at_last { FailsAtLast result (S.faults shelf.old) (S.faults shelf.new) (S.last_failed shelf.new) }
     ensures never_falls { S.faults shelf.old ≤ S.faults shelf.new }
     ensures begun { IsTrue (S.is_begun shelf.new) }
     ensures room { page.new.room ≡ page.old.room }
@@ -181,6 +184,7 @@ fn write_table<S: Shelf, B: Ledger>(
     ensures text { Appends result (content_text at.now.plan.now at.now.unit at.now.place Content.Snapshot) (S.held shelf.old) (S.held shelf.new) }
     ensures cause { OnErr result (Rose (S.faults shelf.old) (S.faults shelf.new)) }
     ensures no_fault { OnOk result (S.faults shelf.new ≡ S.faults shelf.old) }
+    ensures at_last { FailsAtLast result (S.faults shelf.old) (S.faults shelf.new) (S.last_failed shelf.new) }
     ensures never_falls { S.faults shelf.old ≤ S.faults shelf.new }
     ensures begun { IsTrue (S.is_begun shelf.new) }
     ensures room { page.new.room ≡ page.old.room }
@@ -219,6 +223,7 @@ fn write_key<S: Shelf, B: Ledger>(
     ensures line { Appends result (key_line_of (generator_of at.now.plan.now) (last_unit at.now.plan.now) at.now.place ordinal) (S.held shelf.old) (S.held shelf.new) }
     ensures cause { OnErr result (Rose (S.faults shelf.old) (S.faults shelf.new)) }
     ensures no_fault { OnOk result (S.faults shelf.new ≡ S.faults shelf.old) }
+    ensures at_last { FailsAtLast result (S.faults shelf.old) (S.faults shelf.new) (S.last_failed shelf.new) }
     ensures never_falls { S.faults shelf.old ≤ S.faults shelf.new }
     ensures begun { IsTrue (S.is_begun shelf.new) }
     ensures room { page.new.room ≡ page.old.room }
@@ -247,6 +252,7 @@ fn write_deleted<S: Shelf, B: Ledger>(
     ensures text { Appends result (content_text at.now.plan.now at.now.unit at.now.place Content.Deleted) (S.held shelf.old) (S.held shelf.new) }
     ensures cause { OnErr result (Rose (S.faults shelf.old) (S.faults shelf.new)) }
     ensures no_fault { OnOk result (S.faults shelf.new ≡ S.faults shelf.old) }
+    ensures at_last { FailsAtLast result (S.faults shelf.old) (S.faults shelf.new) (S.last_failed shelf.new) }
     ensures never_falls { S.faults shelf.old ≤ S.faults shelf.new }
     ensures begun { IsTrue (S.is_begun shelf.new) }
     ensures room { page.new.room ≡ page.old.room }
@@ -280,6 +286,7 @@ fn write_line<S: Shelf, B: Ledger>(
     ensures line { Appends result (line_in_cohort lines.now index) (S.held shelf.old) (S.held shelf.new) }
     ensures cause { OnErr result (Rose (S.faults shelf.old) (S.faults shelf.new)) }
     ensures no_fault { OnOk result (S.faults shelf.new ≡ S.faults shelf.old) }
+    ensures at_last { FailsAtLast result (S.faults shelf.old) (S.faults shelf.new) (S.last_failed shelf.new) }
     ensures never_falls { S.faults shelf.old ≤ S.faults shelf.new }
     ensures begun { IsTrue (S.is_begun shelf.new) }
     ensures room { page.new.room ≡ page.old.room }
@@ -359,6 +366,7 @@ fn write_updated_row<'a, S: Shelf, B: Ledger>(
     ensures line { Appends result (line_of (generator_of at.now.plan.now) at.now.unit at.now.place ordinal) (S.held shelf.old) (S.held shelf.new) }
     ensures cause { OnErr result (Rose (S.faults shelf.old) (S.faults shelf.new)) }
     ensures no_fault { OnOk result (S.faults shelf.new ≡ S.faults shelf.old) }
+    ensures at_last { FailsAtLast result (S.faults shelf.old) (S.faults shelf.new) (S.last_failed shelf.new) }
     ensures never_falls { S.faults shelf.old ≤ S.faults shelf.new }
     ensures begun { IsTrue (S.is_begun shelf.new) }
     ensures room { page.new.room ≡ page.old.room }
@@ -390,6 +398,7 @@ fn write_updated<'a, S: Shelf, B: Ledger>(
     ensures text { Appends result (content_text at.now.plan.now at.now.unit at.now.place Content.Updated) (S.held shelf.old) (S.held shelf.new) }
     ensures cause { OnErr result (Rose (S.faults shelf.old) (S.faults shelf.new)) }
     ensures no_fault { OnOk result (S.faults shelf.new ≡ S.faults shelf.old) }
+    ensures at_last { FailsAtLast result (S.faults shelf.old) (S.faults shelf.new) (S.last_failed shelf.new) }
     ensures never_falls { S.faults shelf.old ≤ S.faults shelf.new }
     ensures begun { IsTrue (S.is_begun shelf.new) }
     ensures room { page.new.room ≡ page.old.room }
@@ -429,6 +438,7 @@ fn write_inserted<S: Shelf, B: Ledger>(
     ensures text { Appends result (content_text at.now.plan.now at.now.unit at.now.place Content.Inserted) (S.held shelf.old) (S.held shelf.new) }
     ensures cause { OnErr result (Rose (S.faults shelf.old) (S.faults shelf.new)) }
     ensures no_fault { OnOk result (S.faults shelf.new ≡ S.faults shelf.old) }
+    ensures at_last { FailsAtLast result (S.faults shelf.old) (S.faults shelf.new) (S.last_failed shelf.new) }
     ensures never_falls { S.faults shelf.old ≤ S.faults shelf.new }
     ensures begun { IsTrue (S.is_begun shelf.new) }
     ensures room { page.new.room ≡ page.old.room }
@@ -455,6 +465,7 @@ fn write_part<S: Shelf, B: Ledger>(
     ensures text { Appends result (part_text plan.now unit (part_of part.now)) (S.held shelf.old) (S.held shelf.new) }
     ensures cause { OnErr result (Rose (S.faults shelf.old) (S.faults shelf.new)) }
     ensures no_fault { OnOk result (S.faults shelf.new ≡ S.faults shelf.old) }
+    ensures at_last { FailsAtLast result (S.faults shelf.old) (S.faults shelf.new) (S.last_failed shelf.new) }
     ensures never_falls { S.faults shelf.old ≤ S.faults shelf.new }
     ensures begun { IsTrue (S.is_begun shelf.new) }
     ensures room { page.new.room ≡ page.old.room }
@@ -508,6 +519,7 @@ fn write_parts<S: Shelf, B: Ledger>(
     ensures text { Appends result (texts_of plan.now unit (map part_of parts.now)) (S.held shelf.old) (S.held shelf.new) }
     ensures cause { OnErr result (Rose (S.faults shelf.old) (S.faults shelf.new)) }
     ensures no_fault { OnOk result (S.faults shelf.new ≡ S.faults shelf.old) }
+    ensures at_last { FailsAtLast result (S.faults shelf.old) (S.faults shelf.new) (S.last_failed shelf.new) }
     ensures never_falls { S.faults shelf.old ≤ S.faults shelf.new }
     ensures begun { IsTrue (S.is_begun shelf.new) }
     ensures room { page.new.room ≡ page.old.room }
@@ -541,6 +553,7 @@ fn write_file<S: Shelf, B: Ledger>(
     ensures none_begun { OnOk result (S.is_begun shelf.new ≡ false) }
     ensures cause { OnErr result (Rose (S.faults shelf.old) (S.faults shelf.new)) }
     ensures no_fault { OnOk result (S.faults shelf.new ≡ S.faults shelf.old) }
+    ensures at_last { FailsAtLast result (S.faults shelf.old) (S.faults shelf.new) (S.last_failed shelf.new) }
     ensures never_falls { S.faults shelf.old ≤ S.faults shelf.new }
     ensures room { page.new.room ≡ page.old.room }
 {
@@ -577,6 +590,7 @@ fn write_apart<S: Shelf, B: Ledger>(
     ensures none_begun { OnOk result (S.is_begun shelf.new ≡ false) }
     ensures cause { OnErr result (Rose (S.faults shelf.old) (S.faults shelf.new)) }
     ensures no_fault { OnOk result (S.faults shelf.new ≡ S.faults shelf.old) }
+    ensures at_last { FailsAtLast result (S.faults shelf.old) (S.faults shelf.new) (S.last_failed shelf.new) }
     ensures never_falls { S.faults shelf.old ≤ S.faults shelf.new }
     ensures room { page.new.room ≡ page.old.room }
 {
@@ -613,6 +627,7 @@ fn write_files<S: Shelf, B: Ledger>(
     ensures none_begun { OnOk result (S.is_begun shelf.new ≡ false) }
     ensures cause { OnErr result (Rose (S.faults shelf.old) (S.faults shelf.new)) }
     ensures no_fault { OnOk result (S.faults shelf.new ≡ S.faults shelf.old) }
+    ensures at_last { FailsAtLast result (S.faults shelf.old) (S.faults shelf.new) (S.last_failed shelf.new) }
     ensures never_falls { S.faults shelf.old ≤ S.faults shelf.new }
 {
     let FilesJob {
@@ -645,6 +660,7 @@ fn write_text<S: Shelf>(shelf: &mut S, bytes: &[u8]) -> Result<(), WriteFailed>
     ensures none_begun { OnOk result (S.is_begun shelf.new ≡ false) }
     ensures cause { OnErr result (Rose (S.faults shelf.old) (S.faults shelf.new)) }
     ensures no_fault { OnOk result (S.faults shelf.new ≡ S.faults shelf.old) }
+    ensures at_last { FailsAtLast result (S.faults shelf.old) (S.faults shelf.new) (S.last_failed shelf.new) }
     ensures never_falls { S.faults shelf.old ≤ S.faults shelf.new }
 {
     match shelf.begin("-") {
@@ -669,6 +685,7 @@ pub(crate) fn fill<S: Shelf>(shelf: &mut S, job: Job) -> Result<(), WriteFailed>
     ensures none_begun { OnOk result (S.is_begun shelf.new ≡ false) }
     ensures cause { OnErr result (Rose (S.faults shelf.old) (S.faults shelf.new)) }
     ensures no_fault { OnOk result (S.faults shelf.new ≡ S.faults shelf.old) }
+    ensures at_last { FailsAtLast result (S.faults shelf.old) (S.faults shelf.new) (S.last_failed shelf.new) }
     ensures never_falls { S.faults shelf.old ≤ S.faults shelf.new }
 {
     match job {

@@ -1,6 +1,6 @@
 //! What a request comes to, before anything is written.
 
-ghost use Rattle.std.specs.Prelude.{◌≡◌, ◌<◌, ◌≤◌, ◌+◌, ◌∷◌, ◌++◌, [], All, IfOk, IfSome, OnOk, length, map};
+ghost use Rattle.std.specs.Prelude.{◌≡◌, ◌<◌, ◌≤◌, ◌+◌, ◌∷◌, ◌++◌, [], All, IfOk, IfSome, OnOk, length, map, max};
 ghost use Rattle.std.specs.Option.{option_map};
 ghost use Rattle.schema_plan.specs.Layout.{layout_of};
 ghost use Rattle.schema_plan.specs.TableFacts.{reach};
@@ -340,6 +340,7 @@ fn unit_parts<B: Ledger>(
 fn page_for(alloc: Global, plan: &Plan) -> Result<PageBuf, Memory>
     ensures lines { IfOk result (λ page. reach (layout_of plan.now) ≤ page.room) }
     ensures key_lines { IfOk result (λ page. 21 ≤ page.room) }
+    ensures no_more { IfOk result (λ page. page.room ≤ max (reach (layout_of plan.now)) 21) }
 {
     PageBuf::with_room(alloc, (plan.reach() as usize).max(KEY_LINE))
 }

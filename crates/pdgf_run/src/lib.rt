@@ -2,6 +2,7 @@
 #![tactic(auto)]
 
 mod check;
+mod command_line;
 mod decide;
 mod dictionary_files;
 mod fill;
@@ -14,6 +15,7 @@ mod run;
 mod usage;
 mod words;
 
+pub use command_line::run_program;
 pub use refusal::{DictionaryCause, DictionaryFault, JobFault, PlanFault, Refusal, TextFault};
 pub use report::Report;
 pub use run::pdgf;

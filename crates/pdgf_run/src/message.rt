@@ -63,7 +63,7 @@ fn put_schema_fault(message: &mut Message, fault: ReadSchemaFault)
             key,
             expected,
         } => put_shape(message, place, key, expected),
-        ReadSchemaFault::Memory => message.put(b"out of memory"),
+        ReadSchemaFault::Memory | ReadSchemaFault::ParseMemory => message.put(b"out of memory"),
     }
 }
 
@@ -311,6 +311,8 @@ fn expected_words(expected: Expected) -> &'static str
         Expected::Wholes => "list of whole numbers",
         Expected::PartList => "list of texts and cited columns",
         Expected::WindowValue => "whole number or \"all\"",
+        Expected::InsertValue => "whole number or list of pairs",
+        Expected::DeleteName => "\"cascade\" or \"null\"",
         Expected::NoSuchKey => "no such key",
     }
 }

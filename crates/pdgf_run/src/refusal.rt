@@ -118,7 +118,8 @@ impl TextFault {
         ensures { result ≡ text_status self }
     {
         match self {
-            TextFault::Schema(ReadSchemaFault::Memory) | TextFault::Memory => 7,
+            TextFault::Schema(ReadSchemaFault::Memory | ReadSchemaFault::ParseMemory)
+            | TextFault::Memory => 7,
             TextFault::Schema(_) => 3,
             TextFault::Plan(fault) => fault.status(),
             TextFault::Range(_) => 8,

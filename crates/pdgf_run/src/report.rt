@@ -1,11 +1,16 @@
 //! What a call of the program came to.
 
-ghost use Rattle.std.specs.Prelude.{◌≡◌, []};
+ghost use Rattle.std.specs.Prelude.{◌≡◌, [], OnOk};
+ghost use Rattle.std.specs.Io.KnownBytes.{Appends};
+ghost use Rattle.std.specs.Process.{exit_status};
 ghost use Rattle.pdgf_run.specs.Statuses as status;
 
 use crate::Refusal;
 use crate::message::line;
 use pd_outside::Message;
+use std::io;
+use std::io::Write;
+use std::process::ExitCode;
 
 /// What a call came to: an exit status and a message for the standard error, empty or ended by a line feed.
 #[derive(Drop)]
@@ -14,6 +19,22 @@ pub struct Report {
     pub status: u8,
     /// The message.
     pub message: Message,
+}
+
+impl Report {
+    /// Writes the message, as it is.
+    pub fn tell<W: Write>(&self, output: &mut W) -> io::Result<()>
+        ensures { OnOk result (Appends (W.contents output.old) (W.contents output.new) self.now.message) }
+    {
+        output.write_all(self.message.text())
+    }
+
+    /// The exit code, which is the status.
+    pub fn exit_code(&self) -> ExitCode
+        ensures { exit_status result ≡ self.now.status }
+    {
+        ExitCode::from(self.status)
+    }
 }
 
 /// All is done.

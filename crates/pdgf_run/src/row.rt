@@ -1,12 +1,15 @@
 //! What mode row tells.
 
-ghost use Rattle.std.specs.Prelude.{◌≡◌, ◌<◌, ◌≤◌, IfOk, length};
+ghost use Rattle.std.specs.Prelude.{◌≡◌, ◌<◌, ◌≤◌, ◌+◌, IfOk, IfSome, IsSome, OnErr, length};
 ghost use Rattle.std.specs.Option.{option_and_then, option_map};
 ghost use Rattle.line_pages.specs.Pages.{Page};
+ghost use Rattle.schema_plan.specs.Layout.{layout_of};
 ghost use Rattle.schema_plan.specs.Planned.{table_named};
+ghost use Rattle.schema_plan.specs.TableFacts.{max_line};
 ghost use Rattle.life_intervals.specs.Generator.{last_unit};
 ghost use Rattle.row_lines.specs.Reports.{report_on};
 
+use life_intervals::row_of_key;
 use line_pages::{Memory, PageBuf};
 use row_lines::row_report;
 use schema_model::Text;
@@ -28,7 +31,7 @@ pub(crate) fn named_table(plan: &Plan, table: &Option<Text>) -> Option<u32>
     }
 }
 
-/// The report at a unit on the row of a table that has a key; None where no row has it.
+/// The report at a unit on the row of a table that has a key; None where no row has it, for which no memory is taken.
 pub(crate) fn row_text<B: Ledger>(
     alloc: Global,
     plan: &Plan,
@@ -42,11 +45,16 @@ pub(crate) fn row_text<B: Ledger>(
     requires some { 0 < blank.parts }
     requires table { table < length plan.now.schema.tables }
     requires unit { unit ≤ last_unit plan.now }
-    ensures { IfOk result (λ page. option_map (λ (p : Page). p.text) page ≡ report_on plan.now table unit key) }
+    ensures text { IfOk result (λ page. option_map (λ (p : Page). p.text) page ≡ report_on plan.now table unit key) }
+    ensures room { IfOk result (λ page. IfSome page (λ (p : Page). p.room ≤ 128 + max_line (layout_of plan.now) table)) }
+    ensures memory { OnErr result (IsSome (report_on plan.now table unit key)) }
 {
     let _limits = plan.schema(); // a line has at most 65,536 bytes
-    let mut page = PageBuf::with_room(alloc, BESIDE_LINE + plan.max_line(table) as usize)?;
     let mut steps = Steps::<B>::new(blank);
+    if row_of_key(plan, table, key, &mut steps).is_none() {
+        return Ok(None);
+    }
+    let mut page = PageBuf::with_room(alloc, BESIDE_LINE + plan.max_line(table) as usize)?;
     if row_report(plan, table, key, unit, &mut page, &mut steps) {
         Ok(Some(page))
     } else {

@@ -1,6 +1,6 @@
 use Rattle.std.proofs.Common.{ap, arith, subst, sym, ◌∙◌}
 use Rattle.schema_plan.proofs.PlannedLemmas.{max_line-reach}
-use Rattle.schema_plan.specs.Cohorts.{cohort_size}
+use Rattle.cohort_sizes.specs.Births.{cohort_size}
 use Rattle.schema_plan.specs.Layout.{layout_of}
 use Rattle.schema_plan.specs.TableFacts.{max_line}
 use Rattle.life_intervals.specs.Generator.{generator_of}

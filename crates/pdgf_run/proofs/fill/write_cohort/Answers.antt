@@ -2,7 +2,7 @@ use Rattle.std.proofs.Common.{◌≡◌, ◌<◌, ◌+◌, ℕ, List, refl, ap, 
 use Rattle.std.specs.Option.{option_map}
 use Rattle.pd_outside.proofs.Appending.{append_nothing, prefix_after}
 use Rattle.pd_outside.specs.Shelf.{append_bytes}
-use Rattle.schema_plan.specs.Cohorts.{cohort_size}
+use Rattle.cohort_sizes.specs.Births.{cohort_size}
 use Rattle.life_intervals.specs.Generator.{generator_of, Generator}
 use Rattle.row_lines.proofs.LineLemmas.{cohort_text-at, cohort_text-over, first_lines-add_one, first_lines-all, first_lines-zero}
 use Rattle.row_lines.specs.CohortLines.{LinesOf, layout_for, living_line}

@@ -1,6 +1,6 @@
-use Rattle.std.proofs.Common.{◌≡◌, ◌<◌, ℕ, List, All, true, slice_index_or, refl, ap, subst, sym, ◌∙◌, arith}
+use Rattle.std.proofs.Common.{◌≡◌, ◌+◌, ◌<◌, ℕ, List, All, true, slice_index_or, take, refl, ap, subst, sym, ◌∙◌, arith}
 use Rattle.schema_plan.proofs.PlannedLemmas.{max_line-reach}
-use Rattle.schema_plan.specs.Cohorts.{born_count}
+use Rattle.cohort_sizes.specs.Births.{born_count}
 use Rattle.schema_plan.specs.Layout.{layout_of}
 use Rattle.std.specs.List.{flat_map}
 use Rattle.std.specs.Option.{option_map}
@@ -10,7 +10,7 @@ use Rattle.pd_outside.specs.Shelf.{append_bytes}
 use Rattle.life_intervals.specs.Generator.{generator_of, table_of}
 use Rattle.life_intervals.specs.Intervals.{change_unit, is_live}
 use Rattle.row_lines.specs.Lines.{line_of}
-use Rattle.pdgf_run.proofs.FillLemmas.{flat_map-at}
+use Rattle.pdgf_run.proofs.FillLemmas.{appended_then, flat_map-at, flat_map-take_more}
 use Rattle.pdgf_run.proofs.StreamTextLemmas.{updated-born, updated-changed, updated-live, updated_text-ordinals}
 use Rattle.pdgf_run.proofs.fill.write_updated.Goals as goal
 
@@ -22,6 +22,22 @@ loop-ordinal-init g c = record {
   room = refl;
   lines = c.cohort_lines-lines.ensures;
 }
+
+pub loop-ordinal-preserved : goal.loop-ordinal-preserved
+loop-ordinal-preserved g c =
+    let line : ℕ → List ℕ = line_of (generator_of c.args.at.now.plan.now) c.args.at.now.unit c.args.at.now.place in
+    let place : ℕ = c.loop-ordinal.ordinal-index in
+    record {
+      text =
+          appended_then (flat_map line (take place c.args.updated.now)) (line (slice_index_or c.args.updated.now place 0)) (flat_map line (take (place + 1) c.args.updated.now)) _ _ _
+          (flat_map-take_more line c.args.updated.now place (slice_index_or c.args.updated.now place 0) c.loop-ordinal-test.true
+          (get_or_default c.args.updated.now place 0 (slice_index_or c.args.updated.now place 0) c.loop-ordinal-test.true))
+          c.loop-ordinal.invariant.text c.in-Ok.ensures.line;
+      begun = c.in-Ok.ensures.begun;
+      no_fault = c.in-Ok.ensures.no_fault ∙ c.loop-ordinal.invariant.no_fault;
+      room = c.in-Ok.ensures.room ∙ c.loop-ordinal.invariant.room;
+      lines = c.in-Ok.ensures.lines;
+    }
 
 pub returns-in-Err-clause-text : goal.returns-in-Err-clause-text
 returns-in-Err-clause-text g c =

@@ -1,10 +1,10 @@
 use Rattle.std.proofs.Common.{◌≡◌, ◌<◌, ◌-◌, ℕ, ap, arith, subst, sym, ◌∙◌}
-use Rattle.schema_plan.specs.Cohorts.{cohort_size, first_ordinal}
+use Rattle.cohort_sizes.specs.Births.{LiesIn, cohort_size, first_ordinal}
 use Rattle.schema_plan.specs.Layout.{layout_of}
 use Rattle.schema_plan.specs.TableFacts.{max_line}
 use Rattle.life_intervals.specs.Generator.{generator_of, last_unit, table_of}
-use Rattle.life_intervals.specs.Intervals.{LiesIn, change_unit, is_live}
-use Rattle.life_intervals.proofs.CohortLemmas.{born_count-le}
+use Rattle.life_intervals.specs.Intervals.{change_unit, is_live}
+use Rattle.cohort_sizes.proofs.CohortLemmas.{born_count-le}
 use Rattle.row_lines.specs.CohortLines.{LinesOf, change_for, is_live_for, layout_for}
 use Rattle.row_lines.specs.LineDraws.{line_draws}
 use Rattle.row_lines.proofs.CohortLineLemmas.{line_in_cohort-line_of, ordinal_of-index}

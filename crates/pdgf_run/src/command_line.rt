@@ -1,0 +1,95 @@
+//! The program's run, from what the system tells of its words to the report.
+
+ghost use Rattle.std.specs.Prelude.{◌≡◌, ◌≢◌, ◌≤◌, ◌+◌, ◌↔◌, [], false, map, string_bytes, IfErr, IfOk, IfSome, IsErr, IsOkAnd, IsTrue, OnErr, OnOk};
+ghost use Rattle.std.specs.IoError.{error_kind};
+ghost use Rattle.std.specs.Option.{option_map};
+ghost use Rattle.pd_outside.specs.Faults.{Rose, counted};
+ghost use Rattle.pd_outside.specs.Library.{Content, left};
+ghost use Rattle.pd_outside.specs.Shelf.{HoldsPrefixOf};
+ghost use Rattle.pdgf_run.specs.Limits.{dictionary_limit, schema_limit};
+ghost use Rattle.pdgf_run.specs.ReadingList.{AskedAlone, AsksInTurn};
+ghost use Rattle.pdgf_run.specs.Statuses.{fixed_text, is_status, text_of};
+ghost use Rattle.pdgf_run.specs.TopCall.{Carries, IsPastLimit};
+ghost use Rattle.pdgf_run.specs.Verdict.{told_files, WhereTold};
+ghost use Rattle.pdgf_run.specs.Words.{request};
+
+use crate::report::refused;
+use crate::run::pdgf;
+use crate::{Refusal, Report, UsageFault};
+use pd_outside::{Library, OpenGate, Shelf};
+use std::alloc::Global;
+use std::io;
+use std::io::ErrorKind;
+use std::thread::Threads;
+
+/// What the program does with its words, the program's name first, as the system gives them: all that `pdgf` does, where they are
+/// text. Words of which one isn't UTF-8 are told as bad words, and where there was no memory for them, that is told.
+pub fn run_program<R: Threads + Sync, L: Library, S: Shelf>(
+    rt: &R,
+    alloc: Global,
+    words: io::Result<Vec<String>>,
+    library: &mut L,
+    shelf: &mut S,
+) -> Report
+    requires { S.is_begun shelf.old ≡ false }
+
+    // Words that can't be read: one isn't UTF-8, or there was no memory for them. Then nothing is read or written.
+    ensures not_utf8 { IfErr words (λ error. error_kind error ≢ ErrorKind.OutOfMemory →
+        result ≡ record { status = 2; message = text_of (Refusal.Words UsageFault.Words) }) }
+    ensures no_memory { IfErr words (λ error. error_kind error ≡ ErrorKind.OutOfMemory →
+        result ≡ record { status = 7; message = text_of (Refusal.Words UsageFault.Memory) }) }
+    ensures nothing_read { OnErr words (library.new ≡ library.old) }
+    ensures nothing_written { OnErr words (shelf.new ≡ shelf.old) }
+
+    // For words that are read, all that `pdgf` promises. The headline: unless a read, a write or an allocation failed, the report and
+    // the finished files are the verdict's.
+    ensures verdict { IfOk words (λ words. result.status ≢ 5 → result.status ≢ 6 → result.status ≢ 7 →
+        WhereTold (map string_bytes words.items) (L.content library.old)
+        (λ verdict. Carries verdict result (S.held shelf.old) (S.held shelf.new))) }
+
+    // Each status has its cause.
+    ensures known { IsTrue (is_status result.status) }
+    ensures message { IfSome (fixed_text result.status) (λ text. result.message ≡ text) }
+    ensures usage { IfOk words (λ words. (result.status ≡ 2) ↔ IsErr (request (map string_bytes words.items))) }
+    ensures usage_text { IfOk words (λ words. IfErr (request (map string_bytes words.items)) (λ fault. result.message ≡ text_of (Refusal.Words fault))) }
+    ensures too_long { result.status ≡ 10 → IsPastLimit result.message (L.taken library.new) }
+    ensures longer_schema { IfOk words (λ words. IfOk (request (map string_bytes words.items)) (λ request. AskedAlone request.schema (L.asked library.old) (L.asked library.new) →
+        L.taken library.new ≡ schema_limit + 1 → result.status ≡ 10)) }
+    ensures longer_dictionary { IfOk words (λ words. OnOk (request (map string_bytes words.items))
+        (result.status ≢ 7 → L.taken library.new ≡ dictionary_limit + 1 → result.status ≡ 10)) }
+    ensures schema_read { result.status ≡ 3 → L.taken library.new ≤ schema_limit }
+    ensures read_failed { result.status ≡ 5 → Rose (L.faults library.old) (L.faults library.new) }
+    ensures stopped { result.status ≡ 5 → L.is_started library.new ≡ false }
+    ensures write_failed { result.status ≡ 6 → Rose (S.faults shelf.old) (S.faults shelf.new) }
+
+    // One call failed then, and it was the last: nothing was called after it.
+    ensures read_failed_once { result.status ≡ 5 → L.faults library.new ≡ counted (L.faults library.old) }
+    ensures write_failed_once { result.status ≡ 6 → S.faults shelf.new ≡ counted (S.faults shelf.old) }
+    ensures write_failed_last { result.status ≡ 6 → IsTrue (S.last_failed shelf.new) }
+    ensures library_faults { result.status ≢ 5 → L.faults library.new ≡ L.faults library.old }
+    ensures shelf_faults { result.status ≢ 6 → S.faults shelf.new ≡ S.faults shelf.old }
+
+    // After a failed write a prefix of the due files stands, and they were due.
+    ensures prefix { IfOk words (λ words. result.status ≡ 6 → WhereTold (map string_bytes words.items) (L.content library.old)
+        (λ verdict. IsOkAnd verdict (λ due. HoldsPrefixOf due (S.held shelf.old) (S.held shelf.new)))) }
+
+    // Any other status but 0 leaves the shelf as it was.
+    ensures held { result.status ≢ 0 → result.status ≢ 6 → S.held shelf.new ≡ S.held shelf.old }
+    ensures none_begun { result.status ≢ 6 → S.is_begun shelf.new ≡ false }
+
+    // No other name is started than those of the reading list, in its order, and at a clean end the last is read to its end.
+    ensures asked { IfOk words (λ words. AsksInTurn (request (map string_bytes words.items)) (told_files (L.content library.old)) (L.asked library.old) (L.asked library.new)) }
+    ensures read_out { result.status ≡ 0 →
+        option_map left (L.content library.new) ≡ option_map (λ (c : Content). []) (L.content library.old) }
+    ensures files { told_files (L.content library.new) ≡ told_files (L.content library.old) }
+    ensures library_never_falls { L.faults library.old ≤ L.faults library.new }
+    ensures shelf_never_falls { S.faults shelf.old ≤ S.faults shelf.new }
+{
+    match words {
+        Ok(words) => pdgf(rt, alloc, words.as_slice(), library, shelf, &OpenGate),
+        Err(error) if error.kind() == ErrorKind::OutOfMemory => {
+            refused(Refusal::Words(UsageFault::Memory))
+        }
+        Err(_) => refused(Refusal::Words(UsageFault::Words)),
+    }
+}
