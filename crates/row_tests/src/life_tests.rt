@@ -2,7 +2,7 @@
 //! independent program gave, written in Python from the rules, with no shared code (docs/SECOND_PROGRAM.md).
 
 ghost use Rattle.std.specs.Prelude.{◌≡◌, ◌^◌, ◌<◌, ◌≤◌, [], ◌∷◌, Some, length, map, true};
-ghost use Rattle.schema_plan.specs.Cohorts.{cohort_size};
+ghost use Rattle.cohort_sizes.specs.Births.{cohort_size};
 ghost use Rattle.life_intervals.specs.Changes.{last_due};
 ghost use Rattle.life_intervals.specs.CohortOrders.{cohort_orders, table_orders};
 ghost use Rattle.life_intervals.specs.CohortParents.{AreCandidates, table_candidates};
@@ -157,7 +157,7 @@ fn row_at<L: Ledger>(
     requires row { index < cohort_size (table_of plan.now table).births birth }
 {
     let lives = CohortLives::new(plan, table, birth, unit, &orders.lives, candidates);
-    let changes = CohortChanges::new(plan, table, birth, unit, &orders.updates);
+    let changes = CohortChanges::new(plan, table, birth, unit, &orders.updates, candidates);
     (lives.is_live(index, steps), changes.unit(index, steps))
 }
 
@@ -398,6 +398,16 @@ const SCRAMBLED_KEYS: &str = r#"
 column = [{ name = "id", kind = "key", base = 1, scramble = true }]
 "#;
 
+/// Three rows at each of the units 1 and 2, none at unit 3, and one at each later unit.
+const PHASES: &str = r#"
+seed = 7
+units = 6
+[[table]]
+name = "t"
+rows = 2
+insert = [[1, 3], [3, 0], [4, 1]]
+"#;
+
 /// As many rows as a table may have, in one cohort.
 const ONE_LARGE_COHORT: &str = r#"
 seed = 7
@@ -546,6 +556,25 @@ const BIRTHS_AND_KEYS: &[(&[&str], &[(u32, u64, Told<'static>)])] = &[
     (
         &[THOUSAND, SCRAMBLED_KEYS],
         &[(0, 0, Told::Keys(6_009_505_196_028_058_877))],
+    ),
+    (
+        &[PHASES, KEYS],
+        &[
+            (0, 0, Told::Births(0, 2, 2)),
+            (0, 1, Told::Births(2, 3, 5)),
+            (0, 2, Told::Births(5, 3, 8)),
+            (0, 3, Told::Births(8, 0, 8)),
+            (0, 4, Told::Births(8, 1, 9)),
+            (0, 6, Told::Births(10, 1, 11)),
+            (0, 1, Told::Birth(0)),
+            (0, 2, Told::Birth(1)),
+            (0, 7, Told::Birth(2)),
+            (0, 8, Told::Birth(4)),
+            (0, 9, Told::Birth(5)),
+            (0, 10, Told::Birth(6)),
+            (0, 8, Told::Key(9)),
+            (0, 12, Told::NoKey),
+        ],
     ),
     (
         &[ONE_LARGE_COHORT, KEYS],

@@ -2,7 +2,7 @@
 //! cohorts, keys and lines, with no shared code (docs/SECOND_PROGRAM.md).
 
 ghost use Rattle.std.specs.Prelude.{◌≡◌, ◌<◌, ◌≤◌, length, true};
-ghost use Rattle.schema_plan.specs.Cohorts.{born_count, cohort_size};
+ghost use Rattle.cohort_sizes.specs.Births.{born_count, cohort_size};
 ghost use Rattle.schema_plan.specs.Layout.{layout_of};
 ghost use Rattle.schema_plan.specs.TableFacts.{max_line};
 ghost use Rattle.life_intervals.specs.Generator.{generator_of, last_unit, table_of};

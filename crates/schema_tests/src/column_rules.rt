@@ -3,7 +3,7 @@
 
 use crate::cases::{Told, fault_of, try_rule, try_text, try_texts, weights};
 use schema_check::{CheckFault, check};
-use schema_model::{Column, Columns, Kind, Leaf, Table, Text};
+use schema_model::{Column, Columns, Kind, Leaf, Phase, Phases, Table, Text};
 use schema_plan::Dictionaries;
 use schema_read::read_schema;
 use std::alloc::Global;
@@ -168,10 +168,12 @@ const DAYS: [(i32, i32, Told); 6] = [
 /// A table of a row at each unit.
 fn table_of(rt: &impl Abort, alloc: Global, columns: Columns) -> Table {
     let name = Text::of(alloc, "u").expect(rt, "memory");
+    let mut insert = Phases::new(alloc);
+    insert.push(Phase { from: 1, rate: 1 }).expect(rt, "memory");
     Table {
         name,
         rows: 1,
-        insert: 1,
+        insert,
         life: None,
         update: None,
         columns,

@@ -1,7 +1,7 @@
 //! What a plan tells of the tables of a schema, worked out by hand.
 
 use crate::cases::{Told, numbered, plan_of, try_text};
-use schema_plan::{Births, Dictionaries, Keys, Lineage, NO_FACTS, Plan, TableFacts, fill_facts};
+use schema_plan::{Dictionaries, Keys, Lineage, NO_FACTS, Plan, TableFacts, fill_facts};
 use schema_read::read_schema;
 use std::alloc::Global;
 use std::process::Abort;
@@ -100,10 +100,7 @@ table=[
     ]},
 ]"#;
 
-const BIRTHS: Births = Births { rows: 7, insert: 2 };
-
 const CITY: TableFacts = TableFacts {
-    births: BIRTHS,
     keys: Keys {
         base: 5,
         scramble: true,
@@ -112,13 +109,14 @@ const CITY: TableFacts = TableFacts {
         sure_life: Some(3),
         longest_life: Some(5),
         death_cost: 1,
+        loss_cost: 0,
+        null_cost: 0,
     },
     cost: 3,
     max_line: 28,
 };
 
 const ALL: TableFacts = TableFacts {
-    births: BIRTHS,
     keys: Keys {
         base: 5,
         scramble: false,
@@ -127,6 +125,8 @@ const ALL: TableFacts = TableFacts {
         sure_life: Some(1),
         longest_life: Some(5),
         death_cost: 2,
+        loss_cost: 0,
+        null_cost: 0,
     },
     cost: 11,
     max_line: 227,

@@ -26,7 +26,7 @@ column = [
     {name="c", kind="chars", alphabet="äb", lo=8, hi=9},
     {name="c", kind="template", parts=["r", {column="id"}]},
     {name="c", kind="case", on="x", branches=[{kind="dict", file="f"}, {kind="date", lo="1970-01-01", hi="2000-03-01"}]},
-    {name="c", kind="ref", table="p", window=9, spread=[1, 2]},
+    {name="c", kind="ref", table="p", window=9, spread=[1, 2], on_delete="null"},
     {name="c", kind="lookup", via="p", column="city"},
 ]
 [[table]]
@@ -40,13 +40,23 @@ column = [
     {name="c", kind="ref", table="p", window="all"},
     {name="c", kind="template", parts=[]},
 ]
+[[table]]
+name = "phases"
+rows = 20
+insert = [[1, 20], [6, 50], [6, -1], [0, 0]]
+column = [{name="c", kind="ref", table="p", window=1, on_delete="cascade"}]
+[[table]]
+name = "no phase"
+rows = 1
+insert = []
+column = []
 "#;
 
 /// The schema that it says, as `{:?}` writes it. The days are those of the calendar: 0001-01-01 is day -719162, 9999-12-31 day 2932896
 /// and 2000-03-01 day 11017.
 const SCHEMA: &str = concat!(
     "Schema { seed: -7, units: 16, delimiter: Bar, tables: Sequence { items: [",
-    r#"Table { name: Text { text: "all" }, rows: 3, insert: 4, life: Some(Life { lo: 2, hi: 5 }), update: Some(6), columns: Sequence { items: ["#,
+    r#"Table { name: Text { text: "all" }, rows: 3, insert: Sequence { items: [Phase { from: 1, rate: 4 }] }, life: Some(Life { lo: 2, hi: 5 }), update: Some(6), columns: Sequence { items: ["#,
     r#"Column { name: Text { text: "c" }, kind: Key { base: 1, scramble: true }, changes: false, null: 0 }, "#,
     r#"Column { name: Text { text: "c" }, kind: Born, changes: false, null: 0 }, "#,
     r#"Column { name: Text { text: "c" }, kind: Leaf(Int { lo: -9223372036854775808, hi: 9, step: 3 }), changes: false, null: 0 }, "#,
@@ -59,17 +69,24 @@ const SCHEMA: &str = concat!(
     r#"Column { name: Text { text: "c" }, kind: Leaf(Chars { alphabet: Text { text: "äb" }, lo: 8, hi: 9 }), changes: false, null: 0 }, "#,
     r#"Column { name: Text { text: "c" }, kind: Template { parts: Sequence { items: [Literal(Text { text: "r" }), Cited(Text { text: "id" })] } }, changes: false, null: 0 }, "#,
     r#"Column { name: Text { text: "c" }, kind: Case { on: Text { text: "x" }, branches: Sequence { items: [Dict { file: Text { text: "f" } }, Date { lo: 0, hi: 11017 }] } }, changes: false, null: 0 }, "#,
-    r#"Column { name: Text { text: "c" }, kind: Ref { table: Text { text: "p" }, window: Units(9), spread: Sequence { items: [1, 2] } }, changes: false, null: 0 }, "#,
+    r#"Column { name: Text { text: "c" }, kind: Ref { table: Text { text: "p" }, window: Units(9), spread: Sequence { items: [1, 2] }, on_delete: Null }, changes: false, null: 0 }, "#,
     r#"Column { name: Text { text: "c" }, kind: Lookup { via: Text { text: "p" }, column: Text { text: "city" } }, changes: false, null: 0 }"#,
     "] } }, ",
-    r#"Table { name: Text { text: "defaults" }, rows: 1, insert: 0, life: None, update: None, columns: Sequence { items: ["#,
+    r#"Table { name: Text { text: "defaults" }, rows: 1, insert: Sequence { items: [Phase { from: 1, rate: 0 }] }, life: None, update: None, columns: Sequence { items: ["#,
     r#"Column { name: Text { text: "c" }, kind: Changed, changes: true, null: 100 }, "#,
     r#"Column { name: Text { text: "c" }, kind: Key { base: 1, scramble: false }, changes: false, null: 0 }, "#,
     r#"Column { name: Text { text: "c" }, kind: Leaf(Int { lo: 1, hi: 9, step: 1 }), changes: false, null: 0 }, "#,
     r#"Column { name: Text { text: "c" }, kind: Leaf(Pick { entries: Sequence { items: [Text { text: "a" }, Text { text: "b" }] }, weights: Sequence { items: [1, 1] } }), changes: false, null: 0 }, "#,
-    r#"Column { name: Text { text: "c" }, kind: Ref { table: Text { text: "p" }, window: All, spread: Sequence { items: [1] } }, changes: false, null: 0 }, "#,
+    r#"Column { name: Text { text: "c" }, kind: Ref { table: Text { text: "p" }, window: All, spread: Sequence { items: [1] }, on_delete: Cascade }, changes: false, null: 0 }, "#,
     r#"Column { name: Text { text: "c" }, kind: Template { parts: Sequence { items: [] } }, changes: false, null: 0 }"#,
-    "] } }] } }",
+    "] } }, ",
+    r#"Table { name: Text { text: "phases" }, rows: 20, "#,
+    "insert: Sequence { items: [Phase { from: 1, rate: 20 }, Phase { from: 6, rate: 50 }, Phase { from: 6, rate: -1 }, Phase { from: 0, rate: 0 }] }, ",
+    "life: None, update: None, columns: Sequence { items: [",
+    r#"Column { name: Text { text: "c" }, kind: Ref { table: Text { text: "p" }, window: Units(1), spread: Sequence { items: [1] }, on_delete: Cascade }, changes: false, null: 0 }"#,
+    "] } }, ",
+    r#"Table { name: Text { text: "no phase" }, rows: 1, insert: Sequence { items: [] }, life: None, update: None, columns: Sequence { items: [] } }"#,
+    "] } }",
 );
 
 #[test]

@@ -24,7 +24,7 @@ const TABLE_FAULTS: [&str; 10] = [
     "Name TextValue: rows=1,insert=1,life=[1,2],update=1,column=[]",
     "Rows Whole: name='a',rows=1.0,insert=1,life=[1,2],update=1,column=[]",
     "Rows Whole: name='a',insert=1,life=[1,2],update=1,column=[]",
-    "Insert Whole: name='a',rows=1,insert=1.0,life=[1,2],update=1,column=[]",
+    "Insert InsertValue: name='a',rows=1,insert=1.0,life=[1,2],update=1,column=[]",
     "Life TwoWholes: name='a',rows=1,insert=1,life=[1,2,3],update=1,column=[]",
     "Update Whole: name='a',rows=1,insert=1,life=[1,2],update=1.0,column=[]",
     "Column TableList: name='a',rows=1,insert=1,life=[1,2],update=1,column=[1]",
@@ -33,7 +33,7 @@ const TABLE_FAULTS: [&str; 10] = [
 ];
 
 // What the first column of the first table holds, with one wrong key.
-const COLUMN_FAULTS: [&str; 77] = [
+const COLUMN_FAULTS: [&str; 79] = [
     "Name TextValue: name=1,kind='born',changes=true,null=1",
     "Name TextValue: kind='born',changes=true,null=1",
     "Kind KindName: name='c',kind='nope',changes=true,null=1",
@@ -105,12 +105,14 @@ const COLUMN_FAULTS: [&str; 77] = [
     "Window WindowValue: name='c',kind='ref',table='a',window='two',spread=[1]",
     "Window WindowValue: name='c',kind='ref',table='a',spread=[1]",
     "Spread Wholes: name='c',kind='ref',table='a',window='all',spread=[1,true]",
-    "Other NoSuchKey: name='c',kind='ref',table='a',window='all',spread=[1],zz=1",
+    "OnDelete DeleteName: name='c',kind='ref',table='a',window='all',spread=[1],on_delete=1",
+    "Other NoSuchKey: name='c',kind='ref',table='a',window='all',spread=[1],on_delete='null',zz=1",
     "Via TextValue: name='c',kind='lookup',via=1,column='a'",
     "Via TextValue: name='c',kind='lookup',column='a'",
     "Column TextValue: name='c',kind='lookup',via='a',column=1",
     "Column TextValue: name='c',kind='lookup',via='a'",
     "Other NoSuchKey: name='c',kind='lookup',via='a',column='a',zz=1",
+    "Other NoSuchKey: name='c',kind='lookup',via='a',column='a',on_delete='null'",
 ];
 
 // What the first branch of a case holds, with one wrong key.
@@ -138,7 +140,7 @@ const BRANCH_FAULTS: [&str; 20] = [
 ];
 
 // A whole text, and where its first wrong key is: the places go depth first, each with its further keys.
-const ORDER: [((u64, u64, u64), &str); 10] = [
+const ORDER: [((u64, u64, u64), &str); 12] = [
     ((0, 0, 0), "Units Whole: seed=1"),
     (
         (0, 0, 0),
@@ -163,6 +165,14 @@ const ORDER: [((u64, u64, u64), &str); 10] = [
     (
         (1, 1, 2),
         "File TextValue: seed=1\nunits=1\ntable=[{name='t',rows=1,column=[{name='c',kind='case',on='x',branches=[{kind='dict',file='f'},{kind='dict'}]},{}]}]",
+    ),
+    (
+        (1, 0, 0),
+        "Insert InsertValue: seed=1\nunits=1\ntable=[{name='t',rows=1,insert=[[1,2],[3]],life=[],column=[]}]",
+    ),
+    (
+        (1, 1, 0),
+        "Spread Wholes: seed=1\nunits=1\ntable=[{name='t',rows=1,column=[{name='c',kind='ref',table='a',window=1,spread=1,on_delete='none'}]}]",
     ),
     (
         (1, 0, 0),
@@ -194,7 +204,25 @@ const NO_DATES: [&str; 12] = [
     "Lo DateText: 2023-01-01",
 ];
 
-// What is no window, and no list of parts.
+// What is no number of births and no list of pairs, no word for a deletion, no window, and no list of parts.
+const NO_INSERTS: [&str; 8] = [
+    "Insert InsertValue: true",
+    "Insert InsertValue: '20'",
+    "Insert InsertValue: [1,20]",
+    "Insert InsertValue: [[1]]",
+    "Insert InsertValue: [[1,20,3]]",
+    "Insert InsertValue: [[1,20],[6,2.5]]",
+    "Insert InsertValue: [[1,20],6]",
+    "Insert InsertValue: {from=1,rate=20}",
+];
+
+const NO_DELETIONS: [&str; 4] = [
+    "OnDelete DeleteName: true",
+    "OnDelete DeleteName: 'NULL'",
+    "OnDelete DeleteName: ''",
+    "OnDelete DeleteName: ['cascade']",
+];
+
 const NO_WINDOWS: [&str; 4] = [
     "Window WindowValue: true",
     "Window WindowValue: 1.5",
@@ -258,6 +286,11 @@ const COLUMN_FRONT: &str = "seed=1\nunits=1\ntable=[{name='t',rows=1,column=[{";
 const DATE_FRONT: &str =
     "seed=1\nunits=1\ntable=[{name='t',rows=1,column=[{name='c',kind='date',hi='2024-01-01',lo=";
 
+const INSERT_FRONT: &str = "seed=1\nunits=1\ntable=[{name='t',rows=1,column=[],insert=";
+
+const DELETION_FRONT: &str =
+    "seed=1\nunits=1\ntable=[{name='t',rows=1,column=[{name='c',kind='ref',table='p',window=1,on_delete=";
+
 const WINDOW_FRONT: &str =
     "seed=1\nunits=1\ntable=[{name='t',rows=1,column=[{name='c',kind='ref',table='p',window=";
 
@@ -302,6 +335,8 @@ fn the_first_wrong_key_is_told(rt: HostRuntime) {
     let alloc = rt.alloc();
     try_order(&rt, alloc, &ORDER);
     try_rows(&rt, alloc, (1, 1, 0), DATE_FRONT, &NO_DATES, "}]}]");
+    try_rows(&rt, alloc, (1, 0, 0), INSERT_FRONT, &NO_INSERTS, "}]");
+    try_rows(&rt, alloc, (1, 1, 0), DELETION_FRONT, &NO_DELETIONS, "}]}]");
     try_rows(&rt, alloc, (1, 1, 0), WINDOW_FRONT, &NO_WINDOWS, "}]}]");
     try_rows(&rt, alloc, (1, 1, 0), PARTS_FRONT, &NO_PARTS, "}]}]");
     try_documents(&rt, alloc, &NO_DOCUMENTS);

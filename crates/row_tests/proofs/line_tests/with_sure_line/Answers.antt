@@ -1,5 +1,5 @@
 use Rattle.std.proofs.Common.{◌<◌, subst, sym}
-use Rattle.schema_plan.specs.Cohorts.{cohort_size}
+use Rattle.cohort_sizes.specs.Births.{cohort_size}
 use Rattle.row_lines.specs.CohortLines.{LinesOf, layout_for}
 use Rattle.row_tests.proofs.line_tests.with_sure_line.Goals as goal
 
