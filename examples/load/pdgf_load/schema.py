@@ -115,7 +115,7 @@ def read_column(column, table, before, earlier):
             via = next(it for it in table["column"] if it["name"] == column["via"])
             shown = next(it for it in earlier if it.name == via["table"]).column(column["column"])
             type_ = shown.type
-            may_be_null = may_be_null or shown.may_be_null or via.get("on_delete") == "null"
+            may_be_null = may_be_null or shown.may_be_null
         case "ref":
             type_ = whole_of(0, 2**63)
             may_be_null = may_be_null or column.get("on_delete") == "null"

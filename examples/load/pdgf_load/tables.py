@@ -114,7 +114,7 @@ def checked_lookups(schema, reference, dialect):
             shown.add(other)
             pairs.append((own, other))
     indexed = dialect.may_be_indexed([parent.column(it).type for _, it in pairs])
-    return [pairs] if pairs and indexed and reference.on_delete == "CASCADE" else []
+    return [pairs] if pairs and indexed else []
 
 
 def shown_together(schema, table, dialect):
