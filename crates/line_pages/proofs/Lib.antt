@@ -1,3 +1,6 @@
-pub mod Digits
+pub mod DigitLemmas
+pub mod LastDigits
 pub mod LowBytes
+pub mod LowBytesJoined
 pub mod Pasting
+pub mod RowLemmas

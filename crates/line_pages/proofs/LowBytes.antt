@@ -9,7 +9,7 @@ pub low_bytes-zero : (n : ℕ) → low_bytes 0 n ≡ []
 unfolding low_bytes
 low_bytes-zero n = refl
 
-low_bytes-suc : (k n : ℕ) → low_bytes (suc k) n ≡ n % 256 ∷ low_bytes k (n / 256)
+pub low_bytes-suc : (k n : ℕ) → low_bytes (suc k) n ≡ n % 256 ∷ low_bytes k (n / 256)
 unfolding low_bytes
 low_bytes-suc k n = refl
 

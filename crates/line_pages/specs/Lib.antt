@@ -1,2 +1,4 @@
+pub mod Digits
 pub mod Pages
 pub mod Pieces
+pub mod Rows

@@ -11,8 +11,8 @@ use std::marker::Model;
 #[derive(Drop)]
 pub struct PageBuf {
     /// The text, and behind it what no call tells.
-    bytes: Vec<u8>,
-    len: usize,
+    pub(crate) bytes: Vec<u8>,
+    pub(crate) len: usize,
     room: usize,
 }
 
@@ -75,6 +75,14 @@ impl PageBuf {
         ensures { self.new ≡ record self.old { text = [] } }
     {
         self.len = 0;
+    }
+
+    /// The number of bytes that fit in all.
+    #[inline(always)]
+    pub fn room(&self) -> usize
+        ensures { result ≡ self.now.room }
+    {
+        self.room
     }
 
     /// The number of bytes that still fit.

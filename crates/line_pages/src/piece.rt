@@ -1,6 +1,6 @@
 //! Short texts in a word.
 
-ghost use Rattle.std.specs.Prelude.{◌≡◌, ◌<◌, ◌≤◌, ◌+◌, ◌^◌, [], ◌∷◌, ◌++◌, length, take, decimal};
+ghost use Rattle.std.specs.Prelude.{◌≡◌, ◌<◌, ◌≤◌, ◌+◌, ◌-◌, ◌^◌, [], ◌∷◌, ◌++◌, length, take, drop, decimal};
 ghost use Rattle.std.specs.Fmt.{signed_decimal};
 
 /// A text of at most `Piece::ROOM` bytes, which is copied as fast as a number.
@@ -14,7 +14,7 @@ pub struct Piece {
 }
 
 impl Piece {
-    ghost use Rattle.line_pages.specs.Pieces.{piece_text};
+    ghost use Rattle.line_pages.specs.Pieces.{low_bytes, piece_text};
 
     /// The most bytes of a piece: a number of 15 digits, say, and a delimiter.
     pub const ROOM: usize = 16;
@@ -66,6 +66,19 @@ impl Piece {
         Piece::new().prepend_signed(number)
     }
 
+    /// The last bytes of a word of eight, as many as `count`, which is from 1 to 8.
+    #[inline(always)]
+    pub(crate) fn of_last_bytes(word: u64, count: u32) -> Piece
+        requires some { 1 ≤ count }
+        requires few { count ≤ 8 }
+        ensures { piece_text result ≡ drop (8 - count) (low_bytes 8 word) }
+    {
+        Piece {
+            word: u128::from(word >> (8 * (8 - count))),
+            len: u64::from(count),
+        }
+    }
+
     /// The number of bytes.
     #[inline(always)]
     pub fn len(&self) -> usize
@@ -84,6 +97,28 @@ impl Piece {
         Piece {
             word: self.word * 256 + u128::from(byte),
             len: self.len + 1,
+        }
+    }
+
+    /// The piece, and then the byte. Both fit.
+    #[inline(always)]
+    pub fn with(self, byte: u8) -> Piece
+        requires { length (piece_text self) < Piece.ROOM }
+        ensures { piece_text result ≡ piece_text self ++ byte ∷ [] }
+    {
+        self.then(Piece::of_byte(byte))
+    }
+
+    /// The piece, which has fewer than 16 bytes, and then another. Both fit.
+    #[inline(always)]
+    pub fn then(self, rest: Piece) -> Piece
+        requires some { length (piece_text self) < Piece.ROOM }
+        requires room { length (piece_text self) + length (piece_text rest) ≤ Piece.ROOM }
+        ensures { piece_text result ≡ piece_text self ++ piece_text rest }
+    {
+        Piece {
+            word: self.word + (rest.word << (8 * self.len)),
+            len: self.len + rest.len,
         }
     }
 

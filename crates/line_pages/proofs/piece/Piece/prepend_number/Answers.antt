@@ -1,5 +1,5 @@
 use Rattle.std.proofs.Common.{◌∙◌}
-use Rattle.line_pages.proofs.Digits.{last_digit_before, lone_digit_before, room_for_digit}
+use Rattle.line_pages.proofs.DigitLemmas.{last_digit_before, lone_digit_before, room_for_digit}
 use Rattle.line_pages.proofs.piece.Piece.prepend_number.Goals as goal
 
 pub prepend-piece-requires : goal.prepend-piece-requires
