@@ -1,3 +1,4 @@
 pub mod PrefixSumLemmas
 pub mod SelectionLemmas
 pub mod HarmonicLemmas
+pub mod FinderLemmas

@@ -3,7 +3,6 @@ use Rattle.std.proofs.Common.{◌≡◌, ℕ, zero, suc, ◌+◌, ◌-◌, ◌<�
 use Rattle.std.proofs.lemmas.List.Sums.{sum_by_more, sum_by-cons, sum_by-take-le, get_or-le-sum_by}
 use Rattle.weight_tables.specs.Weights.{weight_before, prefix_sum}
 use Rattle.std.proofs.lemmas.List.{take_more}
-use Rattle.std.specs.List.Sorted.{IsNonDecreasingBy}
 use Rattle.weight_tables.specs.PrefixSums.{ArePrefixSums, prefix_sums, weights_of, prefix_sums_from, differences_from}
 
 pub differences_from-prefix_sums_from : (before : ℕ) (weights : List ℕ) →
@@ -87,15 +86,6 @@ pub prefix_sums_at : (sums : List ℕ) (g d : ℕ) → ArePrefixSums sums → g 
     get_or sums g d ≡ prefix_sum (weights_of sums) g
 prefix_sums_at sums g d kept within =
     ap (λ (xs : List ℕ). get_or xs g d) kept.exact ∙ get_or-prefix_sums_from 0 (weights_of sums) g d within ∙ omega arith
-
-pub prefix_sums_rise : (sums : List ℕ) → ArePrefixSums sums → IsNonDecreasingBy (λ x. x) sums
-prefix_sums_rise sums kept i j d up within =
-    omega (
-      arith,
-      prefix_sums_at sums i d kept (omega (arith, prefix_sums_length sums kept)),
-      prefix_sums_at sums j d kept (omega (arith, prefix_sums_length sums kept)),
-      weight_before-rises (weights_of sums) (i + 1) (j + 1) (omega arith),
-    )
 
 pub weights_of-made : (sums weights : List ℕ) → sums ≡ prefix_sums weights → weights_of sums ≡ weights
 weights_of-made sums weights made = ap weights_of made ∙ differences_from-prefix_sums_from 0 weights

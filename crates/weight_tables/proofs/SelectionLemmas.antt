@@ -1,12 +1,10 @@
 -- Which group a number selects, and how many numbers select a group.
-use Rattle.std.proofs.Common.{◌≡◌, ℕ, zero, suc, ◌+◌, ◌-◌, ◌<◌, ◌≤◌, ◌==◌, ◌↔◌, Bool, true, false, inl, inr, List, [], ◌∷◌, ◌++◌, length, get_or, sum, count_by, cond, refl, ap, ◌∙◌, arith, eq-eqb, leb, leb-true, if◌then◌else◌}
-use Rattle.std.proofs.lemmas.Bool.{cases_lt, cases_Bool, lt-ltb, le-ltb, eqb-true, leb-false}
+use Rattle.std.proofs.Common.{◌≡◌, ℕ, zero, suc, ◌+◌, ◌-◌, ◌<◌, ◌≤◌, ◌==◌, ◌↔◌, Bool, true, false, inl, inr, List, [], ◌∷◌, ◌++◌, length, get_or, sum, count_by, cond, refl, ap, ◌∙◌, arith, eq-eqb, if◌then◌else◌}
+use Rattle.std.proofs.lemmas.Bool.{cases_lt, cases_Bool, lt-ltb, le-ltb, eqb-true}
 use Rattle.std.proofs.lemmas.List.Sums.{sum_by-append, sum_by-cons}
 use Rattle.std.specs.List.{range_with_len}
-use Rattle.std.specs.List.Sorted.{IsPartitionPoint}
-use Rattle.weight_tables.specs.PrefixSums.{ArePrefixSums, weights_of}
 use Rattle.weight_tables.specs.Weights.{Selects, selected, weight_before, prefix_sum}
-use Rattle.weight_tables.proofs.PrefixSumLemmas.{prefix_sums_length, prefix_sums_at, weight_before-all, sum-cons, prefix_sum-first, prefix_sum-later, prefix_sum-split, weight_before-rises, prefix_sum-le-sum}
+use Rattle.weight_tables.proofs.PrefixSumLemmas.{sum-cons, prefix_sum-first, prefix_sum-later, prefix_sum-split, weight_before-rises, prefix_sum-le-sum}
 
 selected-first : (weight : ℕ) (others : List ℕ) (x : ℕ) → x < weight → selected (weight ∷ others) x ≡ 0
 unfolding selected
@@ -78,29 +76,6 @@ Selects-place weights x g within = (
     first = λ h before. omega (arith, weight_before-rises weights (h + 1) g (omega arith));
   },
 )
-
--- the place where the prefix sums pass x is the group that x selects
-pub Selects-from_partition : (sums : List ℕ) (x i : ℕ) → ArePrefixSums sums → x < sum (weights_of sums) → i ≤ length sums →
-    IsPartitionPoint (λ y. leb y x ≡ true) (λ y. leb y x ≡ false) sums i → Selects (weights_of sums) x i
-Selects-from_partition sums x i kept below up parted =
-    let weights = weights_of sums in
-    let long = prefix_sums_length sums kept in
-    let passed : (h : ℕ) → h < i → prefix_sum weights h ≤ x = λ h before.
-    let here = leb-true (get_or sums h 0) x (parted.0 h 0 (omega arith) before) in
-    omega (arith, prefix_sums_at sums h 0 kept (omega arith)) in
-    let within : i < length weights = elim (cases_lt i (length weights)) [
-      | inl inside ↦ inside
-      | inr past ↦
-          let some : 0 < length weights = kept.some in
-          let last = passed (length weights - 1) (omega arith) in
-          absurd (omega (arith, weight_before-all weights (length weights - 1 + 1) (omega arith)))
-    ] in
-    let here = leb-false (get_or sums i 0) x (parted.1 i 0 (omega arith) (omega arith)) in
-    record {
-      within = within;
-      below = omega (arith, prefix_sums_at sums i 0 kept within);
-      first = passed;
-    }
 
 -- a range is two, one after the other
 range_with_len-add : (a m n : ℕ) → range_with_len a (m + n) ≡ range_with_len a m ++ range_with_len (a + m) n

@@ -1,3 +1,4 @@
+pub mod Finders
 pub mod Weights
 pub mod PrefixSums
 pub mod Harmonic

@@ -3,6 +3,7 @@
 //! Groups are places in a list, counted from 0. Weights are whole numbers from 1 on, and the sum of a list's is at most 2^40.
 #![tactic(auto)]
 
+mod finders;
 pub mod laws;
 mod memory;
 mod weights;

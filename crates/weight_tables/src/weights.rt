@@ -1,10 +1,12 @@
-//! A list of weights, kept so that the group of a number is found by halving.
+//! A list of weights, kept so that the group of a number is found at once, or by a short search.
 
-ghost use Rattle.std.specs.Prelude.{◌≡◌, ℕ, ◌+◌, ◌<◌, ◌≤◌, ◌^◌, All, IfOk, length, sum};
-ghost use Rattle.weight_tables.specs.Weights.{prefix_sum, selected};
+ghost use Rattle.std.specs.Prelude.{◌≡◌, ℕ, ◌+◌, ◌<◌, ◌≤◌, ◌^◌, All, IfOk, length, map, sum};
+ghost use Rattle.weight_tables.specs.Weights.{Selects, prefix_sum, selected};
+ghost use Rattle.weight_tables.specs.PrefixSums.{prefix_sums};
 ghost use Rattle.weight_tables.specs.Harmonic.{harmonic_weight, harmonic_weights};
 
 use crate::Memory;
+use crate::finders::{first_groups, group_table, last_sum, search_from, slice_shift};
 use std::alloc::Global;
 use std::marker::Model;
 
@@ -15,17 +17,23 @@ const FIRST_HARMONIC_WEIGHT: u64 = 1_000_000_000;
 #[derive(Debug, Drop)]
 pub struct Weights {
     prefix_sums: Vec<u64>,
+    /// The group of each number where there are few, else none.
+    table: Vec<u16>,
+    /// For each slice of 2^shift numbers a group from which on a search finds that of each.
+    first_groups: Vec<u32>,
+    shift: u32,
 }
 
 impl Model for Weights {
     ghost use Rattle.std.specs.Prelude.{List, ℕ};
-    ghost use Rattle.weight_tables.specs.PrefixSums.{weights_of, ArePrefixSums};
+    ghost use Rattle.weight_tables.specs.PrefixSums.{weights_of};
+    ghost use Rattle.weight_tables.specs.Finders.{AreFinders};
 
     ghost Value = { List ℕ };
 
     ghost view = { λ w. weights_of w.prefix_sums.items };
 
-    ghost invariant = { λ w. ArePrefixSums w.prefix_sums.items };
+    ghost invariant = { λ w. AreFinders w.prefix_sums.items w.table.items w.first_groups.items w.shift };
 }
 
 impl Weights {
@@ -37,13 +45,16 @@ impl Weights {
         requires small { sum list.now ≤ 2 ^ 40 }
         ensures { IfOk result (λ weights. weights ≡ list.now) }
     {
-        let mut prefix_sums = Vec::with_capacity(alloc, list.len())?;
-        let mut sum = 0u64;
-        for weight in list {
-            sum += *weight;
-            prefix_sums.push(sum)?;
-        }
-        Ok(Weights { prefix_sums })
+        let prefix_sums = prefix_sums_of(alloc, list)?;
+        let table = group_table(alloc, &prefix_sums)?;
+        let shift = slice_shift(&prefix_sums, table.is_empty());
+        let first_groups = first_groups(alloc, &prefix_sums, shift)?;
+        Ok(Weights {
+            prefix_sums,
+            table,
+            first_groups,
+            shift,
+        })
     }
 
     /// The weights of `size` groups, from 1 to 4096, of which group i weighs 10^9 / (i + 1)^power, rounded down, and at
@@ -68,11 +79,12 @@ impl Weights {
         ensures some { 1 ≤ result }
         ensures small { result ≤ 2 ^ 40 }
     {
-        self.prefix_sums[self.prefix_sums.len() - 1]
+        last_sum(&self.prefix_sums)
     }
 
     /// The group that `x` selects, with `x` from 0 to the total - 1: the first one whose prefix sum exceeds `x`, where the
     /// prefix sum of a group is the sum of the weights up to and with its own.
+    #[inline]
     pub fn select(&self, x: u64) -> usize
         requires { x < sum self.now }
         ensures within { result < length self.now }
@@ -80,9 +92,53 @@ impl Weights {
         ensures first { (group : ℕ) → group < result → prefix_sum self.now group ≤ x }
         ensures exact { result ≡ selected self.now x }
     {
-        self.prefix_sums
-            .partition_point(|prefix_sum| *prefix_sum <= x)
+        if self.table.is_empty() {
+            self.search(x)
+        } else {
+            usize::from(self.table[x as usize])
+        }
     }
+
+    /// Puts in place of each number, from 0 to the total - 1, the group that it selects.
+    pub fn select_all(&self, numbers: &mut [u64])
+        requires { All (λ x. x < sum self.now) numbers.old }
+        ensures { numbers.new ≡ map (selected self.now) numbers.old }
+    {
+        let table = self.table.as_slice();
+        if table.is_empty() {
+            for searched in numbers.iter_mut() {
+                *searched = self.search(*searched) as u64;
+            }
+        } else {
+            for tabled in numbers.iter_mut() {
+                *tabled = u64::from(table[*tabled as usize]);
+            }
+        }
+    }
+
+    /// The group that `x` selects, searched from the first group of its slice on.
+    #[inline]
+    fn search(&self, x: u64) -> usize
+        requires { x < sum self.now }
+        ensures { Selects self.now x result }
+    {
+        let slice = (x >> self.shift) as usize;
+        search_from(&self.prefix_sums, self.first_groups[slice] as usize, x)
+    }
+}
+
+/// The prefix sum of each weight.
+fn prefix_sums_of(alloc: Global, list: &[u64]) -> Result<Vec<u64>, Memory>
+    requires { sum list.now ≤ 2 ^ 40 }
+    ensures { IfOk result (λ sums. sums.items ≡ prefix_sums list.now) }
+{
+    let mut sums = Vec::with_capacity(alloc, list.len())?;
+    let mut sum = 0u64;
+    for weight in list {
+        sum += *weight;
+        sums.push(sum)?;
+    }
+    Ok(sums)
 }
 
 /// The weight of a group of harmonic weights.

@@ -1,30 +1,33 @@
-use Rattle.std.proofs.Common.{◌≡◌, sum, take, take_all, ap, ◌∙◌, arith, rules}
-use Rattle.std.proofs.lemmas.List.Sums.{sum_by_more}
-use Rattle.weight_tables.specs.PrefixSums.{prefix_sums, prefix_sums_from}
-use Rattle.weight_tables.proofs.PrefixSumLemmas.{weights_of-made, ArePrefixSums-made, prefix_sums-more}
+use Rattle.weight_tables.specs.Finders.{IsGuide, IsTable}
+use Rattle.weight_tables.specs.PrefixSums.{weights_of}
+use Rattle.weight_tables.proofs.PrefixSumLemmas.{weights_of-made, ArePrefixSums-made}
 use Rattle.weight_tables.proofs.weights.Weights.new.Goals as goal
 
-pub loop-weight-init : goal.loop-weight-init
-unfolding prefix_sums_from
-loop-weight-init c = record { summed = search rules; pushed = c.in_ok-prefix_sums.ensures.items }
+pub group_table-requires : goal.group_table-requires
+group_table-requires c =
+    rw c.deref.ensures.value
+    (ArePrefixSums-made c.in_ok-prefix_sums.prefix_sums.items c.args.list.now c.in_ok-prefix_sums.ensures c.requires.some c.requires.positive c.requires.small)
 
-pub loop-weight-preserved : goal.loop-weight-preserved
-loop-weight-preserved c =
-    let list = c.args.list.now in
-    let i = c.loop-weight.weight-index in
-    let summed : c.loop-weight.sum ≡ sum (take i list) = c.loop-weight.invariant.summed in
-    let more = prefix_sums-more list i c.loop-weight.sum c.loop-weight-test.true summed in
-    record {
-      summed = omega (arith, sum_by_more (λ x. x) list i 0 c.loop-weight-test.true);
-      pushed = rw (more, ← c.loop-weight.invariant.pushed) c.in_ok-push.ensures.items;
-    }
+pub slice_shift-shift-requires : goal.slice_shift-shift-requires
+slice_shift-shift-requires c =
+    rw c.deref-2.ensures.value
+    (ArePrefixSums-made c.in_ok-prefix_sums.prefix_sums.items c.args.list.now c.in_ok-prefix_sums.ensures c.requires.some c.requires.positive c.requires.small)
 
-whole : (c : goal.After-loop-weight) → c.loop-weight.prefix_sums.items ≡ prefix_sums c.args.list.now
-whole c = c.loop-weight.invariant.pushed ∙ ap prefix_sums (take_all c.loop-weight.weight-index c.args.list.now c.loop-weight-test.false)
+pub first_groups-requires-clause-sums : goal.first_groups-requires-clause-sums
+first_groups-requires-clause-sums c =
+    rw c.deref-3.ensures.value
+    (ArePrefixSums-made c.in_ok-prefix_sums.prefix_sums.items c.args.list.now c.in_ok-prefix_sums.ensures c.requires.some c.requires.positive c.requires.small)
 
 pub invariant_of-result : goal.invariant_of-result
 invariant_of-result c =
-    ArePrefixSums-made c.loop-weight.prefix_sums.items c.args.list.now (whole c) c.requires.some c.requires.positive c.requires.small
+    let sums = c.in_ok-prefix_sums.prefix_sums.items in
+    let tabled : IsTable (weights_of sums) c.in_ok-table.table.items = rw c.deref.ensures.value at c.in_ok-table.ensures in
+    let guided : IsGuide (weights_of sums) c.in_ok-first_groups.first_groups.items c.slice_shift-shift.result = rw c.deref-3.ensures.value at c.in_ok-first_groups.ensures in
+    record {
+      kept = ArePrefixSums-made sums c.args.list.now c.in_ok-prefix_sums.ensures c.requires.some c.requires.positive c.requires.small;
+      tabled = tabled;
+      guided = guided;
+    }
 
 pub returns : goal.returns
-returns c = weights_of-made c.loop-weight.prefix_sums.items c.args.list.now (whole c)
+returns c = weights_of-made c.in_ok-prefix_sums.prefix_sums.items c.args.list.now c.in_ok-prefix_sums.ensures
