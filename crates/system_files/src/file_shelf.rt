@@ -10,14 +10,16 @@ use std::io;
 use std::io::{BufWriter, Stdout, Write};
 use std::rt::Files;
 
-/// The bytes that are gathered before the system is asked to write them.
-const BUFFER: usize = 1 << 18;
+/// The bytes that are gathered before the system is asked to write them. A longer text isn't copied into the buffer: calls of
+/// the system with so many bytes cost no more a byte than longer ones.
+const BUFFER: usize = 1 << 14;
 
 /// The files of the system and the standard output, written one after the other. It can't tell what they hold.
 ///
 /// A name is a path, and `-` is the standard output. A file is created, or emptied where it is there; no folder is made.
-/// Bytes are gathered in a buffer, which is written out where the next ones don't fit and at the end. So a failure may be
-/// told later than at the call that brought the bytes, and at the end at the latest.
+/// Bytes are gathered in a buffer of 16 KiB, which is written out where the next ones don't fit and at the end. A text of 16 KiB or
+/// more is handed to the system as it is, behind what is gathered. So a failure may be told later than at the call that brought the
+/// bytes, and at the end at the latest.
 ///
 /// Each error that the system answers is counted as a fault. So is a write of which the system takes no byte, and a
 /// buffer for which there is no memory.
