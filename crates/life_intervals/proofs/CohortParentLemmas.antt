@@ -154,7 +154,7 @@ pub record AreLimited (candidates : Candidates) : Type 0 where
   pub size : candidates.order.size ≤ 2 ^ 40
 
 row_limit : (plan : Project) → IsInLimits plan → (table : ℕ) → table < length plan.schema.tables → born_count (table_of plan table).births (last_unit plan) ≤ 2 ^ 40
-row_limit plan limits table below = (limits.tables table no_table (omega (arith, below, length-tables plan))).row_limit
+row_limit plan limits table below = (limits.tables table no_table (omega (arith, below, length-tables plan))).births.row_limit
 
 pub candidates_limited : (plan : Project) → IsInLimits plan → (table column unit index : ℕ) (ready : ReadyReference) → table < length plan.schema.tables → IsReferenceOf plan table column ready →
     unit ≤ last_unit plan → index < cohort_size (table_of plan table).births unit → AreLimited (candidates_by plan table unit (reference_by column ready))

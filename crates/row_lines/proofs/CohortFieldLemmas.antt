@@ -84,7 +84,7 @@ ordinal-limit lines parents columns first known index below =
     omega (
       arith,
       known.first_is,
-      known.limits.row_limit,
+      known.limits.births.row_limit,
       cohort-within (layout_for lines).births lines.born (last_unit lines.plan) (omega (arith, known.born, known.unit)),
     )
 

@@ -155,7 +155,7 @@ pub cohort_size-limit : (lines : LinesOf) (keys : CohortOf) (lives changes : Coh
 cohort_size-limit lines keys lives changes births columns fields byte known =
     omega (
       arith,
-      known.limits.row_limit,
+      known.limits.births.row_limit,
       cohort-within (layout_for lines).births lines.born (last_unit lines.plan) (omega (arith, known.born, known.unit)),
     )
 

@@ -108,8 +108,10 @@ table_in_limits project lists accepted units i h =
     let v25 = λ (j : ℕ) (lt : j < length t.columns). and_parts (is_null_share (kind_at t.columns j) (null_at t.columns j)) (is_change (kind_at t.columns j) (changes_at t.columns j)) (ap (λ columns. is_null_share (kind_at columns j) (null_at columns j) && is_change (kind_at columns j) (changes_at columns j)) (sym same) ∙ keeps project accepted ChangesAndNulls refl (OfColumn i j) (h, subst (λ (columns : List Column). j < length columns) (sym same) lt)) in
     let layouts : length (columns_layout project.dictionaries project.schema.tables t.columns) ≡ length t.columns = length-map t.columns (column_layout project.dictionaries project.schema.tables t.columns) in
     record {
-      rates = rates_from_phases t.insert (and_parts (int_le (pos 0) t.rows) (are_phases t.insert) v6.0).1;
-      row_limit = leb-true (born_count (births_of t) (count project.schema.units)) (2 ^ 40) (asked_units (count project.schema.units) _ units v6.1);
+      births = record {
+        rates = rates_from_phases t.insert (and_parts (int_le (pos 0) t.rows) (are_phases t.insert) v6.0).1;
+        row_limit = leb-true (born_count (births_of t) (count project.schema.units)) (2 ^ 40) (asked_units (count project.schema.units) _ units v6.1);
+      };
       life = life_in_limits t.life (keeps project accepted LifeRange refl (OfTable i) h);
       update = update_in_limits t.update (keeps project accepted UpdatePeriod refl (OfTable i) h);
       base_limit = base_from_range (kind_at t.columns 0) (v5 0 some);

@@ -14,7 +14,7 @@ use Rattle.schema_plan.specs.Dictionaries.{Project}
 use Rattle.schema_plan.specs.FieldBounds.{greatest_by}
 use Rattle.schema_plan.specs.Layout.{Layout, TableLayout, births_of, layout_of, no_table, table_at, table_layout}
 use Rattle.schema_plan.specs.Limits.{AreBirthsInLimits, IsInLimits, IsTableInLimits}
-use Rattle.schema_plan.specs.Planned.{births_up_to}
+use Rattle.schema_plan.specs.Planned.{births_through}
 use Rattle.schema_plan.specs.TableFacts.{facts_at, line_cost, line_of_table, max_line, reach}
 use Rattle.schema_plan.proofs.Lists.{map-same}
 
@@ -82,15 +82,15 @@ births_in_limits project limits k d below =
     let in_layouts : k < length (layout_of project).tables = omega (arith, below, length-map tables (table_layout project.dictionaries tables)) in
     let layout : get_or (layout_of project).tables k no_table ≡ table_layout project.dictionaries tables (get_or tables k d) = get_or-map (table_layout project.dictionaries tables) tables k d no_table below in
     let within = subst (λ (table : TableLayout). IsTableInLimits (count project.schema.units) table) layout (limits.tables k no_table in_layouts) in
-    record { rates = within.rates; row_limit = within.row_limit }
+    within.births
 
 -- what is told of the cohorts of the table at a place
 pub cohorts_kept : (project : Project) (place : ℕ) (d : BirthsUpTo) → place < length project.schema.tables →
-    get_or (map (births_up_to (count project.schema.units)) project.schema.tables) place d
+    get_or (map (births_through (count project.schema.units)) project.schema.tables) place d
     ≡ record { births = (table_at (layout_of project).tables place).births; last = (layout_of project).units }
 cohorts_kept project place d below =
     let tables = project.schema.tables in
     let none : Table = record { name = []; rows = pos 0; insert = []; life = None; update = None; columns = [] } in
-    get_or-map (births_up_to (count project.schema.units)) tables place none d below
+    get_or-map (births_through (count project.schema.units)) tables place none d below
     ∙ ap (λ (births : Births). record { births = births; last = (layout_of project).units })
     (sym (ap (λ (table : TableLayout). table.births) (get_or-map (table_layout project.dictionaries tables) tables place none no_table below)))

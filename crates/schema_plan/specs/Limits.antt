@@ -185,8 +185,7 @@ pub record AreBirthsInLimits (units : ℕ) (births : Births) : Type 0 where
 
 -- a table within its limits, up to a last unit: its first column is its key, and no other is
 pub record IsTableInLimits (units : ℕ) (table : TableLayout) : Type 0 where
-  pub rates : AreRates table.births.rates
-  pub row_limit : born_count table.births units ≤ 2 ^ 40
+  pub births : AreBirthsInLimits units table.births
   pub life : IfSome table.life IsLife
   pub update : IfSome table.update IsUpdatePeriod
   pub base_limit : table.key.base ≤ 2 ^ 62

@@ -16,8 +16,8 @@ use Rattle.schema_plan.specs.Rules.{IsAccepted}
 use Rattle.schema_plan.specs.TableFacts.{facts_at, reach}
 
 -- the births of a table, and the last unit of which its cohorts are told
-abbrev pub births_up_to : ℕ → Table → BirthsUpTo
-births_up_to last table = record { births = births_of table; last = last }
+abbrev pub births_through : ℕ → Table → BirthsUpTo
+births_through last table = record { births = births_of table; last = last }
 
 -- an accepted schema with its dictionaries, the facts, the columns and the cohorts of each table, in order, and its reach
 pub record IsPlan (project : Project) (kept : List TableFacts) (ready : List (List ReadyColumn)) (cohorts : List BirthsUpTo) (most : ℕ) : Type 0 where
@@ -25,7 +25,7 @@ pub record IsPlan (project : Project) (kept : List TableFacts) (ready : List (Li
   pub limits : IsInLimits project
   pub facts : kept ≡ map (facts_at (layout_of project)) (range_with_len 0 (length project.schema.tables))
   pub columns : ready ≡ map (ready_columns (layout_of project)) (range_with_len 0 (length project.schema.tables))
-  pub cohorts_are : cohorts ≡ map (births_up_to (count project.schema.units)) project.schema.tables
+  pub cohorts_are : cohorts ≡ map (births_through (count project.schema.units)) project.schema.tables
   pub reach : most ≡ reach (layout_of project)
 
 -- the place of the table with a name; None where no table has it

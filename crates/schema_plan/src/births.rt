@@ -4,7 +4,7 @@ ghost use Rattle.std.specs.Prelude.{◌≡◌, ◌≤◌, All, IfOk, map};
 ghost use Rattle.cohort_sizes.specs.Births.{cohort_size};
 ghost use Rattle.schema_plan.specs.Layout.{births_of, rate_of};
 ghost use Rattle.schema_plan.specs.Limits.{AreBirthsInLimits};
-ghost use Rattle.schema_plan.specs.Planned.{births_up_to};
+ghost use Rattle.schema_plan.specs.Planned.{births_through};
 
 use crate::counts::count;
 use crate::memory::Memory;
@@ -36,7 +36,7 @@ pub(crate) fn cohorts_of_tables(
 ) -> Result<Vec<Cohorts>, Memory>
     requires last { last ≤ 10000 }
     requires births { All (λ table. AreBirthsInLimits last (births_of table)) tables.now }
-    ensures { IfOk result (λ cohorts. cohorts.items ≡ map (births_up_to last) tables.now) }
+    ensures { IfOk result (λ cohorts. cohorts.items ≡ map (births_through last) tables.now) }
 {
     let mut cohorts = Vec::with_capacity(alloc, tables.len())?;
     for table in tables {
@@ -49,7 +49,7 @@ pub(crate) fn cohorts_of_tables(
 fn cohorts_of(alloc: Global, table: &Table, last: u64) -> Result<Cohorts, Memory>
     requires last { last ≤ 10000 }
     requires births { AreBirthsInLimits last (births_of table.now) }
-    ensures { IfOk result (λ cohorts. cohorts ≡ births_up_to last table.now) }
+    ensures { IfOk result (λ cohorts. cohorts ≡ births_through last table.now) }
 {
     let rates = rates_of(alloc, table.insert.as_slice())?;
     Ok(Cohorts::new(alloc, count(table.rows), rates, last)?)

@@ -16,7 +16,7 @@ ghost use Rattle.schema_plan.specs.TableFacts.{cost, facts_at, max_line, reach};
 
 use crate::births::cohorts_of_tables;
 use crate::counts::count;
-use crate::facts::{TableFacts, greatest_line};
+use crate::facts::{TableFacts, delimiter_byte, greatest_line};
 use crate::layout::{Keys, Span};
 use crate::lineage::span_of;
 use crate::memory::Memory;
@@ -94,6 +94,14 @@ impl Plan {
         ensures { result ≡ (layout_of self.now).seed }
     {
         self.schema.seed as u64
+    }
+
+    /// The byte between two fields.
+    #[inline]
+    pub fn delimiter(&self) -> u8
+        ensures { result ≡ (layout_of self.now).delimiter }
+    {
+        delimiter_byte(self.schema.delimiter)
     }
 
     /// The last unit.

@@ -81,7 +81,7 @@ module _ (plan : Project) (limits : IsInLimits plan) (unit : ℕ) (within : unit
         arith,
         key_of-within generator place (OrdersCohorts-generator_of plan place) unit ordinal born,
         table.base_limit,
-        table.row_limit,
+        table.births.row_limit,
         born_count-le (table_of plan place).births unit (last_unit plan) within,
       )
 

@@ -4,7 +4,7 @@ use Rattle.cohort_sizes.specs.Kept.{BirthsUpTo}
 use Rattle.schema_plan.specs.Counts.{count}
 use Rattle.schema_plan.specs.Dictionaries.{Project, project_of}
 use Rattle.schema_plan.specs.Layout.{layout_of, table_at}
-use Rattle.schema_plan.specs.Planned.{births_up_to}
+use Rattle.schema_plan.specs.Planned.{births_through}
 use Rattle.schema_plan.proofs.PlannedLemmas.{cohorts_kept}
 use Rattle.schema_plan.proofs.plan.Plan.cohorts.Goals as goal
 
@@ -16,7 +16,7 @@ pub index-requires : goal.index-requires
 index-requires c =
     let inside = c.self.inside in
     let within : c.args.table < length inside.schema.tables = subst (λ (p : Project). c.args.table < length p.schema.tables) (sym c.self.view_is) c.requires in
-    omega (arith, within, ap length c.self.invariant.cohorts_are ∙ length-map inside.schema.tables (births_up_to (count inside.schema.units)), inside.cohorts.ok.0)
+    omega (arith, within, ap length c.self.invariant.cohorts_are ∙ length-map inside.schema.tables (births_through (count inside.schema.units)), inside.cohorts.ok.0)
 
 pub returns : goal.returns
 returns c =

@@ -7,7 +7,7 @@ use Rattle.schema_plan.specs.FieldBounds.{greatest_by}
 use Rattle.schema_plan.specs.Counts.{count}
 use Rattle.schema_plan.specs.Layout.{births_of}
 use Rattle.schema_plan.specs.Limits.{AreBirthsInLimits}
-use Rattle.schema_plan.specs.Planned.{births_up_to}
+use Rattle.schema_plan.specs.Planned.{births_through}
 use Rattle.schema_plan.proofs.PlannedLemmas.{births_in_limits, facts_whole, reach-is}
 use Rattle.schema_plan.proofs.plan.Plan.of_accepted.Goals as goal
 
@@ -28,7 +28,7 @@ invariant_of-result c =
       limits = limits;
       facts = c.in_ok-facts.ensures.items ∙ known;
       columns = c.in_ok-ready.ensures;
-      cohorts_are = c.in_ok-cohorts.ensures ∙ ap (λ (last : ℕ). map (births_up_to last) c.as_slice.result.now) (c.count.ensures ∙ ap count (units_read c.args.schema.units limits.units limits.unit_limit)) ∙ ap (map (births_up_to (count c.args.schema.units))) c.as_slice.ensures;
+      cohorts_are = c.in_ok-cohorts.ensures ∙ ap (λ (last : ℕ). map (births_through last) c.as_slice.result.now) (c.count.ensures ∙ ap count (units_read c.args.schema.units limits.units limits.unit_limit)) ∙ ap (map (births_through (count c.args.schema.units))) c.as_slice.ensures;
       reach = c.greatest_line-reach.ensures ∙ ap (greatest_by (λ fact. fact.max_line)) known ∙ reach-is project;
     }
 
