@@ -1,6 +1,6 @@
 //! Fixed numbers onto a page.
 
-ghost use Rattle.std.specs.Prelude.{◌≡◌, ◌≤◌, ◌+◌, ◌^◌, ◌∷◌, ◌++◌, length};
+ghost use Rattle.std.specs.Prelude.{◌≡◌, ◌<◌, ◌≤◌, ◌+◌, ◌^◌, ◌∷◌, ◌++◌, length, unsigned_abs};
 ghost use Rattle.line_pages.specs.Pieces.{piece_text};
 ghost use Rattle.draw_values.specs.Digits.{last_digits, pointed, signed_pointed};
 
@@ -48,4 +48,39 @@ fn fraction(number: u64, count: u32) -> Piece
     ensures length { length (piece_text result) ≡ count + 1 }
 {
     prepend_digits(Piece::new(), number, count).prepend(b'.')
+}
+
+/// Such a number of at most 13 digits, and then the piece, of at most a byte.
+#[inline(always)]
+pub(crate) fn fixed_piece(value: i64, decimals: u32, unit: &FixedDivisor, rest: Piece) -> Piece
+    requires short { unsigned_abs value < 10 ^ 13 }
+    requires decimals { decimals ≤ 9 }
+    requires unit { unit.now ≡ 10 ^ decimals }
+    requires room { length (piece_text rest) ≤ 1 }
+    ensures { piece_text result ≡ signed_pointed decimals value ++ piece_text rest }
+{
+    let piece = pointed_piece(value.unsigned_abs(), decimals, unit, rest);
+    if value < 0 {
+        piece.prepend(b'-')
+    } else {
+        piece
+    }
+}
+
+/// The same of a number that isn't negative.
+#[inline(always)]
+fn pointed_piece(number: u64, decimals: u32, unit: &FixedDivisor, rest: Piece) -> Piece
+    requires short { number < 10 ^ 13 }
+    requires decimals { decimals ≤ 9 }
+    requires unit { unit.now ≡ 10 ^ decimals }
+    requires room { length (piece_text rest) ≤ 1 }
+    ensures text { piece_text result ≡ pointed decimals number ++ piece_text rest }
+    ensures size { length (piece_text result) ≤ 15 }
+{
+    if decimals == 0 {
+        return rest.prepend_number(number);
+    }
+    prepend_digits(rest, number, decimals)
+        .prepend(b'.')
+        .prepend_number(unit.quotient(number))
 }

@@ -1,6 +1,6 @@
 pub mod FillLemmas
 pub mod JobLemmas
+mod RunFillLemmas
 mod StreamTextLemmas
 pub mod DecideLemmas
-pub mod DictionaryLemmas
 pub mod ReportLemmas

@@ -26,10 +26,9 @@ use Rattle.life_intervals.proofs.ParentLemmas.{parents-alive_now}
 use Rattle.life_intervals.proofs.RowLemmas.{death_by-first_ordinal}
 use Rattle.life_intervals.proofs.Ranges.{filter-range_with_len_all}
 use Rattle.life_intervals.proofs.StreamLemmas.{inserted-newborn, updated-changing}
-use Rattle.row_lines.specs.Lines.{cohort_text, first_lines, key_line_of, line, line_of}
+use Rattle.row_lines.specs.Lines.{cohort_text, deleted_text, first_lines, inserted_text, key_line_of, line, line_of, updated_text}
 use Rattle.update_box.specs.UnitLists.{ordinals}
 use Rattle.update_box.proofs.StepLemmas.{deleted-ordinals, updated-ordinals}
-use Rattle.pdgf_run.specs.DueFiles.{deleted_text, inserted_text, updated_text}
 
 -- the numbers of a range from 0 are less than its length
 range-below : (n : ℕ) → All (λ j. j < n) (range_with_len 0 n)

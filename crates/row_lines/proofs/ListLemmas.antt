@@ -8,7 +8,7 @@ use Rattle.std.proofs.lemmas.List.Elements.{filter-append}
 use Rattle.life_intervals.proofs.Ranges.{range_with_len-add}
 
 -- the pieces of what passes a test, of two lists
-flat_map-filter_append : {A B : Type 0} (f : A → List B) (p : A → Bool) (xs ys : List A) →
+pub flat_map-filter_append : {A B : Type 0} (f : A → List B) (p : A → Bool) (xs ys : List A) →
     flat_map f (filter p (xs ++ ys)) ≡ flat_map f (filter p xs) ++ flat_map f (filter p ys)
 flat_map-filter_append f p xs ys =
     ap (flat_map f) (filter-append p xs ys) ∙ flat_map-append f (filter p xs) (filter p ys)

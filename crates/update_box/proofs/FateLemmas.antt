@@ -1,5 +1,5 @@
 -- What a unit does to the rows of a scan, row by row and cohort by cohort.
-use Rattle.std.proofs.Common.{◌≡◌, ℕ, ◌+◌, ◌-◌, ◌<◌, ◌≤◌, ◌==◌, Bool, true, false, ◌&&◌, List, [], ◌∷◌, ◌++◌, length, filter, Option, Some, None, ne_eqb, true-eqb, refl, ap, ap₂, arith, sym, ◌∙◌}
+use Rattle.std.proofs.Common.{◌≡◌, ℕ, ◌+◌, ◌-◌, ◌<◌, ◌≤◌, ◌==◌, Bool, true, false, not, ◌&&◌, List, [], ◌∷◌, ◌++◌, length, filter, Option, Some, None, ne_eqb, true-eqb, refl, ap, ap₂, arith, sym, ◌∙◌}
 use Rattle.std.specs.Prelude.{if◌then◌else◌}
 use Rattle.std.specs.List.{range_with_len}
 use Rattle.std.proofs.lemmas.Bool.{false≢true, le-ltb, ltb-false}
@@ -20,6 +20,11 @@ use Rattle.life_intervals.proofs.LifeLemmas.{death-later}
 use Rattle.update_box.specs.declared.scan.Fate.TheVariants.{Changes, Dies, Rests}
 use Rattle.update_box.specs.Fates.{changes_at, dies_at, fate_of, lists_before, with_row}
 use Rattle.update_box.proofs.RangeLemmas.{filter-range_more, filter-range_rest}
+
+-- a test that doesn't pass
+pub not-true : (test : Bool) → not test ≡ true → test ≡ false
+not-true true is = cc
+not-true false is = refl
 
 -- ---- one row more
 
