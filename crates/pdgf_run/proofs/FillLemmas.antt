@@ -10,8 +10,7 @@ use Rattle.pd_outside.proofs.Appending.{append_both, files_then_prefix, nothing_
 use Rattle.pd_outside.specs.Files.{File}
 use Rattle.pd_outside.specs.Shelf.{Held, append_bytes, finish_files, HoldsPrefixOf, IsPrefixOfNext}
 use Rattle.schema_plan.specs.Dictionaries.{Project}
-use Rattle.life_intervals.proofs.Ranges.{flat_map-range_with_len_more}
-use Rattle.pdgf_run.specs.DueFiles.{Part, check_line, check_lines, part_text, texts_of}
+use Rattle.pdgf_run.specs.DueFiles.{Part, text_of_part, texts_of}
 
 -- ---- pieces, one after the other
 
@@ -44,21 +43,12 @@ pub flat_map-at : {A : Type 0} (f : A → List ℕ) (xs : List A) (i : ℕ) (x :
     flat_map f xs ≡ flat_map f (take i xs) ++ (f x ++ flat_map f (drop (i + 1) xs))
 flat_map-at f xs i x below is = ap (flat_map f) (item-at xs i x below is) ∙ flat_map-append f (take i xs) (x ∷ drop (i + 1) xs)
 
--- ---- what is told of tables: nothing, and one more line
+-- ---- the texts of parts
 
-pub check_lines-zero : (plan : Project) → check_lines plan 0 ≡ []
-unfolding check_lines
-check_lines-zero plan = refl
-
-pub check_lines-add_one : (plan : Project) (count : ℕ) → check_lines plan (count + 1) ≡ check_lines plan count ++ check_line plan count
-unfolding check_lines
-check_lines-add_one plan count = flat_map-range_with_len_more (check_line plan) count
-
--- the texts of parts
 pub texts_of-map : {A : Type 0} (plan : Project) (unit : ℕ) (part : A → Part) (items : List A) →
-    texts_of plan unit (map part items) ≡ flat_map (λ item. part_text plan unit (part item)) items
+    texts_of plan unit (map part items) ≡ flat_map (λ item. text_of_part plan unit (part item)) items
 unfolding texts_of
-texts_of-map plan unit part items = flat_map-map (part_text plan unit) part items
+texts_of-map plan unit part items = flat_map-map (text_of_part plan unit) part items
 
 -- ---- files, one after the other
 

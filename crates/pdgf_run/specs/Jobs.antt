@@ -11,7 +11,7 @@ use Rattle.life_intervals.specs.Generator.{generator_of, last_unit}
 use Rattle.life_intervals.specs.Streams.{deleted, updated}
 use Rattle.row_lines.specs.LineDraws.{line_draws}
 use Rattle.update_box.specs.UnitLists.{ordinals}
-use Rattle.pdgf_run.specs.DueFiles.{Part, ending_of, file_of, name_at, path_of, standard_output, text_files}
+use Rattle.pdgf_run.specs.DueFiles.{Part, ending_of, file_with, name_at, path_of, standard_output, text_files}
 use Rattle.pdgf_run.specs.declared.job.Content.{Content}
 use Rattle.pdgf_run.specs.declared.job.Content.TheVariants as content
 use Rattle.pdgf_run.specs.declared.job.Job.{Job}
@@ -40,12 +40,12 @@ part_of part = record { place = part.place; content = content_of part.rows }
 
 -- the file of a part that has one of its own
 abbrev pub own_file : Project → ℕ → JobPart → File
-own_file plan unit part = file_of plan unit part.name (part_of part ∷ [])
+own_file plan unit part = file_with plan unit part.name (part_of part ∷ [])
 
 -- the files of some parts: one for each, or one for all
 abbrev pub files_by : Project → ℕ → Bool → List JobPart → List File
 files_by plan unit apart parts =
-    if apart then map (own_file plan unit) parts else file_of plan unit standard_output (map part_of parts) ∷ []
+    if apart then map (own_file plan unit) parts else file_with plan unit standard_output (map part_of parts) ∷ []
 
 -- the files of a job over tables
 abbrev pub files_due : FilesJob → List File
@@ -105,5 +105,5 @@ pub record Named : Type 0 where
 abbrev pub named : JobPart → Named
 named part = record { name = part.name; part = part_of part }
 
-abbrev pub with_name : Project → ℕ → Option (List ℕ) → Part → Named
-with_name plan unit out part = record { name = file_name plan unit out part; part = part }
+abbrev pub with_its_name : Project → ℕ → Option (List ℕ) → Part → Named
+with_its_name plan unit out part = record { name = file_name plan unit out part; part = part }

@@ -15,7 +15,7 @@ ghost use Rattle.row_lines.specs.LineDraws.{line_draws};
 ghost use Rattle.row_lines.specs.Lines.{cohort_text, key_line_of, line_of};
 ghost use Rattle.update_box.specs.UnitLists.{ordinals};
 ghost use Rattle.pdgf_run.specs.Appends.{Appends, Finishes};
-ghost use Rattle.pdgf_run.specs.DueFiles.{content_text, file_of, part_text, standard_output, texts_of};
+ghost use Rattle.pdgf_run.specs.DueFiles.{content_text, file_with, text_of_part, standard_output, texts_of};
 ghost use Rattle.pdgf_run.specs.KnownRows.{IsRowOf};
 ghost use Rattle.pdgf_run.specs.Jobs.{AreLinesAt, CanFill, CanWrite, IsPartOf, due_of, files_due, own_file, part_of};
 
@@ -462,7 +462,7 @@ fn write_part<S: Shelf, B: Ledger>(
     requires small { last_unit plan.now ≤ 10000 }
     requires room { reach (layout_of plan.now) ≤ page.old.room }
     requires key_room { 21 ≤ page.old.room }
-    ensures text { Appends result (part_text plan.now unit (part_of part.now)) (S.held shelf.old) (S.held shelf.new) }
+    ensures text { Appends result (text_of_part plan.now unit (part_of part.now)) (S.held shelf.old) (S.held shelf.new) }
     ensures cause { OnErr result (Rose (S.faults shelf.old) (S.faults shelf.new)) }
     ensures no_fault { OnOk result (S.faults shelf.new ≡ S.faults shelf.old) }
     ensures at_last { FailsAtLast result (S.faults shelf.old) (S.faults shelf.new) (S.last_failed shelf.new) }
@@ -549,7 +549,7 @@ fn write_file<S: Shelf, B: Ledger>(
     requires small { last_unit plan.now ≤ 10000 }
     requires room { reach (layout_of plan.now) ≤ page.old.room }
     requires key_room { 21 ≤ page.old.room }
-    ensures file { Finishes result (file_of plan.now unit name.now (map part_of parts.now) ∷ []) (S.held shelf.old) (S.held shelf.new) }
+    ensures file { Finishes result (file_with plan.now unit name.now (map part_of parts.now) ∷ []) (S.held shelf.old) (S.held shelf.new) }
     ensures none_begun { OnOk result (S.is_begun shelf.new ≡ false) }
     ensures cause { OnErr result (Rose (S.faults shelf.old) (S.faults shelf.new)) }
     ensures no_fault { OnOk result (S.faults shelf.new ≡ S.faults shelf.old) }
