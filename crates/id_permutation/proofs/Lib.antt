@@ -7,5 +7,6 @@ pub mod RoundLaws
 pub mod PlacementLaws
 pub mod OrderLaws
 pub mod TableLaws
+pub mod KeptLaws
 pub mod LoopLaws
 pub mod WorkedValues

@@ -103,3 +103,22 @@ height_of-small n small =
       | inl tall ↦ let square : 2 ^ 20 * 2 ^ 20 < n = (IsHeight-height_of n).least (2 ^ 20) tall in absurd (omega arith)
       | inr h ↦ h
     ]
+
+-- up to 2 ^ 32 numbers, the sides are at most 2 ^ 16
+height_of-few : (n : ℕ) → n ≤ 2 ^ 32 → height_of n ≤ 2 ^ 16
+height_of-few n few =
+    elim (cases_lt (2 ^ 16) (height_of n)) [
+      | inl tall ↦ let square : 2 ^ 16 * 2 ^ 16 < n = (IsHeight-height_of n).least (2 ^ 16) tall in absurd (omega arith)
+      | inr h ↦ h
+    ]
+
+pub height-few : (n size a : ℕ) → n ≤ 2 ^ 32 → size ≡ n → a ≡ height_of size → a ≤ 2 ^ 16
+height-few n size a few same tall =
+    let low : height_of size ≤ 2 ^ 16 = height_of-few size (omega arith) in
+    omega arith
+
+pub width-few : (n size b : ℕ) → 0 < size → n ≤ 2 ^ 32 → size ≡ n → b ≡ width_of size → b ≤ 2 ^ 16
+width-few n size b some few same wide =
+    let low : height_of size ≤ 2 ^ 16 = height_of-few size (omega arith) in
+    let not_wider : width_of size ≤ height_of size = (Covers-sides size some).not_wider in
+    omega arith

@@ -1,6 +1,9 @@
 pub mod Least
 pub mod Walk
 pub mod Placement
+pub mod Sides
 pub mod Tables
 pub mod Order
 pub mod Way
+pub mod OrderList
+pub mod Kept

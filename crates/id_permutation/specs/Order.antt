@@ -1,6 +1,6 @@
 -- Orders: the numbers below a size in their own places, or in those of the permutation that a seed makes.
-use Rattle.std.specs.Prelude.{ℕ, ◌+◌, ◌*◌, ◌^◌, Bool, ◌&&◌, nat_le, Option, None, Some}
-use Rattle.id_permutation.specs.Placement.{height_of, width_of, place, unplace}
+use Rattle.std.specs.Prelude.{ℕ, Option, None, Some}
+use Rattle.id_permutation.specs.Placement.{place, unplace}
 
 -- an order: of how many numbers, and by which seed, or by none where each number stays in its own place
 pub record Arrangement : Type 0 where
@@ -33,7 +33,3 @@ number_at order y = number_by order.size order.seed y
 -- how many steps one place or one number takes: one, or none where there is no seed
 abbrev pub order_steps : Arrangement → ℕ
 order_steps order = steps_by order.seed
-
--- the tables of n numbers pay for this many rows: n is at most 2^32, and the tables have no more entries than that
-unfoldable pub tables_pay : ℕ → ℕ → Bool
-tables_pay n asked = nat_le n (2 ^ 32) && nat_le (3 * (height_of n + width_of n)) asked

@@ -7,11 +7,6 @@ use Rattle.id_permutation.specs.Least.{least}
 use Rattle.id_permutation.specs.Walk.{inverse_below, IsFirstBelow, first_below}
 use Rattle.id_permutation.specs.declared.halves.Halves.{Halves}
 
--- a permutation: of how many numbers, and by which seed
-pub record Permutation : Type 0 where
-  pub size : ℕ
-  pub seed : ℕ
-
 -- a, the height of the rectangle: the least number whose square is at least n
 unfoldable pub height_of : ℕ → ℕ
 height_of n = least (λ a. nat_le n (a * a)) n

@@ -7,5 +7,5 @@ use Rattle.id_permutation.specs.declared.order.Way.TheVariants.{InPlace, Rounds,
 -- the order that is held so
 abbrev pub order_of : Way → Arrangement
 order_of (InPlace size) = record { size = size; seed = None }
-order_of (Rounds shuffle) = record { size = shuffle.size; seed = Some shuffle.seed }
-order_of (Tables shuffle) = record { size = shuffle.value.size; seed = Some shuffle.value.seed }
+order_of (Rounds network) = record { size = network.size; seed = Some network.seed }
+order_of (Tables tables) = record { size = tables.network.size; seed = Some tables.network.seed }

@@ -2,6 +2,8 @@
 
 ghost use Rattle.std.specs.Prelude.{◌≡◌, ◌+◌, ◌*◌, ◌%◌, ◌<◌, ◌≤◌, ◌^◌};
 
+use fixed_divisors::FixedDivisor;
+
 /// The halves of a number of a rectangle: the row that it lies in, and its place in that row.
 #[derive(Clone, Copy)]
 pub struct Halves {
@@ -22,21 +24,24 @@ pub fn reduce(x: u64, modulus: u64) -> u64
 
 /// `x + addend` modulo `modulus`.
 #[inline(always)]
-pub fn add_modulo(x: u64, addend: u64, modulus: u64) -> u64
+pub fn add_modulo(x: u64, addend: u64, modulus: FixedDivisor) -> u64
     requires below { x < modulus }
     requires small { modulus ≤ 2 ^ 32 }
     ensures { result ≡ (x + addend) % modulus }
 {
-    reduce(x + addend % modulus, modulus)
+    let added = modulus.remainder(addend);
+    reduce(x + added, modulus.number())
 }
 
 /// The number that gives `x` when `subtrahend` is added to it modulo `modulus`.
 #[inline(always)]
-pub fn subtract_modulo(x: u64, subtrahend: u64, modulus: u64) -> u64
+pub fn subtract_modulo(x: u64, subtrahend: u64, modulus: FixedDivisor) -> u64
     requires below { x < modulus }
     requires small { modulus ≤ 2 ^ 32 }
     ensures below { result < modulus }
     ensures undone { (result + subtrahend) % modulus ≡ x }
 {
-    reduce(x + (modulus - subtrahend % modulus), modulus)
+    let number = modulus.number();
+    let taken = modulus.remainder(subtrahend);
+    reduce(x + (number - taken), number)
 }

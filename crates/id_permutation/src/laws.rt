@@ -4,12 +4,20 @@ ghost use Rattle.std.specs.Prelude.{◌≡◌, ◌<◌, ◌≤◌, ℕ, Bool, fa
 ghost use Rattle.id_permutation.specs.Least.{least};
 ghost use Rattle.id_permutation.specs.Walk.{IsBijectionBelow, AreInversesBelow};
 ghost use Rattle.id_permutation.specs.Order.{Arrangement, place_in, number_at};
+ghost use Rattle.id_permutation.specs.Placement.{IsFoundWithinHeight, place, unplace};
 
 /// Each order gives the numbers below its size places of their own, and each place below its size to one of them; and the number at a
 /// place is the one that has it.
 pub fn an_order_is_a_bijection()
     ensures bijection { (order : Arrangement) → IsBijectionBelow order.size (place_in order) }
     ensures inverse { (order : Arrangement) → AreInversesBelow order.size (place_in order) (number_at order) }
+{}
+
+/// A place is the first of the walk that is below the size, and is found by at most as many evaluations of `mix` as the rectangle
+/// has rows; so is the place of the number that an inverse gives.
+pub fn a_place_is_found_within_the_height()
+    ensures of_a_number { (n seed x : ℕ) → 0 < n → x < n → IsFoundWithinHeight n seed x (place n seed x) }
+    ensures of_an_inverse { (n seed y : ℕ) → 0 < n → y < n → IsFoundWithinHeight n seed (unplace n seed y) y }
 {}
 
 /// The least number is one that passes the test, or the bound where none below it does; and none before it passes.

@@ -5,17 +5,18 @@
 //! Domains", CT-RSA 2002).
 #![tactic(auto)]
 
+mod forms;
 mod halves;
+mod kept;
 pub mod laws;
 mod memory;
 mod network;
 mod order;
-mod round_pair;
-mod shuffle;
+mod shape;
 mod table_network;
-mod table_shuffle;
+mod tables;
 
+pub use kept::KeptOrders;
 pub use memory::Memory;
-pub use order::{Order, tables_pay};
-pub use shuffle::Shuffle;
-pub use table_shuffle::TableShuffle;
+pub use order::Order;
+pub use shape::Shape;

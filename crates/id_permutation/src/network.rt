@@ -1,9 +1,10 @@
 //! The network of rounds over a rectangle of numbers, and the walks along its cycles.
 
-ghost use Rattle.std.specs.Prelude.{◌≡◌, ℕ, ◌+◌, ◌*◌, ◌%◌, ◌<◌, ◌≤◌, ◌^◌};
+ghost use Rattle.std.specs.Prelude.{◌≡◌, ℕ, ◌+◌, ◌*◌, ◌%◌, ◌<◌, ◌≤◌, ◌^◌, All, map};
 ghost use Rattle.id_permutation.specs.Placement.{height_of, width_of, IsWithin, halves_of, number_of, round_number, round, mix, place, unplace};
 
 use crate::halves::{Halves, add_modulo, subtract_modulo};
+use fixed_divisors::{Division, FixedDivisor};
 use philox_seeds::keyed_number;
 
 const ROUND_LEVEL: u32 = 6;
@@ -13,8 +14,8 @@ const ROUND_LEVEL: u32 = 6;
 pub struct Network {
     pub size: u64,
     pub seed: u64,
-    pub height: u64,
-    pub width: u64,
+    pub height: FixedDivisor,
+    pub width: FixedDivisor,
     ghost some: { 0 < size },
     ghost small: { size ≤ 2 ^ 40 },
     ghost tall: { height ≡ height_of size },
@@ -35,23 +36,6 @@ pub fn round_number(seed: u64, index: u32, half: u64) -> u64
 }
 
 impl Network {
-    /// The network of `size` numbers, over the rectangle with the least height whose square is at least `size`.
-    pub fn new(size: u64, seed: u64) -> Network
-        requires some { 0 < size }
-        requires small { size ≤ 2 ^ 40 }
-        ensures size { result.size ≡ size }
-        ensures seed { result.seed ≡ seed }
-    {
-        let height = (size - 1).isqrt() + 1;
-        let width = (size + (height - 1)) / height;
-        Network {
-            size,
-            seed,
-            height,
-            width,
-        }
-    }
-
     /// The first of the numbers after `number`, by the rounds, that is below `size`.
     pub fn place(&self, number: u64) -> u64
         requires below { number < self.now.size }
@@ -74,6 +58,26 @@ impl Network {
             number = self.unmix(number);
         }
         number
+    }
+
+    /// Puts the place of each number over it.
+    pub fn places(&self, numbers: &mut [u64])
+        requires below { All (λ x. x < self.now.size) numbers.old }
+        ensures { numbers.new ≡ map (λ x. place self.now.size self.now.seed x) numbers.old }
+    {
+        for number in numbers.iter_mut() {
+            *number = self.place(*number);
+        }
+    }
+
+    /// Puts the number over each place that is its own.
+    pub fn numbers(&self, places: &mut [u64])
+        requires below { All (λ y. y < self.now.size) places.old }
+        ensures { places.new ≡ map (λ y. unplace self.now.size self.now.seed y) places.old }
+    {
+        for place in places.iter_mut() {
+            *place = self.unplace(*place);
+        }
     }
 
     #[inline(always)]
@@ -104,15 +108,20 @@ impl Network {
         self.join(halves)
     }
 
+    /// The halves of a number.
     #[inline(always)]
-    fn split(&self, number: u64) -> Halves
+    pub fn split(&self, number: u64) -> Halves
         requires { number < self.now.height * self.now.width }
         ensures exact { result ≡ halves_of self.now.width number }
         ensures within { IsWithin self.now.height self.now.width result }
     {
+        let Division {
+            quotient,
+            remainder,
+        } = self.width.divide(number);
         Halves {
-            left: number / self.width,
-            right: number % self.width,
+            left: quotient,
+            right: remainder,
         }
     }
 
@@ -123,7 +132,7 @@ impl Network {
         ensures exact { result ≡ number_of self.now.width halves }
         ensures within { result < self.now.height * self.now.width }
     {
-        halves.left * self.width + halves.right
+        halves.left * self.width.number() + halves.right
     }
 
     #[inline(always)]

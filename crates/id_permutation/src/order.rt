@@ -1,32 +1,31 @@
 //! One type over three ways to order the numbers below a size: each in its own place, by rounds, and by tables of the rounds.
 
-ghost use Rattle.std.specs.Prelude.{◌≡◌, ◌+◌, ◌*◌, ◌<◌, ◌≤◌, ◌^◌, None, Some, All, IfOk, IfErr, IsTrue, length, map};
-ghost use Rattle.id_permutation.specs.Order.{Arrangement, place_in, number_at, order_steps, tables_pay};
+ghost use Rattle.std.specs.Prelude.{◌≡◌, ◌+◌, ◌*◌, ◌<◌, ◌≤◌, ◌^◌, None, Some, All, length, map};
+ghost use Rattle.id_permutation.specs.Order.{Arrangement, place_in, number_at, order_steps};
+ghost use Rattle.id_permutation.specs.Tables.{tables_of};
 
-use crate::memory::Memory;
 use crate::network::Network;
-use crate::shuffle::Shuffle;
-use crate::table_shuffle::TableShuffle;
-use std::alloc::Global;
+use crate::shape::Shape;
+use crate::table_network::TableNetwork;
 use std::marker::Model;
 use std::sync::ledger::Ledger;
 use step_count::Steps;
 
 #[derive(Drop)]
-enum Way {
+enum Way<'a> {
     InPlace(u64),
-    Rounds(Shuffle),
-    Tables(Box<TableShuffle>),
+    Rounds(Network),
+    Tables(TableNetwork<'a>),
 }
 
 /// An order of the numbers 0..n-1, of which a contract sees `size`, which is n, and `seed`, or `None` where each number is in its own
-/// place. How its places are found shows in no contract.
+/// place. How its places are found shows in no contract: it takes no memory, and may borrow tables of its rounds.
 #[derive(Drop)]
-pub struct Order {
-    way: Way,
+pub struct Order<'a> {
+    way: Way<'a>,
 }
 
-impl Model for Order {
+impl<'a> Model for Order<'a> {
     ghost use Rattle.id_permutation.specs.Order.{Arrangement};
 
     ghost Value = { Arrangement };
@@ -36,23 +35,10 @@ impl Model for Order {
     ghost view = { λ o. order_of o.way };
 }
 
-/// Whether tables of `size` numbers, from 1 on, pay for `asked` rows: for up to 2^32 numbers, where the tables have at most as many
-/// entries as rows are asked.
-pub fn tables_pay(size: u64, asked: u64) -> bool
-    requires some { 1 ≤ size }
-    ensures exact { result ≡ tables_pay size asked }
-{
-    if size > 1 << 32 {
-        return false;
-    }
-    let network = Network::new(size, 0);
-    3 * (network.height + network.width) <= asked
-}
-
-impl Order {
+impl<'a> Order<'a> {
     /// Each of `size` numbers in its own place.
-    pub fn in_place(size: u64) -> Order
-        requires small { size ≤ 2 ^ 40 }
+    #[inline(always)]
+    pub fn in_place(size: u64) -> Order<'a>
         ensures size { result.size ≡ size }
         ensures seed { result.seed ≡ None }
     {
@@ -62,54 +48,47 @@ impl Order {
     }
 
     /// The permutation of `size` numbers, from 1 to 2^40, by `seed`, in no memory.
-    pub fn by_rounds(size: u64, seed: u64) -> Order
+    pub fn by_rounds(size: u64, seed: u64) -> Order<'a>
         requires some { 1 ≤ size }
         requires small { size ≤ 2 ^ 40 }
         ensures size { result.size ≡ size }
         ensures seed { result.seed ≡ Some seed }
     {
+        Order::of_shape(&Shape::new(size), seed)
+    }
+
+    /// The permutation of a shape's numbers by `seed`, in no memory.
+    #[inline(always)]
+    pub fn of_shape(shape: &Shape, seed: u64) -> Order<'a>
+        ensures size { result.size ≡ shape.now }
+        ensures seed { result.seed ≡ Some seed }
+    {
         Order {
-            way: Way::Rounds(Shuffle::new(size, seed)),
+            way: Way::Rounds(shape.network(seed)),
         }
     }
 
-    /// The permutation of `size` numbers, from 1 to 2^40, by `seed`, with tables. It is refused only where memory runs out.
-    pub fn by_tables(alloc: Global, size: u64, seed: u64) -> Result<Order, Memory>
-        requires some { 1 ≤ size }
-        requires small { size ≤ 2 ^ 40 }
-        ensures size { IfOk result (λ order. order.size ≡ size) }
-        ensures seed { IfOk result (λ order. order.seed ≡ Some seed) }
+    /// The permutation of a network by the tables of its rounds.
+    #[inline(always)]
+    pub(crate) fn of_tables(network: Network, tables: &'a [u16]) -> Order<'a>
+        requires { tables.now ≡ tables_of network.height network.width network.seed }
+        ensures size { result.size ≡ network.size }
+        ensures seed { result.seed ≡ Some network.seed }
     {
-        let shuffle = TableShuffle::new(alloc, size, seed)?;
-        Ok(Order {
-            way: Way::Tables(Box::new(alloc, shuffle)?),
-        })
-    }
-
-    /// The permutation of `size` numbers, from 1 to 2^40, by `seed`, with tables exactly where they pay for `asked` rows. It is refused
-    /// only where they do and memory runs out.
-    pub fn for_rows(alloc: Global, size: u64, seed: u64, asked: u64) -> Result<Order, Memory>
-        requires some { 1 ≤ size }
-        requires small { size ≤ 2 ^ 40 }
-        ensures size { IfOk result (λ order. order.size ≡ size) }
-        ensures seed { IfOk result (λ order. order.seed ≡ Some seed) }
-        ensures refused { IfErr result (λ _. IsTrue (tables_pay size asked)) }
-    {
-        if tables_pay(size, asked) {
-            Order::by_tables(alloc, size, seed)
-        } else {
-            Ok(Order::by_rounds(size, seed))
+        Order {
+            way: Way::Tables(TableNetwork { network, tables }),
         }
     }
 
     /// How many numbers it orders.
+    #[inline]
     pub fn size(&self) -> u64
         ensures { result ≡ self.now.size }
     {
         match &self.way {
             Way::InPlace(size) => *size,
-            Way::Rounds(shuffle) => shuffle.size(),
-            Way::Tables(shuffle) => shuffle.size(),
+            Way::Rounds(network) => network.size,
+            Way::Tables(tables) => tables.network.size,
         }
     }
 
@@ -122,11 +101,8 @@ impl Order {
         ensures undone { number_at self.now result ≡ x }
         ensures steps { steps.new ≡ steps.old + order_steps self.now }
     {
-        match &self.way {
-            Way::InPlace(_) => x,
-            Way::Rounds(shuffle) => shuffle.place(x, steps),
-            Way::Tables(shuffle) => shuffle.place(x, steps),
-        }
+        self.count(steps);
+        self.found_place(x)
     }
 
     /// The number whose place is `y`, both from 0 to n - 1. It counts as one step where the order has a seed.
@@ -138,11 +114,8 @@ impl Order {
         ensures redone { place_in self.now result ≡ y }
         ensures steps { steps.new ≡ steps.old + order_steps self.now }
     {
-        match &self.way {
-            Way::InPlace(_) => y,
-            Way::Rounds(shuffle) => shuffle.unplace(y, steps),
-            Way::Tables(shuffle) => shuffle.unplace(y, steps),
-        }
+        self.count(steps);
+        self.found_number(y)
     }
 
     /// Puts the place of each number over it, both from 0 to n - 1. Each counts as one step where the order has a seed.
@@ -151,10 +124,88 @@ impl Order {
         ensures exact { numbers.new ≡ map (λ x. place_in self.now x) numbers.old }
         ensures steps { steps.new ≡ steps.old + length numbers.old * order_steps self.now }
     {
+        self.count_each(numbers.len(), steps);
         match &self.way {
             Way::InPlace(_) => {}
-            Way::Rounds(shuffle) => shuffle.places(numbers, steps),
-            Way::Tables(shuffle) => shuffle.places(numbers, steps),
+            Way::Rounds(network) => network.places(numbers),
+            Way::Tables(tables) => tables.places(numbers),
         }
+    }
+
+    /// Puts the number over each place that is its own, both from 0 to n - 1. Each counts as one step where the order has a seed.
+    pub fn numbers<L: Ledger>(&self, places: &mut [u64], steps: &mut Steps<L>)
+        requires below { All (λ y. y < self.now.size) places.old }
+        ensures exact { places.new ≡ map (λ y. number_at self.now y) places.old }
+        ensures steps { steps.new ≡ steps.old + length places.old * order_steps self.now }
+    {
+        self.count_each(places.len(), steps);
+        match &self.way {
+            Way::InPlace(_) => {}
+            Way::Rounds(network) => network.numbers(places),
+            Way::Tables(tables) => tables.numbers(places),
+        }
+    }
+
+    #[inline(always)]
+    fn found_place(&self, x: u64) -> u64
+        requires below { x < self.now.size }
+        ensures exact { result ≡ place_in self.now x }
+    {
+        match &self.way {
+            Way::InPlace(_) => x,
+            Way::Rounds(network) => {
+                let network = *network; // a copy, so that the order needs no place in memory
+                network.place(x)
+            }
+            Way::Tables(tables) => tables.place(x),
+        }
+    }
+
+    #[inline(always)]
+    fn found_number(&self, y: u64) -> u64
+        requires below { y < self.now.size }
+        ensures exact { result ≡ number_at self.now y }
+    {
+        match &self.way {
+            Way::InPlace(_) => y,
+            Way::Rounds(network) => {
+                let network = *network;
+                network.unplace(y)
+            }
+            Way::Tables(tables) => tables.unplace(y),
+        }
+    }
+
+    /// Counts one place or one number.
+    #[inline(always)]
+    fn count<L: Ledger>(&self, steps: &mut Steps<L>)
+        ensures { steps.new ≡ steps.old + order_steps self.now }
+    {
+        match &self.way {
+            Way::InPlace(_) => {}
+            Way::Rounds(_) => steps.tick(), // the one step of a place by rounds
+            Way::Tables(_) => steps.tick(), // the one step of a place by tables
+        }
+    }
+
+    /// Counts as many places or numbers.
+    #[inline(always)]
+    fn count_each<L: Ledger>(&self, times: usize, steps: &mut Steps<L>)
+        ensures { steps.new ≡ steps.old + times * order_steps self.now }
+    {
+        match &self.way {
+            Way::InPlace(_) => {}
+            Way::Rounds(_) => tick_each(times, steps),
+            Way::Tables(_) => tick_each(times, steps),
+        }
+    }
+}
+
+#[inline(always)]
+fn tick_each<L: Ledger>(times: usize, steps: &mut Steps<L>)
+    ensures { steps.new ≡ steps.old + times }
+{
+    for _time in 0..times {
+        steps.tick(); // the one step of each place or number
     }
 }

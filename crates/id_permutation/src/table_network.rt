@@ -1,48 +1,21 @@
-//! The network of rounds by tables of their functions, and the walks along its cycles.
+//! The network of rounds by tables of their functions, so that a round takes no block of Philox and no division.
 
-ghost use Rattle.std.specs.Prelude.{◌≡◌, ◌*◌, ◌<◌, ◌≤◌, ◌^◌, IfOk};
-ghost use Rattle.id_permutation.specs.Placement.{IsWithin, halves_of, mix, place, unplace};
-ghost use Rattle.id_permutation.specs.Tables.{IsPair};
+ghost use Rattle.std.specs.Prelude.{◌≡◌, ◌+◌, ◌*◌, ◌%◌, ◌<◌, ◌≤◌, ◌^◌, All, map};
+ghost use Rattle.id_permutation.specs.Placement.{IsWithin, round_number, round, mix, place, unplace};
+ghost use Rattle.id_permutation.specs.Tables.{tables_of};
 
-use crate::halves::Halves;
-use crate::memory::Memory;
+use crate::halves::{Halves, reduce};
 use crate::network::Network;
-use crate::round_pair::RoundPair;
-use fixed_divisors::{Division, FixedDivisor};
-use std::alloc::Global;
 
-/// A network with the tables of its rounds, two rounds each, and its width as a divisor.
+/// A network with the tables of its rounds, one behind the other, which are borrowed.
 #[derive(Drop)]
-pub struct TableNetwork {
+pub struct TableNetwork<'a> {
     pub network: Network,
-    by_width: FixedDivisor,
-    first: RoundPair,
-    second: RoundPair,
-    third: RoundPair,
-    ghost width: { by_width ≡ network.width },
-    ghost first_pair: { IsPair network 0 first },
-    ghost second_pair: { IsPair network 2 second },
-    ghost third_pair: { IsPair network 4 third },
+    pub tables: &'a [u16],
+    ghost exact: { tables.now ≡ tables_of network.height network.width network.seed },
 }
 
-impl TableNetwork {
-    /// The network of `size` numbers, with the tables of its rounds.
-    pub fn new(alloc: Global, size: u64, seed: u64) -> Result<TableNetwork, Memory>
-        requires some { 0 < size }
-        requires small { size ≤ 2 ^ 40 }
-        ensures size { IfOk result (λ table. table.network.size ≡ size) }
-        ensures seed { IfOk result (λ table. table.network.seed ≡ seed) }
-    {
-        let network = Network::new(size, seed);
-        Ok(TableNetwork {
-            network,
-            by_width: FixedDivisor::new(network.width),
-            first: RoundPair::new(alloc, &network, 0)?,
-            second: RoundPair::new(alloc, &network, 2)?,
-            third: RoundPair::new(alloc, &network, 4)?,
-        })
-    }
-
+impl<'a> TableNetwork<'a> {
     /// The first of the numbers after `number`, by the rounds, that is below `size`.
     #[inline(always)]
     pub fn place(&self, number: u64) -> u64
@@ -53,7 +26,7 @@ impl TableNetwork {
         if place < self.network.size {
             place
         } else {
-            self.walk_on(number, place)
+            walk_on(self.network, self.tables, number, place)
         }
     }
 
@@ -67,40 +40,40 @@ impl TableNetwork {
         if number < self.network.size {
             number
         } else {
-            self.walk_back(place, number)
+            walk_back(self.network, self.tables, place, number)
         }
     }
 
-    /// The rest of the walk from `number`, after its first step led to `mixed`. Few numbers walk so far.
-    #[cold]
-    #[inline(never)]
-    fn walk_on(&self, number: u64, mixed: u64) -> u64
-        requires below { number < self.now.network.size }
-        requires mixed { mixed ≡ mix self.now.network.size self.now.network.seed number }
-        requires within { mixed < self.now.network.height * self.now.network.width }
-        ensures exact { result ≡ place self.now.network.size self.now.network.seed number }
+    /// Puts the place of each number over it.
+    pub fn places(&self, numbers: &mut [u64])
+        requires below { All (λ x. x < self.now.network.size) numbers.old }
+        ensures { numbers.new ≡ map (λ x. place self.now.network.size self.now.network.seed x) numbers.old }
     {
-        let mut place = mixed;
-        while place >= self.network.size {
-            place = self.mix(place);
+        let tables = self.copied(); // so that no write to the numbers can change it
+        for number in numbers.iter_mut() {
+            *number = tables.place(*number);
         }
-        place
     }
 
-    /// The rest of the walk back from `place`, after its first step led to `unmixed`. Few places walk so far.
-    #[cold]
-    #[inline(never)]
-    fn walk_back(&self, place: u64, unmixed: u64) -> u64
-        requires below { place < self.now.network.size }
-        requires unmixed { mix self.now.network.size self.now.network.seed unmixed ≡ place }
-        requires within { unmixed < self.now.network.height * self.now.network.width }
-        ensures exact { result ≡ unplace self.now.network.size self.now.network.seed place }
+    /// Puts the number over each place that is its own.
+    pub fn numbers(&self, places: &mut [u64])
+        requires below { All (λ y. y < self.now.network.size) places.old }
+        ensures { places.new ≡ map (λ y. unplace self.now.network.size self.now.network.seed y) places.old }
     {
-        let mut number = unmixed;
-        while number >= self.network.size {
-            number = self.unmix(number);
+        let tables = self.copied();
+        for place in places.iter_mut() {
+            *place = tables.unplace(*place);
         }
-        number
+    }
+
+    #[inline(always)]
+    fn copied(&self) -> TableNetwork<'a>
+        ensures { result.network ≡ self.now.network }
+    {
+        TableNetwork {
+            network: self.network,
+            tables: self.tables,
+        }
     }
 
     #[inline(always)]
@@ -109,12 +82,11 @@ impl TableNetwork {
         ensures exact { result ≡ mix self.now.network.size self.now.network.seed number }
         ensures within { result < self.now.network.height * self.now.network.width }
     {
-        let network = self.network;
-        let halves = self.split(number);
-        let halves = self.first.mix(&network, 0, halves);
-        let halves = self.second.mix(&network, 2, halves);
-        let halves = self.third.mix(&network, 4, halves);
-        network.join(halves)
+        let halves = self.network.split(number);
+        let halves = self.mix_pair(0, halves);
+        let halves = self.mix_pair(1, halves);
+        let halves = self.mix_pair(2, halves);
+        self.network.join(halves)
     }
 
     #[inline(always)]
@@ -123,27 +95,126 @@ impl TableNetwork {
         ensures undone { mix self.now.network.size self.now.network.seed result ≡ mixed }
         ensures within { result < self.now.network.height * self.now.network.width }
     {
-        let network = self.network;
-        let halves = self.split(mixed);
-        let halves = self.third.unmix(&network, 4, halves);
-        let halves = self.second.unmix(&network, 2, halves);
-        let halves = self.first.unmix(&network, 0, halves);
-        network.join(halves)
+        let halves = self.network.split(mixed);
+        let halves = self.unmix_pair(2, halves);
+        let halves = self.unmix_pair(1, halves);
+        let halves = self.unmix_pair(0, halves);
+        self.network.join(halves)
+    }
+
+    /// The even round of a pair, and the odd one after it.
+    #[inline(always)]
+    fn mix_pair(&self, pair: u64, halves: Halves) -> Halves
+        requires few { pair < 3 }
+        requires within { IsWithin self.now.network.height self.now.network.width halves }
+        ensures exact { result ≡
+            round self.now.network.height self.now.network.width self.now.network.seed (2 * pair + 1)
+            (round self.now.network.height self.now.network.width self.now.network.seed (2 * pair) halves) }
+        ensures within { IsWithin self.now.network.height self.now.network.width result }
+    {
+        let height = self.network.height.number();
+        let width = self.network.width.number();
+        let added = self.even_value(pair, halves.right);
+        let left = reduce(halves.left + added, height);
+        let added = self.odd_value(pair, left);
+        let right = reduce(halves.right + added, width);
+        Halves { left, right }
+    }
+
+    /// The halves that the rounds of a pair make `halves` of.
+    #[inline(always)]
+    fn unmix_pair(&self, pair: u64, halves: Halves) -> Halves
+        requires few { pair < 3 }
+        requires within { IsWithin self.now.network.height self.now.network.width halves }
+        ensures undone { round self.now.network.height self.now.network.width self.now.network.seed (2 * pair + 1)
+            (round self.now.network.height self.now.network.width self.now.network.seed (2 * pair) result) ≡ halves }
+        ensures within { IsWithin self.now.network.height self.now.network.width result }
+    {
+        let height = self.network.height.number();
+        let width = self.network.width.number();
+        let taken = self.odd_value(pair, halves.left);
+        let right = reduce(halves.right + (width - taken), width);
+        let taken = self.even_value(pair, right);
+        let left = reduce(halves.left + (height - taken), height);
+        Halves { left, right }
     }
 
     #[inline(always)]
-    fn split(&self, number: u64) -> Halves
-        requires { number < self.now.network.height * self.now.network.width }
-        ensures exact { result ≡ halves_of self.now.network.width number }
-        ensures within { IsWithin self.now.network.height self.now.network.width result }
+    fn even_value(&self, pair: u64, right: u64) -> u64
+        requires few { pair < 3 }
+        requires within { right < self.now.network.width }
+        ensures exact { result ≡ round_number self.now.network.seed (2 * pair) right % self.now.network.height }
+        ensures below { result < self.now.network.height }
     {
-        let Division {
-            quotient,
-            remainder,
-        } = self.by_width.divide(number);
-        Halves {
-            left: quotient,
-            right: remainder,
-        }
+        let first = self.even_table(pair);
+        u64::from(self.tables[(first + right) as usize])
     }
+
+    #[inline(always)]
+    fn odd_value(&self, pair: u64, left: u64) -> u64
+        requires few { pair < 3 }
+        requires within { left < self.now.network.height }
+        ensures exact { result ≡ round_number self.now.network.seed (2 * pair + 1) left % self.now.network.width }
+        ensures below { result < self.now.network.width }
+    {
+        let first = self.odd_table(pair);
+        u64::from(self.tables[(first + left) as usize])
+    }
+
+    /// Where the table of a pair's even round begins.
+    #[inline(always)]
+    fn even_table(&self, pair: u64) -> u64
+        requires few { pair < 3 }
+        ensures exact { result ≡ pair * (self.now.network.height + self.now.network.width) }
+        ensures small { result < 2 ^ 23 }
+    {
+        pair * (self.network.height.number() + self.network.width.number())
+    }
+
+    /// Where the table of a pair's odd round begins.
+    #[inline(always)]
+    fn odd_table(&self, pair: u64) -> u64
+        requires few { pair < 3 }
+        ensures exact { result ≡ pair * (self.now.network.height + self.now.network.width) + self.now.network.width }
+        ensures small { result < 2 ^ 24 }
+    {
+        self.even_table(pair) + self.network.width.number()
+    }
+}
+
+/// The rest of the walk from `number`, after its first step led to `mixed`. Few numbers walk so far. It is handed copies, so that an
+/// order whose places are found needs no place in memory.
+#[cold]
+#[inline(never)]
+fn walk_on(network: Network, tables: &[u16], number: u64, mixed: u64) -> u64
+    requires tables { tables.now ≡ tables_of network.height network.width network.seed }
+    requires below { number < network.size }
+    requires mixed { mixed ≡ mix network.size network.seed number }
+    requires within { mixed < network.height * network.width }
+    ensures exact { result ≡ place network.size network.seed number }
+{
+    let by_tables = TableNetwork { network, tables };
+    let mut place = mixed;
+    while place >= by_tables.network.size {
+        place = by_tables.mix(place);
+    }
+    place
+}
+
+/// The rest of the walk back from `place`, after its first step led to `unmixed`. Few places walk so far.
+#[cold]
+#[inline(never)]
+fn walk_back(network: Network, tables: &[u16], place: u64, unmixed: u64) -> u64
+    requires tables { tables.now ≡ tables_of network.height network.width network.seed }
+    requires below { place < network.size }
+    requires unmixed { mix network.size network.seed unmixed ≡ place }
+    requires within { unmixed < network.height * network.width }
+    ensures exact { result ≡ unplace network.size network.seed place }
+{
+    let by_tables = TableNetwork { network, tables };
+    let mut number = unmixed;
+    while number >= by_tables.network.size {
+        number = by_tables.unmix(number);
+    }
+    number
 }

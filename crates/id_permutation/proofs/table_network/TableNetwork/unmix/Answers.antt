@@ -8,5 +8,5 @@ pub returns-clause-undone : goal.returns-clause-undone
 returns-clause-undone c =
     let network = c.args.self.now.network in
     ap (mix network.size network.seed) c.join.ensures.exact
-    ∙ mix-number_of network.size network.seed c.args.mixed network.height network.width c.unmix-halves-3.result network.tall network.wide c.unmix-halves-3.ensures.within
-    (cc (rounds-six network.height network.width network.seed c.unmix-halves-3.result, c.split-halves.ensures.exact, c.unmix-halves-3.ensures.undone, c.unmix-halves-2.ensures.undone, c.unmix-halves.ensures.undone))
+    ∙ mix-number_of network.size network.seed c.args.mixed network.height network.width c.unmix_pair-halves-3.result network.tall network.wide c.unmix_pair-halves-3.ensures.within
+    (cc (rounds-six network.height network.width network.seed c.unmix_pair-halves-3.result, c.split-halves.ensures.exact, c.unmix_pair-halves-3.ensures.undone, c.unmix_pair-halves-2.ensures.undone, c.unmix_pair-halves.ensures.undone))
