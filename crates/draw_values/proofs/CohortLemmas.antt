@@ -4,16 +4,16 @@ use Rattle.philox_seeds.specs.SeedTree.{column_seed, table_seed, unit_seed}
 use Rattle.schema_plan.specs.declared.ready.ReadyColumn.{ReadyColumn}
 use Rattle.schema_plan.specs.Layout.{Layout, table_at}
 use Rattle.schema_plan.specs.Ready.{ready_columns}
+use Rattle.draw_values.specs.declared.cohort_values.Seeds.{Seeds}
 use Rattle.draw_values.specs.declared.values.RowAt.{RowAt}
 use Rattle.draw_values.specs.CohortValues.{AreValuesOf, ValuesOf}
 use Rattle.draw_values.specs.ReadyValues.{row_draws}
-use Rattle.draw_values.specs.UnitDraws.{DrawsOf}
 use Rattle.draw_values.specs.Values.{draws_at}
 use Rattle.draw_values.proofs.ColumnLemmas.{ready_column-at}
 
 -- what is kept is of the values that a contract sees
-pub AreValuesOf-view : (kept values : ValuesOf) (ready : List ReadyColumn) (births changes : DrawsOf) → kept ≡ values → AreValuesOf kept ready births changes → AreValuesOf values ready births changes
-AreValuesOf-view kept values ready births changes same known = subst (λ (of : ValuesOf). AreValuesOf of ready births changes) same known
+pub AreValuesOf-view : (kept values : ValuesOf) (ready : List ReadyColumn) (taken : Seeds) → kept ≡ values → AreValuesOf kept ready taken → AreValuesOf values ready taken
+AreValuesOf-view kept values ready taken same known = subst (λ (of : ValuesOf). AreValuesOf of ready taken) same known
 
 -- the seed of a column at a unit
 abbrev pub seed_at : Layout → ℕ → ℕ → ℕ → ℕ

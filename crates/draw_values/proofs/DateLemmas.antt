@@ -10,7 +10,7 @@ use Rattle.jiff_core.proofs.MarchLemmas.{day_count-early}
 use Rattle.jiff_core.proofs.SignedLemmas.{signed_arith}
 use Rattle.schema_plan.specs.Counts.{count}
 use Rattle.draw_values.specs.Dates.{Found, date_digits, date_text, month_from, year_from}
-use Rattle.draw_values.specs.Digits.{last_digits}
+use Rattle.line_pages.specs.Digits.{last_digits}
 use Rattle.draw_values.proofs.DigitLemmas.{length-last_digits}
 use Rattle.draw_values.proofs.WalkLemmas.{month_from-finds, year_from-finds}
 

@@ -3,7 +3,8 @@ use Rattle.std.proofs.Common.{◌≡◌, ◌<◌, ◌≤◌, ℕ, zero, suc, ◌
 use Rattle.std.proofs.lemmas.Fmt.{length-decimal-le}
 use Rattle.std.proofs.lemmas.Nat.{div_below, pow-add}
 use Rattle.std.proofs.Math.Nat.{one-le-pow}
-use Rattle.draw_values.specs.Digits.{last_digits, pointed}
+use Rattle.line_pages.specs.Digits.{last_digits}
+use Rattle.draw_values.specs.Digits.{pointed}
 
 pub last_digits-zero : (n : ℕ) → last_digits 0 n ≡ []
 unfolding last_digits
@@ -43,6 +44,11 @@ digit_moves (suc left) n text longer whole some so_far is =
 pub all_moved : (left n : ℕ) (text whole : List ℕ) → left ≡ 0 → last_digits left n ++ text ≡ whole → text ≡ whole
 all_moved left n text whole none so_far =
     sym (ap (λ (digits : List ℕ). digits ++ text) (ap (λ (count : ℕ). last_digits count n) none ∙ last_digits-zero n)) ∙ so_far
+
+-- such digits, and a byte behind them
+pub length-fraction : (count n : ℕ) (fraction behind : List ℕ) → fraction ≡ last_digits count n ++ behind → length behind ≡ 1 → length fraction ≡ count + 1
+length-fraction count n fraction behind is one =
+    omega (arith, ap length is, length-append (last_digits count n) behind, length-last_digits count n, one)
 
 -- with a point where there are decimals, and none where there are none
 pub pointed-some : (decimals n : ℕ) → 0 < decimals → pointed decimals n ≡ decimal (n / 10 ^ decimals) ++ 46 ∷ last_digits decimals n

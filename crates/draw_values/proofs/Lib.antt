@@ -9,3 +9,8 @@ pub mod ReadyLemmas
 pub mod ColumnLemmas
 pub mod FieldLemmas
 pub mod CohortLemmas
+pub mod PieceLemmas
+pub mod RunLemmas
+pub mod KeptLemmas
+pub mod ShortNumberLemmas
+pub mod GroupLemmas

@@ -9,7 +9,8 @@ use Rattle.std.proofs.lemmas.List.Concat.{flat_map-cons}
 use Rattle.std.proofs.lemmas.List.Elements.{All-append, All-cons, All-head, All-nil, All-tail}
 use Rattle.row_text.specs.Fields.{escaped, piece_text}
 use Rattle.draw_values.specs.Dates.{date_digits, date_text}
-use Rattle.draw_values.specs.Digits.{last_digits, pointed, signed_pointed}
+use Rattle.line_pages.specs.Digits.{last_digits}
+use Rattle.draw_values.specs.Digits.{pointed, signed_pointed}
 
 -- a minus sign, a point or a digit, or the slash between the two
 abbrev pub IsPlain : ℕ → Type 0

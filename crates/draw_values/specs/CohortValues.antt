@@ -1,12 +1,15 @@
 -- The values of the rows of a table that are born at one unit and changed last at another, and what the code keeps of them.
-use Rattle.std.specs.Prelude.{◌≡◌, ℕ, List, Bool, Option}
+use Rattle.std.specs.Prelude.{◌≡◌, ◌≤◌, ℕ, List, Bool, Option}
 use Rattle.schema_plan.specs.declared.ready.ReadyColumn.{ReadyColumn}
 use Rattle.schema_plan.specs.Layout.{column_at, layout_of, table_at, TableLayout}
 use Rattle.schema_plan.specs.Limits.{IsTableInLimits}
 use Rattle.schema_plan.specs.Dictionaries.{Project}
 use Rattle.schema_plan.specs.Ready.{ready_columns}
+use Rattle.draw_values.specs.declared.cohort_values.Seeds.{Seeds}
+use Rattle.draw_values.specs.declared.cohort_values.Seeds.TheVariants as seeds
 use Rattle.draw_values.specs.declared.values.RowAt.{RowAt}
-use Rattle.draw_values.specs.UnitDraws.{DrawsOf, unit_draws}
+use Rattle.draw_values.specs.Runs.{AreColumnsOf}
+use Rattle.draw_values.specs.UnitDraws.{unit_draws}
 use Rattle.draw_values.specs.Values.{draws_at, is_null, size_at, value_at}
 
 -- the values of the rows that are born at a unit and changed last at another, in the table at a place
@@ -38,9 +41,16 @@ is_null_for values column ordinal =
 abbrev pub size_for : ValuesOf → ℕ → ℕ
 size_for values column = size_at (layout_of values.plan) values.table column
 
--- what is kept is of the table's columns, with the draws at the two units
-pub record AreValuesOf (values : ValuesOf) (ready : List ReadyColumn) (births changes : DrawsOf) : Type 0 where
+-- what the seeds of the columns are taken from: the draws at the two units, or the prepared columns of the table
+abbrev pub AreSeedsOf : ValuesOf → Seeds → Type 0
+AreSeedsOf values (seeds.Units births changes) =
+    (births.now ≡ unit_draws values.plan values.table values.born) × (changes.now ≡ unit_draws values.plan values.table values.changed)
+AreSeedsOf values (seeds.Columns columns) = AreColumnsOf values.plan values.table columns.now
+
+-- what is kept is of the table's columns, at units of the plan
+pub record AreValuesOf (values : ValuesOf) (ready : List ReadyColumn) (taken : Seeds) : Type 0 where
   pub columns : ready ≡ ready_columns (layout_of values.plan) values.table
   pub limits : IsTableInLimits (layout_of values.plan).units (layout_for values)
-  pub births_are : births ≡ unit_draws values.plan values.table values.born
-  pub changes_are : changes ≡ unit_draws values.plan values.table values.changed
+  pub born_limit : values.born ≤ 10000
+  pub changed_limit : values.changed ≤ 10000
+  pub seeds_are : AreSeedsOf values taken

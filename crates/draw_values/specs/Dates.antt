@@ -2,7 +2,7 @@
 use Rattle.std.specs.Prelude.{ℕ, zero, suc, ℤ, pos, ◌+◌, ◌-◌, ◌+ℤ◌, List, ◌∷◌, ◌++◌, if◌then◌else◌, nat_lt}
 use Rattle.jiff_core.specs.Calendar.{days_in_month, days_in_year}
 use Rattle.schema_plan.specs.Counts.{count}
-use Rattle.draw_values.specs.Digits.{last_digits}
+use Rattle.line_pages.specs.Digits.{last_digits}
 
 -- a year, month or day, from 1, and the days that are left, from 0
 pub record Found : Type 0 where

@@ -1,10 +1,6 @@
--- Numbers in decimal, with a fixed number of digits or with a point.
-use Rattle.std.specs.Prelude.{ℕ, zero, suc, ℤ, pos, negsuc, ◌+◌, ◌/◌, ◌%◌, ◌^◌, List, [], ◌∷◌, ◌++◌, decimal}
-
--- the last digits of a number, as many as are said, zeros included
-unfoldable pub last_digits : ℕ → ℕ → List ℕ
-last_digits zero n = []
-last_digits (suc count) n = last_digits count (n / 10) ++ (48 + n % 10) ∷ []
+-- Numbers in decimal, with a point.
+use Rattle.std.specs.Prelude.{ℕ, zero, suc, ℤ, pos, negsuc, ◌/◌, ◌^◌, List, ◌∷◌, ◌++◌, decimal}
+use Rattle.line_pages.specs.Digits.{last_digits}
 
 -- a number whose last digits, as many as are said, stand after a point, and at least one before it; no point where none are said
 abbrev pub pointed : ℕ → ℕ → List ℕ

@@ -3,5 +3,7 @@ pub mod Dates
 pub mod Values
 pub mod UnitDraws
 pub mod WrittenUnits
-pub mod CohortValues
 pub mod ReadyValues
+pub mod ColumnSeeds
+pub mod Runs
+pub mod CohortValues

@@ -1,9 +1,7 @@
 -- What the fields of a table are drawn from at one unit.
-use Rattle.std.specs.Prelude.{◌≡◌, ◌<◌, ◌≤◌, ℕ, List, decimal, get_or, length, map}
+use Rattle.std.specs.Prelude.{◌≡◌, ◌<◌, ◌≤◌, ℕ, List, get_or, length, map}
 use Rattle.std.specs.List.{range_with_len}
 use Rattle.philox_seeds.specs.SeedTree.{column_seed, table_seed, unit_seed}
-use Rattle.line_pages.specs.declared.piece.Piece.{Piece}
-use Rattle.line_pages.specs.Pieces.{piece_text}
 use Rattle.schema_plan.specs.Dictionaries.{Project}
 use Rattle.schema_plan.specs.Layout.{layout_of, table_at}
 
@@ -25,9 +23,8 @@ unit_draws plan table unit = record {
 abbrev pub draws_of_units : Project → ℕ → ℕ → ℕ → List DrawsOf
 draws_of_units plan table first count = map (unit_draws plan table) (range_with_len first count)
 
--- what is kept is a seed for each column, and the unit as it is written
-pub record AreDrawsOf (draws : DrawsOf) (kept : List ℕ) (text : Piece) : Type 0 where
+-- what is kept is a seed for each column
+pub record AreDrawsOf (draws : DrawsOf) (kept : List ℕ) : Type 0 where
   pub column_limit : draws.columns ≤ 64
   pub unit_limit : draws.unit ≤ 10000
   pub seeds_are : (column : ℕ) → column < draws.columns → get_or kept column 0 ≡ unit_seed (column_seed draws.seed column) draws.unit
-  pub text_is : piece_text text ≡ decimal draws.unit

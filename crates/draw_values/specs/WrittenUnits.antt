@@ -1,6 +1,5 @@
 -- The units of a row, as they are written.
-use Rattle.std.specs.Prelude.{◌≤◌, List, ℕ, decimal, length}
-use Rattle.line_pages.specs.Pieces.{piece_text}
+use Rattle.std.specs.Prelude.{◌≤◌, List, ℕ, decimal}
 use Rattle.draw_values.specs.declared.fields.Units.{Units}
 use Rattle.draw_values.specs.declared.values.RowAt.{RowAt}
 
@@ -13,11 +12,11 @@ pub record WrittenUnits : Type 0 where
 abbrev pub units_at : RowAt → WrittenUnits
 units_at at = record { born = decimal at.born; changed = decimal at.changed }
 
--- those that the code keeps
+-- those of two units
 abbrev pub written_units : Units → WrittenUnits
-written_units units = record { born = piece_text units.born.now; changed = piece_text units.changed.now }
+written_units units = record { born = decimal units.born; changed = decimal units.changed }
 
--- each has at most 5 bytes
-pub record IsWritten (units : Units) : Type 0 where
-  pub born_size : length (piece_text units.born.now) ≤ 5
-  pub changed_size : length (piece_text units.changed.now) ≤ 5
+-- units of a plan, each of at most 5 digits
+pub record AreUnits (units : Units) : Type 0 where
+  pub born_limit : units.born ≤ 10000
+  pub changed_limit : units.changed ≤ 10000

@@ -1,20 +1,35 @@
 //! The values of the rows that are born at one unit and changed last at another, with what doesn't change from row to row taken
 //! once.
 
-ghost use Rattle.std.specs.Prelude.{◌≡◌, ◌<◌, ◌≤◌, ℕ, ◌+◌, ◌++◌, true, length};
+ghost use Rattle.std.specs.Prelude.{◌≡◌, ◌<◌, ◌≤◌, ℕ, ◌+◌, ◌++◌, true, length, map, slice_index};
+ghost use Rattle.philox_seeds.specs.SeedTree.{unit_seed};
 ghost use Rattle.row_text.specs.Fields.{field_text};
 ghost use Rattle.schema_plan.specs.Layout.{column_at, layout_of};
 ghost use Rattle.draw_values.specs.CohortValues.{is_null_for, layout_for, row_for, size_for, value_for};
 ghost use Rattle.draw_values.specs.ReadyValues.{row_draws};
+ghost use Rattle.draw_values.specs.Runs.{AreColumnsOf, RunColumnOf};
 ghost use Rattle.draw_values.specs.UnitDraws.{unit_draws};
 ghost use Rattle.draw_values.specs.Values.{draws_at, is_own, put_of, written};
 
 use crate::Put;
 use crate::draws::UnitDraws;
 use crate::fields::{Drawn, Units, chooser_of, is_null, put_field};
+use crate::run_column::RunColumn;
 use line_pages::PageBuf;
 use schema_plan::{Plan, ReadyColumn};
 use std::marker::Model;
+
+/// What the seeds of the columns of a table are taken from, at two units.
+#[derive(Drop)]
+pub(crate) enum Seeds<'a> {
+    /// The draws at both.
+    Units {
+        births: &'a UnitDraws,
+        changes: &'a UnitDraws,
+    },
+    /// The prepared columns of the table.
+    Columns(&'a [RunColumn]),
+}
 
 /// The values of the rows of a table that are born at one unit and changed last at another. A contract sees the plan, the table
 /// and the two units.
@@ -23,8 +38,9 @@ pub struct CohortValues<'a> {
     plan: &'a Plan,
     table: u32,
     columns: &'a [ReadyColumn],
-    births: &'a UnitDraws,
-    changes: &'a UnitDraws,
+    born: u64,
+    changed: u64,
+    seeds: Seeds<'a>,
 }
 
 impl<'a> Model for CohortValues<'a> {
@@ -32,9 +48,9 @@ impl<'a> Model for CohortValues<'a> {
 
     ghost Value = { ValuesOf };
 
-    ghost view = { λ v. record { plan = v.plan.now; table = v.table; born = v.births.now.unit; changed = v.changes.now.unit } };
+    ghost view = { λ v. record { plan = v.plan.now; table = v.table; born = v.born; changed = v.changed } };
 
-    ghost invariant = { λ v. AreValuesOf (record { plan = v.plan.now; table = v.table; born = v.births.now.unit; changed = v.changes.now.unit }) v.columns.now v.births.now v.changes.now };
+    ghost invariant = { λ v. AreValuesOf (record { plan = v.plan.now; table = v.table; born = v.born; changed = v.changed }) v.columns.now v.seeds };
 }
 
 impl<'a> CohortValues<'a> {
@@ -56,8 +72,35 @@ impl<'a> CohortValues<'a> {
             plan,
             table,
             columns: plan.columns(table),
-            births,
-            changes,
+            born: births.small_unit(),
+            changed: changes.small_unit(),
+            seeds: Seeds::Units { births, changes },
+        }
+    }
+
+    /// The values of the rows of a table that are born at the unit `born` and changed last at the unit `changed`, from the prepared
+    /// columns of the table, so that none of its seeds that is kept is made anew.
+    #[inline(always)]
+    pub fn kept(
+        plan: &'a Plan,
+        table: u32,
+        columns: &'a [RunColumn],
+        born: u64,
+        changed: u64,
+    ) -> CohortValues<'a>
+        requires table { table < length plan.now.schema.tables }
+        requires columns { AreColumnsOf plan.now table columns.now }
+        requires born { born ≤ (layout_of plan.now).units }
+        requires changed { changed ≤ (layout_of plan.now).units }
+        ensures { result ≡ record { plan = plan.now; table = table; born = born; changed = changed } }
+    {
+        CohortValues {
+            plan,
+            table,
+            columns: plan.columns(table),
+            born,
+            changed,
+            seeds: Seeds::Columns(columns),
         }
     }
 
@@ -68,10 +111,18 @@ impl<'a> CohortValues<'a> {
         ensures { (ordinal : ℕ) → row_draws result ordinal ≡ draws_at (layout_of self.now.plan) self.now.table (row_for self.now ordinal) column }
     {
         let columns = self.columns;
-        if columns[column].changes {
-            self.changes.seed(column)
-        } else {
-            self.births.seed(column)
+        let changes_here = columns[column].changes;
+        match &self.seeds {
+            Seeds::Units { births, changes } if changes_here => changes.seed(column),
+            Seeds::Units { births, changes } => births.seed(column),
+            Seeds::Columns(kept) => {
+                let unit = if changes_here {
+                    self.changed
+                } else {
+                    self.born
+                };
+                kept_seed(kept, column, unit)
+            }
         }
     }
 
@@ -101,8 +152,8 @@ impl<'a> CohortValues<'a> {
         let own = &columns[column];
         let chooser = chooser_of(column, own);
         let units = Units {
-            born: self.births.text(),
-            changed: self.changes.text(),
+            born: self.born,
+            changed: self.changed,
         };
         put_field(
             Drawn {
@@ -118,4 +169,13 @@ impl<'a> CohortValues<'a> {
             buf,
         )
     }
+}
+
+/// The seed at a unit of the column at a place, which is prepared.
+#[inline(always)]
+fn kept_seed(columns: &[RunColumn], column: usize, unit: u64) -> u64
+    requires { column < length columns.now }
+    ensures { result ≡ unit_seed (slice_index (map (λ (run : RunColumnOf). run.seed) columns.now) column) unit }
+{
+    columns[column].seeds().at(unit)
 }

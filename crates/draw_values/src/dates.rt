@@ -1,4 +1,4 @@
-//! Dates onto a page.
+//! Dates, as pieces and onto a page.
 
 ghost use Rattle.std.specs.Prelude.{◌≡◌, ◌≤◌, ◌+◌, ◌++◌, length, neg_ℤ, pos, ◌≤ℤ◌};
 ghost use Rattle.line_pages.specs.Pieces.{piece_text};
@@ -17,18 +17,31 @@ pub(crate) fn put_date(day: i64, buf: &mut PageBuf)
     ensures text { buf.new ≡ record buf.old { text = buf.old.text ++ date_text day } }
     ensures size { length (date_text day) ≡ 10 }
 {
+    buf.put_piece(&day_piece(day, Piece::new()));
+}
+
+/// The date of such a day, and then the piece, of at most 6 bytes.
+#[inline(always)]
+pub(crate) fn day_piece(day: i64, rest: Piece) -> Piece
+    requires first_day { neg_ℤ (pos 719162) ≤ℤ day }
+    requires last_day { day ≤ℤ pos 2932896 }
+    requires room { length (piece_text rest) ≤ 6 }
+    ensures text { piece_text result ≡ date_text day ++ piece_text rest }
+    ensures size { length (date_text day) ≡ 10 }
+{
     match Date::from_unix_epoch_day(day) {
-        Ok(date) => buf.put_piece(&date_piece(date.year as u64, date.month, date.day)),
+        Ok(date) => date_piece(date.year as u64, date.month, date.day, rest),
         Err(_) => unreachable!(),
     }
 }
 
-/// A year, a month and a day as YYYY-MM-DD.
+/// A year, a month and a day as YYYY-MM-DD, and then the piece, of at most 6 bytes.
 #[inline(always)]
-fn date_piece(year: u64, month: u8, day: u8) -> Piece
-    ensures { piece_text result ≡ date_digits year month day }
+fn date_piece(year: u64, month: u8, day: u8, rest: Piece) -> Piece
+    requires { length (piece_text rest) ≤ 6 }
+    ensures { piece_text result ≡ date_digits year month day ++ piece_text rest }
 {
-    let end = prepend_digits(Piece::new(), u64::from(day), 2).prepend(b'-');
+    let end = prepend_digits(rest, u64::from(day), 2).prepend(b'-');
     let month_on = prepend_digits(end, u64::from(month), 2).prepend(b'-');
     prepend_digits(month_on, year, 4)
 }

@@ -2,7 +2,7 @@
 
 ghost use Rattle.std.specs.Prelude.{◌≡◌, ◌≤◌, ◌+◌, ◌++◌, length};
 ghost use Rattle.line_pages.specs.Pieces.{piece_text};
-ghost use Rattle.draw_values.specs.Digits.{last_digits};
+ghost use Rattle.line_pages.specs.Digits.{last_digits};
 
 use line_pages::Piece;
 

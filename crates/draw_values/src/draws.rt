@@ -1,12 +1,11 @@
 //! What the fields of a table are drawn from at one unit, taken once for all rows.
 
-ghost use Rattle.std.specs.Prelude.{◌≡◌, ◌<◌, ◌≤◌, ◌+◌, IfOk, decimal, length};
+ghost use Rattle.std.specs.Prelude.{◌≡◌, ◌<◌, ◌≤◌, ◌+◌, IfOk, length};
 ghost use Rattle.philox_seeds.specs.SeedTree.{column_seed as column_seed_of, unit_seed as unit_seed_of};
-ghost use Rattle.line_pages.specs.Pieces.{piece_text};
 ghost use Rattle.schema_plan.specs.Layout.{layout_of};
 ghost use Rattle.draw_values.specs.UnitDraws.{draws_of_units, unit_draws};
 
-use line_pages::{Memory, Piece};
+use line_pages::Memory;
 use philox_seeds::{column_seed, table_seed, unit_seed};
 use schema_plan::Plan;
 use std::alloc::Global;
@@ -24,8 +23,6 @@ pub struct UnitDraws {
     unit: u64,
     /// The seed of each column at the unit, and behind these what no call reads.
     seeds: [u64; COLUMN_LIMIT],
-    /// The unit as it is written.
-    text: Piece,
 }
 
 impl Model for UnitDraws {
@@ -35,7 +32,7 @@ impl Model for UnitDraws {
 
     ghost view = { λ d. record { seed = d.table_seed; columns = d.columns; unit = d.unit } };
 
-    ghost invariant = { λ d. AreDrawsOf (record { seed = d.table_seed; columns = d.columns; unit = d.unit }) d.seeds d.text };
+    ghost invariant = { λ d. AreDrawsOf (record { seed = d.table_seed; columns = d.columns; unit = d.unit }) d.seeds };
 }
 
 impl UnitDraws {
@@ -56,7 +53,6 @@ impl UnitDraws {
             columns,
             unit,
             seeds,
-            text: Piece::of_number(unit),
         }
     }
 
@@ -78,13 +74,13 @@ impl UnitDraws {
         seeds[column]
     }
 
-    /// The unit as it is written, of at most 5 bytes.
+    /// The unit, with its limit.
     #[inline(always)]
-    pub(crate) fn text(&self) -> &Piece
-        ensures text { piece_text result.now ≡ decimal self.now.unit }
-        ensures size { length (piece_text result.now) ≤ 5 }
+    pub(crate) fn small_unit(&self) -> u64
+        ensures unit { result ≡ self.now.unit }
+        ensures limit { result ≤ 10000 }
     {
-        &self.text
+        self.unit
     }
 }
 

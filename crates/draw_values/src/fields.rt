@@ -1,11 +1,11 @@
 //! The field of a row in a column of units, of drawn values or of cases, onto a page.
 
-ghost use Rattle.std.specs.Prelude.{◌≡◌, ◌<◌, ◌≤◌, ◌+◌, ◌++◌, [], All, IfSome, length, option_map, unwrap_or};
+ghost use Rattle.std.specs.Prelude.{◌≡◌, ◌<◌, ◌≤◌, ◌+◌, ◌++◌, [], All, IfSome, decimal, length, option_map, unwrap_or};
 ghost use Rattle.philox_seeds.specs.SeedTree.{draw as draw_of};
 ghost use Rattle.schema_plan.specs.FieldBounds.{greatest_by};
 ghost use Rattle.draw_values.specs.ReadyValues.{IsReady, IsReadyKind, IsReadyPick, chooser_of, entry_count, ready_branch, ready_field, ready_held_entry, ready_kind_size, ready_size, ready_text, row_draws};
 ghost use Rattle.draw_values.specs.Values.{is_null, put_of};
-ghost use Rattle.draw_values.specs.WrittenUnits.{IsWritten, written_units};
+ghost use Rattle.draw_values.specs.WrittenUnits.{AreUnits, written_units};
 
 use crate::Put;
 use crate::leaves::{FIRST_DRAW, put_leaf};
@@ -15,7 +15,7 @@ use philox_seeds::{draw, row_seed};
 use schema_plan::{ReadyColumn, ReadyKind, ReadyLeaf};
 
 /// The draw that makes a field null.
-const NULL_DRAW: u32 = 0;
+pub(crate) const NULL_DRAW: u32 = 0;
 
 /// Whether a row's field is null in a column of which so many of a thousand are; `seed` is the column's at the row's unit. A
 /// column that is never null draws nothing.
@@ -82,11 +82,22 @@ pub(crate) struct Drawn<'a> {
     pub(crate) seed: u64,
 }
 
-/// The units of a row's birth and last change, as they are written.
+/// The units of a row's birth and last change.
 #[derive(Clone, Copy)]
-pub(crate) struct Units<'a> {
-    pub(crate) born: &'a Piece,
-    pub(crate) changed: &'a Piece,
+pub(crate) struct Units {
+    pub(crate) born: u64,
+    pub(crate) changed: u64,
+}
+
+/// Appends a unit. 5 bytes have to be free.
+#[inline(always)]
+fn put_unit(unit: u64, buf: &mut PageBuf)
+    requires unit { unit ≤ 10000 }
+    requires room { length buf.old.text + 5 ≤ buf.old.room }
+    ensures text { buf.new ≡ record buf.old { text = buf.old.text ++ decimal unit } }
+    ensures size { length (decimal unit) ≤ 5 }
+{
+    buf.put_piece(&Piece::of_number(unit));
 }
 
 /// Appends what the row with an ordinal holds in a column, as it is written; nothing where it is null. `chooser` is the column
@@ -95,23 +106,23 @@ pub(crate) struct Units<'a> {
 pub(crate) fn put_field(
     own: Drawn<'_>,
     chooser: Drawn<'_>,
-    units: Units<'_>,
+    units: Units,
     ordinal: u64,
     buf: &mut PageBuf,
 ) -> Put
     requires ready { IsReadyKind chooser.column.now.kind own.column.now.kind }
-    requires units { IsWritten units }
+    requires units { AreUnits units }
     requires room { length buf.old.text + ready_kind_size own.column.now.kind ≤ buf.old.room }
-    ensures put { result ≡ put_of (ready_field (written_units units.entry) chooser.entry.column.now (row_draws chooser.entry.seed ordinal) own.entry.column.now (row_draws own.entry.seed ordinal)) }
-    ensures text { buf.new ≡ record buf.old { text = buf.old.text ++ unwrap_or (ready_field (written_units units.entry) chooser.entry.column.now (row_draws chooser.entry.seed ordinal) own.entry.column.now (row_draws own.entry.seed ordinal)) [] } }
-    ensures size { length (unwrap_or (ready_field (written_units units.entry) chooser.entry.column.now (row_draws chooser.entry.seed ordinal) own.entry.column.now (row_draws own.entry.seed ordinal)) []) ≤ ready_kind_size own.entry.column.now.kind }
+    ensures put { result ≡ put_of (ready_field (written_units units) chooser.entry.column.now (row_draws chooser.entry.seed ordinal) own.entry.column.now (row_draws own.entry.seed ordinal)) }
+    ensures text { buf.new ≡ record buf.old { text = buf.old.text ++ unwrap_or (ready_field (written_units units) chooser.entry.column.now (row_draws chooser.entry.seed ordinal) own.entry.column.now (row_draws own.entry.seed ordinal)) [] } }
+    ensures size { length (unwrap_or (ready_field (written_units units) chooser.entry.column.now (row_draws chooser.entry.seed ordinal) own.entry.column.now (row_draws own.entry.seed ordinal)) []) ≤ ready_kind_size own.entry.column.now.kind }
 {
     if is_null(own.column.null, own.seed, ordinal) {
         return Put::Null;
     }
     match &own.column.kind {
-        ReadyKind::Born => buf.put_piece(units.born),
-        ReadyKind::Changed => buf.put_piece(units.changed),
+        ReadyKind::Born => put_unit(units.born, buf),
+        ReadyKind::Changed => put_unit(units.changed, buf),
         ReadyKind::Drawn(leaf) => put_leaf(leaf, row_seed(own.seed, ordinal), buf),
         ReadyKind::Case { branches, .. } => {
             let entry = held_entry(chooser.column, chooser.seed, ordinal);

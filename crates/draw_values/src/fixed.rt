@@ -1,12 +1,13 @@
 //! Fixed numbers onto a page.
 
-ghost use Rattle.std.specs.Prelude.{◌≡◌, ◌≤◌, ◌+◌, ◌^◌, ◌∷◌, ◌++◌, length};
+ghost use Rattle.std.specs.Prelude.{◌≡◌, ◌<◌, ◌≤◌, ◌+◌, ◌^◌, [], ◌∷◌, ◌++◌, length, unsigned_abs};
 ghost use Rattle.line_pages.specs.Pieces.{piece_text};
-ghost use Rattle.draw_values.specs.Digits.{last_digits, pointed, signed_pointed};
+ghost use Rattle.line_pages.specs.Digits.{last_digits};
+ghost use Rattle.draw_values.specs.Digits.{pointed, signed_pointed};
 
 use crate::digits::prepend_digits;
 use fixed_divisors::FixedDivisor;
-use line_pages::{PageBuf, Piece};
+use line_pages::{Digits, PageBuf, Piece};
 
 /// Appends a number whose last `decimals` digits, 0 to 9, stand after a point; `unit` is 10 to their number. 21 bytes have to be
 /// free.
@@ -48,4 +49,48 @@ fn fraction(number: u64, count: u32) -> Piece
     ensures length { length (piece_text result) ≡ count + 1 }
 {
     prepend_digits(Piece::new(), number, count).prepend(b'.')
+}
+
+/// Such a number of at most 13 digits, and the byte behind it.
+#[inline(always)]
+pub(crate) fn fixed_piece(
+    digits: &Digits,
+    value: i64,
+    decimals: u32,
+    unit: &FixedDivisor,
+    behind: u8,
+) -> Piece
+    requires short { unsigned_abs value < 10 ^ 13 }
+    requires decimals { decimals ≤ 9 }
+    requires unit { unit.now ≡ 10 ^ decimals }
+    ensures { piece_text result ≡ signed_pointed decimals value ++ behind ∷ [] }
+{
+    let piece = pointed_piece(digits, value.unsigned_abs(), decimals, unit, behind);
+    if value < 0 {
+        piece.prepend(b'-')
+    } else {
+        piece
+    }
+}
+
+/// The same of a number that isn't negative.
+#[inline(always)]
+fn pointed_piece(
+    digits: &Digits,
+    number: u64,
+    decimals: u32,
+    unit: &FixedDivisor,
+    behind: u8,
+) -> Piece
+    requires short { number < 10 ^ 13 }
+    requires decimals { decimals ≤ 9 }
+    requires unit { unit.now ≡ 10 ^ decimals }
+    ensures text { piece_text result ≡ pointed decimals number ++ behind ∷ [] }
+    ensures size { length (piece_text result) ≤ 15 }
+{
+    if decimals == 0 {
+        return digits.piece(number, behind);
+    }
+    let fraction = digits.last_before(number, decimals, Piece::of_byte(behind));
+    digits.before(unit.quotient(number), fraction.prepend(b'.'))
 }

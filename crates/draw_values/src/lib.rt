@@ -4,23 +4,33 @@
 //!
 //! A table and a column are named by their places in the schema and in the table, and a row by its ordinal, its place in the order
 //! of birth in its table; all count from 0. A value is appended to a page as it is written (PostgreSQL's manual, "COPY", text
-//! format). Only `unit_draws` takes memory.
+//! format). A run is up to 256 rows of a table, whose fields a column makes at once, as pieces with the byte that stands behind them.
+//! Only `unit_draws`, `ColumnSeeds::new` and `RunColumn::new` take memory.
 #![tactic(auto)]
 
 mod characters;
 mod cohort_values;
+mod column_seeds;
 mod dates;
 mod digits;
 mod draws;
 mod fields;
 mod fixed;
+mod kept;
 pub mod laws;
 mod leaves;
 mod numbers;
+mod run_column;
+mod run_loops;
+mod run_pieces;
+mod runs;
 mod values;
 mod weighted;
 mod words;
 
 pub use cohort_values::CohortValues;
+pub use column_seeds::ColumnSeeds;
 pub use draws::{UnitDraws, unit_draws};
+pub use run_column::RunColumn;
+pub use runs::{RUN_LIMIT, RunNumbers, RunRows};
 pub use values::{Put, RowAt, put_value};

@@ -1,12 +1,13 @@
 //! Whole numbers that a draw chooses, onto a page.
 
-ghost use Rattle.std.specs.Prelude.{◌≡◌, ◌≤◌, ◌+◌, ◌^◌, ◌++◌, length, pos, ◌-ℤ◌, ◌<ℤ◌, ◌≤ℤ◌};
+ghost use Rattle.std.specs.Prelude.{◌≡◌, ◌≤◌, ◌+◌, ◌<◌, ◌^◌, [], ◌∷◌, ◌++◌, length, pos, unsigned_abs, ◌-ℤ◌, ◌<ℤ◌, ◌≤ℤ◌};
 ghost use Rattle.std.specs.Fmt.{signed_decimal};
+ghost use Rattle.line_pages.specs.Pieces.{piece_text};
 ghost use Rattle.schema_plan.specs.Choices.{choices as choices_of};
 ghost use Rattle.draw_values.specs.Values.{chosen};
 
 use fixed_divisors::FixedDivisor;
-use line_pages::PageBuf;
+use line_pages::{Digits, PageBuf, Piece};
 
 /// Of the numbers from `lo` to `hi`, each `step` past the one before, the one that a draw chooses; `choices` is how many they
 /// are.
@@ -32,4 +33,18 @@ pub(crate) fn put_whole(value: i64, buf: &mut PageBuf)
     ensures size { length (signed_decimal value) ≤ 20 }
 {
     buf.put_signed(value);
+}
+
+/// A number of at most 14 digits in decimal, with a minus sign where it is negative, and the byte behind it.
+#[inline(always)]
+pub(crate) fn whole_piece(digits: &Digits, value: i64, behind: u8) -> Piece
+    requires { unsigned_abs value + 1 < 10 ^ 14 }
+    ensures { piece_text result ≡ signed_decimal value ++ behind ∷ [] }
+{
+    let piece = digits.piece(value.unsigned_abs(), behind);
+    if value < 0 {
+        piece.prepend(b'-')
+    } else {
+        piece
+    }
 }

@@ -7,7 +7,7 @@ ghost use Rattle.draw_values.specs.ReadyValues.{row_draws};
 ghost use Rattle.draw_values.specs.Values.{draws_at, is_own, put_of, size_at, value_at, written};
 
 use crate::fields::{Drawn, Units, chooser_of, put_field};
-use line_pages::{PageBuf, Piece};
+use line_pages::PageBuf;
 use philox_seeds::{column_seed, table_seed, unit_seed};
 use schema_plan::Plan;
 
@@ -66,8 +66,8 @@ pub fn put_value(plan: &Plan, table: u32, column: u32, at: RowAt, buf: &mut Page
     let own = &columns[column as usize];
     let chooser = chooser_of(column as usize, own);
     let units = Units {
-        born: &Piece::of_number(at.born),
-        changed: &Piece::of_number(at.changed),
+        born: at.born,
+        changed: at.changed,
     };
     put_field(
         Drawn {

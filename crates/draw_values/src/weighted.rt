@@ -26,7 +26,8 @@ pub(crate) fn skewed(lo: i64, weights: &Weights, total: &FixedDivisor, draw: u64
     requires few { length weights.now ≤ 4096 }
     requires last { (lo +ℤ pos (length weights.now - 1)) <ℤ pos (2 ^ 63) }
     requires total { total.now ≡ sum weights.now }
-    ensures { result ≡ lo +ℤ pos (chosen_group weights.now draw) }
+    ensures exact { result ≡ lo +ℤ pos (chosen_group weights.now draw) }
+    ensures near { chosen_group weights.now draw < 4096 }
 {
     lo + chosen_group(weights, total, draw) as i64
 }

@@ -1,6 +1,6 @@
 use Rattle.std.proofs.Common.{◌≡◌, ℕ, ◌+◌, ◌-◌, ◌/◌, ◌++◌, length, ap, ◌∙◌, arith}
 use Rattle.line_pages.specs.Pieces.{piece_text}
-use Rattle.draw_values.specs.Digits.{last_digits}
+use Rattle.line_pages.specs.Digits.{last_digits}
 use Rattle.draw_values.proofs.DigitLemmas.{all_moved, digit_moves}
 use Rattle.draw_values.proofs.digits.prepend_digits.Goals as goal
 

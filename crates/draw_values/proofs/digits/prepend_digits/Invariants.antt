@@ -1,6 +1,6 @@
 use Rattle.std.proofs.Common.{◌≡◌, ◌+◌, ◌-◌, ◌++◌, length}
 use Rattle.line_pages.specs.Pieces.{piece_text}
-use Rattle.draw_values.specs.Digits.{last_digits}
+use Rattle.line_pages.specs.Digits.{last_digits}
 use Rattle.draw_values.proofs.digits.prepend_digits.Given as goal
 
 abbrev pub invariant-loop : goal.invariant-loop

@@ -1,6 +1,6 @@
 use Rattle.std.proofs.Common.{refl}
 use Rattle.draw_values.specs.Dates.{date_text, month_from, year_from}
-use Rattle.draw_values.specs.Digits.{last_digits}
+use Rattle.line_pages.specs.Digits.{last_digits}
 use Rattle.draw_values.proofs.laws.worked_dates.Goals as goal
 
 pub returns-clause-first : goal.returns-clause-first

@@ -5,7 +5,7 @@ use Rattle.std.specs.Str.{chars}
 use Rattle.weight_tables.specs.Harmonic.{harmonic_weight, harmonic_weights}
 use Rattle.weight_tables.specs.Weights.{selected}
 use Rattle.draw_values.specs.Dates.{date_text, month_from, year_from}
-use Rattle.draw_values.specs.Digits.{last_digits}
+use Rattle.line_pages.specs.Digits.{last_digits}
 use Rattle.draw_values.proofs.laws.worked_values.Goals as goal
 
 pub returns-clause-int : goal.returns-clause-int

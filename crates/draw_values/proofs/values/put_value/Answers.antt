@@ -1,11 +1,9 @@
-use Rattle.std.proofs.Common.{◌≡◌, ℕ, ◌++◌, List, decimal, length, option_map, ap, ◌∙◌, arith}
-use Rattle.line_pages.specs.Pieces.{piece_text}
+use Rattle.std.proofs.Common.{◌≡◌, ℕ, ◌++◌, List, option_map, refl, ap, ◌∙◌, arith}
 use Rattle.row_text.specs.Fields.{piece_text as written_text}
 use Rattle.schema_plan.specs.Layout.{layout_of}
 use Rattle.draw_values.specs.ReadyValues.{ready_field, ready_kind_size, row_draws}
 use Rattle.draw_values.specs.Values.{value_at}
 use Rattle.draw_values.specs.WrittenUnits.{units_at}
-use Rattle.draw_values.proofs.ColumnLemmas.{length-decimal-unit}
 use Rattle.draw_values.proofs.FieldLemmas.{IsKeptField, field_is_ready, kept_field, length-field_text, put_of-written, size_at-kept, unwrap_or-written, value_at-kept}
 use Rattle.draw_values.proofs.values.put_value.Goals as goal
 use Rattle.draw_values.proofs.values.put_value.Goals.{After-drawn_seed-2}
@@ -23,8 +21,8 @@ put_field-requires-clause-ready c =
 
 pub put_field-requires-clause-units : goal.put_field-requires-clause-units
 put_field-requires-clause-units c = record {
-  born_size = omega (arith, ap length c.of_number.ensures, length-decimal-unit c.args.at.born (omega (arith, c.columns-columns.ensures.units, c.requires.born)));
-  changed_size = omega (arith, ap length c.of_number-2.ensures, length-decimal-unit c.args.at.changed (omega (arith, c.columns-columns.ensures.units, c.requires.changed)));
+  born_limit = omega (arith, c.columns-columns.ensures.units, c.requires.born);
+  changed_limit = omega (arith, c.columns-columns.ensures.units, c.requires.changed);
 }
 
 pub put_field-requires-clause-room : goal.put_field-requires-clause-room
@@ -36,20 +34,14 @@ put_field-requires-clause-room c =
       c.requires.room,
     )
 
--- the units are those of the row
-units_are : (c : After-drawn_seed-2) → record { born = piece_text c.of_number.result; changed = piece_text c.of_number-2.result } ≡ units_at c.args.at
-units_are c =
-    ap (λ (text : List ℕ). record { born = text; changed = piece_text c.of_number-2.result }) c.of_number.ensures
-    ∙ ap (λ (text : List ℕ). record { born = decimal c.args.at.born; changed = text }) c.of_number-2.ensures
-
 -- what is written is the value
 value : (c : After-drawn_seed-2) → option_map (written_text (layout_of c.args.plan.now).delimiter) (value_at (layout_of c.args.plan.now) c.args.table c.args.column c.args.at)
-    ≡ ready_field (record { born = piece_text c.of_number.result; changed = piece_text c.of_number-2.result }) c.index-columns-chooser.result (row_draws c.drawn_seed-2.result c.args.at.ordinal)
+    ≡ ready_field (units_at c.args.at) c.index-columns-chooser.result (row_draws c.drawn_seed-2.result c.args.at.ordinal)
     c.index-columns-column.result (row_draws c.drawn_seed.result c.args.at.ordinal)
 value c =
     value_at-kept (layout_of c.args.plan.now) c.args.table c.args.column c.chooser_of-chooser.result c.index-columns-column.result c.index-columns-chooser.result (kept c)
-    c.args.at (record { born = piece_text c.of_number.result; changed = piece_text c.of_number-2.result }) (row_draws c.drawn_seed.result c.args.at.ordinal)
-    (row_draws c.drawn_seed-2.result c.args.at.ordinal) (units_are c) c.drawn_seed.ensures c.drawn_seed-2.ensures
+    c.args.at (units_at c.args.at) (row_draws c.drawn_seed.result c.args.at.ordinal)
+    (row_draws c.drawn_seed-2.result c.args.at.ordinal) refl c.drawn_seed.ensures c.drawn_seed-2.ensures
 
 pub returns-clause-put : goal.returns-clause-put
 returns-clause-put c =

@@ -1,5 +1,4 @@
 use Rattle.std.proofs.Common.{◌≡◌, ℕ, ◌++◌, List, decimal, option_map, ap, ◌∙◌, arith}
-use Rattle.line_pages.specs.Pieces.{piece_text}
 use Rattle.row_text.specs.Fields.{piece_text as written_text}
 use Rattle.schema_plan.specs.Layout.{layout_of}
 use Rattle.draw_values.specs.CohortValues.{AreValuesOf, ValuesOf, row_for, value_for}
@@ -10,8 +9,8 @@ use Rattle.draw_values.proofs.FieldLemmas.{IsKeptField, field_is_ready, kept_fie
 use Rattle.draw_values.proofs.cohort_values.CohortValues.put.Goals as goal
 use Rattle.draw_values.proofs.cohort_values.CohortValues.put.Goals.{After-seed-2}
 
-known : (c : After-seed-2) → AreValuesOf c.args.self.now c.self.inside.columns.now c.self.inside.births.now c.self.inside.changes.now
-known c = AreValuesOf-view _ c.args.self.now c.self.inside.columns.now c.self.inside.births.now c.self.inside.changes.now c.self.view_is c.self.invariant
+known : (c : After-seed-2) → AreValuesOf c.args.self.now c.self.inside.columns.now c.self.inside.seeds
+known c = AreValuesOf-view _ c.args.self.now c.self.inside.columns.now c.self.inside.seeds c.self.view_is c.self.invariant
 
 kept : (c : After-seed-2) → IsKeptField (layout_of c.args.self.now.plan) c.args.self.now.table c.args.column c.chooser_of-chooser.result c.index-columns-column.result c.index-columns-chooser.result
 kept c =
@@ -34,21 +33,19 @@ put_field-requires-clause-room c =
     )
 
 -- the units are those of the row
-units_are : (c : After-seed-2) → record { born = piece_text c.text.result.now; changed = piece_text c.text-2.result.now } ≡ units_at (row_for c.args.self.now c.args.ordinal)
-units_are c =
-    let seen : ValuesOf = c.args.self.now in
-    let born : piece_text c.text.result.now ≡ decimal seen.born = c.text.ensures.text ∙ ap (λ (values : ValuesOf). decimal values.born) c.self.view_is in
-    let changed : piece_text c.text-2.result.now ≡ decimal seen.changed = c.text-2.ensures.text ∙ ap (λ (values : ValuesOf). decimal values.changed) c.self.view_is in
-    ap (λ (text : List ℕ). record { born = text; changed = piece_text c.text-2.result.now }) born
-    ∙ ap (λ (text : List ℕ). record { born = decimal seen.born; changed = text }) changed
+units_are : (c : After-seed-2) → record { born = decimal c.self.inside.born; changed = decimal c.self.inside.changed } ≡ units_at (row_for c.args.self.now c.args.ordinal)
+units_are c = ap (λ (seen : ValuesOf). units_at (row_for seen c.args.ordinal)) c.self.view_is
+
+pub put_field-requires-clause-units : goal.put_field-requires-clause-units
+put_field-requires-clause-units c = record { born_limit = c.self.invariant.born_limit; changed_limit = c.self.invariant.changed_limit }
 
 -- what is written is the value
 value : (c : After-seed-2) → option_map (written_text (layout_of c.args.self.now.plan).delimiter) (value_for c.args.self.now c.args.column c.args.ordinal)
-    ≡ ready_field (record { born = piece_text c.text.result.now; changed = piece_text c.text-2.result.now }) c.index-columns-chooser.result (row_draws c.seed-2.result c.args.ordinal)
+    ≡ ready_field (record { born = decimal c.self.inside.born; changed = decimal c.self.inside.changed }) c.index-columns-chooser.result (row_draws c.seed-2.result c.args.ordinal)
     c.index-columns-column.result (row_draws c.seed.result c.args.ordinal)
 value c =
     value_at-kept (layout_of c.args.self.now.plan) c.args.self.now.table c.args.column c.chooser_of-chooser.result c.index-columns-column.result c.index-columns-chooser.result (kept c)
-    (row_for c.args.self.now c.args.ordinal) (record { born = piece_text c.text.result.now; changed = piece_text c.text-2.result.now }) (row_draws c.seed.result c.args.ordinal)
+    (row_for c.args.self.now c.args.ordinal) (record { born = decimal c.self.inside.born; changed = decimal c.self.inside.changed }) (row_draws c.seed.result c.args.ordinal)
     (row_draws c.seed-2.result c.args.ordinal) (units_are c)
     (c.seed.ensures c.args.ordinal) (c.seed-2.ensures c.args.ordinal)
 

@@ -1,11 +1,12 @@
 use Rattle.std.proofs.Common.{◌≡◌, ◌≤◌, ℕ, pos, ◌++◌, List, length, w16, w64, to_z, of_z, ap, sym, ◌∙◌, arith}
 use Rattle.std.specs.Prelude.{unsigned_abs}
 use Rattle.std.proofs.lemmas.Int.{ints, to_z-of_z}
+use Rattle.line_pages.specs.Pieces.{piece_text}
 use Rattle.jiff_core.specs.Date.{epoch_day}
 use Rattle.draw_values.specs.Dates.{date_digits, date_text}
 use Rattle.draw_values.proofs.DateLemmas.{date_text-date, date_year, length-date_digits}
-use Rattle.draw_values.proofs.dates.put_date.Goals as goal
-use Rattle.draw_values.proofs.dates.put_date.Goals.{In-Ok}
+use Rattle.draw_values.proofs.dates.day_piece.Goals as goal
+use Rattle.draw_values.proofs.dates.day_piece.Goals.{In-Ok}
 
 is_day : (c : In-Ok) → epoch_day c.in-Ok.date ≡ c.args.day
 is_day c = c.in-Ok.ensures.value ∙ to_z-of_z w64 c.args.day c.ranges.day
@@ -19,10 +20,6 @@ overflow_cast-date c =
     let is : c.in-Ok.date.year ≡ pos found.0 = found.1.0 in
     omega (arith, ints)
 
-pub put_piece-requires : goal.put_piece-requires
-put_piece-requires c =
-    omega (arith, ap length c.date_piece.ensures, length-date_digits (unsigned_abs (to_z w16 (of_z w16 c.in-Ok.date.year))) c.in-Ok.date.month c.in-Ok.date.day, c.requires.room)
-
 text_is : (c : In-Ok) → date_digits (unsigned_abs (to_z w16 (of_z w16 c.in-Ok.date.year))) c.in-Ok.date.month c.in-Ok.date.day ≡ date_text c.args.day
 text_is c =
     let found = year_found c in
@@ -33,8 +30,7 @@ text_is c =
 
 pub returns-clause-text : goal.returns-clause-text
 returns-clause-text c =
-    c.put_piece.ensures
-    ∙ ap (λ (text : List ℕ). record { text = c.args.buf.now.text ++ text; room = c.args.buf.now.room }) (c.date_piece.ensures ∙ text_is (goal.at.returns-clause-text c).In-Ok)
+    c.date_piece.ensures ∙ ap (λ (text : List ℕ). text ++ piece_text c.args.rest) (text_is (goal.at.returns-clause-text c).In-Ok)
 
 pub returns-clause-size : goal.returns-clause-size
 returns-clause-size c =

@@ -1,0 +1,159 @@
+-- The fields of a column over a run of rows, each with the byte behind it, and what is kept of the column so that they are made fast.
+use Rattle.std.specs.Prelude.{◌≡◌, ◌<◌, ◌≤◌, ℕ, ℤ, pos, ◌^◌, ◌+ℤ◌, ◌&&◌, List, [], ◌∷◌, ◌++◌, Bool, true, false, Option, Some, None, ⊤, if◌then◌else◌, codes, decimal, length, map, nat_lt, slice_index, unsigned_abs}
+use Rattle.std.specs.List.{list_all, range_with_len}
+use Rattle.philox_seeds.specs.SeedTree.{column_seed, draw, row_seed, table_seed, unit_seed}
+use Rattle.row_text.specs.Fields.{field_text}
+use Rattle.schema_plan.specs.declared.ready.ReadyColumn.{ReadyColumn}
+use Rattle.schema_plan.specs.declared.ready.ReadyKind.{ReadyKind}
+use Rattle.schema_plan.specs.declared.ready.ReadyKind.TheVariants as kind
+use Rattle.schema_plan.specs.declared.ready.ReadyLeaf.{ReadyLeaf}
+use Rattle.schema_plan.specs.declared.ready.ReadyLeaf.TheVariants as leaf
+use Rattle.schema_plan.specs.Dictionaries.{Project}
+use Rattle.schema_plan.specs.Layout.{column_at, layout_of, table_at}
+use Rattle.schema_plan.specs.Ready.{ready_column}
+use Rattle.draw_values.specs.declared.runs.RunRows.{RunRows}
+use Rattle.draw_values.specs.declared.values.RowAt.{RowAt}
+use Rattle.draw_values.specs.Dates.{date_text}
+use Rattle.draw_values.specs.ReadyValues.{IsReady, ready_text}
+use Rattle.draw_values.specs.Values.{draws_at, is_null, value_at}
+
+-- the row at a place of a run
+abbrev pub run_row : RunRows → ℕ → RowAt
+run_row rows i =
+    record { ordinal = slice_index rows.ordinals.now i; born = slice_index rows.births.now i; changed = slice_index rows.changes.now i }
+
+-- so many rows
+pub record AreOfLength (count : ℕ) (rows : RunRows) : Type 0 where
+  pub ordinals : length rows.ordinals.now ≡ count
+  pub births : length rows.births.now ≡ count
+  pub changes : length rows.changes.now ≡ count
+
+-- so many rows, at most 256, whose units are at most a last one
+pub record AreRunRows (units count : ℕ) (rows : RunRows) : Type 0 where
+  pub few : count ≤ 256
+  pub lengths : AreOfLength count rows
+  pub born : (i : ℕ) → i < count → slice_index rows.births.now i ≤ units
+  pub changed : (i : ℕ) → i < count → slice_index rows.changes.now i ≤ units
+
+-- a text of at most 15 bytes makes a piece with the byte behind it
+abbrev pub is_short_text : List ℕ → Bool
+is_short_text text = nat_lt (length text) 16
+
+-- a number of at most 13 digits, which with a sign and a point is a short text, and so is any number up to 4,096 past it
+abbrev pub is_short_number : ℤ → Bool
+is_short_number number = nat_lt (unsigned_abs number) (10 ^ 13)
+
+-- a drawn value whose texts are known to be short
+abbrev pub is_short_leaf : ReadyLeaf → Bool
+is_short_leaf (leaf.Int lo hi step count) = is_short_number lo && is_short_number hi
+is_short_leaf (leaf.Fixed lo hi count decimals unit) = is_short_number lo && is_short_number hi
+is_short_leaf (leaf.Date lo hi count) = true
+is_short_leaf (leaf.Pick entries weights total) = list_all is_short_text entries
+is_short_leaf (leaf.Skew lo weights total) = is_short_number lo
+is_short_leaf (leaf.Chars lo lengths characters count) = false
+is_short_leaf (leaf.Dict words) = list_all is_short_text words.entries
+is_short_leaf (leaf.Words lo lengths words) = false
+
+-- the same of what a column holds; what takes from other columns or rows is never known to be
+abbrev pub is_short : ReadyKind → Bool
+is_short kind.Born = true
+is_short kind.Changed = true
+is_short (kind.Drawn drawn) = is_short_leaf drawn
+is_short _ = false
+
+-- the texts of which a draw chooses one, by its number, where they are kept: those of at most 4,096 days or 65,536 words
+abbrev pub choices_kept : ReadyLeaf → List (List ℕ)
+choices_kept (leaf.Date lo hi count) =
+    if nat_lt 4096 count then [] else map (λ day. date_text (lo +ℤ pos day)) (range_with_len 0 count)
+choices_kept (leaf.Pick entries weights total) = entries
+choices_kept (leaf.Dict words) = if nat_lt 65536 (length words.entries) then [] else words.entries
+choices_kept _ = []
+
+-- a text with the byte behind it
+abbrev pub with_behind : ℕ → List ℕ → List ℕ
+with_behind behind text = text ++ behind ∷ []
+
+-- what is kept of a drawn value, and of a column: such texts with the byte behind them, where all are short
+abbrev pub leaf_texts : ℕ → ReadyLeaf → List (List ℕ)
+leaf_texts behind drawn = if is_short_leaf drawn then map (with_behind behind) (choices_kept drawn) else []
+
+abbrev pub kept_texts : ℕ → ReadyKind → List (List ℕ)
+kept_texts behind (kind.Drawn drawn) = leaf_texts behind drawn
+kept_texts behind _ = []
+
+-- a column that is prepared for runs: its seed, its place, the byte behind its fields, whether they are known to be short, and
+-- the texts that are kept of it
+pub record RunColumnOf : Type 0 where
+  pub seed : ℕ
+  pub table : ℕ
+  pub column : ℕ
+  pub behind : ℕ
+  pub short : Bool
+  pub texts : List (List ℕ)
+
+-- the column at a place of a table of a plan, as it is kept ready
+abbrev pub ready_at : Project → ℕ → ℕ → ReadyColumn
+ready_at plan table column = ready_column (layout_of plan).delimiter (column_at (table_at (layout_of plan).tables table).columns column)
+
+-- that column prepared for runs, with a byte behind its fields
+abbrev pub run_column : Project → ℕ → ℕ → ℕ → RunColumnOf
+run_column plan table column behind = record {
+  seed = column_seed (table_seed (layout_of plan).seed table) column;
+  table = table;
+  column = column;
+  behind = behind;
+  short = is_short (ready_at plan table column).kind;
+  texts = kept_texts behind (ready_at plan table column).kind;
+}
+
+-- what is prepared is a column of a plan
+pub record IsRunColumn (plan : Project) (run : RunColumnOf) : Type 0 where
+  pub table_within : run.table < length plan.schema.tables
+  pub column_within : run.column < length (table_at (layout_of plan).tables run.table).columns
+  pub is : run ≡ run_column plan run.table run.column run.behind
+
+-- what is written for a field as it is kept, null where it is None
+abbrev pub or_null : Option (List ℕ) → List ℕ
+or_null None = codes "\\N"
+or_null (Some text) = text
+
+-- the seed of the field of the row at a place of a run, in a column with a seed that is drawn anew where a row changes, or isn't
+abbrev pub run_seed : ℕ → Bool → RunRows → ℕ → ℕ
+run_seed seed changes rows i =
+    row_seed (unit_seed seed (if changes then (run_row rows i).changed else (run_row rows i).born)) (run_row rows i).ordinal
+
+-- the text of a leaf by its draw 1 alone, which is all that a short one asks
+abbrev pub text_by : ReadyLeaf → ℕ → List ℕ
+text_by drawn number = ready_text drawn (λ _. number)
+
+-- what the row at a place of a run holds in a short column, if it isn't null
+abbrev pub short_value : ℕ → Bool → ReadyKind → RunRows → ℕ → List ℕ
+short_value seed changes kind.Born rows i = decimal (run_row rows i).born
+short_value seed changes kind.Changed rows i = decimal (run_row rows i).changed
+short_value seed changes (kind.Drawn drawn) rows i = text_by drawn (draw (run_seed seed changes rows i) 1)
+short_value seed changes _ rows i = []
+
+-- the numbers of what is drawn are within their limits
+abbrev pub IsReadyDrawn : ReadyKind → Type 0
+IsReadyDrawn (kind.Drawn drawn) = IsReady drawn
+IsReadyDrawn _ = ⊤
+
+-- what is written for the row at a place of a run, with the byte behind it
+abbrev pub run_text : Project → RunColumnOf → RunRows → ℕ → List ℕ
+run_text plan run rows i =
+    with_behind run.behind (field_text (layout_of plan).delimiter (value_at (layout_of plan) run.table run.column (run_row rows i)))
+
+-- whether a row's field is drawn to be null
+abbrev pub is_null_in : Project → RunColumnOf → RowAt → Bool
+is_null_in plan run at =
+    is_null (column_at (table_at (layout_of plan).tables run.table).columns run.column).null
+    (draws_at (layout_of plan) run.table at run.column)
+
+-- a null field with the byte behind it
+abbrev pub null_text : RunColumnOf → List ℕ
+null_text run = with_behind run.behind (codes "\\N")
+
+-- so many columns of the table at a place of a plan are prepared, each with its seed
+pub record AreColumnsOf (plan : Project) (table : ℕ) (columns : List RunColumnOf) : Type 0 where
+  pub many : length columns ≡ length (table_at (layout_of plan).tables table).columns
+  pub each : (column : ℕ) → column < length columns → slice_index (map (λ (run : RunColumnOf). run.seed) columns) column ≡ column_seed (table_seed (layout_of plan).seed table) column

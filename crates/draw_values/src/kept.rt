@@ -1,0 +1,173 @@
+//! What is kept of a column so that its fields are made fast: the pieces of its entries or days, with the byte behind.
+
+ghost use Rattle.std.specs.Prelude.{◌≡◌, [], ◌<◌, ◌≤◌, ◌+◌, ◌-◌, ◌++◌, ◌∷◌, IfOk, length, map, neg_ℤ, pos, true, ◌+ℤ◌, ◌≤ℤ◌};
+ghost use Rattle.std.specs.List.{list_all, range_with_len};
+ghost use Rattle.line_pages.specs.Pieces.{piece_text};
+ghost use Rattle.draw_values.specs.Dates.{date_text};
+ghost use Rattle.draw_values.specs.ReadyValues.{IsReady};
+ghost use Rattle.draw_values.specs.Runs.{IsReadyDrawn, choices_kept, is_short, is_short_leaf, is_short_number, is_short_text, kept_texts, with_behind};
+
+use crate::dates::day_piece;
+use line_pages::{Memory, Piece};
+use row_text::WrittenTexts;
+use schema_plan::{ReadyKind, ReadyLeaf, ReadyWords};
+use std::alloc::Global;
+
+/// The most bytes of a text that makes a piece with the byte behind it.
+const SHORT: usize = 15;
+
+/// The first number of more than 13 digits.
+const LONG_NUMBER: u64 = 10_000_000_000_000;
+
+/// The most days whose pieces are kept.
+pub(crate) const DAY_ROOM: u64 = 4096;
+
+/// The most words whose pieces are kept.
+pub(crate) const WORD_ROOM: usize = 65_536;
+
+/// Whether all texts of a column, a null one too, are known to make a piece with the byte behind it.
+pub(crate) fn is_short(kind: &ReadyKind) -> bool
+    ensures { result ≡ is_short kind.now }
+{
+    match kind {
+        ReadyKind::Born => true,
+        ReadyKind::Changed => true,
+        ReadyKind::Drawn(leaf) => is_short_leaf(leaf),
+        _ => false,
+    }
+}
+
+/// The same of a drawn value.
+fn is_short_leaf(leaf: &ReadyLeaf) -> bool
+    ensures { result ≡ is_short_leaf leaf.now }
+{
+    match leaf {
+        ReadyLeaf::Int { lo, hi, .. } => is_short_number(*lo) && is_short_number(*hi),
+        ReadyLeaf::Fixed { lo, hi, .. } => is_short_number(*lo) && is_short_number(*hi),
+        ReadyLeaf::Date { .. } => true,
+        ReadyLeaf::Pick { entries, .. } => are_short(entries),
+        ReadyLeaf::Skew { lo, .. } => is_short_number(*lo),
+        ReadyLeaf::Chars { .. } => false,
+        ReadyLeaf::Dict(words) => are_short_words(words),
+        ReadyLeaf::Words { .. } => false,
+    }
+}
+
+/// Whether a number has at most 13 digits.
+fn is_short_number(number: i64) -> bool
+    ensures { result ≡ is_short_number number }
+{
+    number.unsigned_abs() < LONG_NUMBER
+}
+
+/// Whether each of some texts has at most 15 bytes.
+fn are_short(texts: &WrittenTexts) -> bool
+    ensures { result ≡ list_all is_short_text texts.now }
+{
+    for i in 0..texts.len() {
+        if texts.get(i).len() > SHORT {
+            return false;
+        }
+    }
+    true
+}
+
+/// Whether each of some words has at most 15 bytes, as it is written.
+fn are_short_words(words: &ReadyWords) -> bool
+    ensures { result ≡ list_all is_short_text words.now.entries }
+{
+    for i in 0..words.len() {
+        if words.entry(i).len() > SHORT {
+            return false;
+        }
+    }
+    true
+}
+
+/// A text of at most 15 bytes, and the byte behind it.
+#[inline(always)]
+pub(crate) fn text_piece(bytes: &[u8], behind: u8) -> Piece
+    requires { length bytes.now ≤ 15 }
+    ensures { piece_text result ≡ bytes.now ++ behind ∷ [] }
+{
+    let mut piece = Piece::of_byte(behind);
+    for i in 0..bytes.len() {
+        piece = piece.prepend(bytes[bytes.len() - 1 - i]);
+    }
+    piece
+}
+
+/// The pieces that are kept of a column.
+pub(crate) fn kept_pieces(alloc: Global, kind: &ReadyKind, behind: u8) -> Result<Vec<Piece>, Memory>
+    requires { IsReadyDrawn kind.now }
+    ensures { IfOk result (λ pieces. map piece_text pieces.items ≡ kept_texts behind kind.now) }
+{
+    match kind {
+        ReadyKind::Drawn(leaf) if is_short_leaf(leaf) => leaf_pieces(alloc, leaf, behind),
+        _ => Ok(Vec::new(alloc)),
+    }
+}
+
+/// The same of a drawn value, whose texts are short.
+fn leaf_pieces(alloc: Global, leaf: &ReadyLeaf, behind: u8) -> Result<Vec<Piece>, Memory>
+    requires ready { IsReady leaf.now }
+    requires short { is_short_leaf leaf.now ≡ true }
+    ensures { IfOk result (λ pieces. map piece_text pieces.items ≡ map (with_behind behind) (choices_kept leaf.now)) }
+{
+    match leaf {
+        ReadyLeaf::Date { lo, choices, .. } if choices.number() <= DAY_ROOM => {
+            day_pieces(alloc, i64::from(*lo), choices.number(), behind)
+        }
+        ReadyLeaf::Pick { entries, .. } => entry_pieces(alloc, entries, behind),
+        ReadyLeaf::Dict(words) if words.len() <= WORD_ROOM => word_pieces(alloc, words, behind),
+        _ => Ok(Vec::new(alloc)),
+    }
+}
+
+/// So many days from a first one on.
+fn day_pieces(alloc: Global, first: i64, count: u64, behind: u8) -> Result<Vec<Piece>, Memory>
+    requires few { count ≤ 4096 }
+    requires first_day { neg_ℤ (pos 719162) ≤ℤ first }
+    requires last_day { (first +ℤ pos count) ≤ℤ pos 2932897 }
+    ensures { IfOk result (λ pieces. map piece_text pieces.items ≡ map (with_behind behind) (map (λ day. date_text (first +ℤ pos day)) (range_with_len 0 count))) }
+{
+    let mut pieces = Vec::new(alloc);
+    for day in 0..count {
+        let date = day_past(first, day);
+        pieces.push(day_piece(date, Piece::of_byte(behind)))?;
+    }
+    Ok(pieces)
+}
+
+/// The day that is so many past another.
+fn day_past(first: i64, days: u64) -> i64
+    requires few { days < 4096 }
+    requires last_day { first ≤ℤ pos 2932896 }
+    ensures { result ≡ first +ℤ pos days }
+{
+    first + days as i64
+}
+
+/// Some texts.
+fn entry_pieces(alloc: Global, entries: &WrittenTexts, behind: u8) -> Result<Vec<Piece>, Memory>
+    requires { list_all is_short_text entries.now ≡ true }
+    ensures { IfOk result (λ pieces. map piece_text pieces.items ≡ map (with_behind behind) entries.now) }
+{
+    let mut pieces = Vec::new(alloc);
+    for i in 0..entries.len() {
+        pieces.push(text_piece(entries.get(i), behind))?;
+    }
+    Ok(pieces)
+}
+
+/// Some words.
+fn word_pieces(alloc: Global, words: &ReadyWords, behind: u8) -> Result<Vec<Piece>, Memory>
+    requires { list_all is_short_text words.now.entries ≡ true }
+    ensures { IfOk result (λ pieces. map piece_text pieces.items ≡ map (with_behind behind) words.now.entries) }
+{
+    let mut pieces = Vec::new(alloc);
+    for i in 0..words.len() {
+        pieces.push(text_piece(words.entry(i), behind))?;
+    }
+    Ok(pieces)
+}

@@ -1,0 +1,289 @@
+//! A column, prepared for runs: its fields for many rows at once, as pieces.
+
+ghost use Rattle.std.specs.Prelude.{◌≡◌, ℕ, ◌<◌, ◌≤◌, IfOk, if◌then◌else◌, length, map, slice_index, slice_index_or, [], true};
+ghost use Rattle.philox_seeds.specs.SeedTree.{draw as draw_of};
+ghost use Rattle.line_pages.specs.Pieces.{piece_text};
+ghost use Rattle.row_text.specs.Fields.{field_text};
+ghost use Rattle.schema_plan.specs.Layout.{layout_of, table_at};
+ghost use Rattle.draw_values.specs.Runs.{AreOfLength, AreRunRows, IsReadyDrawn, IsRunColumn, is_null_in, is_short, is_short_leaf, kept_texts, leaf_texts, null_text, run_column, run_row, run_seed, run_text, short_value, text_by, with_behind};
+ghost use Rattle.draw_values.specs.ReadyValues.{IsReady};
+ghost use Rattle.draw_values.specs.Values.{is_null, size_at, value_at};
+
+use crate::column_seeds::ColumnSeeds;
+use crate::fields::{NULL_DRAW, is_null};
+use crate::kept::{is_short, kept_pieces, text_piece};
+use crate::leaves::FIRST_DRAW;
+use crate::run_loops::{put_draws, put_nulls, put_row_seeds, put_unit_seeds};
+use crate::run_pieces::{fill_leaf, fill_units};
+use crate::runs::{RunNumbers, RunRows};
+use crate::values::RowAt;
+use line_pages::{Digits, Memory, Piece};
+use schema_plan::{Plan, ReadyColumn, ReadyKind, ReadyLeaf};
+use std::alloc::Global;
+use std::marker::Model;
+
+/// The most units whose seeds are kept of a column.
+const SEED_ROOM: u64 = 10_001;
+
+/// A column, prepared for runs: its seeds, the byte that stands behind its fields, and the pieces of its entries. A contract sees
+/// these, and the column's place.
+#[derive(Drop)]
+pub struct RunColumn {
+    table: u32,
+    column: u32,
+    behind: u8,
+    seeds: ColumnSeeds,
+    short: bool,
+    kept: Vec<Piece>,
+}
+
+impl Model for RunColumn {
+    ghost use Rattle.std.specs.Prelude.{map};
+    ghost use Rattle.line_pages.specs.Pieces.{piece_text};
+    ghost use Rattle.draw_values.specs.Runs.{RunColumnOf};
+
+    ghost Value = { RunColumnOf };
+
+    ghost view = { λ c. record { seed = c.seeds; table = c.table; column = c.column; behind = c.behind; short = c.short; texts = map piece_text c.kept.items } };
+}
+
+impl RunColumn {
+    /// The column at a place of a table, with `behind` behind each of its fields, and with its seeds at the units 0 to `last`. At
+    /// `Memory` none is made.
+    pub fn new(
+        alloc: Global,
+        plan: &Plan,
+        table: u32,
+        column: u32,
+        behind: u8,
+        last: u64,
+    ) -> Result<RunColumn, Memory>
+        requires table { table < length plan.now.schema.tables }
+        requires column { column < length (table_at (layout_of plan.now).tables table).columns }
+        ensures { IfOk result (λ made. made ≡ run_column plan.now table column behind) }
+    {
+        let seeds = ColumnSeeds::new(alloc, plan, table, column, last, SEED_ROOM)?;
+        let columns = plan.columns(table);
+        let own = &columns[column as usize];
+        let short = is_short(&own.kind);
+        let kept = kept_pieces(alloc, &own.kind, behind)?;
+        Ok(RunColumn {
+            table,
+            column,
+            behind,
+            seeds,
+            short,
+            kept,
+        })
+    }
+
+    /// Whether every field, a null one too, makes a piece with the byte behind it, so that `fill` may be called.
+    #[inline(always)]
+    pub fn is_short(&self) -> bool
+        ensures { result ≡ self.now.short }
+    {
+        self.short
+    }
+
+    /// The column's seeds.
+    #[inline(always)]
+    pub fn seeds(&self) -> &ColumnSeeds
+        ensures { result.now ≡ self.now.seed }
+    {
+        &self.seeds
+    }
+
+    /// The fields of the rows of a run, each with the byte behind it.
+    pub fn fill(
+        &self,
+        plan: &Plan,
+        digits: &Digits,
+        rows: RunRows<'_>,
+        numbers: &mut RunNumbers,
+        pieces: &mut [Piece],
+    )
+        requires column { IsRunColumn plan.now self.now }
+        requires short { self.now.short ≡ true }
+        requires rows { AreRunRows (layout_of plan.now).units (length pieces.old) rows }
+        ensures text { (i : ℕ) → i < length pieces.old → slice_index_or (map piece_text pieces.new) i [] ≡ run_text plan.now self.now rows.entry i }
+        ensures size { (i : ℕ) → i < length pieces.old → length (field_text (layout_of plan.now).delimiter (value_at (layout_of plan.now) self.now.table self.now.column (run_row rows.entry i))) ≤ size_at (layout_of plan.now) self.now.table self.now.column }
+    {
+        let columns = plan.columns(self.table);
+        let own = &columns[self.column as usize];
+        self.fill_values(digits, own, rows, numbers, pieces);
+        self.null_ready(own, rows, numbers, pieces);
+    }
+
+    /// The values of the rows of a run in the column, as it is kept ready, also of fields that are null.
+    #[inline(always)]
+    fn fill_values(
+        &self,
+        digits: &Digits,
+        own: &ReadyColumn,
+        rows: RunRows<'_>,
+        numbers: &mut RunNumbers,
+        pieces: &mut [Piece],
+    )
+        requires ready { IsReadyDrawn own.now.kind }
+        requires short { is_short own.now.kind ≡ true }
+        requires kept { self.now.texts ≡ kept_texts self.now.behind own.now.kind }
+        requires rows { AreRunRows 10000 (length pieces.old) rows }
+        ensures { (i : ℕ) → i < length pieces.old → slice_index_or (map piece_text pieces.new) i [] ≡ with_behind self.now.behind (short_value self.now.seed own.now.changes own.now.kind rows.entry i) }
+    {
+        match &own.kind {
+            ReadyKind::Born => fill_units(digits, rows.births, self.behind, pieces),
+            ReadyKind::Changed => fill_units(digits, rows.changes, self.behind, pieces),
+            ReadyKind::Drawn(leaf) => {
+                let count = pieces.len();
+                let all_seeds = &mut numbers.seeds[..];
+                let all_draws = &mut numbers.draws[..];
+                let seeds = &mut all_seeds[..count];
+                let draws = &mut all_draws[..count];
+                self.fill_drawn(digits, own.changes, leaf, rows, seeds, draws, pieces);
+            }
+            _ => unreachable!(),
+        }
+    }
+
+    /// The values that are drawn of a leaf whose texts are short, for fields that are drawn anew where a row changes, or aren't.
+    #[inline(always)]
+    fn fill_drawn(
+        &self,
+        digits: &Digits,
+        changes: bool,
+        leaf: &ReadyLeaf,
+        rows: RunRows<'_>,
+        seeds: &mut [u64],
+        draws: &mut [u64],
+        pieces: &mut [Piece],
+    )
+        requires ready { IsReady leaf.now }
+        requires short { is_short_leaf leaf.now ≡ true }
+        requires kept { self.now.texts ≡ leaf_texts self.now.behind leaf.now }
+        requires lengths { AreOfLength (length pieces.old) rows }
+        requires seeds { length seeds.old ≡ length pieces.old }
+        requires draws { length draws.old ≡ length pieces.old }
+        ensures { (i : ℕ) → i < length pieces.old → slice_index_or (map piece_text pieces.new) i [] ≡ with_behind self.now.behind (text_by leaf.now (draw_of (run_seed self.now.seed changes rows.entry i) 1)) }
+    {
+        self.put_run_draws(FIRST_DRAW, changes, rows, seeds, draws);
+        fill_leaf(
+            digits,
+            leaf,
+            self.kept.as_slice(),
+            draws,
+            self.behind,
+            pieces,
+        );
+    }
+
+    /// The seeds of the rows of a run, for fields that are drawn anew where a row changes, or aren't.
+    #[inline(always)]
+    fn put_seeds(&self, changes: bool, rows: RunRows<'_>, seeds: &mut [u64])
+        requires { AreOfLength (length seeds.old) rows }
+        ensures { (i : ℕ) → i < length seeds.old → slice_index seeds.new i ≡ run_seed self.now.seed changes rows.entry i }
+    {
+        put_unit_seeds(&self.seeds, units_of(changes, rows), seeds);
+        put_row_seeds(rows.ordinals, seeds);
+    }
+
+    /// The draws of a number of the rows of a run, and the seeds that they are from.
+    #[inline(always)]
+    fn put_run_draws(
+        &self,
+        n: u32,
+        changes: bool,
+        rows: RunRows<'_>,
+        seeds: &mut [u64],
+        draws: &mut [u64],
+    )
+        requires lengths { AreOfLength (length seeds.old) rows }
+        requires same { length draws.old ≡ length seeds.old }
+        ensures { (i : ℕ) → i < length draws.old → slice_index draws.new i ≡ draw_of (run_seed self.now.seed changes rows.entry i) n }
+    {
+        self.put_seeds(changes, rows, seeds);
+        put_draws(n, seeds, draws);
+    }
+
+    /// Puts a null field with the byte behind it over the pieces of those rows of a run whose field is drawn to be null in the column,
+    /// as it is kept ready, and leaves the others.
+    fn null_ready(
+        &self,
+        own: &ReadyColumn,
+        rows: RunRows<'_>,
+        numbers: &mut RunNumbers,
+        pieces: &mut [Piece],
+    )
+        requires few { length pieces.old ≤ 256 }
+        requires lengths { AreOfLength (length pieces.old) rows }
+        ensures { (i : ℕ) → i < length pieces.old → slice_index_or (map piece_text pieces.new) i []
+            ≡ (if is_null own.now.null (draw_of (run_seed self.now.seed own.now.changes rows.entry i)) then null_text self.now else slice_index_or (map piece_text pieces.old) i []) }
+    {
+        if own.null == 0 {
+            return;
+        }
+        let count = pieces.len();
+        let all_seeds = &mut numbers.seeds[..];
+        let all_draws = &mut numbers.draws[..];
+        let seeds = &mut all_seeds[..count];
+        let draws = &mut all_draws[..count];
+        self.put_null_pieces(own, rows, seeds, draws, pieces);
+    }
+
+    /// The same, in a column of which some fields are null.
+    #[inline(always)]
+    fn put_null_pieces(
+        &self,
+        own: &ReadyColumn,
+        rows: RunRows<'_>,
+        seeds: &mut [u64],
+        draws: &mut [u64],
+        pieces: &mut [Piece],
+    )
+        requires lengths { AreOfLength (length pieces.old) rows }
+        requires seeds { length seeds.old ≡ length pieces.old }
+        requires draws { length draws.old ≡ length pieces.old }
+        ensures { (i : ℕ) → i < length pieces.old → slice_index_or (map piece_text pieces.new) i []
+            ≡ (if is_null own.now.null (draw_of (run_seed self.now.seed own.now.changes rows.entry i)) then null_text self.now else slice_index_or (map piece_text pieces.old) i []) }
+    {
+        self.put_run_draws(NULL_DRAW, own.changes, rows, seeds, draws);
+        put_nulls(own.null, draws, text_piece(b"\\N", self.behind), pieces);
+    }
+
+    /// Puts a null field with the byte behind it over the pieces of those rows of a run whose field is drawn to be null in the column,
+    /// which is of any kind, and leaves the others.
+    pub fn null_out(
+        &self,
+        plan: &Plan,
+        rows: RunRows<'_>,
+        numbers: &mut RunNumbers,
+        pieces: &mut [Piece],
+    )
+        requires column { IsRunColumn plan.now self.now }
+        requires rows { AreRunRows (layout_of plan.now).units (length pieces.old) rows }
+        ensures { (i : ℕ) → i < length pieces.old → slice_index_or (map piece_text pieces.new) i []
+            ≡ (if is_null_in plan.now self.now (run_row rows.entry i) then null_text self.now else slice_index_or (map piece_text pieces.old) i []) }
+    {
+        let columns = plan.columns(self.table);
+        self.null_ready(&columns[self.column as usize], rows, numbers, pieces);
+    }
+
+    /// Whether a row's field is drawn to be null in the column, which is of any kind.
+    #[inline(always)]
+    pub fn is_null(&self, plan: &Plan, at: RowAt) -> bool
+        requires column { IsRunColumn plan.now self.now }
+        ensures { result ≡ is_null_in plan.now self.now at }
+    {
+        let columns = plan.columns(self.table);
+        let own = &columns[self.column as usize];
+        let unit = if own.changes { at.changed } else { at.born };
+        is_null(own.null, self.seeds.at(unit), at.ordinal)
+    }
+}
+
+/// The units at which the fields of the rows of a run are drawn, in a column that is drawn anew where a row changes, or isn't.
+#[inline(always)]
+fn units_of<'a>(changes: bool, rows: RunRows<'a>) -> &'a [u64]
+    ensures { result.now ≡ (if changes then rows.entry.changes.now else rows.entry.births.now) }
+{
+    if changes { rows.changes } else { rows.births }
+}

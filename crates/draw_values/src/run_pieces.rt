@@ -1,0 +1,220 @@
+//! The pieces of drawn values over a run, by their draws: one loop for each kind, each piece with the byte behind it.
+
+ghost use Rattle.std.specs.Prelude.{◌≡◌, ℕ, ◌<◌, ◌≤◌, ◌+◌, ◌-◌, ◌^◌, [], decimal, length, map, neg_ℤ, pos, slice_index, slice_index_or, sum, true, ◌+ℤ◌, ◌-ℤ◌, ◌<ℤ◌, ◌≤ℤ◌};
+ghost use Rattle.std.specs.Fmt.{signed_decimal};
+ghost use Rattle.std.specs.List.{list_all};
+ghost use Rattle.line_pages.specs.Pieces.{piece_text};
+ghost use Rattle.schema_plan.specs.Choices.{choices as choices_of};
+ghost use Rattle.draw_values.specs.Dates.{date_text};
+ghost use Rattle.draw_values.specs.Digits.{signed_pointed};
+ghost use Rattle.draw_values.specs.ReadyValues.{IsReady};
+ghost use Rattle.draw_values.specs.Runs.{is_short_leaf, is_short_number, is_short_text, leaf_texts, text_by, with_behind};
+ghost use Rattle.draw_values.specs.Values.{chosen as chosen_of, chosen_group};
+
+use crate::dates::day_piece;
+use crate::fixed::fixed_piece;
+use crate::kept::{DAY_ROOM, WORD_ROOM, text_piece};
+use crate::numbers::{chosen, whole_piece};
+use crate::run_loops::{choose_groups, choose_words, fill_kept};
+use crate::weighted::skewed;
+use fixed_divisors::FixedDivisor;
+use line_pages::{Digits, Piece};
+use schema_plan::{ReadyLeaf, ReadyWords};
+use weight_tables::Weights;
+
+/// Units of rows, each of at most 5 digits.
+#[inline(always)]
+pub(crate) fn fill_units(digits: &Digits, units: &[u64], behind: u8, pieces: &mut [Piece])
+    requires lengths { length units.now ≡ length pieces.old }
+    requires small { (i : ℕ) → i < length units.now → slice_index units.now i ≤ 10000 }
+    ensures { (i : ℕ) → i < length pieces.old → slice_index_or (map piece_text pieces.new) i [] ≡ with_behind behind (decimal (slice_index units.now i)) }
+{
+    for (i, piece) in pieces.iter_mut().enumerate() {
+        *piece = digits.piece(units[i], behind);
+    }
+}
+
+/// The values that draws give of a leaf whose texts are short; `kept` are the pieces that are kept of it.
+pub(crate) fn fill_leaf(
+    digits: &Digits,
+    leaf: &ReadyLeaf,
+    kept: &[Piece],
+    draws: &mut [u64],
+    behind: u8,
+    pieces: &mut [Piece],
+)
+    requires ready { IsReady leaf.now }
+    requires short { is_short_leaf leaf.now ≡ true }
+    requires kept { map piece_text kept.now ≡ leaf_texts behind leaf.now }
+    requires lengths { length draws.old ≡ length pieces.old }
+    ensures { (i : ℕ) → i < length pieces.old → slice_index_or (map piece_text pieces.new) i [] ≡ with_behind behind (text_by leaf.now (slice_index draws.old i)) }
+{
+    match leaf {
+        ReadyLeaf::Int {
+            lo,
+            hi,
+            step,
+            choices,
+        } => fill_whole(digits, *lo, *hi, *step, choices, draws, behind, pieces),
+        ReadyLeaf::Fixed {
+            lo,
+            hi,
+            choices,
+            decimals,
+            unit,
+        } => fill_fixed(
+            digits, *lo, *hi, choices, *decimals, unit, draws, behind, pieces,
+        ),
+        ReadyLeaf::Date { lo, hi, choices } => {
+            if choices.number() <= DAY_ROOM {
+                choices.remainders(draws);
+                fill_kept(kept, draws, pieces);
+            } else {
+                fill_days(
+                    i64::from(*lo),
+                    i64::from(*hi),
+                    choices,
+                    draws,
+                    behind,
+                    pieces,
+                );
+            }
+        }
+        ReadyLeaf::Pick { weights, total, .. } => {
+            choose_groups(weights, total, draws);
+            fill_kept(kept, draws, pieces);
+        }
+        ReadyLeaf::Skew { lo, weights, total } => {
+            fill_skewed(digits, *lo, weights, total, draws, behind, pieces);
+        }
+        ReadyLeaf::Dict(words) => {
+            choose_words(words, draws);
+            if words.len() <= WORD_ROOM {
+                fill_kept(kept, draws, pieces);
+            } else {
+                fill_words(words, draws, behind, pieces);
+            }
+        }
+        _ => unreachable!(),
+    }
+}
+
+/// Whole numbers.
+#[inline(always)]
+fn fill_whole(
+    digits: &Digits,
+    lo: i64,
+    hi: i64,
+    step: u64,
+    choices: &FixedDivisor,
+    draws: &[u64],
+    behind: u8,
+    pieces: &mut [Piece],
+)
+    requires ordered { lo ≤ℤ hi }
+    requires near { (hi -ℤ lo) <ℤ pos (2 ^ 63) }
+    requires step { 1 ≤ step }
+    requires choices { choices.now ≡ choices_of lo hi step }
+    requires short_lo { is_short_number lo ≡ true }
+    requires short_hi { is_short_number hi ≡ true }
+    requires lengths { length draws.now ≡ length pieces.old }
+    ensures { (i : ℕ) → i < length pieces.old → slice_index_or (map piece_text pieces.new) i [] ≡ with_behind behind (signed_decimal (chosen_of lo hi step (slice_index draws.now i))) }
+{
+    let divisor = *choices;
+    for (i, piece) in pieces.iter_mut().enumerate() {
+        let value = chosen(lo, hi, step, &divisor, draws[i]);
+        *piece = whole_piece(digits, value, behind);
+    }
+}
+
+/// Numbers with a point.
+#[inline(always)]
+fn fill_fixed(
+    digits: &Digits,
+    lo: i64,
+    hi: i64,
+    choices: &FixedDivisor,
+    decimals: u32,
+    unit: &FixedDivisor,
+    draws: &[u64],
+    behind: u8,
+    pieces: &mut [Piece],
+)
+    requires ordered { lo ≤ℤ hi }
+    requires near { (hi -ℤ lo) <ℤ pos (2 ^ 63) }
+    requires choices { choices.now ≡ choices_of lo hi 1 }
+    requires decimals { decimals ≤ 9 }
+    requires unit { unit.now ≡ 10 ^ decimals }
+    requires short_lo { is_short_number lo ≡ true }
+    requires short_hi { is_short_number hi ≡ true }
+    requires lengths { length draws.now ≡ length pieces.old }
+    ensures { (i : ℕ) → i < length pieces.old → slice_index_or (map piece_text pieces.new) i [] ≡ with_behind behind (signed_pointed decimals (chosen_of lo hi 1 (slice_index draws.now i))) }
+{
+    let divisor = *choices;
+    let unit = *unit;
+    for (i, piece) in pieces.iter_mut().enumerate() {
+        let value = chosen(lo, hi, 1, &divisor, draws[i]);
+        *piece = fixed_piece(digits, value, decimals, &unit, behind);
+    }
+}
+
+/// Days whose pieces aren't kept.
+#[inline(always)]
+fn fill_days(
+    lo: i64,
+    hi: i64,
+    choices: &FixedDivisor,
+    draws: &[u64],
+    behind: u8,
+    pieces: &mut [Piece],
+)
+    requires first_day { neg_ℤ (pos 719162) ≤ℤ lo }
+    requires ordered { lo ≤ℤ hi }
+    requires last_day { hi ≤ℤ pos 2932896 }
+    requires choices { choices.now ≡ choices_of lo hi 1 }
+    requires lengths { length draws.now ≡ length pieces.old }
+    ensures { (i : ℕ) → i < length pieces.old → slice_index_or (map piece_text pieces.new) i [] ≡ with_behind behind (date_text (chosen_of lo hi 1 (slice_index draws.now i))) }
+{
+    let divisor = *choices;
+    for (i, piece) in pieces.iter_mut().enumerate() {
+        let day = chosen(lo, hi, 1, &divisor, draws[i]);
+        *piece = day_piece(day, Piece::of_byte(behind));
+    }
+}
+
+/// Skewed numbers.
+#[inline(always)]
+fn fill_skewed(
+    digits: &Digits,
+    lo: i64,
+    weights: &Weights,
+    total: &FixedDivisor,
+    draws: &[u64],
+    behind: u8,
+    pieces: &mut [Piece],
+)
+    requires few { length weights.now ≤ 4096 }
+    requires last { (lo +ℤ pos (length weights.now - 1)) <ℤ pos (2 ^ 63) }
+    requires total { total.now ≡ sum weights.now }
+    requires short { is_short_number lo ≡ true }
+    requires lengths { length draws.now ≡ length pieces.old }
+    ensures { (i : ℕ) → i < length pieces.old → slice_index_or (map piece_text pieces.new) i [] ≡ with_behind behind (signed_decimal (lo +ℤ pos (chosen_group weights.now (slice_index draws.now i)))) }
+{
+    for (i, piece) in pieces.iter_mut().enumerate() {
+        let value = skewed(lo, weights, total, draws[i]);
+        *piece = whole_piece(digits, value, behind);
+    }
+}
+
+/// Words at places, whose pieces aren't kept.
+#[inline(always)]
+fn fill_words(words: &ReadyWords, places: &[u64], behind: u8, pieces: &mut [Piece])
+    requires short { list_all is_short_text words.now.entries ≡ true }
+    requires within { (i : ℕ) → i < length places.now → slice_index places.now i < length words.now.entries }
+    requires lengths { length places.now ≡ length pieces.old }
+    ensures { (i : ℕ) → i < length pieces.old → slice_index_or (map piece_text pieces.new) i [] ≡ with_behind behind (slice_index_or words.now.entries (slice_index places.now i) []) }
+{
+    for (i, piece) in pieces.iter_mut().enumerate() {
+        *piece = text_piece(words.entry(places[i] as usize), behind);
+    }
+}
