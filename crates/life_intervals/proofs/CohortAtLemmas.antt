@@ -1,22 +1,20 @@
 -- Which rows of a cohort are alive, and when they changed last, by their places in its orders.
-use Rattle.std.proofs.Common.{◌≡◌, ◌<◌, ◌≤◌, ◌⊎◌, ℕ, ◌+◌, ◌-◌, ◌%◌, min, Bool, true, false, ◌||◌, Option, Some, None, List, [], ◌∷◌, inl, inr, length, map, take, is_some, option_map, refl, ap, arith, subst, sym, ◌∙◌}
+use Rattle.std.proofs.Common.{◌≡◌, ◌<◌, ◌≤◌, ◌⊎◌, ℕ, ◌+◌, ◌-◌, ◌%◌, min, Bool, true, false, ◌||◌, Option, Some, None, List, [], ◌∷◌, inl, inr, length, map, take, is_some, option_map, refl, ap, arith, sym, ◌∙◌}
 use Rattle.std.specs.Prelude.{IfSome, if◌then◌else◌}
 use Rattle.std.specs.List.{list_any}
 use Rattle.std.specs.Option.{option_map_or}
 use Rattle.std.proofs.lemmas.Bool.{cases_Bool, cases_lt, le-ltb, lt-ltb, true≢false}
 use Rattle.std.proofs.lemmas.Nat.{div-add-mod', mod_below}
-use Rattle.id_permutation.specs.Order.{Arrangement, place_in}
+use Rattle.id_permutation.specs.Order.{place_in}
 use Rattle.philox_seeds.specs.SeedTree.{update_column}
 use Rattle.cohort_sizes.specs.Births.{Births, birth, born_count, cohort_size, first_ordinal, index_at}
-use Rattle.schema_plan.specs.declared.layout.Span.{Span}
 use Rattle.schema_plan.specs.Layout.{TableLayout, layout_of, table_at}
 use Rattle.schema_plan.specs.Limits.{IsInLimits}
 use Rattle.schema_plan.specs.References.{Reference, references_of}
 use Rattle.schema_plan.specs.Lineage.{lesser_life, longest_life, sure_life}
 use Rattle.life_intervals.specs.declared.lives.Survival.TheVariants.{Sure, Over}
-use Rattle.life_intervals.specs.CohortKeys.{CohortOf}
 use Rattle.life_intervals.specs.Changes.{change_by, change_span, due_by, first_due, has_nullings, last_change, last_due, may_change}
-use Rattle.life_intervals.specs.CohortLives.{AreChangesOf, AreLivesOf, CohortAt, change_in, cohort_of, death_in, due_in, is_live_in, ordinal_in, own_death_in, size_of, survival_by, survival_of}
+use Rattle.life_intervals.specs.CohortLives.{CohortAt, change_in, cohort_of, death_in, due_in, is_live_in, ordinal_in, own_death_in, size_of, survival_by, survival_of}
 use Rattle.life_intervals.specs.CohortOrders.{life_order, update_order}
 use Rattle.life_intervals.specs.CohortParents.{losses_in, parents_death_in}
 use Rattle.life_intervals.specs.Generator.{Generator, generator_of, last_unit, table_of}
@@ -31,14 +29,6 @@ use Rattle.life_intervals.proofs.KnownLemmas.{IsSure-known_of, refers-of}
 use Rattle.life_intervals.proofs.LifeLemmas.{death-later, due_by-none, losses_by-deaths, own_death-later}
 use Rattle.life_intervals.proofs.LongestLifeLemmas.{EndsBy-known_of}
 use Rattle.life_intervals.proofs.OrderLemmas.{first_due-update_order, life_by-life_order}
-
--- what is kept is of the cohort that a contract sees
-pub AreLivesOf-view : (inside of : CohortAt) (parents : CohortOf) (life : Option Span) (placed : Arrangement) → inside ≡ of → AreLivesOf inside parents life placed → AreLivesOf of parents life placed
-AreLivesOf-view inside of parents life placed same known = subst (λ (at : CohortAt). AreLivesOf at parents life placed) same known
-
-pub AreChangesOf-view : (inside of : CohortAt) (update : Option ℕ) (placed : Arrangement) (nulls : Bool) (parents : CohortOf) → inside ≡ of → AreChangesOf inside update placed nulls parents →
-    AreChangesOf of update placed nulls parents
-AreChangesOf-view inside of update placed nulls parents same known = subst (λ (at : CohortAt). AreChangesOf at update placed nulls parents) same known
 
 -- what a birth unit and an index tell, of the row that has them
 by_index : {X : Type 0} (f : ℕ → ℕ → X) (table : TableLayout) (born unit index : ℕ) → born ≤ unit → index < cohort_size table.births born →

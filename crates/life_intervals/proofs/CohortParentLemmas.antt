@@ -1,10 +1,9 @@
 -- The parents of a cohort's rows, by what the code keeps of the rows that they are chosen of.
-use Rattle.std.proofs.Common.{◌≡◌, ℕ, suc, ◌+◌, ◌^◌, ◌<◌, ◌≤◌, max, true, false, not, ◌||◌, Bool, List, [], ◌∷◌, ◌++◌, filter, length, map, take, get_or, sum_by, is_some, Option, Some, None, option_map, inl, inr, refl, ap, ap₂, arith, sym, subst, ◌∙◌}
+use Rattle.std.proofs.Common.{◌≡◌, ℕ, suc, ◌+◌, ◌^◌, ◌<◌, ◌≤◌, max, true, false, not, ◌||◌, Bool, List, [], ◌∷◌, ◌++◌, filter, length, map, take, get_or, sum_by, is_some, Option, Some, None, refl, ap, ap₂, arith, sym, subst, ◌∙◌}
 use Rattle.std.specs.Prelude.{All, if◌then◌else◌}
-use Rattle.std.specs.List.{fold, list_any, range_with_len}
+use Rattle.std.specs.List.{fold, list_any}
 use Rattle.std.proofs.lemmas.List.{append-nil, get_or-map, get_or-take, length-map, map-append, take_all}
 use Rattle.std.proofs.lemmas.List.Elements.{All-filter, All-from_recursion, filter-append}
-use Rattle.std.proofs.lemmas.List.FromFn.{get_or-map-range_with_len, length-map-range_with_len}
 use Rattle.std.proofs.lemmas.List.Sums.{fold-append, sum_by-cons, sum_by_push}
 use Rattle.philox_seeds.specs.SeedTree.{reference_order_seed}
 use Rattle.id_permutation.specs.Order.{place_in}
@@ -20,13 +19,13 @@ use Rattle.schema_plan.specs.Limits.{IsInLimits}
 use Rattle.schema_plan.specs.Lineage.{death_cost, endless, lesser_life, loss_cost, lineage_at, lineages, one_if, own_lineage, sure_life, with_kind}
 use Rattle.schema_plan.specs.TableFacts.{change_cost}
 use Rattle.schema_plan.specs.Ready.{ready_column, ready_columns, ready_kind}
-use Rattle.schema_plan.specs.References.{IsReferenceInLimits, Reference, cascades_of, count_in_window, first_in_window, nullings_of, reference_at, references_of}
+use Rattle.schema_plan.specs.References.{IsReferenceInLimits, Reference, cascades_of, count_in_window, first_in_window, reference_at, references_of}
 use Rattle.schema_plan.proofs.LineageLemmas.{lineage_at-lineages}
-use Rattle.life_intervals.specs.declared.candidates.Candidates.{Candidates}
+use Rattle.life_intervals.specs.declared.window.Window.{Window}
 use Rattle.life_intervals.specs.Changes.{due_by, has_nullings, last_change, later_change}
 use Rattle.life_intervals.specs.CohortKeys.{CohortOf}
-use Rattle.life_intervals.specs.CohortOrders.{do_lives_differ, do_updates_differ}
-use Rattle.life_intervals.specs.CohortParents.{AreCandidates, AreParentsOf, IsReferenceOf, asked_for_change, asked_for_death, candidates_by, cascades_cost, cohort_candidates, has_references, held_in, is_nulling, loss_in, losses_in, parent_cost, parent_in, parents_death_in, reference_by, table_candidates}
+use Rattle.life_intervals.specs.CohortOrders.{do_lives_differ, do_updates_differ, parent_order}
+use Rattle.life_intervals.specs.CohortParents.{IsReferenceOf, asked_for_change, asked_for_death, cascades_cost, held_in, is_nulling, loss_in, losses_in, parent_cost, parent_death_in, parent_in, parents_death_in, reference_by, window_by}
 use Rattle.life_intervals.specs.Generator.{Generator, generator_of, last_unit, table_of}
 use Rattle.life_intervals.specs.Intervals.{Known, change_unit, death, first_death, held_parent, held_until, known_tables, own_death, parent_of}
 use Rattle.life_intervals.specs.References.{choice}
@@ -38,10 +37,6 @@ use Rattle.life_intervals.proofs.LifeLemmas.{death-first, loss_by-death, losses_
 use Rattle.life_intervals.proofs.OrderLemmas.{place_by-if}
 use Rattle.life_intervals.proofs.ParentLemmas.{Refers, parent_by-lies}
 use Rattle.life_intervals.proofs.ReferenceLemmas.{IsReady, at_column, first_death-more, none_from_ready, reference_from_ready, references_before, references_before-none, references_before-some, references_in}
-
--- what is kept is of the cohort that a contract sees
-pub AreParentsOf-view : (inside of : CohortOf) (kept : List (Option Candidates)) → inside ≡ of → AreParentsOf inside kept → AreParentsOf of kept
-AreParentsOf-view inside of kept same known = subst (λ (cohort : CohortOf). AreParentsOf cohort kept) same known
 
 -- ---- a reference of the table at a place
 
@@ -112,19 +107,17 @@ has_nullings-ready plan table = nullings-ready (layout_of plan).delimiter 0 (tab
 -- a parent is the candidate that the place of its child chooses
 pub parent_in-choice : (plan : Project) → IsInLimits plan → (table column unit index : ℕ) (ready : ReadyReference) → table < length plan.schema.tables → IsReferenceOf plan table column ready →
     unit ≤ last_unit plan → index < cohort_size (table_of plan table).births unit →
-    (let candidates = candidates_by plan table unit (reference_by column ready) in
-    candidates.first + choice ready.spread candidates.count (place_in candidates.order index)
-    ≡ parent_in (record { plan = plan; table = table; unit = unit }) index (reference_by column ready))
+    (window_by plan ready unit).first + choice ready.spread (window_by plan ready unit).count (place_in (parent_order plan table column unit) index)
+    ≡ parent_in (record { plan = plan; table = table; unit = unit }) index (reference_by column ready)
 parent_in-choice plan limits table column unit index ready below of within inside =
     let generator : Generator = generator_of plan in
-    let reference : Reference = reference_by column ready in
     let is = limits_of plan limits table column ready below of in
     let births : Births = (table_of plan ready.parent).births in
     let earlier : List Known = take table (known_tables generator) in
     let in_tables : table < length generator.tables = omega (arith, below, length-tables plan) in
     let some : first_in_window births ready.window unit < born_count births unit = is.some_parent unit within (omega (arith, inside)) in
     let many : max 1 (count_in_window births ready.window unit) ≡ count_in_window births ready.window unit = omega (arith, some) in
-    let placed : place_in (candidates_by plan table unit reference).order index ≡ generator.order table column unit index =
+    let placed : place_in (parent_order plan table column unit) index ≡ generator.order table column unit index =
     place_by-if true (cohort_size (table_of plan table).births unit) (reference_order_seed (layout_of plan).seed table column unit) index inside in
     let chosen : ℕ → Births → ℕ = λ place born. first_in_window born ready.window unit + choice ready.spread (count_in_window born ready.window unit) (generator.order place column unit index) in
     ap₂ (λ (count place : ℕ). first_in_window births ready.window unit + choice ready.spread count place) many placed
@@ -147,18 +140,18 @@ parent_in-born plan limits table column unit index ready below of within inside 
     (known_at-before generator table ready.parent in_tables is.earlier)
     (parent_by-lies (last_unit plan) generator.order (take table (known_tables generator)) (sure_life generator.tables) (table_of plan table).births unit index within inside reference refers).1
 
--- its candidates, and the order of its cohort's rows, are of at most 2^40
-pub record AreLimited (candidates : Candidates) : Type 0 where
-  pub first : candidates.first ≤ 2 ^ 40
-  pub count : candidates.count ≤ 2 ^ 40
-  pub size : candidates.order.size ≤ 2 ^ 40
+-- its window, and its cohort, are of at most 2^40 rows
+pub record IsLimited (plan : Project) (table unit : ℕ) (window : Window) : Type 0 where
+  pub first : window.first ≤ 2 ^ 40
+  pub count : window.count ≤ 2 ^ 40
+  pub size : cohort_size (table_of plan table).births unit ≤ 2 ^ 40
 
-row_limit : (plan : Project) → IsInLimits plan → (table : ℕ) → table < length plan.schema.tables → born_count (table_of plan table).births (last_unit plan) ≤ 2 ^ 40
+pub row_limit : (plan : Project) → IsInLimits plan → (table : ℕ) → table < length plan.schema.tables → born_count (table_of plan table).births (last_unit plan) ≤ 2 ^ 40
 row_limit plan limits table below = (limits.tables table no_table (omega (arith, below, length-tables plan))).births.row_limit
 
-pub candidates_limited : (plan : Project) → IsInLimits plan → (table column unit index : ℕ) (ready : ReadyReference) → table < length plan.schema.tables → IsReferenceOf plan table column ready →
-    unit ≤ last_unit plan → index < cohort_size (table_of plan table).births unit → AreLimited (candidates_by plan table unit (reference_by column ready))
-candidates_limited plan limits table column unit index ready below of within inside =
+pub window_limited : (plan : Project) → IsInLimits plan → (table column unit index : ℕ) (ready : ReadyReference) → table < length plan.schema.tables → IsReferenceOf plan table column ready →
+    unit ≤ last_unit plan → index < cohort_size (table_of plan table).births unit → IsLimited plan table unit (window_by plan ready unit)
+window_limited plan limits table column unit index ready below of within inside =
     let is = limits_of plan limits table column ready below of in
     let parent : Births = (table_of plan ready.parent).births in
     let some : first_in_window parent ready.window unit < born_count parent unit = is.some_parent unit within (omega (arith, inside)) in
@@ -169,33 +162,6 @@ candidates_limited plan limits table column unit index ready below of within ins
       count = omega (arith, some, all, limit);
       size = omega (arith, cohort-within (table_of plan table).births unit (last_unit plan) within, row_limit plan limits table below);
     }
-
--- what is kept for a column: nothing where it is no reference
-abbrev pub candidates_for : Project → ℕ → ℕ → ℕ → Option Candidates
-candidates_for plan table unit column = option_map (candidates_by plan table unit) (reference_at (table_of plan table) column)
-
-pub candidates_for-some : (plan : Project) (table column unit : ℕ) (ready : ReadyReference) → IsReferenceOf plan table column ready →
-    candidates_for plan table unit column ≡ Some (candidates_by plan table unit (reference_by column ready))
-candidates_for-some plan table column unit ready of = ap (option_map (candidates_by plan table unit)) (ready_is plan table column ready of).is
-
-kept_in : (plan : Project) (table column unit : ℕ) (ready : ReadyReference) (candidates : Candidates) (d : Option Candidates) (some : Bool) → IsReferenceOf plan table column ready →
-    (let kept = if some then map (candidates_for plan table unit) (range_with_len 0 (length (table_of plan table).columns)) else [] in
-    column < length kept → get_or kept column d ≡ Some candidates → candidates ≡ candidates_by plan table unit (reference_by column ready))
-kept_in plan table column unit ready candidates d false of within at = absurd (omega (arith, within))
-kept_in plan table column unit ready candidates d true of within at =
-    let same : Some candidates ≡ Some (candidates_by plan table unit (reference_by column ready)) =
-    sym at
-    ∙ get_or-map-range_with_len (candidates_for plan table unit) 0 (length (table_of plan table).columns) column column d of.within (omega arith)
-    ∙ candidates_for-some plan table column unit ready of in
-    cc
-
--- what is kept of a column is of its reference
-pub kept_at : (plan : Project) (table column unit : ℕ) (ready : ReadyReference) (kept : List (Option Candidates)) (candidates : Candidates) (d : Option Candidates) → IsReferenceOf plan table column ready →
-    AreCandidates plan table unit kept → column < length kept → get_or kept column d ≡ Some candidates → candidates ≡ candidates_by plan table unit (reference_by column ready)
-kept_at plan table column unit ready kept candidates d of (inl none) within at = absurd (omega (arith, within, ap length none))
-kept_at plan table column unit ready kept candidates d of (inr all) within at =
-    kept_in plan table column unit ready candidates d (has_references plan table) of
-    (subst (λ (xs : List (Option Candidates)). column < length xs) all within) (ap (λ (xs : List (Option Candidates)). get_or xs column d) (sym all) ∙ at)
 
 -- ---- deaths
 
@@ -252,12 +218,7 @@ module _ (plan : Project) (limits : IsInLimits plan) (table unit ordinal : ℕ) 
       (sym (loss_by-death (last_unit plan) generator (AreSound-accepted plan limits) table in_tables (birth births unit ordinal) (index_at births unit ordinal) (omega (arith, early, within))
       (index_at-below births unit ordinal born) (last_unit plan) (omega (arith, early, within)) reference refers))
 
--- when the parent by a reference dies
-abbrev pub death_by_reference : CohortOf → ℕ → Reference → Option ℕ
-death_by_reference cohort index reference =
-    death (generator_of cohort.plan) reference.parent (last_unit cohort.plan) (parent_in cohort index reference)
-
--- what that costs
+-- what the death of the parent by a reference costs
 abbrev pub cost_of_reference : CohortOf → Reference → ℕ
 cost_of_reference cohort reference = 1 + death_cost (layout_of cohort.plan).tables reference.parent
 
@@ -267,7 +228,7 @@ passing_before test cohort column = filter test (references_before (table_of coh
 
 -- the first death of the parents by those before it with whose parents a row dies
 abbrev pub first_before : CohortOf → ℕ → ℕ → Option ℕ
-first_before cohort index column = first_death (map (death_by_reference cohort index) (passing_before is_cascading cohort column))
+first_before cohort index column = first_death (map (parent_death_in cohort index) (passing_before is_cascading cohort column))
 
 -- and what these cost
 abbrev pub cost_before : CohortOf → ℕ → ℕ
@@ -303,7 +264,7 @@ pub first_before-some : (cohort : CohortOf) (index column : ℕ) (ready : ReadyR
     first_before cohort index (column + 1)
     ≡ lesser_life (first_before cohort index column) (death (generator_of cohort.plan) ready.parent (last_unit cohort.plan) (parent_in cohort index (reference_by column ready)))
 first_before-some cohort index column ready of cascades =
-    let d : Reference → Option ℕ = death_by_reference cohort index in
+    let d : Reference → Option ℕ = parent_death_in cohort index in
     ap (λ (references : List Reference). first_death (map d references)) (passing_before-some is_cascading cohort column ready of (ap not cascades))
     ∙ first_death-more d (passing_before is_cascading cohort column) (reference_by column ready)
 
@@ -317,7 +278,7 @@ cost_before-some cohort column ready of cascades =
 pub first_before-nulls : (cohort : CohortOf) (index column : ℕ) (ready : ReadyReference) → IsReferenceOf cohort.plan cohort.table column ready → ready.nulls ≡ true →
     first_before cohort index (column + 1) ≡ first_before cohort index column
 first_before-nulls cohort index column ready of nulls =
-    ap (λ (references : List Reference). first_death (map (death_by_reference cohort index) references)) (passing_before-other is_cascading cohort column ready of (ap not nulls))
+    ap (λ (references : List Reference). first_death (map (parent_death_in cohort index) references)) (passing_before-other is_cascading cohort column ready of (ap not nulls))
 
 pub cost_before-nulls : (cohort : CohortOf) (column : ℕ) (ready : ReadyReference) → IsReferenceOf cohort.plan cohort.table column ready → ready.nulls ≡ true →
     cost_before cohort (column + 1) ≡ cost_before cohort column
@@ -336,16 +297,16 @@ change_before-more cohort index change unit column ready of =
 
 pub change_before-nulls : (cohort : CohortOf) (index change unit column : ℕ) (ready : ReadyReference) → IsReferenceOf cohort.plan cohort.table column ready → ready.nulls ≡ true →
     change_before cohort index change unit (column + 1)
-    ≡ later_change unit (change_before cohort index change unit column) (death_by_reference cohort index (reference_by column ready))
+    ≡ later_change unit (change_before cohort index change unit column) (parent_death_in cohort index (reference_by column ready))
 change_before-nulls cohort index change unit column ready of nulls =
-    let dies : Option ℕ = death_by_reference cohort index (reference_by column ready) in
+    let dies : Option ℕ = parent_death_in cohort index (reference_by column ready) in
     change_before-more cohort index change unit column ready of
     ∙ ap (λ (lost : Bool). later_change unit (change_before cohort index change unit column) (if lost then dies else None)) nulls
 
 pub change_before-other : (cohort : CohortOf) (index change unit column : ℕ) (ready : ReadyReference) → IsReferenceOf cohort.plan cohort.table column ready → ready.nulls ≡ false →
     change_before cohort index change unit (column + 1) ≡ change_before cohort index change unit column
 change_before-other cohort index change unit column ready of cascades =
-    let dies : Option ℕ = death_by_reference cohort index (reference_by column ready) in
+    let dies : Option ℕ = parent_death_in cohort index (reference_by column ready) in
     change_before-more cohort index change unit column ready of
     ∙ ap (λ (lost : Bool). later_change unit (change_before cohort index change unit column) (if lost then dies else None)) cascades
 
@@ -458,6 +419,10 @@ death_cost-parts plan limits table below =
           (All-filter is_cascading (λ (reference : Reference). reference.parent < table) (references_of (table_at tables table)) (λ k d inside. (limits.references table below k d inside).earlier)),
     )
 
+-- the references that become null when their parents are deleted
+abbrev pub nullings_of : TableLayout → List Reference
+nullings_of table = filter nulls_of (references_of table)
+
 -- the cost of losses is that of the deaths of all parents that a row may lose
 pub loss_cost-parts : (plan : Project) → IsInLimits plan → (table : ℕ) → table < length plan.schema.tables →
     loss_cost (layout_of plan).tables table ≡ sum_by (parent_cost (layout_of plan).tables) (nullings_of (table_of plan table))
@@ -485,14 +450,3 @@ asked_for_change-cost plan limits table below = omega (arith, updates_cost (tabl
 pub asked_for_death-cost : (plan : Project) → IsInLimits plan → (table : ℕ) → table < length plan.schema.tables →
     asked_for_death plan table ≤ death_cost (layout_of plan).tables table
 asked_for_death-cost plan limits table below = omega (arith, death_cost-parts plan limits table below, differ_cost (table_of plan table).life)
-
--- ---- all cohorts
-
--- the candidates of all cohorts have those of each
-pub table_candidates-at : (project : Project) (table last unit : ℕ) (default : List (Option Candidates)) → unit ≤ last →
-    get_or (table_candidates project table last) unit default ≡ cohort_candidates project table unit
-table_candidates-at project table last unit default within =
-    get_or-map-range_with_len (cohort_candidates project table) 0 (last + 1) unit unit default (omega (arith, within)) (omega arith)
-
-pub length-table_candidates : (project : Project) (table last : ℕ) → length (table_candidates project table last) ≡ last + 1
-length-table_candidates project table last = length-map-range_with_len (cohort_candidates project table) 0 (last + 1)

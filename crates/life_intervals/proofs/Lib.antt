@@ -21,3 +21,8 @@ pub mod OrderLemmas
 pub mod LongestLifeLemmas
 pub mod CohortParentLemmas
 pub mod CohortAtLemmas
+pub mod FoundLemmas
+pub mod ParentsLiveLemmas
+pub mod RunLemmas
+pub mod KeptLemmas
+pub mod PartLemmas

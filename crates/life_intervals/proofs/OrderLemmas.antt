@@ -1,9 +1,8 @@
 -- The orders of keys, lives and updates, as the code keeps them, are those that the seeds give.
-use Rattle.std.proofs.Common.{◌≡◌, ◌<◌, ◌≤◌, ℕ, ◌+◌, ◌-◌, ◌%◌, Bool, true, false, ◌&&◌, Option, Some, None, get_or, length, inl, inr, refl, ap, arith, sym, ◌∙◌}
+use Rattle.std.proofs.Common.{◌≡◌, ◌<◌, ◌≤◌, ℕ, ◌+◌, ◌-◌, ◌%◌, Bool, true, false, ◌&&◌, Option, Some, None, inl, inr, refl, ap, arith, sym, ◌∙◌}
 use Rattle.std.specs.Prelude.{if◌then◌else◌, nat_lt}
 use Rattle.std.proofs.Math.Nat.{mod-one}
 use Rattle.std.proofs.lemmas.Bool.{cases_lt, le-ltb, lt-ltb}
-use Rattle.std.proofs.lemmas.List.FromFn.{get_or-map-range_with_len, length-map-range_with_len}
 use Rattle.philox_seeds.specs.SeedTree.{key_order_seed, life_column, life_order_seed, update_column, update_order_seed}
 use Rattle.id_permutation.specs.Order.{order_steps, place_by, place_in, steps_by}
 use Rattle.id_permutation.specs.Placement as placement
@@ -12,9 +11,8 @@ use Rattle.cohort_sizes.specs.Births.{cohort_size}
 use Rattle.schema_plan.specs.Dictionaries.{Project}
 use Rattle.schema_plan.specs.Layout.{layout_of}
 use Rattle.schema_plan.specs.Lineage.{one_if}
-use Rattle.life_intervals.specs.declared.orders.CohortOrders.{CohortOrders}
 use Rattle.life_intervals.specs.Changes.{first_due}
-use Rattle.life_intervals.specs.CohortOrders.{cohort_orders, do_lives_differ, do_updates_differ, key_order, life_order, table_orders, update_order}
+use Rattle.life_intervals.specs.CohortOrders.{do_lives_differ, do_updates_differ, key_order, life_order, update_order}
 use Rattle.life_intervals.specs.Generator.{generator_of, table_of}
 use Rattle.life_intervals.specs.Keys.{place_in_cohort}
 use Rattle.life_intervals.specs.Rows.{life_by}
@@ -99,13 +97,3 @@ pub order_steps-update_order : (project : Project) (table unit : ℕ) → 0 < co
     order_steps (update_order project table unit) ≡ one_if (do_updates_differ (table_of project table).update)
 order_steps-update_order project table unit some =
     steps_by-if (do_updates_differ (table_of project table).update) (cohort_size (table_of project table).births unit) (update_order_seed (layout_of project).seed table unit) some
-
--- ---- all cohorts
-
--- the orders of all cohorts have each of them
-pub table_orders-at : (project : Project) (table last unit : ℕ) (default : CohortOrders) → unit ≤ last → get_or (table_orders project table last) unit default ≡ cohort_orders project table unit
-table_orders-at project table last unit default within =
-    get_or-map-range_with_len (cohort_orders project table) 0 (last + 1) unit unit default (omega (arith, within)) (omega arith)
-
-pub length-table_orders : (project : Project) (table last : ℕ) → length (table_orders project table last) ≡ last + 1
-length-table_orders project table last = length-map-range_with_len (cohort_orders project table) 0 (last + 1)

@@ -1,11 +1,9 @@
--- The keys of one cohort, and what the code keeps of them.
+-- Cohorts: the rows that are born at one unit.
 use Rattle.std.specs.Prelude.{◌≡◌, ◌≤◌, ℕ, ◌+◌, ◌^◌}
-use Rattle.id_permutation.specs.Order.{Arrangement}
 use Rattle.cohort_sizes.specs.Births.{cohort_size, first_ordinal}
 use Rattle.schema_plan.specs.Dictionaries.{Project}
 use Rattle.cohort_sizes.specs.declared.cohort.Cohort.{Cohort}
 use Rattle.life_intervals.specs.Generator.{table_of}
-use Rattle.life_intervals.specs.CohortOrders.{key_order}
 
 -- the cohort that is born at a unit in the table at a place
 pub record CohortOf : Type 0 where
@@ -18,10 +16,3 @@ pub record IsCohort (plan : Project) (table unit : ℕ) (cohort : Cohort) : Type
   pub first : cohort.first ≡ first_ordinal (table_of plan table).births unit
   pub size : cohort.size ≡ cohort_size (table_of plan table).births unit
   pub limit : cohort.first + cohort.size ≤ 2 ^ 40
-
--- what is kept is of the cohort's keys
-pub record AreKeysOf (plan : Project) (table unit start : ℕ) (rows : Cohort) (placed : Arrangement) : Type 0 where
-  pub base : start ≡ (table_of plan table).key.base
-  pub base_limit : start ≤ 2 ^ 62
-  pub cohort : IsCohort plan table unit rows
-  pub order : placed ≡ key_order plan table unit

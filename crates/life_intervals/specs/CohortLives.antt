@@ -1,19 +1,15 @@
--- Which rows of a cohort are alive at a unit, and when they changed last, as the code keeps it.
-use Rattle.std.specs.Prelude.{◌≡◌, ◌<◌, ◌≤◌, ℕ, ◌+◌, length, Bool, if◌then◌else◌, IfSome, Option}
+-- Which rows of a cohort are alive at a unit, and when they changed last.
+use Rattle.std.specs.Prelude.{ℕ, ◌+◌, Bool, if◌then◌else◌, Option}
 use Rattle.std.specs.Option.{option_map}
-use Rattle.id_permutation.specs.Order.{Arrangement}
-use Rattle.schema_plan.specs.declared.layout.Span.{Span}
 use Rattle.cohort_sizes.specs.Births.{cohort_size, first_ordinal}
 use Rattle.schema_plan.specs.Dictionaries.{Project}
-use Rattle.schema_plan.specs.Limits.{IsInLimits, IsLife, IsUpdatePeriod}
 use Rattle.schema_plan.specs.Layout.{layout_of}
 use Rattle.schema_plan.specs.Lineage.{longest_life, sure_life}
 use Rattle.life_intervals.specs.declared.lives.Survival.{Survival}
 use Rattle.life_intervals.specs.declared.lives.Survival.TheVariants.{Sure, Drawn, Over}
-use Rattle.life_intervals.specs.Changes.{due_by, has_nullings}
+use Rattle.life_intervals.specs.Changes.{due_by}
 use Rattle.life_intervals.specs.CohortKeys.{CohortOf}
-use Rattle.life_intervals.specs.CohortOrders.{life_order, update_order}
-use Rattle.life_intervals.specs.Generator.{generator_of, last_unit, table_of}
+use Rattle.life_intervals.specs.Generator.{generator_of, table_of}
 use Rattle.life_intervals.specs.Intervals.{change_unit, death, is_after, is_live, own_death}
 
 -- the cohort that is born at a unit in the table at a place, as it is at another unit
@@ -71,29 +67,3 @@ due_in cohort index =
 -- the unit of its last change
 abbrev pub change_in : CohortAt → ℕ → ℕ
 change_in cohort index = change_unit (generator_of cohort.plan) cohort.table cohort.unit (ordinal_in cohort index)
-
--- a cohort of a plan that is born by the unit
-pub record IsCohortAt (cohort : CohortAt) : Type 0 where
-  pub table : cohort.table < length cohort.plan.schema.tables
-  pub born : cohort.born ≤ cohort.unit
-  pub unit : cohort.unit ≤ last_unit cohort.plan
-  pub last : last_unit cohort.plan ≤ 10000
-
--- what is kept is of the cohort's lives
-pub record AreLivesOf (cohort : CohortAt) (parents : CohortOf) (life : Option Span) (placed : Arrangement) : Type 0 where
-  pub cohort_is : IsCohortAt cohort
-  pub sound : IsInLimits cohort.plan
-  pub parents_are : parents ≡ cohort_of cohort
-  pub life_is : life ≡ (table_of cohort.plan cohort.table).life
-  pub limits : IfSome life IsLife
-  pub order : placed ≡ life_order cohort.plan cohort.table cohort.born
-
--- what is kept is of its changes
-pub record AreChangesOf (cohort : CohortAt) (update : Option ℕ) (placed : Arrangement) (nulls : Bool) (parents : CohortOf) : Type 0 where
-  pub sound : IsInLimits cohort.plan
-  pub nulls_are : nulls ≡ has_nullings (table_of cohort.plan cohort.table)
-  pub parents_are : parents ≡ cohort_of cohort
-  pub cohort_is : IsCohortAt cohort
-  pub update_is : update ≡ (table_of cohort.plan cohort.table).update
-  pub limits : IfSome update IsUpdatePeriod
-  pub order : placed ≡ update_order cohort.plan cohort.table cohort.born

@@ -1,21 +1,17 @@
--- The parents of a cohort's rows, and what the code keeps of the rows that they are chosen of.
-use Rattle.std.specs.Prelude.{◌≡◌, ◌<◌, ◌≤◌, ◌⊎◌, ℕ, ◌+◌, max, Bool, true, false, if◌then◌else◌, List, [], length, map, sum_by, Option, None, take}
-use Rattle.std.specs.List.{list_any, range_with_len}
-use Rattle.std.specs.Option.{option_map}
-use Rattle.philox_seeds.specs.SeedTree.{reference_order_seed}
+-- The parents of a cohort's rows, and the rows among which they are chosen.
+use Rattle.std.specs.Prelude.{◌≡◌, ◌<◌, ℕ, ◌+◌, max, Bool, false, not, if◌then◌else◌, List, length, map, sum_by, Option, None, take}
 use Rattle.schema_plan.specs.declared.ready.ReadyColumn.{ReadyColumn}
 use Rattle.schema_plan.specs.declared.ready.ReadyReference.{ReadyReference}
 use Rattle.schema_plan.specs.declared.ready.ReadyKind.{ReadyKind}
 use Rattle.schema_plan.specs.declared.ready.ReadyKind.TheVariants as kind
 use Rattle.schema_plan.specs.Dictionaries.{Project}
 use Rattle.schema_plan.specs.Layout.{TableLayout, column_at, layout_of, table_at}
-use Rattle.schema_plan.specs.Limits.{IsInLimits}
 use Rattle.schema_plan.specs.Lineage.{death_cost, loss_cost, one_if}
-use Rattle.schema_plan.specs.Ready.{ready_columns, ready_kind}
-use Rattle.schema_plan.specs.References.{Reference, cascades_of, count_in_window, first_in_window, reference_at, references_of}
-use Rattle.life_intervals.specs.declared.candidates.Candidates.{Candidates}
+use Rattle.schema_plan.specs.Ready.{ready_kind}
+use Rattle.schema_plan.specs.References.{Reference, cascades_of, count_in_window, first_in_window, references_of}
+use Rattle.life_intervals.specs.declared.window.Window.{Window}
 use Rattle.life_intervals.specs.CohortKeys.{CohortOf}
-use Rattle.life_intervals.specs.CohortOrders.{do_lives_differ, do_updates_differ, order_by}
+use Rattle.life_intervals.specs.CohortOrders.{do_lives_differ, do_updates_differ}
 use Rattle.life_intervals.specs.Generator.{generator_of, last_unit, table_of}
 use Rattle.life_intervals.specs.Intervals.{death, first_death, held_until, known_tables, parent_by}
 
@@ -29,26 +25,12 @@ pub record IsReferenceOf (plan : Project) (table column : ℕ) (ready : ReadyRef
   pub within : column < length (table_of plan table).columns
   pub is : ready_kind (layout_of plan).delimiter (column_at (table_of plan table).columns column).kind ≡ kind.Reference ready
 
--- the rows of which the parents of a unit's cohort are chosen by a reference of the table at a place, one row where there is none, and
--- the order in which the cohort's rows choose
-abbrev pub candidates_by : Project → ℕ → ℕ → Reference → Candidates
-candidates_by plan table unit reference = record {
-  first = first_in_window (table_of plan reference.parent).births reference.window unit;
-  count = max 1 (count_in_window (table_of plan reference.parent).births reference.window unit);
-  order = order_by plan table unit true (reference_order_seed (layout_of plan).seed table reference.column unit);
+-- the rows that are born in the window of a reference for a unit's cohort, one row where there is none
+abbrev pub window_by : Project → ReadyReference → ℕ → Window
+window_by plan ready unit = record {
+  first = first_in_window (table_of plan ready.parent).births ready.window unit;
+  count = max 1 (count_in_window (table_of plan ready.parent).births ready.window unit);
 }
-
-abbrev pub is_reference_kind : ReadyKind → Bool
-is_reference_kind (kind.Reference ready) = true
-is_reference_kind _ = false
-
--- a column that is ready as a reference
-abbrev pub is_reference : ReadyColumn → Bool
-is_reference column = is_reference_kind column.kind
-
--- whether the table at a place has one
-abbrev pub has_references : Project → ℕ → Bool
-has_references plan table = list_any is_reference (ready_columns (layout_of plan) table)
 
 abbrev pub is_nulling_kind : ReadyKind → Bool
 is_nulling_kind (kind.Reference ready) = ready.nulls
@@ -58,32 +40,27 @@ is_nulling_kind _ = false
 abbrev pub is_nulling : ReadyColumn → Bool
 is_nulling column = is_nulling_kind column.kind
 
--- for each column of the table at a place, None where it is no reference; for no column where the table has none
-abbrev pub cohort_candidates : Project → ℕ → ℕ → List (Option Candidates)
-cohort_candidates plan table unit =
-    if has_references plan table
-    then map (λ column. option_map (candidates_by plan table unit) (reference_at (table_of plan table) column)) (range_with_len 0 (length (table_of plan table).columns))
-    else []
+abbrev pub is_cascade_kind : ReadyKind → Bool
+is_cascade_kind (kind.Reference ready) = not ready.nulls
+is_cascade_kind _ = false
 
--- those of the cohorts of units 0 to a last one
-abbrev pub table_candidates : Project → ℕ → ℕ → List (List (Option Candidates))
-table_candidates plan table last = map (cohort_candidates plan table) (range_with_len 0 (last + 1))
-
--- what is kept of a cohort is all of it, or nothing
-abbrev pub AreCandidates : Project → ℕ → ℕ → List (Option Candidates) → Type 0
-AreCandidates plan table unit kept = (kept ≡ []) ⊎ (kept ≡ cohort_candidates plan table unit)
+-- a column that is ready as a reference with whose parent a row is deleted
+abbrev pub is_cascade : ReadyColumn → Bool
+is_cascade column = is_cascade_kind column.kind
 
 -- the ordinal of the parent that the row with an index in the cohort has by a reference
 abbrev pub parent_in : CohortOf → ℕ → Reference → ℕ
 parent_in cohort index reference =
     parent_by (generator_of cohort.plan).order (take cohort.table (known_tables (generator_of cohort.plan))) cohort.unit index reference
 
--- the unit at which it loses that parent; None where it never does, and where the parent takes it along
+-- the unit at which that parent dies; None where it never does
+abbrev pub parent_death_in : CohortOf → ℕ → Reference → Option ℕ
+parent_death_in cohort index reference =
+    death (generator_of cohort.plan) reference.parent (last_unit cohort.plan) (parent_in cohort index reference)
+
+-- the unit at which the row loses it; None where it never does, and where the parent takes it along
 abbrev pub loss_in : CohortOf → ℕ → Reference → Option ℕ
-loss_in cohort index reference =
-    if reference.nulls
-    then death (generator_of cohort.plan) reference.parent (last_unit cohort.plan) (parent_in cohort index reference)
-    else None
+loss_in cohort index reference = if reference.nulls then parent_death_in cohort index reference else None
 
 -- those of all its parents
 abbrev pub losses_in : CohortOf → ℕ → List (Option ℕ)
@@ -97,8 +74,7 @@ held_in cohort index unit reference =
 -- the unit at which the first of the parents dies that take it along; None where none ever does
 abbrev pub parents_death_in : CohortOf → ℕ → Option ℕ
 parents_death_in cohort index =
-    first_death (map (λ (reference : Reference). death (generator_of cohort.plan) reference.parent (last_unit cohort.plan) (parent_in cohort index reference))
-    (cascades_of (table_of cohort.plan cohort.table)))
+    first_death (map (parent_death_in cohort index) (cascades_of (table_of cohort.plan cohort.table)))
 
 -- how many permutations the death of the parent by a reference takes at most, with the one that finds the parent
 abbrev pub parent_cost : List TableLayout → Reference → ℕ
@@ -121,10 +97,3 @@ asked_for_death plan table = one_if (do_lives_differ (table_of plan table).life)
 -- units, and those of the deaths of all parents that it may lose
 abbrev pub asked_for_change : Project → ℕ → ℕ
 asked_for_change plan table = one_if (do_updates_differ (table_of plan table).update) + loss_cost (layout_of plan).tables table
-
--- what is kept is of a cohort of a plan
-pub record AreParentsOf (cohort : CohortOf) (kept : List (Option Candidates)) : Type 0 where
-  pub sound : IsInLimits cohort.plan
-  pub table : cohort.table < length cohort.plan.schema.tables
-  pub unit : cohort.unit ≤ last_unit cohort.plan
-  pub candidates : AreCandidates cohort.plan cohort.table cohort.unit kept

@@ -9,6 +9,9 @@ pub mod Sound
 pub mod Keys
 pub mod CohortOrders
 pub mod CohortKeys
+pub mod Found
+pub mod Runs
 pub mod CohortParents
 pub mod CohortLives
+pub mod JobOrders
 pub mod Worked

@@ -3,8 +3,8 @@
 //! A table is named by its place in the schema from 0. Units and ordinals count from 0, and so do the indices of a
 //! cohort's rows.
 
-ghost use Rattle.std.specs.Prelude.{◌≡◌, ℕ, ◌+◌, ◌*◌, ◌/◌, ◌-◌, ◌<◌, ◌≤◌, All, IfSome, if◌then◌else◌, length, map, nat_lt, take, false, true, List, [], ◌∷◌, Some, None};
-ghost use Rattle.std.specs.List.{range_with_len};
+ghost use Rattle.std.specs.Prelude.{◌≡◌, ℕ, ◌+◌, ◌*◌, ◌/◌, ◌-◌, ◌<◌, ◌≤◌, All, IfSome, ◌&&◌, ◌||◌, not, if◌then◌else◌, length, map, nat_lt, take, false, true, List, [], ◌∷◌, Some, None};
+ghost use Rattle.std.specs.List.{list_all, range_with_len};
 ghost use Rattle.cohort_sizes.specs.Births.{Births, LiesIn, birth, born_count, cohort_size, first_ordinal, index_at};
 ghost use Rattle.schema_plan.specs.Dictionaries.{Project};
 ghost use Rattle.schema_plan.specs.Layout.{TableLayout, layout_of, table_at};
@@ -13,7 +13,7 @@ ghost use Rattle.schema_plan.specs.Lineage.{death_cost, longest_life, sure_life}
 ghost use Rattle.life_intervals.specs.Changes.{IsLastChange, IsLastDue, due_by, first_due};
 ghost use Rattle.life_intervals.specs.CohortParents.{asked_for_change, asked_for_death};
 ghost use Rattle.life_intervals.specs.Generator.{Generator, Order, generator_of, last_unit, table_of};
-ghost use Rattle.life_intervals.specs.Intervals.{change_unit, changing, death, dying, first_death, held_parent, interval_state, is_after, known_of, loss_of, newborn, own_death, parent_of, row_at, rows_of};
+ghost use Rattle.life_intervals.specs.Intervals.{change_unit, changing, death, dying, first_death, held_parent, interval_state, is_after, is_live, known_of, loss_of, newborn, own_death, parent_of, row_at, rows_of};
 ghost use Rattle.life_intervals.specs.Keys.{OrdersCohorts, key_in_cohort, key_of};
 ghost use Rattle.schema_plan.specs.TableFacts.{change_cost};
 ghost use Rattle.schema_plan.specs.References.{cascades_of, count_in_window, first_in_window, references_of};
@@ -125,6 +125,28 @@ pub fn parents_are_lost_where_they_die()
         All (λ reference. loss_of generator place unit ordinal reference
         ≡ (if reference.nulls then death generator reference.parent unit (parent_of generator place unit ordinal reference) else None))
         (references_of (table_at generator.tables place)) }
+{}
+
+/// A row still has a parent at a unit that takes it along, and of its other parents those that are alive then.
+pub fn parents_are_held_while_they_live()
+    ensures { (units : ℕ) (generator : Generator) → AreSound units generator.tables →
+        (place : ℕ) → place < length generator.tables → (unit ordinal : ℕ) → unit ≤ units →
+        ordinal < born_count (table_at generator.tables place).births unit →
+        All (λ reference. let parent = parent_of generator place unit ordinal reference in
+        held_parent generator place unit ordinal reference
+        ≡ (if not reference.nulls || is_live generator reference.parent unit parent then Some parent else None))
+        (references_of (table_at generator.tables place)) }
+{}
+
+/// A row is alive where its own life lasts and each parent is alive that takes it along.
+pub fn rows_live_while_their_parents_do()
+    ensures { (units : ℕ) (generator : Generator) → AreSound units generator.tables →
+        (place : ℕ) → place < length generator.tables → (unit ordinal : ℕ) → unit ≤ units →
+        ordinal < born_count (table_at generator.tables place).births unit →
+        is_live generator place unit ordinal
+        ≡ (is_after (own_death generator place unit ordinal) unit
+        && list_all (λ reference. is_live generator reference.parent unit (parent_of generator place unit ordinal reference))
+        (cascades_of (table_at generator.tables place))) }
 {}
 
 /// The references of a row that a table holds name rows that the tables of its parents hold at the same unit, but for those that are

@@ -7,27 +7,33 @@
 //! laws, among them that the simulation of sound tables is its closed form, with lives, updates, references, what dies with
 //! its parents and what outlives them.
 //!
-//! A table is named by its place in the schema, counted from 0. Only `table_orders`,
-//! `table_candidates` and `cohort_candidates` take memory.
+//! A table is named by its place in the schema, counted from 0. `Rows` are a plan's rows, found with the orders that are kept for a job,
+//! or with none; only `JobOrders::new` takes memory.
 #![tactic(auto)]
 
+mod asked;
 mod births;
-mod candidates;
-mod cohort_lives;
+mod found;
+mod job_orders;
+mod kept;
 mod keys;
 pub mod laws;
 mod lives;
 mod memory;
 mod orders;
 mod parents;
+mod rows;
+mod runs;
 mod wanted;
+mod window;
 
 pub use births::{birth, born, cohort};
-pub use candidates::{Candidates, cohort_candidates, table_candidates};
-pub use cohort_lives::{CohortChanges, CohortLives};
 pub use cohort_sizes::Cohort;
-pub use keys::{CohortKeys, key, row_of_key};
+pub use found::{FoundRow, find, row_of_cohort};
+pub use job_orders::JobOrders;
+pub use keys::{key, row_of_key};
 pub use lives::{Survival, last_change, may_change, own_death, survival_at};
 pub use memory::Memory;
-pub use orders::{CohortOrders, cohort_orders, key_order, life_order, table_orders, update_order};
-pub use parents::{CohortParents, death, held_parent, parent};
+pub use orders::{key_order, life_order, update_order};
+pub use parents::{death, held_parent, parent};
+pub use rows::Rows;

@@ -1,159 +1,104 @@
 //! The parents of rows, until when rows have them, and when the first of those dies that take a row along.
 
-ghost use Rattle.std.specs.Prelude.{◌≡◌, ◌+◌, ◌<◌, ◌≤◌, IfSome, Some, is_some, length, true};
+ghost use Rattle.std.specs.Prelude.{◌≡◌, ◌+◌, ◌<◌, ◌≤◌, IfSome, Some, is_none, is_some, length, true};
 ghost use Rattle.std.specs.List.{list_any};
-ghost use Rattle.cohort_sizes.specs.Births.{born_count, cohort_size};
+ghost use Rattle.cohort_sizes.specs.Births.{born_count};
 ghost use Rattle.schema_plan.specs.Layout.{layout_of};
-ghost use Rattle.schema_plan.specs.Lineage.{death_cost, lesser_life, loss_cost};
+ghost use Rattle.schema_plan.specs.Lineage.{death_cost, lesser_life, loss_cost, sure_life};
+ghost use Rattle.schema_plan.specs.Ready.{ready_columns};
 ghost use Rattle.schema_plan.specs.References.{Reference, reference_at};
 ghost use Rattle.life_intervals.specs.Changes.{has_nullings, last_change, later_change};
-ghost use Rattle.life_intervals.specs.CohortParents.{AreCandidates, IsReferenceOf, candidates_by, cascades_cost, held_cost, held_in, is_nulling, losses_in, parent_in, parents_death_in, reference_by};
+ghost use Rattle.life_intervals.specs.CohortParents.{IsReferenceOf, asked_for_death, cascades_cost, held_cost, held_in, is_cascade, is_nulling, losses_in, parent_cost, parent_death_in, parent_in, parents_death_in, reference_by};
+ghost use Rattle.life_intervals.specs.Found.{IsFound, cohort_of_row};
 ghost use Rattle.life_intervals.specs.Generator.{generator_of, last_unit, rows_in_all, table_of};
-ghost use Rattle.life_intervals.specs.Intervals.{death, held_parent, held_until, parent_of};
+ghost use Rattle.life_intervals.specs.Intervals.{death, held_parent, held_until, is_after, is_live, parent_of};
 
-use crate::births::{birth, cohort};
-use crate::candidates::Candidates;
-use crate::lives::own_death;
+use crate::found::{FoundRow, find};
+use crate::orders::Purpose;
+use crate::rows::Rows;
 use schema_plan::{Plan, ReadyColumn, ReadyKind, ReadyReference};
-use std::marker::Model;
 use std::sync::ledger::Ledger;
 use step_count::Steps;
 
-/// The parents of the rows that are born at a unit. A contract sees the plan, the table and the unit.
-#[derive(Drop)]
-pub struct CohortParents<'a> {
-    plan: &'a Plan,
-    table: u32,
-    unit: u64,
-    candidates: &'a [Option<Candidates>],
-}
-
-impl<'a> Model for CohortParents<'a> {
-    ghost use Rattle.life_intervals.specs.CohortKeys.{CohortOf};
-    ghost use Rattle.life_intervals.specs.CohortParents.{AreParentsOf};
-
-    ghost Value = { CohortOf };
-
-    ghost view = { λ p. record { plan = p.plan.now; table = p.table; unit = p.unit } };
-
-    ghost invariant = { λ p. AreParentsOf (record { plan = p.plan.now; table = p.table; unit = p.unit }) p.candidates.now };
-}
-
-impl<'a> CohortParents<'a> {
-    /// The parents of the rows of a table that are born at a unit, by their candidates, or by none, where these are found anew for
-    /// each row.
-    pub fn new(
-        plan: &'a Plan,
-        table: u32,
-        unit: u64,
-        candidates: &'a [Option<Candidates>],
-    ) -> CohortParents<'a>
-        requires table { table < length plan.now.schema.tables }
-        requires unit { unit ≤ last_unit plan.now }
-        requires candidates { AreCandidates plan.now table unit candidates.now }
-        ensures { result ≡ record { plan = plan.now; table = table; unit = unit } }
-    {
-        let _limits = plan.schema(); // each reference is within its limits
-        CohortParents {
-            plan,
-            table,
-            unit,
-            candidates,
-        }
-    }
-
-    /// The ordinal of the parent that the row with this index in the cohort has by a reference, which is ready in the column at a
-    /// place. It takes one step.
+impl<'a> Rows<'a> {
+    /// The ordinal of the parent that a row which is found is born with by a reference, which is ready in the column at a place. It takes
+    /// one step.
     #[inline]
-    pub fn parent<L: Ledger>(
+    pub fn found_parent<L: Ledger>(
         &self,
+        table: u32,
+        row: FoundRow,
         column: u32,
         reference: &ReadyReference,
-        index: u64,
         steps: &mut Steps<L>,
     ) -> u64
-        requires row { index < cohort_size (table_of self.now.plan self.now.table).births self.now.unit }
-        requires reference { IsReferenceOf self.now.plan self.now.table column reference.now }
-        ensures parent { result ≡ parent_in self.now index (reference_by column reference.now) }
-        ensures born { result < born_count (table_of self.now.plan reference.now.parent).births self.now.unit }
+        requires table { table < length self.now.schema.tables }
+        requires row { IsFound self.now table row }
+        requires reference { IsReferenceOf self.now table column reference.now }
+        ensures parent { result ≡ parent_in (cohort_of_row self.now table row) row.index (reference_by column reference.now) }
+        ensures born { result < born_count (table_of self.now reference.now.parent).births row.born }
         ensures one_step { steps.new ≡ steps.old + 1 }
     {
-        match self.candidates.get(column as usize) {
-            Some(Some(candidates)) => self.chosen(candidates, column, reference, index, steps),
-            _ => {
-                let (plan, table, unit) = (self.plan, self.table, self.unit);
-                let candidates = Candidates::of_cohort(plan, table, unit, column, reference);
-                self.chosen(&candidates, column, reference, index, steps)
-            }
-        }
+        let _limits = self.plan().schema(); // the reference is within its limits
+        let order = self.order(table, Purpose::Parents(column), row.born);
+        let window = self.window(table, column, reference, row.born);
+        window.parent(reference, order.place(row.index, steps))
     }
 
-    /// The same of the candidates.
-    #[inline(always)]
-    fn chosen<L: Ledger>(
+    /// The ordinal of the parent that a row which is found still has at unit `t` by a reference, which is ready in the column at a place;
+    /// None where the reference has become null. It takes one step, and where the reference may become null at most as many more as
+    /// the cost of the parent's death says.
+    #[inline]
+    pub fn found_held_parent<L: Ledger>(
         &self,
-        candidates: &Candidates,
+        table: u32,
+        row: FoundRow,
         column: u32,
         reference: &ReadyReference,
-        index: u64,
-        steps: &mut Steps<L>,
-    ) -> u64
-        requires row { index < cohort_size (table_of self.now.plan self.now.table).births self.now.unit }
-        requires reference { IsReferenceOf self.now.plan self.now.table column reference.now }
-        requires candidates { candidates.now ≡ candidates_by self.now.plan self.now.table self.now.unit (reference_by column reference.now) }
-        ensures parent { result ≡ parent_in self.now index (reference_by column reference.now) }
-        ensures born { result < born_count (table_of self.now.plan reference.now.parent).births self.now.unit }
-        ensures one_step { steps.new ≡ steps.old + 1 }
-    {
-        let _limits = self.plan.schema(); // the reference is within its limits
-        candidates.parent(reference, index, steps)
-    }
-
-    /// The ordinal of the parent that the row with this index in the cohort still has at unit `t` by a reference, which is ready in
-    /// the column at a place; None where the reference has become null. It takes one step, and where the reference may become null
-    /// at most as many more as the cost of the parent's death says.
-    pub fn held<L: Ledger>(
-        &self,
-        column: u32,
-        reference: &ReadyReference,
-        index: u64,
         t: u64,
         steps: &mut Steps<L>,
     ) -> Option<u64>
-        requires row { index < cohort_size (table_of self.now.plan self.now.table).births self.now.unit }
-        requires reference { IsReferenceOf self.now.plan self.now.table column reference.now }
-        ensures held { result ≡ held_in self.now index t (reference_by column reference.now) }
-        ensures born { IfSome result (λ parent. parent < born_count (table_of self.now.plan reference.now.parent).births self.now.unit) }
-        ensures steps { steps.new ≤ steps.old + held_cost (layout_of self.now.plan).tables (reference_by column reference.now) }
+        requires table { table < length self.now.schema.tables }
+        requires row { IsFound self.now table row }
+        requires reference { IsReferenceOf self.now table column reference.now }
+        ensures held { result ≡ held_in (cohort_of_row self.now table row) row.index t (reference_by column reference.now) }
+        ensures born { IfSome result (λ parent. parent < born_count (table_of self.now reference.now.parent).births row.born) }
+        ensures steps { steps.new ≤ steps.old + held_cost (layout_of self.now).tables (reference_by column reference.now) }
     {
-        let parent = self.parent(column, reference, index, steps);
+        let _limits = self.plan().schema(); // the parent's table is an earlier one
+        let parent = self.found_parent(table, row, column, reference, steps);
         if !reference.nulls {
             return Some(parent);
         }
-        let loss = death(self.plan, reference.parent, parent, steps);
+        if never_dies(self.plan(), reference.parent) {
+            return Some(parent);
+        }
+        let loss = self.death(reference.parent, parent, steps);
         held_until(loss, t, parent)
     }
 
-    /// The last of `change` and of the units up to `t` at which the row with this index in the cohort loses a parent. For each
-    /// reference that may become null it takes one step, and at most as many as the cost of the parent's death says.
-    pub(crate) fn last_change<L: Ledger>(
+    /// The last of `change` and of the units up to `t` at which a row that is found loses a parent. For each reference that may become
+    /// null it takes one step, and at most as many as the cost of the parent's death says.
+    pub(crate) fn last_loss<L: Ledger>(
         &self,
-        index: u64,
+        table: u32,
+        row: FoundRow,
         change: u64,
         t: u64,
         steps: &mut Steps<L>,
     ) -> u64
-        requires { index < cohort_size (table_of self.now.plan self.now.table).births self.now.unit }
-        ensures change { result ≡ last_change t change (losses_in self.now index) }
+        requires table { table < length self.now.schema.tables }
+        requires row { IsFound self.now table row }
+        ensures change { result ≡ last_change t change (losses_in (cohort_of_row self.now table row) row.index) }
         ensures least { steps.old ≤ steps.new }
-        ensures most { steps.new ≤ steps.old + loss_cost (layout_of self.now.plan).tables self.now.table }
+        ensures most { steps.new ≤ steps.old + loss_cost (layout_of self.now).tables table }
     {
+        let _limits = self.plan().schema(); // each reference is within its limits
         let mut last = change;
-        for (column, ready) in self.plan.columns(self.table).iter().enumerate() {
+        for (column, ready) in self.plan().columns(table).iter().enumerate() {
             if let ReadyKind::Reference(reference) = &ready.kind {
                 if reference.nulls {
-                    let parent = self.parent(column as u32, reference, index, steps);
-                    let loss = death(self.plan, reference.parent, parent, steps);
+                    let loss = self.parent_death(table, row, column as u32, reference, steps);
                     last = later_change(last, loss, t);
                 }
             }
@@ -161,33 +106,205 @@ impl<'a> CohortParents<'a> {
         last
     }
 
-    /// The unit at which the first parent of the row with this index in the cohort dies, of those that take it along; None where none
-    /// ever does. For each reference that doesn't become null it takes one step, and at most as many as the cost of the parent's
-    /// death says.
+    /// The unit at which the parent dies that a row which is found is born with by a reference, which is ready in the column at a place;
+    /// None where it never does. It takes one step and at most as many as the cost of that death says, and none where no row of the
+    /// parent's table ever dies.
     #[cycle(deaths)]
-    pub fn first_death<L: Ledger>(&self, index: u64, steps: &mut Steps<L>) -> Option<u64>
-        requires { index < cohort_size (table_of self.now.plan self.now.table).births self.now.unit }
-        ensures death { result ≡ parents_death_in self.now index }
+    fn parent_death<L: Ledger>(
+        &self,
+        table: u32,
+        row: FoundRow,
+        column: u32,
+        reference: &ReadyReference,
+        steps: &mut Steps<L>,
+    ) -> Option<u64>
+        requires table { table < length self.now.schema.tables }
+        requires row { IsFound self.now table row }
+        requires reference { IsReferenceOf self.now table column reference.now }
+        ensures death { result ≡ parent_death_in (cohort_of_row self.now table row) row.index (reference_by column reference.now) }
         ensures least { steps.old ≤ steps.new }
-        ensures steps { steps.new ≤ steps.old + cascades_cost (layout_of self.now.plan).tables self.now.table }
+        ensures steps { steps.new ≤ steps.old + parent_cost (layout_of self.now).tables (reference_by column reference.now) }
     {
+        let _limits = self.plan().schema(); // the parent's table is an earlier one
+        if never_dies(self.plan(), reference.parent) {
+            return None;
+        }
+        let parent = self.found_parent(table, row, column, reference, steps);
+        self.death(reference.parent, parent, steps)
+    }
+
+    /// The unit at which the first parent of a row that is found dies, of those that take it along; None where none ever does. For each
+    /// reference that doesn't become null it takes one step, and at most as many as the cost of the parent's death says.
+    #[cycle(deaths)]
+    fn first_death<L: Ledger>(&self, table: u32, row: FoundRow, steps: &mut Steps<L>) -> Option<u64>
+        requires table { table < length self.now.schema.tables }
+        requires row { IsFound self.now table row }
+        ensures death { result ≡ parents_death_in (cohort_of_row self.now table row) row.index }
+        ensures least { steps.old ≤ steps.new }
+        ensures steps { steps.new ≤ steps.old + cascades_cost (layout_of self.now).tables table }
+    {
+        let _limits = self.plan().schema(); // each reference is within its limits
         let mut first = None;
-        for (column, ready) in self.plan.columns(self.table).iter().enumerate() {
+        for (column, ready) in self.plan().columns(table).iter().enumerate() {
             if let ReadyKind::Reference(reference) = &ready.kind {
                 if !reference.nulls {
-                    let parent = self.parent(column as u32, reference, index, steps);
-                    let death = death(self.plan, reference.parent, parent, steps);
+                    let death = self.parent_death(table, row, column as u32, reference, steps);
                     first = earlier(first, death);
                 }
             }
         }
         first
     }
+
+    /// The unit at which a row that is found dies, by its own life or with the first of the parents that take it along; None where it
+    /// never does. It takes one step where lives of the table differ, and for each reference that doesn't become null one and at most as
+    /// many as the cost of the parent's death says.
+    #[cycle(deaths)]
+    pub fn found_death<L: Ledger>(
+        &self,
+        table: u32,
+        row: FoundRow,
+        steps: &mut Steps<L>,
+    ) -> Option<u64>
+        requires table { table < length self.now.schema.tables }
+        requires row { IsFound self.now table row }
+        ensures death { result ≡ death (generator_of self.now) table (last_unit self.now) row.ordinal }
+        ensures least { steps.old ≤ steps.new }
+        ensures steps { steps.new ≤ steps.old + asked_for_death self.now table }
+    {
+        let _sound = self.plan().schema(); // so a row dies with its parents
+        let own = self.found_own_death(table, row, steps);
+        earlier(own, self.first_death(table, row, steps))
+    }
+
+    /// The unit at which the row of ordinal `j` dies, by its own life or with the first of the parents that take it along; None where it
+    /// never does. It takes at most as many steps as the cost of a death says.
+    #[cycle(deaths)]
+    pub fn death<L: Ledger>(&self, table: u32, j: u64, steps: &mut Steps<L>) -> Option<u64>
+        requires table { table < length self.now.schema.tables }
+        requires row { j < rows_in_all self.now table }
+        ensures death { result ≡ death (generator_of self.now) table (last_unit self.now) j }
+        ensures least { steps.old ≤ steps.new }
+        ensures steps { steps.new ≤ steps.old + death_cost (layout_of self.now).tables table }
+    {
+        let _sound = self.plan().schema(); // so a death asks at most its cost
+        self.found_death(table, find(self.plan(), table, j), steps)
+    }
+
+    /// Whether a row that is found, which is born by unit `t`, is alive then. It takes at most as many steps as its death.
+    #[inline]
+    pub fn is_live<L: Ledger>(
+        &self,
+        table: u32,
+        row: FoundRow,
+        t: u64,
+        steps: &mut Steps<L>,
+    ) -> bool
+        requires table { table < length self.now.schema.tables }
+        requires row { IsFound self.now table row }
+        requires born { row.born ≤ t }
+        requires unit { t ≤ last_unit self.now }
+        ensures live { result ≡ is_live (generator_of self.now) table t row.ordinal }
+        ensures steps { steps.new ≤ steps.old + asked_for_death self.now table }
+    {
+        let _sound = self.plan().schema(); // so a death is for good
+        is_past(self.found_death(table, row, steps), t)
+    }
+
+    /// Whether the parents of a row that is found, which is born by unit `t`, are alive then, of those that take it along. It takes for
+    /// each of them at most one step and as many as the cost of its death says.
+    pub(crate) fn do_parents_live<L: Ledger>(
+        &self,
+        table: u32,
+        row: FoundRow,
+        t: u64,
+        steps: &mut Steps<L>,
+    ) -> bool
+        requires table { table < length self.now.schema.tables }
+        requires row { IsFound self.now table row }
+        requires born { row.born ≤ t }
+        requires unit { t ≤ last_unit self.now }
+        ensures live { result ≡ is_after (parents_death_in (cohort_of_row self.now table row) row.index) t }
+        ensures steps { steps.new ≤ steps.old + cascades_cost (layout_of self.now).tables table }
+    {
+        is_past(self.first_death(table, row, steps), t)
+    }
+
+    /// The ordinal of the parent that the row of ordinal `j` is born with by the reference in the column at a place. It takes one
+    /// step.
+    pub fn parent<L: Ledger>(&self, table: u32, j: u64, column: u32, steps: &mut Steps<L>) -> u64
+        requires table { table < length self.now.schema.tables }
+        requires row { j < rows_in_all self.now table }
+        requires reference { is_some (reference_at (table_of self.now table) column) ≡ true }
+        ensures parent { (reference : Reference) → reference_at (table_of self.now table) column ≡ Some reference →
+            result ≡ parent_of (generator_of self.now) table (last_unit self.now) j reference }
+        ensures within { (reference : Reference) → reference_at (table_of self.now table) column ≡ Some reference →
+            result < rows_in_all self.now reference.parent }
+        ensures one_step { steps.new ≡ steps.old + 1 }
+    {
+        let ReadyKind::Reference(reference) = &self.plan().columns(table)[column as usize].kind
+        else {
+            unreachable!()
+        };
+        let row = find(self.plan(), table, j);
+        self.found_parent(table, row, column, reference, steps)
+    }
+
+    /// The ordinal of the parent that the row of ordinal `j`, which is born by unit `t`, still has then by the reference in the column at
+    /// a place; None where that has become null. It takes one step, and where the reference may become null at most as many more as the
+    /// cost of the parent's death says.
+    pub fn held_parent<L: Ledger>(
+        &self,
+        table: u32,
+        j: u64,
+        column: u32,
+        t: u64,
+        steps: &mut Steps<L>,
+    ) -> Option<u64>
+        requires table { table < length self.now.schema.tables }
+        requires unit { t ≤ last_unit self.now }
+        requires born { j < born_count (table_of self.now table).births t }
+        requires reference { is_some (reference_at (table_of self.now table) column) ≡ true }
+        ensures held { (reference : Reference) → reference_at (table_of self.now table) column ≡ Some reference →
+            result ≡ held_parent (generator_of self.now) table t j reference }
+        ensures within { (reference : Reference) → reference_at (table_of self.now table) column ≡ Some reference →
+            IfSome result (λ parent. parent < rows_in_all self.now reference.parent) }
+        ensures steps { (reference : Reference) → reference_at (table_of self.now table) column ≡ Some reference →
+            steps.new ≤ steps.old + held_cost (layout_of self.now).tables reference }
+    {
+        let _sound = self.plan().schema(); // so a row loses a parent when that dies
+        let ReadyKind::Reference(reference) = &self.plan().columns(table)[column as usize].kind
+        else {
+            unreachable!()
+        };
+        let row = find(self.plan(), table, j);
+        self.found_held_parent(table, row, column, reference, t, steps)
+    }
+}
+
+/// Whether no row of a table ever dies: neither its own life ends, nor a parent's that takes it along.
+#[inline]
+pub(crate) fn never_dies(plan: &Plan, table: u32) -> bool
+    requires { table < length plan.now.schema.tables }
+    ensures { result ≡ is_none (sure_life (layout_of plan.now).tables table) }
+{
+    plan.sure_life(table).is_none()
+}
+
+/// Whether a death comes after unit `t`; None never comes.
+#[inline(always)]
+fn is_past(death: Option<u64>, t: u64) -> bool
+    ensures { result ≡ is_after death t }
+{
+    match death {
+        Some(death) => t < death,
+        None => true,
+    }
 }
 
 /// The earlier of two deaths; None never comes.
 #[inline(always)]
-pub(crate) fn earlier(death: Option<u64>, other: Option<u64>) -> Option<u64>
+fn earlier(death: Option<u64>, other: Option<u64>) -> Option<u64>
     ensures { result ≡ lesser_life death other }
 {
     match (death, other) {
@@ -219,6 +336,52 @@ fn later_change(change: u64, loss: Option<u64>, t: u64) -> u64
     }
 }
 
+/// Whether a table has references that become null.
+pub(crate) fn has_nullings(plan: &Plan, table: u32) -> bool
+    requires { table < length plan.now.schema.tables }
+    ensures { result ≡ has_nullings (table_of plan.now table) }
+{
+    has_nulling_column(plan.columns(table))
+}
+
+fn has_nulling_column(columns: &[ReadyColumn]) -> bool
+    ensures { result ≡ list_any is_nulling columns.now }
+{
+    columns.iter().any(|column| is_nulling(column))
+}
+
+/// Whether a table has references with whose parents its rows are deleted.
+pub(crate) fn has_cascades(plan: &Plan, table: u32) -> bool
+    requires table { table < length plan.now.schema.tables }
+    ensures { result ≡ list_any is_cascade (ready_columns (layout_of plan.now) table) }
+{
+    has_cascading_column(plan.columns(table))
+}
+
+fn has_cascading_column(columns: &[ReadyColumn]) -> bool
+    ensures { result ≡ list_any is_cascade columns.now }
+{
+    columns.iter().any(|column| is_cascade(column))
+}
+
+fn is_cascade(column: &ReadyColumn) -> bool
+    ensures { result ≡ is_cascade column.now }
+{
+    match &column.kind {
+        ReadyKind::Reference(reference) => !reference.nulls,
+        _ => false,
+    }
+}
+
+fn is_nulling(column: &ReadyColumn) -> bool
+    ensures { result ≡ is_nulling column.now }
+{
+    match &column.kind {
+        ReadyKind::Reference(reference) => reference.nulls,
+        _ => false,
+    }
+}
+
 /// The ordinal of the parent that the row of ordinal `j` is born with by the reference in the column at a place. It takes one
 /// step.
 pub fn parent<L: Ledger>(plan: &Plan, table: u32, j: u64, column: u32, steps: &mut Steps<L>) -> u64
@@ -231,12 +394,7 @@ pub fn parent<L: Ledger>(plan: &Plan, table: u32, j: u64, column: u32, steps: &m
         result < rows_in_all plan.now reference.parent }
     ensures one_step { steps.new ≡ steps.old + 1 }
 {
-    let unit = birth(plan, table, j);
-    let index = j - cohort(plan, table, unit).first;
-    let ReadyKind::Reference(reference) = &plan.columns(table)[column as usize].kind else {
-        unreachable!()
-    };
-    CohortParents::new(plan, table, unit, &[]).parent(column, reference, index, steps)
+    Rows::of(plan).parent(table, j, column, steps)
 }
 
 /// The ordinal of the parent that the row of ordinal `j`, which is born by unit `t`, still has then by the reference in the column at a
@@ -261,41 +419,11 @@ pub fn held_parent<L: Ledger>(
     ensures steps { (reference : Reference) → reference_at (table_of plan.now table) column ≡ Some reference →
         steps.new ≤ steps.old + held_cost (layout_of plan.now).tables reference }
 {
-    let _sound = plan.schema(); // so a row loses a parent when that dies
-    let unit = birth(plan, table, j);
-    let index = j - cohort(plan, table, unit).first;
-    let ReadyKind::Reference(reference) = &plan.columns(table)[column as usize].kind else {
-        unreachable!()
-    };
-    CohortParents::new(plan, table, unit, &[]).held(column, reference, index, t, steps)
-}
-
-/// Whether a table has references that become null.
-pub(crate) fn has_nullings(plan: &Plan, table: u32) -> bool
-    requires { table < length plan.now.schema.tables }
-    ensures { result ≡ has_nullings (table_of plan.now table) }
-{
-    has_nulling_column(plan.columns(table))
-}
-
-fn has_nulling_column(columns: &[ReadyColumn]) -> bool
-    ensures { result ≡ list_any is_nulling columns.now }
-{
-    columns.iter().any(|column| is_nulling(column))
-}
-
-fn is_nulling(column: &ReadyColumn) -> bool
-    ensures { result ≡ is_nulling column.now }
-{
-    match &column.kind {
-        ReadyKind::Reference(reference) => reference.nulls,
-        _ => false,
-    }
+    Rows::of(plan).held_parent(table, j, column, t, steps)
 }
 
 /// The unit at which the row of ordinal `j` dies, by its own life or with the first of the parents that take it along; None where it
 /// never does. It takes at most as many steps as the cost of a death says.
-#[cycle(deaths)]
 pub fn death<L: Ledger>(plan: &Plan, table: u32, j: u64, steps: &mut Steps<L>) -> Option<u64>
     requires table { table < length plan.now.schema.tables }
     requires row { j < rows_in_all plan.now table }
@@ -303,10 +431,5 @@ pub fn death<L: Ledger>(plan: &Plan, table: u32, j: u64, steps: &mut Steps<L>) -
     ensures least { steps.old ≤ steps.new }
     ensures steps { steps.new ≤ steps.old + death_cost (layout_of plan.now).tables table }
 {
-    let _sound = plan.schema(); // so a row dies with its parents
-    let own = own_death(plan, table, j, steps);
-    let unit = birth(plan, table, j);
-    let index = j - cohort(plan, table, unit).first;
-    let parents = CohortParents::new(plan, table, unit, &[]);
-    earlier(own, parents.first_death(index, steps))
+    Rows::of(plan).death(table, j, steps)
 }

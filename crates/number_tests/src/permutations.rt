@@ -5,7 +5,7 @@
 ghost use Rattle.std.specs.Prelude.{◌≡◌, ℕ, ◌<◌};
 
 use crate::checksums::CHECKSUMS;
-use id_permutation::{Order, tables_pay};
+use id_permutation::{KeptOrders, Order, Shape};
 use std::alloc::Global;
 use std::marker::Brand;
 use std::mem::size_of;
@@ -56,13 +56,11 @@ fn assert_places<L: Ledger>(rt: &impl Abort, order: &Order, places: &[u64], step
     }
 }
 
-fn assert_small<L: Ledger>(rt: &impl Abort, alloc: Global, steps: &mut Steps<L>) {
+fn assert_small<L: Ledger>(rt: &impl Abort, steps: &mut Steps<L>) {
     for places in SMALL {
         let size = places.len() as u64;
         assert!(rt; 1 <= size && size < 1000);
         assert_places(rt, &Order::by_rounds(size, 0), places, steps);
-        let tables = Order::by_tables(alloc, size, 0).expect(rt, "memory");
-        assert_places(rt, &tables, places, steps);
     }
 }
 
@@ -77,15 +75,25 @@ fn assert_checksum<L: Ledger>(rt: &impl Abort, order: &Order, wanted: u64, steps
     assert!(rt; sum == wanted, "the checksum of {size}");
 }
 
+// All orders of the checksums are kept behind one another, so that neighbours of one size share what they divide by: those of up to
+// 21 numbers by rounds but for a few, the others by tables.
 fn assert_checksums<L: Ledger>(rt: &impl Abort, alloc: Global, steps: &mut Steps<L>) {
+    let mut kept = KeptOrders::new(alloc);
     let mut size = 0u64;
     for (by_zero, by_project) in &CHECKSUMS {
         size = size.wrapping_add(1);
         assert!(rt; 1 <= size && size <= 200);
         for (seed, sum) in [(0, *by_zero), (PROJECT_SEED, *by_project)] {
             assert_checksum(rt, &Order::by_rounds(size, seed), sum, steps);
-            let tables = Order::by_tables(alloc, size, seed).expect(rt, "memory");
-            assert_checksum(rt, &tables, sum, steps);
+            kept.push(size, Some(seed), 1000).expect(rt, "memory");
+        }
+    }
+    let mut k = 0usize;
+    for (by_zero, by_project) in &CHECKSUMS {
+        for sum in [*by_zero, *by_project] {
+            assert!(rt; k < kept.len());
+            assert_checksum(rt, &kept.get(k), sum, steps);
+            k = k.wrapping_add(1);
         }
     }
 }
@@ -95,9 +103,11 @@ fn assert_large<L: Ledger>(rt: &impl Abort, alloc: Global, steps: &mut Steps<L>)
     for (x, place) in BY_ROUNDS {
         assert_place(rt, &rounds, x, place, steps);
     }
-    let tables = Order::by_tables(alloc, 1 << 32, 0).expect(rt, "memory");
+    let mut kept = KeptOrders::new(alloc);
+    kept.push(1 << 32, Some(0), 393_216).expect(rt, "memory");
+    assert!(rt; kept.len() == 1 && kept.entries() == 393_216);
     for (x, place) in BY_TABLES {
-        assert_place(rt, &tables, x, place, steps);
+        assert_place(rt, &kept.get(0), x, place, steps);
     }
 }
 
@@ -107,7 +117,7 @@ fn assert_permutations<L: Ledger>(rt: &impl Abort, alloc: Global, blank: Blank)
     requires some { 0 < blank.parts }
 {
     let mut steps = Steps::<L>::new(blank);
-    assert_small(rt, alloc, &mut steps);
+    assert_small(rt, &mut steps);
     assert_checksums(rt, alloc, &mut steps);
     assert_large(rt, alloc, &mut steps);
 }
@@ -120,13 +130,30 @@ fn permutations_are_as_worked_out(rt: HostRuntime) {
 // The tables have three times as many entries as the rectangle has rows and columns: 1 and 1, 2 and 1, 2 and 2, 3 and 3, and
 // 2^16 and 2^16.
 #[test]
-fn tables_pay_from_as_many_rows_as_entries(rt: HostRuntime) {
+fn a_shape_has_three_entries_a_row_and_a_column(rt: HostRuntime) {
     for (size, entries) in [(1, 6), (2, 9), (3, 12), (7, 18), (1 << 32, 393_216)] {
         assert!(rt; 1 <= size);
-        let one_less = tables_pay(size, u64::wrapping_sub(entries, 1));
-        assert!(rt; !one_less && tables_pay(size, entries), "tables of {size}");
+        assert!(rt; Shape::new(size).entries() == entries, "tables of {size}");
     }
-    assert!(rt; !tables_pay((1 << 32) + 1, u64::MAX));
+}
+
+// 35 numbers have 6 rows of 6, 36 entries; 36 numbers are the fewest whose tables pay.
+#[test]
+fn tables_are_kept_where_they_pay_and_have_room(rt: HostRuntime) {
+    let cases = [
+        (35, u64::MAX, 0),
+        (36, 35, 0),
+        (36, 36, 36),
+        ((1 << 32) + 1, u64::MAX, 0),
+    ];
+    for (size, room, entries) in cases {
+        let mut kept = KeptOrders::new(rt.alloc());
+        kept.push(size, Some(0), room).expect(&rt, "memory");
+        assert!(rt;
+            kept.entries() == entries,
+            "{size} numbers in a room of {room}"
+        );
+    }
 }
 
 fn is_shared<T: Send + Sync>(_shared: &T) {}
@@ -134,5 +161,5 @@ fn is_shared<T: Send + Sync>(_shared: &T) {}
 #[test]
 fn an_order_is_small_and_shared_by_threads(rt: HostRuntime) {
     is_shared(&Order::in_place(0));
-    assert!(rt; size_of::<Order>() <= 40);
+    assert!(rt; size_of::<Order>() <= 72);
 }

@@ -1,0 +1,14 @@
+use Rattle.std.proofs.Common.{◌≡◌, ◌≤◌, ◌+◌, ◌*◌, length, map, take}
+use Rattle.schema_plan.specs.Lineage.{one_if}
+use Rattle.life_intervals.specs.CohortOrders.{do_lives_differ}
+use Rattle.life_intervals.specs.Generator.{generator_of, table_of}
+use Rattle.life_intervals.specs.Intervals.{is_after, own_death}
+use Rattle.life_intervals.proofs.rows.Rows.put_part_own_lives.Given as goal
+
+-- what has been put of the rows before one
+abbrev pub invariant-loop-i : goal.invariant-loop-i
+invariant-loop-i g l = record {
+  same_length : length l.live ≡ length l.ordinals;
+  so_far : take l.i l.live ≡ map (λ j. is_after (own_death (generator_of l.self) l.table l.t j) l.t) (take l.i l.ordinals);
+  steps : l.steps ≤ l.fn.steps + l.i * one_if (do_lives_differ (table_of l.self l.table).life);
+}

@@ -1,0 +1,181 @@
+//! Which orders a job asks for, and from which size on cohorts have tables for them.
+
+ghost use Rattle.std.specs.Prelude.{◌≡◌, ◌+◌, ◌<◌, ◌≤◌, IfOk, length};
+ghost use Rattle.life_intervals.specs.Generator.{last_unit};
+
+use crate::births::cohort;
+use crate::lives::{Survival, survival_at};
+use crate::memory::Memory;
+use crate::orders::{Purpose, is_drawn};
+use crate::parents::never_dies;
+use schema_plan::{Plan, ReadyColumn, ReadyKind};
+use std::alloc::Global;
+
+/// Which orders of a table's cohorts a job asks for.
+#[derive(Clone, Copy)]
+pub(crate) struct Asked {
+    /// Those of keys.
+    pub(crate) keys: bool,
+    /// Those of lives.
+    pub(crate) lives: bool,
+    /// Those of updates.
+    pub(crate) updates: bool,
+    /// Those in which they choose parents.
+    pub(crate) parents: bool,
+}
+
+/// Asks for the parents by the references among some columns of a table: for their keys where the lines of the table are asked for,
+/// and for what tells their deaths, if any come.
+fn ask_for_parents(plan: &Plan, columns: &[ReadyColumn], lines: bool, asked: &mut [Asked])
+    requires { length asked.old ≤ length plan.now.schema.tables }
+    ensures { length asked.new ≡ length asked.old }
+{
+    for column in columns {
+        if let ReadyKind::Reference(reference) = &column.kind {
+            let place = reference.parent as usize;
+            if place < asked.len() {
+                let dies = (lines || !reference.nulls) && !never_dies(plan, reference.parent);
+                asked[place].keys |= lines;
+                asked[place].lives |= dies;
+                asked[place].parents |= dies;
+            }
+        }
+    }
+}
+
+/// What is asked for of the tables up to the last one of a job: all of those from `from` on, whose lines it has, and of those that
+/// their references lead to keys and what tells deaths.
+pub(crate) fn asked_tables(
+    alloc: Global,
+    plan: &Plan,
+    from: u32,
+    count: u32,
+) -> Result<Vec<Asked>, Memory>
+    requires { from + count ≤ length plan.now.schema.tables }
+    ensures { IfOk result (λ asked. length asked.items ≡ from + count) }
+{
+    let _limits = plan.schema(); // there are at most 64 tables
+    let mut asked = Vec::new(alloc);
+    for table in 0..from + count {
+        let lines = from <= table;
+        asked.push(Asked {
+            keys: lines,
+            lives: lines,
+            updates: lines,
+            parents: lines,
+        })?;
+    }
+    for back in 0..from + count {
+        let table = from + count - 1 - back;
+        if asked[table as usize].parents {
+            let lines = from <= table;
+            ask_for_parents(plan, plan.columns(table), lines, asked.as_mut_slice());
+        }
+    }
+    Ok(asked)
+}
+
+/// Whether places of the rows of a cohort are asked for at unit `last`, for their lines or for what the unit changes: none where no row
+/// was alive at the unit before, and those of lives only where not all are sure to be alive.
+pub(crate) fn are_places_asked(
+    plan: &Plan,
+    table: u32,
+    purpose: Purpose,
+    unit: u64,
+    last: u64,
+) -> bool
+    requires table { table < length plan.now.schema.tables }
+    requires unit { unit ≤ last_unit plan.now }
+{
+    if survival_at(plan, table, unit, last.saturating_sub(1)) == Survival::Over {
+        return false;
+    }
+    match purpose {
+        Purpose::Lives => survival_at(plan, table, unit, last) != Survival::Sure,
+        _ => true,
+    }
+}
+
+/// How many orders of a cohort are asked for whose rows are alive: of lives, where these are drawn, and others.
+#[derive(Clone, Copy)]
+struct Wish {
+    lives: u64,
+    others: u64,
+}
+
+/// How many of a table's cohort are asked for.
+fn wish_of(plan: &Plan, table: u32, asked: Asked) -> Wish
+    requires { table < length plan.now.schema.tables }
+{
+    let keys = asked.keys && is_drawn(plan, table, Purpose::Keys);
+    let lives = asked.lives && is_drawn(plan, table, Purpose::Lives);
+    let updates = asked.updates && is_drawn(plan, table, Purpose::Updates);
+    let mut others = u64::from(keys) + u64::from(updates);
+    if asked.parents {
+        for column in plan.columns(table) {
+            if matches!(column.kind, ReadyKind::Reference(_)) {
+                others = others.saturating_add(1);
+            }
+        }
+    }
+    Wish {
+        lives: u64::from(lives),
+        others,
+    }
+}
+
+/// How many entries the tables of an order of so many rows have at most; none where they don't pay for as many.
+fn table_entries(size: u64) -> u64 {
+    let entries = 6 * (size.isqrt() + 1);
+    if size <= 1 << 32 && entries <= size {
+        entries
+    } else {
+        0
+    }
+}
+
+/// Adds how many entries the orders of a table's cohorts have for unit `last`, by the number of bits of the cohorts' sizes.
+fn add_entries(plan: &Plan, table: u32, asked: Asked, last: u64, entries: &mut [u64])
+    requires table { table < length plan.now.schema.tables }
+    requires unit { last ≤ last_unit plan.now }
+    ensures { length entries.new ≡ length entries.old }
+{
+    let _limits = plan.schema(); // there are at most 10,000 units
+    let wish = wish_of(plan, table, asked);
+    for unit in 0..last + 1 {
+        let mut orders = 0u64;
+        if are_places_asked(plan, table, Purpose::Lives, unit, last) {
+            orders = wish.lives;
+        }
+        if are_places_asked(plan, table, Purpose::Keys, unit, last) {
+            orders = orders.saturating_add(wish.others);
+        }
+        let size = cohort(plan, table, unit).size;
+        let bits = (64 - size.leading_zeros()) as usize;
+        if bits < entries.len() {
+            let more = orders.saturating_mul(table_entries(size));
+            entries[bits] = entries[bits].saturating_add(more);
+        }
+    }
+}
+
+/// The least power of two, or 0, of which all cohorts of as many rows have no more than so many entries together, for the orders of
+/// some tables at unit `last`.
+pub(crate) fn least_size(plan: &Plan, asked: &[Asked], last: u64, most: u64) -> u64
+    requires tables { length asked.now ≤ length plan.now.schema.tables }
+    requires unit { last ≤ last_unit plan.now }
+{
+    let _limits = plan.schema(); // there are at most 64 tables
+    let mut entries = [0; 64];
+    for table in 0..asked.len() {
+        add_entries(plan, table as u32, asked[table], last, &mut entries);
+    }
+    let mut sum: u64 = 0;
+    for bits in (0..64).rev() {
+        sum = sum.saturating_add(entries[bits]);
+        if sum > most {
+            return 1 << bits;
+        }
+    }
+    0
+}

@@ -1,0 +1,95 @@
+//! The orders that are kept for a job.
+
+ghost use Rattle.std.specs.Prelude.{◌≡◌, ◌+◌, ◌<◌, ◌≤◌, ◌^◌, IfOk, IfSome, length};
+ghost use Rattle.life_intervals.specs.CohortOrders.{order_for};
+ghost use Rattle.life_intervals.specs.CohortParents.{IsReferenceOf, window_by};
+ghost use Rattle.life_intervals.specs.Generator.{last_unit};
+ghost use Rattle.life_intervals.specs.JobOrders.{AreOrdersOf, entries_of};
+ghost use Rattle.schema_plan.specs.declared.ready.ReadyReference.{ReadyReference};
+ghost use Rattle.schema_plan.specs.Dictionaries.{Project};
+
+use crate::asked::{asked_tables, least_size};
+use crate::kept::{Room, TableOrders};
+use crate::memory::Memory;
+use crate::orders::Purpose;
+use crate::window::Window;
+use id_permutation::Order;
+use schema_plan::Plan;
+use std::alloc::Global;
+use std::marker::Model;
+
+/// The most entries that the tables of a job's orders have together. Of 2 bytes each, they take at most 16 MiB.
+const MOST_ENTRIES: u64 = 1 << 23;
+
+/// The most orders that are kept for a job, of some 40 bytes each with what is kept beside them.
+const MOST_ORDERS: u64 = 1 << 22;
+
+/// Orders of cohorts that are kept for a job: for each table, as far as they are kept, of the units from 0 on. How places are found
+/// shows in no contract, and those that aren't kept are found by rounds. A contract sees what is kept of each table.
+#[derive(Drop)]
+pub struct JobOrders {
+    tables: Vec<TableOrders>,
+}
+
+impl Model for JobOrders {
+    ghost use Rattle.std.specs.Prelude.{List};
+    ghost use Rattle.life_intervals.specs.declared.kept.TableOrders.{TableOrders};
+
+    ghost Value = { List TableOrders };
+
+    ghost view = { λ j. j.tables.items };
+}
+
+impl JobOrders {
+    /// Those that the lines at unit `last` of `count` tables from `from` on ask for, and what the unit changes in them, of these and of the
+    /// tables that their references lead to. The tables of their rounds have at most 2^23 entries together, of 2 bytes each, the greatest cohorts first. At `Memory`
+    /// none are kept.
+    pub fn new(
+        alloc: Global,
+        plan: &Plan,
+        from: u32,
+        count: u32,
+        last: u64,
+    ) -> Result<JobOrders, Memory>
+        requires tables { from + count ≤ length plan.now.schema.tables }
+        requires unit { last ≤ last_unit plan.now }
+        ensures orders { IfOk result (λ orders. AreOrdersOf plan.now orders) }
+        ensures entries { IfOk result (λ orders. entries_of orders ≤ 2 ^ 23) }
+    {
+        let _limits = plan.schema(); // there are at most 64 tables
+        let asked = asked_tables(alloc, plan, from, count)?;
+        let mut room = Room {
+            entries: MOST_ENTRIES,
+            orders: MOST_ORDERS,
+            least: least_size(plan, &asked, last, MOST_ENTRIES),
+        };
+        let mut tables = Vec::new(alloc);
+        for table in 0..from + count {
+            let asked = asked[table as usize];
+            tables.push(TableOrders::new(alloc, plan, table, asked, last, &mut room)?)?;
+        }
+        Ok(JobOrders { tables })
+    }
+
+    /// The order of the rows of a table that are born at a unit, if it is kept.
+    #[inline]
+    pub(crate) fn order(&self, table: u32, purpose: Purpose, unit: u64) -> Option<Order<'_>>
+        ensures { IfSome result (λ order. (plan : Project) → AreOrdersOf plan self.now → order ≡ order_for plan table purpose unit) }
+    {
+        match self.tables.get(table as usize) {
+            Some(kept) => kept.order(purpose, unit),
+            None => None,
+        }
+    }
+
+    /// The window of these rows by the reference in the column at a place, if it is kept.
+    #[inline]
+    pub(crate) fn window(&self, table: u32, column: u32, unit: u64) -> Option<Window>
+        ensures { IfSome result (λ window. (plan : Project) (reference : ReadyReference) → AreOrdersOf plan self.now → IsReferenceOf plan table column reference → window ≡ window_by plan reference unit) }
+    {
+        match self.tables.get(table as usize) {
+            Some(kept) => kept.window(column, unit),
+            None => None,
+        }
+    }
+}

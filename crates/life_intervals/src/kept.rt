@@ -1,0 +1,292 @@
+//! The orders that are kept of a table's cohorts.
+
+ghost use Rattle.std.specs.Prelude.{◌≡◌, ◌+◌, ◌<◌, ◌≤◌, ◌++◌, ◌∷◌, [], IfOk, IfSome, OnOk, length, sum_by};
+ghost use Rattle.life_intervals.specs.CohortOrders.{order_for};
+ghost use Rattle.life_intervals.specs.CohortParents.{IsReferenceOf, window_by};
+ghost use Rattle.life_intervals.specs.Generator.{last_unit};
+ghost use Rattle.life_intervals.specs.JobOrders.{AreAllParentOrders, AreParentOrders, AreTableOrders, IsKept, entries_of_parent, entries_of_table};
+ghost use Rattle.schema_plan.specs.Dictionaries.{Project};
+
+use crate::asked::{Asked, are_places_asked};
+use crate::memory::Memory;
+use crate::orders::{Purpose, is_drawn, wanted};
+use crate::wanted::Wanted;
+use crate::window::Window;
+use id_permutation::{KeptOrders, Order};
+use schema_plan::{Plan, ReadyKind, ReadyReference};
+use std::alloc::Global;
+
+/// What is left of the room of a job's orders.
+#[derive(Drop)]
+pub(crate) struct Room {
+    /// How many entries their tables may still have.
+    pub(crate) entries: u64,
+    /// How many orders may still be kept.
+    pub(crate) orders: u64,
+    /// The least size of a cohort whose orders have tables.
+    pub(crate) least: u64,
+}
+
+/// The orders in which a table's cohorts choose parents by a reference, unit by unit from 0, and the windows of these.
+#[derive(Drop)]
+pub(crate) struct ParentOrders {
+    pub(crate) orders: KeptOrders,
+    pub(crate) windows: Vec<Window>,
+}
+
+/// The orders that are kept of a table's cohorts, unit by unit from 0, as far as they are kept: of keys, lives and updates, and for
+/// each column those by its reference, if it is one.
+#[derive(Drop)]
+pub(crate) struct TableOrders {
+    keys: KeptOrders,
+    lives: KeptOrders,
+    updates: KeptOrders,
+    parents: Vec<ParentOrders>,
+}
+
+/// How many entries the tables of an order may have: none where the cohort is smaller than those that have tables, or nothing asks
+/// for places of its rows at unit `last`.
+fn entries_for(
+    plan: &Plan,
+    table: u32,
+    purpose: Purpose,
+    unit: u64,
+    last: u64,
+    size: u64,
+    room: &Room,
+) -> u64
+    requires table { table < length plan.now.schema.tables }
+    requires unit { unit ≤ last_unit plan.now }
+    ensures { result ≤ room.now.entries }
+{
+    if size >= room.least && are_places_asked(plan, table, purpose, unit, last) {
+        room.entries
+    } else {
+        0
+    }
+}
+
+/// Keeps the order of the rows of a table that are born at a unit.
+fn push_order(
+    plan: &Plan,
+    table: u32,
+    purpose: Purpose,
+    unit: u64,
+    last: u64,
+    kept: &mut KeptOrders,
+    room: &mut Room,
+) -> Result<(), Memory>
+    requires table { table < length plan.now.schema.tables }
+    requires unit { unit ≤ last_unit plan.now }
+    ensures order { IfOk result (λ _. kept.new.orders ≡ kept.old.orders ++ order_for plan.now table purpose unit ∷ []) }
+    ensures entries { IfOk result (λ _. kept.new.entries + room.new.entries ≡ kept.old.entries + room.old.entries) }
+    ensures least { room.new.least ≡ room.old.least }
+{
+    let Wanted { size, seed } = wanted(plan, table, purpose, unit);
+    let given = entries_for(plan, table, purpose, unit, last, size, room);
+    let before = kept.entries();
+    kept.push(size, seed, given)?;
+    room.entries -= kept.entries() - before;
+    Ok(())
+}
+
+/// The orders of a table's cohorts of the units 0 to `last`, if they are asked for, are permutations and there is room for as many;
+/// else none.
+fn kept_orders(
+    alloc: Global,
+    plan: &Plan,
+    table: u32,
+    purpose: Purpose,
+    asked: bool,
+    last: u64,
+    room: &mut Room,
+) -> Result<KeptOrders, Memory>
+    requires table { table < length plan.now.schema.tables }
+    requires unit { last ≤ last_unit plan.now }
+    ensures kept { IfOk result (λ kept. IsKept (order_for plan.now table purpose) kept.orders) }
+    ensures count { IfOk result (λ kept. length kept.orders ≤ last + 1) }
+    ensures entries { IfOk result (λ kept. kept.entries + room.new.entries ≡ room.old.entries) }
+{
+    let _limits = plan.schema(); // there are at most 10,000 units
+    let mut kept = KeptOrders::new(alloc);
+    let count = last + 1;
+    if !asked || count > room.orders || !is_drawn(plan, table, purpose) {
+        return Ok(kept);
+    }
+    room.orders -= count;
+    for unit in 0..count {
+        push_order(plan, table, purpose, unit, last, &mut kept, room)?;
+    }
+    Ok(kept)
+}
+
+/// The windows of a reference for the cohorts of the units before one.
+fn windows_of(
+    alloc: Global,
+    plan: &Plan,
+    reference: &ReadyReference,
+    count: u64,
+) -> Result<Vec<Window>, Memory>
+    requires parent { reference.now.parent < length plan.now.schema.tables }
+    requires unit { count ≤ last_unit plan.now + 1 }
+    ensures { IfOk result (λ windows. IsKept (window_by plan.now reference.now) windows.items) }
+{
+    let _limits = plan.schema(); // there are at most 10,000 units
+    let mut windows = Vec::new(alloc);
+    for unit in 0..count {
+        windows.push(Window::of_cohort(plan, reference, unit))?;
+    }
+    Ok(windows)
+}
+
+impl ParentOrders {
+    /// None.
+    fn none(alloc: Global) -> ParentOrders
+        ensures kept { (plan : Project) (table column : _) → AreParentOrders plan table column result }
+        ensures entries { result.orders.entries ≡ 0 }
+    {
+        ParentOrders {
+            orders: KeptOrders::new(alloc),
+            windows: Vec::new(alloc),
+        }
+    }
+
+    /// Those of a reference, which is ready in the column at a place.
+    fn of_reference(
+        alloc: Global,
+        plan: &Plan,
+        table: u32,
+        column: u32,
+        reference: &ReadyReference,
+        last: u64,
+        room: &mut Room,
+    ) -> Result<ParentOrders, Memory>
+        requires table { table < length plan.now.schema.tables }
+        requires reference { IsReferenceOf plan.now table column reference.now }
+        requires unit { last ≤ last_unit plan.now }
+        ensures kept { IfOk result (λ kept. AreParentOrders plan.now table column kept) }
+        ensures entries { IfOk result (λ kept. kept.orders.entries + room.new.entries ≡ room.old.entries) }
+    {
+        let _limits = plan.schema(); // the parent's table is an earlier one
+        let purpose = Purpose::Parents(column);
+        let orders = kept_orders(alloc, plan, table, purpose, true, last, room)?;
+        let windows = windows_of(alloc, plan, reference, orders.len() as u64)?;
+        Ok(ParentOrders { orders, windows })
+    }
+}
+
+/// For each column of a table the orders by its reference, if it is one; for no column where they aren't asked for.
+fn parent_orders(
+    alloc: Global,
+    plan: &Plan,
+    table: u32,
+    asked: bool,
+    last: u64,
+    room: &mut Room,
+) -> Result<Vec<ParentOrders>, Memory>
+    requires table { table < length plan.now.schema.tables }
+    requires unit { last ≤ last_unit plan.now }
+    ensures kept { IfOk result (λ parents. AreAllParentOrders plan.now table parents.items) }
+    ensures entries { IfOk result (λ parents. sum_by entries_of_parent parents.items + room.new.entries ≡ room.old.entries) }
+{
+    let mut parents = Vec::new(alloc);
+    if !asked {
+        return Ok(parents);
+    }
+    for (column, ready) in plan.columns(table).iter().enumerate() {
+        let kept = match &ready.kind {
+            ReadyKind::Reference(reference) => {
+                ParentOrders::of_reference(
+                    alloc,
+                    plan,
+                    table,
+                    column as u32,
+                    reference,
+                    last,
+                    room,
+                )?
+            }
+            _ => ParentOrders::none(alloc),
+        };
+        parents.push(kept)?;
+    }
+    Ok(parents)
+}
+
+impl TableOrders {
+    /// Those that are asked for.
+    pub(crate) fn new(
+        alloc: Global,
+        plan: &Plan,
+        table: u32,
+        asked: Asked,
+        last: u64,
+        room: &mut Room,
+    ) -> Result<TableOrders, Memory>
+        requires table { table < length plan.now.schema.tables }
+        requires unit { last ≤ last_unit plan.now }
+        ensures kept { IfOk result (λ kept. AreTableOrders plan.now table kept) }
+        ensures entries { IfOk result (λ kept. entries_of_table kept + room.new.entries ≡ room.old.entries) }
+    {
+        let keys = kept_orders(alloc, plan, table, Purpose::Keys, asked.keys, last, room)?;
+        let lives = kept_orders(alloc, plan, table, Purpose::Lives, asked.lives, last, room)?;
+        let updates = kept_orders(
+            alloc,
+            plan,
+            table,
+            Purpose::Updates,
+            asked.updates,
+            last,
+            room,
+        )?;
+        let parents = parent_orders(alloc, plan, table, asked.parents, last, room)?;
+        Ok(TableOrders {
+            keys,
+            lives,
+            updates,
+            parents,
+        })
+    }
+
+    /// Those of a purpose, if any are kept.
+    #[inline]
+    fn of_purpose(&self, purpose: Purpose) -> Option<&KeptOrders>
+        ensures { IfSome result (λ kept. (plan : Project) (table : _) → AreTableOrders plan table self.now → IsKept (order_for plan table purpose) kept.now.orders) }
+    {
+        match purpose {
+            Purpose::Keys => Some(&self.keys),
+            Purpose::Lives => Some(&self.lives),
+            Purpose::Updates => Some(&self.updates),
+            Purpose::Parents(column) => match self.parents.get(column as usize) {
+                Some(parents) => Some(&parents.orders),
+                None => None,
+            },
+        }
+    }
+
+    /// The order of a unit's cohort, if it is kept.
+    #[inline]
+    pub(crate) fn order(&self, purpose: Purpose, unit: u64) -> Option<Order<'_>>
+        ensures { IfSome result (λ order. (plan : Project) (table : _) → AreTableOrders plan table self.now → order ≡ order_for plan table purpose unit) }
+    {
+        let kept = self.of_purpose(purpose)?;
+        if unit < kept.len() as u64 {
+            Some(kept.get(unit as usize))
+        } else {
+            None
+        }
+    }
+
+    /// The window of a unit's cohort by the reference in the column at a place, if it is kept.
+    #[inline]
+    pub(crate) fn window(&self, column: u32, unit: u64) -> Option<Window>
+        ensures { IfSome result (λ window. (plan : Project) (table : _) (reference : ReadyReference) → AreTableOrders plan table self.now → IsReferenceOf plan table column reference → window ≡ window_by plan reference unit) }
+    {
+        let parents = self.parents.get(column as usize)?;
+        if unit < parents.windows.len() as u64 {
+            Some(parents.windows[unit as usize])
+        } else {
+            None
+        }
+    }
+}

@@ -1,0 +1,661 @@
+//! Runs of rows: what is told of each row of a table stands in slices of one length. Rows beside one another that are born at one unit
+//! are taken together.
+
+ghost use Rattle.std.specs.Prelude.{◌≡◌, ◌+◌, ◌-◌, ◌*◌, ◌%◌, ◌<◌, ◌≤◌, ◌^◌, ◌⊎◌, ℕ, All, false, get_or, length, map, nat_lt};
+ghost use Rattle.cohort_sizes.specs.Births.{LiesIn, born_count};
+ghost use Rattle.schema_plan.specs.Layout.{layout_of};
+ghost use Rattle.schema_plan.specs.Lineage.{loss_cost, one_if};
+ghost use Rattle.life_intervals.specs.Changes.{change_span, last_due};
+ghost use Rattle.life_intervals.specs.CohortOrders.{do_lives_differ, do_updates_differ, due_for, is_drawn, place_for};
+ghost use Rattle.life_intervals.specs.CohortParents.{IsReferenceOf, asked_for_change, asked_for_death, cascades_cost, reference_by};
+ghost use Rattle.life_intervals.specs.Found.{IsFound};
+ghost use Rattle.life_intervals.specs.Generator.{generator_of, last_unit, table_of};
+ghost use Rattle.life_intervals.specs.Intervals.{change_unit, is_after, is_live, own_death, parent_of};
+ghost use Rattle.life_intervals.specs.Keys.{key_of};
+ghost use Rattle.life_intervals.specs.Runs.{IsRun};
+
+use crate::births::{birth, cohort};
+use crate::found::FoundRow;
+use crate::lives::{Survival, survival_at};
+use crate::orders::Purpose;
+use crate::parents::{has_cascades, has_nullings};
+use crate::rows::Rows;
+use fixed_divisors::FixedDivisor;
+use schema_plan::ReadyReference;
+use std::sync::ledger::Ledger;
+use step_count::Steps;
+
+/// Where the rows end that are born at the same unit as the one at `from`.
+#[inline]
+fn end_of_part(births: &[u64], from: usize) -> usize
+    requires { from < length births.now }
+    ensures after { from < result }
+    ensures within { result ≤ length births.now }
+    ensures same { (i : ℕ) → from ≤ i → i < result → get_or births.now i 0 ≡ get_or births.now from 0 }
+{
+    let born = births[from];
+    let mut until = from + 1;
+    while until < births.len() && births[until] == born {
+        until += 1;
+    }
+    until
+}
+
+/// Puts the indices of rows, which are born at one unit, in the cohort that begins with the ordinal `first`.
+fn put_indices(ordinals: &[u64], first: u64, indices: &mut [u64])
+    requires begun { All (λ j. first ≤ j) ordinals.now }
+    requires same_length { length indices.old ≡ length ordinals.now }
+    ensures { indices.new ≡ map (λ j. j - first) ordinals.now }
+{
+    for i in 0..ordinals.len() {
+        indices[i] = ordinals[i] - first;
+    }
+}
+
+/// The row of an ordinal in the cohort of unit `born`, which begins with the ordinal `first`.
+#[inline(always)]
+fn row_at(first: u64, born: u64, ordinal: u64) -> FoundRow
+    requires { first ≤ ordinal }
+    ensures { result ≡ record { ordinal = ordinal; born = born; index = ordinal - first } }
+{
+    FoundRow {
+        ordinal,
+        born,
+        index: ordinal - first,
+    }
+}
+
+/// The last unit up to `t` at which the row with a place is due, or unit `born`, at which it is born.
+#[inline(always)]
+fn last_due_by(born: u64, period: &FixedDivisor, t: u64, place: u64) -> u64
+    requires some { 1 ≤ period.now }
+    requires born { born ≤ 10000 }
+    requires limit { period.now ≤ 10000 }
+    ensures { result ≡ last_due born (born + (1 + place % period.now)) period.now t }
+{
+    let first = born + (1 + period.remainder(place));
+    if t < first {
+        born
+    } else {
+        t - period.remainder(t - first)
+    }
+}
+
+/// Whether the own life of the row with a place lasts past unit `t`, which is born at unit `born` and lives for `least` units at least, of
+/// so many lengths.
+#[inline(always)]
+fn is_within_life(least: u64, lengths: &FixedDivisor, born: u64, t: u64, place: u64) -> bool
+    requires least { least ≤ 20000 }
+    requires born { born ≤ 10000 }
+    requires lengths { lengths.now ≤ 20001 }
+    ensures { result ≡ nat_lt t (born + (least + place % lengths.now)) }
+{
+    t < born + (least + lengths.remainder(place))
+}
+
+/// Puts one unit over each of some.
+fn put_unit(units: &mut [u64], unit: u64)
+    ensures same { (i : ℕ) → i < length units.old → get_or units.new i 0 ≡ unit }
+    ensures same_length { length units.new ≡ length units.old }
+{
+    for i in 0..units.len() {
+        units[i] = unit;
+    }
+}
+
+/// Puts for each of some rows whether all are alive.
+fn put_live(live: &mut [bool], all: bool)
+    ensures same { (i : ℕ) → i < length live.old → get_or live.new i false ≡ all }
+    ensures same_length { length live.new ≡ length live.old }
+{
+    for i in 0..live.len() {
+        live[i] = all;
+    }
+}
+
+/// Puts over places the last units up to `t` at which the rows are due that have them, or unit `born`, at which they are born.
+fn put_due_units(places: &mut [u64], born: u64, period: u64, t: u64)
+    requires period { 1 ≤ period }
+    requires born { born ≤ 10000 }
+    requires limit { period ≤ 10000 }
+    ensures { places.new ≡ map (λ place. last_due born (born + (1 + place % period)) period t) places.old }
+{
+    let periods = FixedDivisor::new(period);
+    for i in 0..places.len() {
+        places[i] = last_due_by(born, &periods, t, places[i]);
+    }
+}
+
+/// Adds `start` to each number.
+fn add_start(numbers: &mut [u64], start: u64)
+    requires limit { start < 2 ^ 63 }
+    requires limits { All (λ j. j < 2 ^ 40) numbers.old }
+    ensures { numbers.new ≡ map (λ j. start + j) numbers.old }
+{
+    for i in 0..numbers.len() {
+        numbers[i] = start + numbers[i];
+    }
+}
+
+impl<'a> Rows<'a> {
+    /// Puts the units at which rows are born that are born by unit `t`.
+    pub fn put_births(&self, table: u32, t: u64, ordinals: &[u64], births: &mut [u64])
+        requires table { table < length self.now.schema.tables }
+        requires unit { t ≤ last_unit self.now }
+        requires rows { (i : ℕ) → i < length ordinals.now → get_or ordinals.now i 0 < born_count (table_of self.now table).births t }
+        requires same_length { length births.old ≡ length ordinals.now }
+        ensures { IsRun self.now table t ordinals.now births.new }
+    {
+        for i in 0..ordinals.len() {
+            births[i] = self.birth_by(table, t, ordinals[i]);
+        }
+    }
+
+    /// The unit at which the row of ordinal `j` is born, which is born by unit `t`.
+    #[inline(always)]
+    fn birth_by(&self, table: u32, t: u64, j: u64) -> u64
+        requires table { table < length self.now.schema.tables }
+        requires unit { t ≤ last_unit self.now }
+        requires row { j < born_count (table_of self.now table).births t }
+        ensures lies { LiesIn (table_of self.now table).births result j }
+        ensures within { result ≤ t }
+    {
+        birth(self.plan(), table, j)
+    }
+
+    /// Puts the places in an order of rows that are born at unit `born`.
+    fn put_places<L: Ledger>(
+        &self,
+        table: u32,
+        purpose: Purpose,
+        born: u64,
+        ordinals: &[u64],
+        places: &mut [u64],
+        steps: &mut Steps<L>,
+    )
+        requires table { table < length self.now.schema.tables }
+        requires unit { born ≤ last_unit self.now }
+        requires some { 1 ≤ length ordinals.now }
+        requires lie { All (λ j. LiesIn (table_of self.now table).births born j) ordinals.now }
+        requires same_length { length places.old ≡ length ordinals.now }
+        ensures places { places.new ≡ map (λ j. place_for self.now table purpose born j) ordinals.now }
+        ensures steps { steps.new ≡ steps.old + length ordinals.now * one_if (is_drawn (table_of self.now table) purpose) }
+    {
+        put_indices(ordinals, cohort(self.plan(), table, born).first, places);
+        self.order(table, purpose, born).places(places, steps);
+    }
+
+    /// Puts the keys of rows that are born at unit `born`.
+    fn put_part_keys<L: Ledger>(
+        &self,
+        table: u32,
+        born: u64,
+        ordinals: &[u64],
+        keys: &mut [u64],
+        steps: &mut Steps<L>,
+    )
+        requires table { table < length self.now.schema.tables }
+        requires unit { born ≤ last_unit self.now }
+        requires some { 1 ≤ length ordinals.now }
+        requires lie { All (λ j. LiesIn (table_of self.now table).births born j) ordinals.now }
+        requires same_length { length keys.old ≡ length ordinals.now }
+        ensures keys { keys.new ≡ map (λ j. key_of (generator_of self.now) table (last_unit self.now) j) ordinals.now }
+        ensures steps { steps.new ≡ steps.old + length ordinals.now * one_if (table_of self.now table).key.scramble }
+    {
+        self.put_places(table, Purpose::Keys, born, ordinals, keys, steps);
+        let plan = self.plan();
+        let _table = plan.table(table); // its base is at most 2^62
+        let _limits = plan.schema(); // it has at most 2^40 rows
+        add_start(
+            keys,
+            plan.keys(table).base + cohort(plan, table, born).first,
+        );
+    }
+
+    /// Puts the keys of rows. Each takes one step where the keys are scrambled, else none.
+    pub fn put_keys<L: Ledger>(
+        &self,
+        table: u32,
+        ordinals: &[u64],
+        births: &[u64],
+        keys: &mut [u64],
+        steps: &mut Steps<L>,
+    )
+        requires table { table < length self.now.schema.tables }
+        requires run { IsRun self.now table (last_unit self.now) ordinals.now births.now }
+        requires same_length { length keys.old ≡ length ordinals.now }
+        ensures keys { (i : ℕ) → i < length ordinals.now → get_or keys.new i 0 ≡ key_of (generator_of self.now) table (last_unit self.now) (get_or ordinals.now i 0) }
+        ensures same_length { length keys.new ≡ length ordinals.now }
+        ensures steps { steps.new ≡ steps.old + length ordinals.now * one_if (table_of self.now table).key.scramble }
+    {
+        let mut from = 0;
+        while from < births.len() {
+            let until = end_of_part(births, from);
+            self.put_part_keys(
+                table,
+                births[from],
+                &ordinals[from..until],
+                &mut keys[from..until],
+                steps,
+            );
+            from = until;
+        }
+    }
+
+    /// Puts the ordinals of the parents, by a reference, that rows are born with which are born at unit `born`.
+    fn put_part_parents<L: Ledger>(
+        &self,
+        table: u32,
+        column: u32,
+        reference: &ReadyReference,
+        born: u64,
+        ordinals: &[u64],
+        parents: &mut [u64],
+        steps: &mut Steps<L>,
+    )
+        requires table { table < length self.now.schema.tables }
+        requires reference { IsReferenceOf self.now table column reference.now }
+        requires unit { born ≤ last_unit self.now }
+        requires some { 1 ≤ length ordinals.now }
+        requires lie { All (λ j. LiesIn (table_of self.now table).births born j) ordinals.now }
+        requires same_length { length parents.old ≡ length ordinals.now }
+        ensures parents { parents.new ≡ map (λ j. parent_of (generator_of self.now) table (last_unit self.now) j (reference_by column reference.now)) ordinals.now }
+        ensures born { All (λ parent. parent < born_count (table_of self.now reference.now.parent).births born) parents.new }
+        ensures steps { steps.new ≡ steps.old + length ordinals.now }
+    {
+        self.put_places(
+            table,
+            Purpose::Parents(column),
+            born,
+            ordinals,
+            parents,
+            steps,
+        );
+        let _limits = self.plan().schema(); // the reference is within its limits
+        self.window(table, column, reference, born)
+            .put_parents(reference, parents);
+    }
+
+    /// Puts the ordinals of the parents that rows are born with by a reference, which is ready in the column at a place. Each takes one
+    /// step.
+    pub fn put_parents<L: Ledger>(
+        &self,
+        table: u32,
+        column: u32,
+        reference: &ReadyReference,
+        ordinals: &[u64],
+        births: &[u64],
+        parents: &mut [u64],
+        steps: &mut Steps<L>,
+    )
+        requires table { table < length self.now.schema.tables }
+        requires reference { IsReferenceOf self.now table column reference.now }
+        requires run { IsRun self.now table (last_unit self.now) ordinals.now births.now }
+        requires same_length { length parents.old ≡ length ordinals.now }
+        ensures parents { (i : ℕ) → i < length ordinals.now → get_or parents.new i 0 ≡ parent_of (generator_of self.now) table (last_unit self.now) (get_or ordinals.now i 0) (reference_by column reference.now) }
+        ensures born { (i : ℕ) → i < length ordinals.now → get_or parents.new i 0 < born_count (table_of self.now reference.now.parent).births (get_or births.now i 0) }
+        ensures same_length { length parents.new ≡ length ordinals.now }
+        ensures steps { steps.new ≡ steps.old + length ordinals.now }
+    {
+        let _sound = self.plan().schema(); // so each row has a parent
+        let mut from = 0;
+        while from < births.len() {
+            let until = end_of_part(births, from);
+            self.put_part_parents(
+                table,
+                column,
+                reference,
+                births[from],
+                &ordinals[from..until],
+                &mut parents[from..until],
+                steps,
+            );
+            from = until;
+        }
+    }
+
+    /// Puts the last units up to `t` at which rows are due that are born at unit `born`, or that.
+    fn put_part_due<L: Ledger>(
+        &self,
+        table: u32,
+        t: u64,
+        born: u64,
+        ordinals: &[u64],
+        changes: &mut [u64],
+        steps: &mut Steps<L>,
+    )
+        requires table { table < length self.now.schema.tables }
+        requires born { born ≤ t }
+        requires unit { t ≤ last_unit self.now }
+        requires some { 1 ≤ length ordinals.now }
+        requires lie { All (λ j. LiesIn (table_of self.now table).births born j) ordinals.now }
+        requires same_length { length changes.old ≡ length ordinals.now }
+        ensures changes { changes.new ≡ map (λ j. due_for self.now table t born j) ordinals.now }
+        ensures steps { steps.new ≤ steps.old + length ordinals.now * one_if (do_updates_differ (table_of self.now table).update) }
+    {
+        let _limits = self.plan().schema(); // there are at most 10,000 units
+        match self.plan().update(table) {
+            Some(period) if born < t => {
+                self.put_places(table, Purpose::Updates, born, ordinals, changes, steps);
+                put_due_units(changes, born, period, t);
+            }
+            _ => put_unit(changes, born),
+        }
+    }
+
+    /// Puts the units at which rows changed last, by unit `t`, that are born at unit `born`.
+    fn put_part_changes<L: Ledger>(
+        &self,
+        table: u32,
+        t: u64,
+        born: u64,
+        ordinals: &[u64],
+        changes: &mut [u64],
+        steps: &mut Steps<L>,
+    )
+        requires table { table < length self.now.schema.tables }
+        requires born { born ≤ t }
+        requires unit { t ≤ last_unit self.now }
+        requires some { 1 ≤ length ordinals.now }
+        requires lie { All (λ j. LiesIn (table_of self.now table).births born j) ordinals.now }
+        requires same_length { length changes.old ≡ length ordinals.now }
+        ensures changes { changes.new ≡ map (λ j. change_unit (generator_of self.now) table t j) ordinals.now }
+        ensures steps { steps.new ≤ steps.old + length ordinals.now * asked_for_change self.now table }
+    {
+        self.put_part_due(table, t, born, ordinals, changes, steps);
+        if born < t && has_nullings(self.plan(), table) {
+            self.put_losses(table, t, born, ordinals, changes, steps);
+        }
+    }
+
+    /// The unit at which a row that is found changed last by unit `t`, by the one at which it was due last.
+    #[inline(always)]
+    fn change_from<L: Ledger>(
+        &self,
+        table: u32,
+        row: FoundRow,
+        t: u64,
+        due: u64,
+        steps: &mut Steps<L>,
+    ) -> u64
+        requires table { table < length self.now.schema.tables }
+        requires row { IsFound self.now table row }
+        requires born { row.born ≤ t }
+        requires unit { t ≤ last_unit self.now }
+        requires due { due ≡ due_for self.now table t row.born row.ordinal }
+        ensures change { result ≡ change_unit (generator_of self.now) table t row.ordinal }
+        ensures steps { steps.new ≤ steps.old + loss_cost (layout_of self.now).tables table }
+    {
+        let _sound = self.plan().schema(); // so a row loses a parent when that dies
+        self.last_loss(table, row, due, t, steps)
+    }
+
+    /// Puts the last of the due units and of the losses over the due units.
+    fn put_losses<L: Ledger>(
+        &self,
+        table: u32,
+        t: u64,
+        born: u64,
+        ordinals: &[u64],
+        changes: &mut [u64],
+        steps: &mut Steps<L>,
+    )
+        requires table { table < length self.now.schema.tables }
+        requires born { born ≤ t }
+        requires unit { t ≤ last_unit self.now }
+        requires lie { All (λ j. LiesIn (table_of self.now table).births born j) ordinals.now }
+        requires due { changes.old ≡ map (λ j. due_for self.now table t born j) ordinals.now }
+        ensures changes { changes.new ≡ map (λ j. change_unit (generator_of self.now) table t j) ordinals.now }
+        ensures steps { steps.new ≤ steps.old + length ordinals.now * loss_cost (layout_of self.now).tables table }
+    {
+        let first = cohort(self.plan(), table, born).first;
+        for i in 0..ordinals.len() {
+            let row = row_at(first, born, ordinals[i]);
+            changes[i] = self.change_from(table, row, t, changes[i], steps);
+        }
+    }
+
+    /// Puts the units at which rows changed last that are born by unit `t`: their births where they didn't change yet. They change
+    /// where they are due and where they lose a parent. It takes no notice of deaths. Each takes at most one step, and none where all
+    /// rows of a cohort are due at the same units, or never; and for each reference that may become null one and at most as many as the
+    /// cost of the parent's death says.
+    pub fn put_changes<L: Ledger>(
+        &self,
+        table: u32,
+        t: u64,
+        ordinals: &[u64],
+        births: &[u64],
+        changes: &mut [u64],
+        steps: &mut Steps<L>,
+    )
+        requires table { table < length self.now.schema.tables }
+        requires unit { t ≤ last_unit self.now }
+        requires run { IsRun self.now table t ordinals.now births.now }
+        requires same_length { length changes.old ≡ length ordinals.now }
+        ensures changes { (i : ℕ) → i < length ordinals.now → get_or changes.new i 0 ≡ change_unit (generator_of self.now) table t (get_or ordinals.now i 0) }
+        ensures from { (i : ℕ) → i < length ordinals.now → get_or births.now i 0 ≤ get_or changes.new i 0 }
+        ensures within { (i : ℕ) → i < length ordinals.now → get_or changes.new i 0 ≤ t }
+        ensures recent { (i : ℕ) → i < length ordinals.now →
+            (get_or changes.new i 0 ≡ get_or births.now i 0) ⊎ (t < get_or changes.new i 0 + change_span (table_of self.now table) t) }
+        ensures same_length { length changes.new ≡ length ordinals.now }
+        ensures steps { steps.new ≤ steps.old + length ordinals.now * asked_for_change self.now table }
+    {
+        let _sound = self.plan().schema(); // so a period is of a unit at least
+        let mut from = 0;
+        while from < births.len() {
+            let until = end_of_part(births, from);
+            self.put_part_changes(
+                table,
+                t,
+                births[from],
+                &ordinals[from..until],
+                &mut changes[from..until],
+                steps,
+            );
+            from = until;
+        }
+    }
+
+    /// Puts which rows are alive at unit `t` that are born at unit `born`.
+    fn put_part_lives<L: Ledger>(
+        &self,
+        table: u32,
+        t: u64,
+        born: u64,
+        ordinals: &[u64],
+        live: &mut [bool],
+        steps: &mut Steps<L>,
+    )
+        requires table { table < length self.now.schema.tables }
+        requires born { born ≤ t }
+        requires unit { t ≤ last_unit self.now }
+        requires some { 1 ≤ length ordinals.now }
+        requires lie { All (λ j. LiesIn (table_of self.now table).births born j) ordinals.now }
+        requires same_length { length live.old ≡ length ordinals.now }
+        ensures live { live.new ≡ map (λ j. is_live (generator_of self.now) table t j) ordinals.now }
+        ensures steps { steps.new ≤ steps.old + length ordinals.now * asked_for_death self.now table }
+    {
+        let _sound = self.plan().schema(); // so lives say of all rows of a cohort
+        match survival_at(self.plan(), table, born, t) {
+            Survival::Sure => put_live(live, true),
+            Survival::Over => put_live(live, false),
+            Survival::Drawn => self.put_drawn_lives(table, t, born, ordinals, live, steps),
+        }
+    }
+
+    /// The same by the own life of each row and those of its parents.
+    fn put_drawn_lives<L: Ledger>(
+        &self,
+        table: u32,
+        t: u64,
+        born: u64,
+        ordinals: &[u64],
+        live: &mut [bool],
+        steps: &mut Steps<L>,
+    )
+        requires table { table < length self.now.schema.tables }
+        requires born { born ≤ t }
+        requires unit { t ≤ last_unit self.now }
+        requires some { 1 ≤ length ordinals.now }
+        requires lie { All (λ j. LiesIn (table_of self.now table).births born j) ordinals.now }
+        requires same_length { length live.old ≡ length ordinals.now }
+        ensures live { live.new ≡ map (λ j. is_live (generator_of self.now) table t j) ordinals.now }
+        ensures steps { steps.new ≤ steps.old + length ordinals.now * asked_for_death self.now table }
+    {
+        let _sound = self.plan().schema(); // so a row dies with its parents
+        self.put_part_own_lives(table, t, born, ordinals, live, steps);
+        if has_cascades(self.plan(), table) {
+            self.and_parents_lives(table, t, born, ordinals, live, steps);
+        }
+    }
+
+    /// Puts whether the own lives last past unit `t` of rows that are born at unit `born`.
+    fn put_part_own_lives<L: Ledger>(
+        &self,
+        table: u32,
+        t: u64,
+        born: u64,
+        ordinals: &[u64],
+        live: &mut [bool],
+        steps: &mut Steps<L>,
+    )
+        requires table { table < length self.now.schema.tables }
+        requires born { born ≤ t }
+        requires unit { t ≤ last_unit self.now }
+        requires some { 1 ≤ length ordinals.now }
+        requires lie { All (λ j. LiesIn (table_of self.now table).births born j) ordinals.now }
+        requires same_length { length live.old ≡ length ordinals.now }
+        ensures live { live.new ≡ map (λ j. is_after (own_death (generator_of self.now) table t j) t) ordinals.now }
+        ensures steps { steps.new ≤ steps.old + length ordinals.now * one_if (do_lives_differ (table_of self.now table).life) }
+    {
+        let Some(life) = self.plan().life(table) else {
+            put_live(live, true);
+            return;
+        };
+        let _limits = self.plan().schema(); // there are at most 10,000 units
+        let first = cohort(self.plan(), table, born).first;
+        let order = self.order(table, Purpose::Lives, born);
+        let lengths = FixedDivisor::new(life.most - life.least + 1);
+        for i in 0..ordinals.len() {
+            let place = order.place(ordinals[i] - first, steps);
+            live[i] = is_within_life(life.least, &lengths, born, t, place);
+        }
+    }
+
+    /// Whether a row that is found is alive at unit `t`, by whether its own life lasts past it: no parent is asked of one whose life doesn't.
+    #[inline(always)]
+    fn does_live_on<L: Ledger>(
+        &self,
+        table: u32,
+        row: FoundRow,
+        t: u64,
+        own: bool,
+        steps: &mut Steps<L>,
+    ) -> bool
+        requires table { table < length self.now.schema.tables }
+        requires row { IsFound self.now table row }
+        requires born { row.born ≤ t }
+        requires unit { t ≤ last_unit self.now }
+        requires own { own ≡ is_after (own_death (generator_of self.now) table t row.ordinal) t }
+        ensures live { result ≡ is_live (generator_of self.now) table t row.ordinal }
+        ensures steps { steps.new ≤ steps.old + cascades_cost (layout_of self.now).tables table }
+    {
+        let _sound = self.plan().schema(); // so a row dies with its parents
+        own && self.do_parents_live(table, row, t, steps)
+    }
+
+    /// Puts which rows are alive at unit `t` that are born at unit `born`, over whether their own lives last past it.
+    fn and_parents_lives<L: Ledger>(
+        &self,
+        table: u32,
+        t: u64,
+        born: u64,
+        ordinals: &[u64],
+        live: &mut [bool],
+        steps: &mut Steps<L>,
+    )
+        requires table { table < length self.now.schema.tables }
+        requires born { born ≤ t }
+        requires unit { t ≤ last_unit self.now }
+        requires lie { All (λ j. LiesIn (table_of self.now table).births born j) ordinals.now }
+        requires own { live.old ≡ map (λ j. is_after (own_death (generator_of self.now) table t j) t) ordinals.now }
+        ensures live { live.new ≡ map (λ j. is_live (generator_of self.now) table t j) ordinals.now }
+        ensures steps { steps.new ≤ steps.old + length ordinals.now * cascades_cost (layout_of self.now).tables table }
+    {
+        let first = cohort(self.plan(), table, born).first;
+        for i in 0..ordinals.len() {
+            let row = row_at(first, born, ordinals[i]);
+            live[i] = self.does_live_on(table, row, t, live[i], steps);
+        }
+    }
+
+    /// Puts which rows are alive at unit `t` that are born by it. Each takes at most one step where lives of the table differ, and for each
+    /// reference with whose parent the row is deleted one and at most as many as the cost of the parent's death says; none does where
+    /// all of its cohort are alive, or none.
+    pub fn put_lives<L: Ledger>(
+        &self,
+        table: u32,
+        t: u64,
+        ordinals: &[u64],
+        births: &[u64],
+        live: &mut [bool],
+        steps: &mut Steps<L>,
+    )
+        requires table { table < length self.now.schema.tables }
+        requires unit { t ≤ last_unit self.now }
+        requires run { IsRun self.now table t ordinals.now births.now }
+        requires same_length { length live.old ≡ length ordinals.now }
+        ensures live { (i : ℕ) → i < length ordinals.now → get_or live.new i false ≡ is_live (generator_of self.now) table t (get_or ordinals.now i 0) }
+        ensures same_length { length live.new ≡ length ordinals.now }
+        ensures steps { steps.new ≤ steps.old + length ordinals.now * asked_for_death self.now table }
+    {
+        let mut from = 0;
+        while from < births.len() {
+            let until = end_of_part(births, from);
+            self.put_part_lives(
+                table,
+                t,
+                births[from],
+                &ordinals[from..until],
+                &mut live[from..until],
+                steps,
+            );
+            from = until;
+        }
+    }
+
+    /// Puts of which rows, which are born by unit `t`, the own life lasts past it. They are alive where those parents are, too, that take
+    /// them along (`laws::rows_live_while_their_parents_do`): `put_parents`, `put_births` and `put_lives` tell that of parents that
+    /// are found once. Each takes one step where lives of the table differ, else none.
+    pub fn put_own_lives<L: Ledger>(
+        &self,
+        table: u32,
+        t: u64,
+        ordinals: &[u64],
+        births: &[u64],
+        live: &mut [bool],
+        steps: &mut Steps<L>,
+    )
+        requires table { table < length self.now.schema.tables }
+        requires unit { t ≤ last_unit self.now }
+        requires run { IsRun self.now table t ordinals.now births.now }
+        requires same_length { length live.old ≡ length ordinals.now }
+        ensures live { (i : ℕ) → i < length ordinals.now → get_or live.new i false ≡ is_after (own_death (generator_of self.now) table t (get_or ordinals.now i 0)) t }
+        ensures same_length { length live.new ≡ length ordinals.now }
+        ensures steps { steps.new ≤ steps.old + length ordinals.now * one_if (do_lives_differ (table_of self.now table).life) }
+    {
+        let mut from = 0;
+        while from < births.len() {
+            let until = end_of_part(births, from);
+            self.put_part_own_lives(
+                table,
+                t,
+                births[from],
+                &ordinals[from..until],
+                &mut live[from..until],
+                steps,
+            );
+            from = until;
+        }
+    }
+}

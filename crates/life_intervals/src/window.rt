@@ -1,0 +1,104 @@
+//! The rows among which a cohort's rows choose their parents by a reference.
+
+ghost use Rattle.std.specs.Prelude.{◌≡◌, ◌+◌, ◌-◌, ◌<◌, ◌≤◌, ◌^◌, All, length, map, max, sum};
+ghost use Rattle.cohort_sizes.specs.Births.{born_count};
+ghost use Rattle.schema_plan.specs.References.{IsSpread, first_in_window};
+ghost use Rattle.life_intervals.specs.CohortParents.{window_by};
+ghost use Rattle.life_intervals.specs.Generator.{last_unit, table_of};
+ghost use Rattle.life_intervals.specs.References.{choice};
+
+use crate::births::{born, cohort};
+use fixed_divisors::FixedDivisor;
+use schema_plan::{Plan, ReadyReference};
+
+/// The rows that are born in the window of a reference.
+#[derive(Clone, Copy)]
+pub(crate) struct Window {
+    /// The ordinal of the first of them.
+    pub(crate) first: u64,
+    /// How many they are; 1 where none is, so that it divides.
+    pub(crate) count: FixedDivisor,
+}
+
+/// The ordinal of the first row of a table that is born in a window that ends at `unit`.
+fn first_in_window(plan: &Plan, table: u32, window: Option<u64>, unit: u64) -> u64
+    requires table { table < length plan.now.schema.tables }
+    requires unit { unit ≤ last_unit plan.now }
+    ensures { result ≡ first_in_window (table_of plan.now table).births window unit }
+{
+    let start = match window {
+        Some(units) => unit.saturating_sub(units),
+        None => 0,
+    };
+    cohort(plan, table, start).first
+}
+
+/// How many rows of a table are born from an ordinal on up to `unit`, to divide by; 1 where none is.
+fn count_from(plan: &Plan, table: u32, first: u64, unit: u64) -> FixedDivisor
+    requires table { table < length plan.now.schema.tables }
+    requires unit { unit ≤ last_unit plan.now }
+    ensures { result ≡ max 1 (born_count (table_of plan.now table).births unit - first) }
+{
+    let count = born(plan, table, unit).saturating_sub(first);
+    FixedDivisor::new(count.max(1))
+}
+
+/// The place that a place in a cohort chooses among so many candidates, by a spread.
+#[inline(always)]
+fn chosen(reference: &ReadyReference, count: &FixedDivisor, place: u64) -> u64
+    requires place { place < 2 ^ 40 }
+    requires groups { reference.now.groups ≡ length reference.now.spread }
+    requires total { reference.now.total ≡ sum reference.now.spread }
+    requires spread { IsSpread reference.now.spread }
+    ensures exact { result ≡ choice reference.now.spread count.now place }
+    ensures below { result < count.now }
+{
+    let turn = reference.total.divide(place);
+    let group = reference.spread.select(turn.remainder) as u64;
+    count.remainder(turn.quotient * reference.groups + group)
+}
+
+impl Window {
+    /// That of a reference for the rows of its table that are born at a unit.
+    pub(crate) fn of_cohort(plan: &Plan, reference: &ReadyReference, unit: u64) -> Window
+        requires parent { reference.now.parent < length plan.now.schema.tables }
+        requires unit { unit ≤ last_unit plan.now }
+        ensures { result ≡ window_by plan.now reference.now unit }
+    {
+        let first = first_in_window(plan, reference.parent, reference.window, unit);
+        Window {
+            first,
+            count: count_from(plan, reference.parent, first, unit),
+        }
+    }
+
+    /// The ordinal of the parent that a place in the cohort chooses.
+    #[inline(always)]
+    pub(crate) fn parent(&self, reference: &ReadyReference, place: u64) -> u64
+        requires place { place < 2 ^ 40 }
+        requires first { self.now.first ≤ 2 ^ 40 }
+        requires count { self.now.count ≤ 2 ^ 40 }
+        requires groups { reference.now.groups ≡ length reference.now.spread }
+        requires total { reference.now.total ≡ sum reference.now.spread }
+        requires spread { IsSpread reference.now.spread }
+        ensures { result ≡ self.now.first + choice reference.now.spread self.now.count place }
+    {
+        self.first + chosen(reference, &self.count, place)
+    }
+
+    /// Puts over places in the cohort the ordinals of the parents that they choose.
+    pub(crate) fn put_parents(&self, reference: &ReadyReference, places: &mut [u64])
+        requires places { All (λ place. place < 2 ^ 40) places.old }
+        requires first { self.now.first ≤ 2 ^ 40 }
+        requires count { self.now.count ≤ 2 ^ 40 }
+        requires groups { reference.now.groups ≡ length reference.now.spread }
+        requires total { reference.now.total ≡ sum reference.now.spread }
+        requires spread { IsSpread reference.now.spread }
+        ensures { places.new ≡ map (λ place. self.now.first + choice reference.now.spread self.now.count place) places.old }
+    {
+        let window = *self; // a copy, so that no write to the places can change it
+        for i in 0..places.len() {
+            places[i] = window.parent(reference, places[i]);
+        }
+    }
+}
