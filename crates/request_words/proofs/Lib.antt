@@ -1,0 +1,4 @@
+mod CommandLemmas
+mod FormLemmas
+mod RequestLemmas
+mod WalkLemmas

@@ -1,0 +1,21 @@
+use Rattle.std.proofs.Common.{◌≡◌, ◌≤◌, ◌∙◌, ℕ, List, Some, None, Ok, ap, true, drop, length, map, string_bytes, sym, rules}
+use Rattle.std.specs.Option.{option_and_then}
+use Rattle.std.proofs.lemmas.Result.{IfOk-weaker}
+use Rattle.request_words.specs.Form.{given_in, has_form, mode_in}
+use Rattle.request_words.specs.Options.{mode_named, order, request_of}
+use Rattle.request_words.specs.Words.{first_fault}
+use Rattle.request_words.proofs.RequestLemmas.{behind_first, request_given}
+use Rattle.request_words.proofs.words.read_words.Goals as goal
+
+pub returns-in-Ok-clause-read : goal.returns-in-Ok-clause-read
+returns-in-Ok-clause-read c =
+    let words : List (List ℕ) = map string_bytes c.args.words.now in
+    let some : 1 ≤ length words = search rules in
+    let behind = behind_first string_bytes c.args.words.now in
+    let f : has_form (drop 1 words) ≡ true = cc in
+    let named : option_and_then mode_named (mode_in (drop 1 words)) ≡ Some c.in-Some.mode =
+    ap (λ (w : List (List ℕ)). option_and_then mode_named (mode_in w)) (sym behind) ∙ (sym c.mode_of.ensures ∙ c.in-Some.is) in
+    let right : first_fault c.in-Some.mode (given_in (drop 1 words)) order ≡ None =
+    ap (λ (w : List (List ℕ)). first_fault c.in-Some.mode (given_in w) order) (sym behind) ∙ (sym c.first_fault.ensures ∙ c.in_default-first_fault.is) in
+    let is = request_given words c.in-Some.mode some f named right in
+    IfOk-weaker c.request_of.result _ _ (λ made same. is ∙ ap Ok (sym (same ∙ ap (request_of c.in-Some.mode) c.in-Ok.ensures.read))) c.request_of.ensures.made

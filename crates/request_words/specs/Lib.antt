@@ -1,0 +1,4 @@
+pub mod Command
+pub mod Form
+pub mod Options
+pub mod Words

@@ -1,0 +1,55 @@
+-- The request that the words of a command line give, or what is wrong with them first.
+use Rattle.std.specs.Prelude.{ℕ, List, [], ◌∷◌, Option, Some, None, Result, Ok, Err, if◌then◌else◌}
+use Rattle.std.specs.Option.{option_and_then, option_or}
+use Rattle.request_words.specs.Form.{given_in, has_form, mode_in}
+use Rattle.request_words.specs.Options.{Given, is_number, mode_named, order, request_of, takes}
+use Rattle.request_words.specs.declared.options.Form.{Form}
+use Rattle.request_words.specs.declared.options.Form.TheVariants.{Text, Number, Directory}
+use Rattle.request_words.specs.declared.options.Take.{Take}
+use Rattle.request_words.specs.declared.options.Take.TheVariants.{Unwanted, Optional, Needed}
+use Rattle.request_words.specs.declared.usage.Mode.{Mode}
+use Rattle.request_words.specs.declared.usage.OptionName.{OptionName}
+use Rattle.request_words.specs.declared.usage.Request.{Request}
+use Rattle.request_words.specs.declared.usage.UsageFault.{UsageFault}
+use Rattle.request_words.specs.declared.usage.UsageFault.TheVariants as usage
+
+-- what is wrong with a value: a number is to be one, and a directory isn't the empty text
+abbrev pub value_fault : Form → OptionName → List ℕ → Option UsageFault
+value_fault Text name value = None
+value_fault Number name value = if is_number value then None else Some (usage.Number name)
+value_fault Directory name [] = Some (usage.EmptyDirectory name)
+value_fault Directory name (byte ∷ value) = None
+
+-- what is wrong with what is given for an option, by what the mode does with it
+abbrev pub option_fault : Take → OptionName → Option (List ℕ) → Option UsageFault
+option_fault Unwanted name None = None
+option_fault Unwanted name (Some value) = Some (usage.Unwanted name)
+option_fault (Optional form) name None = None
+option_fault (Optional form) name (Some value) = value_fault form name value
+option_fault (Needed form) name None = Some (usage.Missing name)
+option_fault (Needed form) name (Some value) = value_fault form name value
+
+-- the first fault of these options, in turn
+abbrev pub first_fault : Mode → Given → List OptionName → Option UsageFault
+first_fault mode given [] = None
+first_fault mode given (name ∷ names) =
+    option_or (option_fault (takes mode name) name (given name)) (first_fault mode given names)
+
+abbrev pub unless_fault : Option UsageFault → Request → Result Request UsageFault
+unless_fault None request = Ok request
+unless_fault (Some fault) request = Err fault
+
+-- the request that is given for a mode, where there is such a mode
+abbrev pub of_mode : Option Mode → Given → Result Request UsageFault
+of_mode None given = Err usage.Mode
+of_mode (Some mode) given = unless_fault (first_fault mode given order) (request_of mode given)
+
+-- the request of the words behind the program's name
+abbrev pub of_words : List (List ℕ) → Result Request UsageFault
+of_words words =
+    if has_form words then of_mode (option_and_then mode_named (mode_in words)) (given_in words) else Err usage.Words
+
+-- the request that the words give, the program's name first, or their first fault
+unfoldable pub request : List (List ℕ) → Result Request UsageFault
+request [] = Err usage.Words
+request (program ∷ words) = of_words words

@@ -1,0 +1,116 @@
+//! The options: how each is written, and which mode takes it.
+
+ghost use Rattle.std.specs.Prelude.{◌≡◌};
+ghost use Rattle.request_words.specs.Options.{by_modes, option_line, mode_named, takes};
+
+use crate::usage::{Mode, OptionName};
+
+/// What a value has to be.
+#[derive(Clone, Copy, Debug, PartialEq, Eq)]
+pub(crate) enum Form {
+    /// Any text.
+    Text,
+    /// A number of one to twenty digits below 2^64.
+    Number,
+    /// A text that isn't empty.
+    Directory,
+}
+
+/// What a mode does with an option.
+#[derive(Clone, Copy, Debug, PartialEq, Eq)]
+pub(crate) enum Take {
+    /// It doesn't take it.
+    Unwanted,
+    /// It may be given it.
+    Optional(Form),
+    /// It needs it.
+    Needed(Form),
+}
+
+/// A line of the table: what each mode does with an option.
+#[derive(Clone, Copy, Debug, PartialEq, Eq)]
+pub(crate) struct Columns {
+    pub(crate) check: Take,
+    pub(crate) snapshot: Take,
+    pub(crate) unit: Take,
+    pub(crate) row: Take,
+}
+
+/// The options that are written with two hyphens, in the order in which they are tried.
+pub(crate) const OPTIONS: [OptionName; 4] = [
+    OptionName::Unit,
+    OptionName::Table,
+    OptionName::Key,
+    OptionName::Out,
+];
+
+/// The mode of this name.
+pub(crate) fn mode_named(word: &str) -> Option<Mode>
+    ensures { result ≡ mode_named word.now }
+{
+    match word {
+        "check" => Some(Mode::Check),
+        "snapshot" => Some(Mode::Snapshot),
+        "unit" => Some(Mode::Unit),
+        "row" => Some(Mode::Row),
+        _ => None,
+    }
+}
+
+/// What a mode does with an option.
+pub(crate) fn takes(mode: Mode, name: OptionName) -> Take
+    ensures { result ≡ takes mode name }
+{
+    let (_, columns) = option_line(name);
+    match mode {
+        Mode::Check => columns.check,
+        Mode::Snapshot => columns.snapshot,
+        Mode::Unit => columns.unit,
+        Mode::Row => columns.row,
+    }
+}
+
+impl OptionName {
+    ghost use Rattle.std.specs.Prelude.{◌≡◌, ◌≤◌, length};
+    ghost use Rattle.request_words.specs.Options.{word_of};
+
+    /// The option's name, in ASCII, as it stands behind two hyphens.
+    pub fn word(self) -> &'static str
+        ensures word { result.now ≡ word_of self }
+        ensures short { length result.now ≤ 8 }
+    {
+        let (word, _) = option_line(self);
+        word
+    }
+}
+
+/// A line of the table.
+fn by_modes(check: Take, snapshot: Take, unit: Take, row: Take) -> Columns
+    ensures { result ≡ by_modes check snapshot unit row }
+{
+    Columns {
+        check,
+        snapshot,
+        unit,
+        row,
+    }
+}
+
+/// The table: an option's name, as it stands behind two hyphens, and what each mode does with it.
+fn option_line(name: OptionName) -> (&'static str, Columns)
+    ensures { (result.0.now, result.1) ≡ option_line name }
+{
+    let no = Take::Unwanted;
+    let any = Take::Needed(Form::Text);
+    let number = Take::Needed(Form::Number);
+    let may = Take::Optional(Form::Text);
+    let folder = Take::Optional(Form::Directory);
+    match name {
+        //                             check, snapshot, unit, row
+        OptionName::Schema => ("schema", by_modes(any, any, any, any)),
+        OptionName::Unit => ("unit", by_modes(no, number, number, number)),
+        OptionName::Table => ("table", by_modes(no, may, may, any)),
+        OptionName::Key => ("key", by_modes(no, no, no, number)),
+        OptionName::Out => ("out", by_modes(no, folder, folder, no)),
+    }
+}

@@ -1,0 +1,122 @@
+//! The request that is given, and what is wrong with what is given.
+
+ghost use Rattle.std.specs.Prelude.{◌≡◌, map, string_bytes, unwrap_or, IfErr, IfOk, []};
+ghost use Rattle.std.specs.Option.{option_and_then, option_copied};
+ghost use Rattle.request_words.specs.Command.{given_by};
+ghost use Rattle.request_words.specs.Form.{given_in, mode_in};
+ghost use Rattle.request_words.specs.Options.{mode_named, order, request_of, takes};
+ghost use Rattle.request_words.specs.Words.{first_fault, option_fault, value_fault};
+
+use crate::command::given_by;
+use crate::form::{given_in, mode_in};
+use crate::numbers::{number_given, read_number};
+use crate::options::{Form, OPTIONS, Take, mode_named, takes};
+use crate::usage::{Mode, OptionName, Request, UsageFault};
+use clap::ArgMatches;
+use schema_model::Text;
+use std::alloc::Global;
+
+/// The mode that the words give.
+pub(crate) fn mode_of(words: &[String]) -> Option<Mode>
+    ensures { result ≡ option_and_then mode_named (mode_in (map string_bytes words.now)) }
+{
+    match mode_in(words) {
+        Some(word) => mode_named(word),
+        None => None,
+    }
+}
+
+/// The first fault of what the words give for a mode: that of the schema, then those of the options in turn.
+pub(crate) fn first_fault(mode: Mode, words: &[String]) -> Option<UsageFault>
+    ensures { result ≡ first_fault mode (given_in (map string_bytes words.now)) order }
+{
+    fault_at(mode, words, OptionName::Schema).or(first_of(mode, words, OPTIONS.as_slice()))
+}
+
+/// The first fault of these options, in turn.
+fn first_of(mode: Mode, words: &[String], names: &[OptionName]) -> Option<UsageFault>
+    ensures { result ≡ first_fault mode (given_in (map string_bytes words.now)) names.now }
+{
+    match names {
+        [] => None,
+        [name, rest @ ..] => fault_at(mode, words, *name).or(first_of(mode, words, rest)),
+    }
+}
+
+/// What is wrong with what the words give for an option.
+fn fault_at(mode: Mode, words: &[String], name: OptionName) -> Option<UsageFault>
+    ensures { result ≡ option_fault (takes mode name) name (given_in (map string_bytes words.now) name) }
+{
+    option_fault(takes(mode, name), name, given_in(words, name))
+}
+
+fn option_fault(take: Take, name: OptionName, value: Option<&str>) -> Option<UsageFault>
+    ensures { result ≡ option_fault take name (option_copied value.entry) }
+{
+    match (take, value) {
+        (Take::Unwanted | Take::Optional(_), None) => None,
+        (Take::Unwanted, Some(_)) => Some(UsageFault::Unwanted(name)),
+        (Take::Needed(_), None) => Some(UsageFault::Missing(name)),
+        (Take::Optional(form) | Take::Needed(form), Some(value)) => value_fault(form, name, value),
+    }
+}
+
+fn value_fault(form: Form, name: OptionName, value: &str) -> Option<UsageFault>
+    ensures { result ≡ value_fault form name value.now }
+{
+    match form {
+        Form::Text => None,
+        Form::Number => match read_number(value) {
+            Some(_) => None,
+            None => Some(UsageFault::Number(name)),
+        },
+        Form::Directory => match value.as_bytes() {
+            [] => Some(UsageFault::EmptyDirectory(name)),
+            [_, ..] => None,
+        },
+    }
+}
+
+/// The request that matches give for a mode, for want of memory alone refused.
+pub(crate) fn request_of(
+    alloc: Global,
+    mode: Mode,
+    matches: &ArgMatches<'_>,
+) -> Result<Request, UsageFault>
+    ensures made { IfOk result (λ made. made ≡ request_of mode (given_by matches.now)) }
+    ensures refused { IfErr result (λ fault. fault ≡ UsageFault.Memory) }
+{
+    let unit = number_given(given_by(matches, OptionName::Unit));
+    let key = number_given(given_by(matches, OptionName::Key));
+    let schema = text_of(alloc, given_by(matches, OptionName::Schema).unwrap_or(""))?;
+    let table = optional_text_of(alloc, given_by(matches, OptionName::Table))?;
+    let out = optional_text_of(alloc, given_by(matches, OptionName::Out))?;
+    Ok(Request {
+        mode,
+        schema,
+        unit,
+        table,
+        key,
+        out,
+    })
+}
+
+fn optional_text_of(alloc: Global, word: Option<&str>) -> Result<Option<Text>, UsageFault>
+    ensures made { IfOk result (λ made. made ≡ option_copied word.entry) }
+    ensures refused { IfErr result (λ fault. fault ≡ UsageFault.Memory) }
+{
+    match word {
+        None => Ok(None),
+        Some(word) => Ok(Some(text_of(alloc, word)?)),
+    }
+}
+
+fn text_of(alloc: Global, word: &str) -> Result<Text, UsageFault>
+    ensures made { IfOk result (λ made. made ≡ word.now) }
+    ensures refused { IfErr result (λ fault. fault ≡ UsageFault.Memory) }
+{
+    match Text::of(alloc, word) {
+        Ok(text) => Ok(text),
+        Err(_) => Err(UsageFault::Memory),
+    }
+}

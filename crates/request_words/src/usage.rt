@@ -1,0 +1,67 @@
+//! What words ask for, and why words ask for nothing.
+
+use schema_model::Text;
+
+/// What the program does.
+#[derive(Clone, Copy, Debug, PartialEq, Eq)]
+pub enum Mode {
+    /// Tells a table's name, rows, sure life, cost and longest line.
+    Check,
+    /// Writes the text of each table at a unit.
+    Snapshot,
+    /// Writes what a unit deletes, updates and inserts in each table.
+    Unit,
+    /// Tells when a row is born and gone, and how it stands at a unit.
+    Row,
+}
+
+/// A place for a word: the schema's name, or the value of an option.
+#[derive(Clone, Copy, Debug, PartialEq, Eq)]
+pub enum OptionName {
+    /// The name of the schema's file, written `SCHEMA` in messages.
+    Schema,
+    /// `--unit`: a time unit.
+    Unit,
+    /// `--table`: the name of a table.
+    Table,
+    /// `--key`: the key of a row.
+    Key,
+    /// `--out`: a directory for the files.
+    Out,
+}
+
+/// What the words ask for. A number that the mode doesn't take is 0.
+#[derive(Debug, PartialEq, Drop)]
+pub struct Request {
+    /// What to do.
+    pub mode: Mode,
+    /// The name of the schema's file.
+    pub schema: Text,
+    /// The time unit of a snapshot, of changes or of the report on a row.
+    pub unit: u64,
+    /// The one table that is wanted, where not all are.
+    pub table: Option<Text>,
+    /// The key of the row that is wanted.
+    pub key: u64,
+    /// The directory of the files, where they don't go to the standard output.
+    pub out: Option<Text>,
+}
+
+/// Why words give no request.
+#[derive(Clone, Copy, Debug, PartialEq, Eq)]
+pub enum UsageFault {
+    /// They don't have the form: a mode, an optional name, then options with their values, none twice.
+    Words,
+    /// There is no such mode.
+    Mode,
+    /// The mode doesn't take what is given.
+    Unwanted(OptionName),
+    /// The mode needs what isn't given.
+    Missing(OptionName),
+    /// The value is no number of one to twenty digits below 2^64.
+    Number(OptionName),
+    /// The directory is the empty text.
+    EmptyDirectory(OptionName),
+    /// Memory ran out.
+    Memory,
+}

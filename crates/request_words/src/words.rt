@@ -1,0 +1,41 @@
+//! The words of a command line.
+
+ghost use Rattle.std.specs.Prelude.{◌≡◌, ◌≢◌, Ok, Err, map, string_bytes, IfOk, IfErr};
+ghost use Rattle.request_words.specs.Words.{request};
+
+use crate::command::matches_of;
+use crate::form::has_form;
+use crate::request::{first_fault, mode_of, request_of};
+use crate::usage::{Request, UsageFault};
+use std::alloc::Global;
+
+/// Reads the words of a command line, the program's name first.
+///
+/// Behind the name stand a mode, a schema or none, and options, in any order: each as its name behind two hyphens with its
+/// value as the next word, or as one word of its name, `=` and its value, and none twice. No mode, schema or value begins
+/// with a hyphen, and none behind `=` is empty. `Words` is told first, then `Mode`, then what is wrong with the schema, the
+/// unit, the table, the key and the directory, in this order. A fault of the words is told without memory being taken.
+#[tactic(auto, unfolding(crate::specs::Words::request))]
+pub fn read_words(alloc: Global, words: &[String]) -> Result<Request, UsageFault>
+    ensures read { IfOk result (λ made. request (map string_bytes words.now) ≡ Ok made) }
+    ensures refused { IfErr result
+        (λ fault. fault ≢ UsageFault.Memory → request (map string_bytes words.now) ≡ Err fault) }
+    ensures usage { IfErr (request (map string_bytes words.now)) (λ fault. result ≡ Err fault) }
+{
+    let [_, behind @ ..] = words else {
+        return Err(UsageFault::Words);
+    };
+    if !has_form(behind) {
+        return Err(UsageFault::Words);
+    }
+    let Some(mode) = mode_of(behind) else {
+        return Err(UsageFault::Mode);
+    };
+    if let Some(fault) = first_fault(mode, behind) {
+        return Err(fault);
+    }
+    match matches_of(alloc, words) {
+        Ok(matches) => request_of(alloc, mode, &matches),
+        Err(_) => Err(UsageFault::Memory),
+    }
+}
