@@ -1,0 +1,236 @@
+//! Why a request isn't carried out, by the stage that found it. Each stage's fault stays as it came.
+
+ghost use Rattle.std.specs.Prelude.{◌≡◌};
+ghost use Rattle.refusals.specs.Messages.{message_of};
+ghost use Rattle.refusals.specs.Statuses.{reading_status, status_of};
+ghost use Rattle.refusals.specs.declared.refusal.DictionaryCause.TheVariants as dictionary_cause;
+ghost use Rattle.refusals.specs.declared.refusal.PlanFault.TheVariants as plan_fault;
+ghost use Rattle.refusals.specs.declared.refusal.JobFault.TheVariants as job_fault;
+ghost use Rattle.refusals.specs.declared.refusal.Refusal.TheVariants as refusal;
+
+use crate::message::{line, put_refusal};
+use dictionaries::DictFault;
+use line_pages::Memory;
+use pd_outside::{Message, ReadFault};
+use request_words::{OptionName, UsageFault};
+use schema_check::CheckFault;
+use schema_read::ReadSchemaFault;
+
+/// Why a request isn't carried out.
+#[derive(Clone, Copy, Debug, PartialEq, Eq)]
+pub enum Refusal {
+    /// The words give no request.
+    Words(UsageFault),
+    /// The request gives no job.
+    Job(JobFault),
+}
+
+/// Why a request gives no job.
+#[derive(Clone, Copy, Debug, PartialEq, Eq)]
+pub enum JobFault {
+    /// The schema has no plan.
+    Plan(PlanFault),
+    /// What the option names isn't in the schema.
+    Range(OptionName),
+    /// Memory ran out.
+    Memory,
+}
+
+/// Why a schema's name gives no plan.
+#[derive(Clone, Copy, Debug, PartialEq, Eq)]
+pub enum PlanFault {
+    /// The schema's text wasn't read.
+    Reading(ReadFault),
+    /// The text is no schema.
+    Schema(ReadSchemaFault),
+    /// A dictionary that the schema cites isn't read.
+    Dictionary(DictionaryFault),
+    /// The schema breaks a rule, or memory ran out.
+    Check(CheckFault),
+}
+
+/// Which dictionary isn't read, and why.
+#[derive(Clone, Copy, Debug, PartialEq, Eq)]
+pub struct DictionaryFault {
+    /// The dictionary's number in the order of first citation, counted from 1.
+    pub number: u64,
+    /// Why it isn't read.
+    pub cause: DictionaryCause,
+}
+
+/// Why a file gives no dictionary.
+#[derive(Clone, Copy, Debug, PartialEq, Eq)]
+pub enum DictionaryCause {
+    /// The file wasn't read.
+    Reading(ReadFault),
+    /// Its bytes are no dictionary.
+    Grammar(DictFault),
+    /// Memory ran out.
+    Memory,
+}
+
+impl Refusal {
+    /// The exit status.
+    pub fn status(self) -> u8
+        ensures { result ≡ status_of self }
+    {
+        match self {
+            Refusal::Words(UsageFault::Memory) => 7,
+            Refusal::Words(_) => 2,
+            Refusal::Job(fault) => fault.status(),
+        }
+    }
+
+    /// The message: one line, with its line feed.
+    pub fn message(self) -> Message
+        ensures { result ≡ message_of self }
+    {
+        let mut words = Message::new();
+        put_refusal(&mut words, self);
+        line(words.text())
+    }
+}
+
+impl JobFault {
+    ghost use Rattle.refusals.specs.Statuses.{job_status};
+
+    fn status(self) -> u8
+        ensures { result ≡ job_status self }
+    {
+        match self {
+            JobFault::Plan(fault) => fault.status(),
+            JobFault::Range(_) => 8,
+            JobFault::Memory => 7,
+        }
+    }
+}
+
+impl PlanFault {
+    ghost use Rattle.refusals.specs.Statuses.{plan_status};
+
+    fn status(self) -> u8
+        ensures { result ≡ plan_status self }
+    {
+        match self {
+            PlanFault::Reading(fault) => reading_status(fault),
+            PlanFault::Schema(ReadSchemaFault::Memory | ReadSchemaFault::ParseMemory)
+            | PlanFault::Check(CheckFault::Memory) => 7,
+            PlanFault::Schema(_) => 3,
+            PlanFault::Dictionary(fault) => fault.cause.status(),
+            PlanFault::Check(_) => 4,
+        }
+    }
+}
+
+impl DictionaryCause {
+    ghost use Rattle.refusals.specs.Statuses.{cause_status};
+
+    fn status(self) -> u8
+        ensures { result ≡ cause_status self }
+    {
+        match self {
+            DictionaryCause::Reading(fault) => reading_status(fault),
+            DictionaryCause::Grammar(DictFault::Memory) | DictionaryCause::Memory => 7,
+            DictionaryCause::Grammar(_) => 4,
+        }
+    }
+}
+
+/// The status of a file that wasn't read.
+fn reading_status(fault: ReadFault) -> u8
+    ensures { result ≡ reading_status fault }
+{
+    match fault {
+        ReadFault::Failed => 5,
+        ReadFault::TooLong => 10,
+        ReadFault::Memory => 7,
+    }
+}
+
+impl From<UsageFault> for Refusal {
+    ghost from_gives = { λ fault made. made ≡ refusal.Words fault };
+
+    fn from(fault: UsageFault) -> Refusal {
+        Refusal::Words(fault)
+    }
+}
+
+impl From<JobFault> for Refusal {
+    ghost from_gives = { λ fault made. made ≡ refusal.Job fault };
+
+    fn from(fault: JobFault) -> Refusal {
+        Refusal::Job(fault)
+    }
+}
+
+impl From<PlanFault> for JobFault {
+    ghost from_gives = { λ fault made. made ≡ job_fault.Plan fault };
+
+    fn from(fault: PlanFault) -> JobFault {
+        JobFault::Plan(fault)
+    }
+}
+
+impl From<Memory> for JobFault {
+    ghost from_gives = { λ fault made. made ≡ job_fault.Memory };
+
+    fn from(_: Memory) -> JobFault {
+        JobFault::Memory
+    }
+}
+
+impl From<ReadFault> for PlanFault {
+    ghost from_gives = { λ fault made. made ≡ plan_fault.Reading fault };
+
+    fn from(fault: ReadFault) -> PlanFault {
+        PlanFault::Reading(fault)
+    }
+}
+
+impl From<ReadSchemaFault> for PlanFault {
+    ghost from_gives = { λ fault made. made ≡ plan_fault.Schema fault };
+
+    fn from(fault: ReadSchemaFault) -> PlanFault {
+        PlanFault::Schema(fault)
+    }
+}
+
+impl From<CheckFault> for PlanFault {
+    ghost from_gives = { λ fault made. made ≡ plan_fault.Check fault };
+
+    fn from(fault: CheckFault) -> PlanFault {
+        PlanFault::Check(fault)
+    }
+}
+
+impl From<DictionaryFault> for PlanFault {
+    ghost from_gives = { λ fault made. made ≡ plan_fault.Dictionary fault };
+
+    fn from(fault: DictionaryFault) -> PlanFault {
+        PlanFault::Dictionary(fault)
+    }
+}
+
+impl From<ReadFault> for DictionaryCause {
+    ghost from_gives = { λ fault made. made ≡ dictionary_cause.Reading fault };
+
+    fn from(fault: ReadFault) -> DictionaryCause {
+        DictionaryCause::Reading(fault)
+    }
+}
+
+impl From<DictFault> for DictionaryCause {
+    ghost from_gives = { λ fault made. made ≡ dictionary_cause.Grammar fault };
+
+    fn from(fault: DictFault) -> DictionaryCause {
+        DictionaryCause::Grammar(fault)
+    }
+}
+
+impl From<schema_plan::Memory> for DictionaryCause {
+    ghost from_gives = { λ fault made. made ≡ dictionary_cause.Memory };
+
+    fn from(_: schema_plan::Memory) -> DictionaryCause {
+        DictionaryCause::Memory
+    }
+}
