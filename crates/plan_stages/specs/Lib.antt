@@ -1,0 +1,5 @@
+pub mod DictionaryFiles
+pub mod Limits
+pub mod PlanNames
+pub mod Plans
+pub mod Stages

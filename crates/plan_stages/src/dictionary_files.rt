@@ -1,0 +1,75 @@
+//! The dictionaries that files hold, read one after the other.
+
+ghost use Rattle.std.specs.Prelude.{◌≡◌, ◌≤◌, ◌⊎◌, ◌+◌, [], Err, IfErr, IfSome, Ok, OnOk, false, length};
+ghost use Rattle.pd_outside.specs.Library.{AskedAtMost, ask};
+ghost use Rattle.plan_stages.specs.DictionaryFiles.{dictionaries_status, with_dictionaries, with_dictionary};
+ghost use Rattle.plan_stages.specs.Limits.{dictionary_limit};
+ghost use Rattle.plan_stages.specs.PlanNames.{AskedNone, AsksNames};
+ghost use Rattle.plan_stages.specs.Stages.{ended, told_files, Decides, IsReadOut, LibraryAfter};
+ghost use Rattle.refusals.specs.Statuses.{cause_status, is_free};
+
+use dictionaries::read_dictionary;
+use pd_outside::{Library, read_whole};
+use refusals::{DictionaryCause, DictionaryFault};
+use schema_model::Texts;
+use schema_plan::Dictionaries;
+use std::alloc::Global;
+
+/// The most bytes of a dictionary.
+const DICTIONARY_LIMIT: u64 = 16_777_216;
+
+/// Reads the dictionaries of these names, each in its turn, up to the first fault.
+pub(crate) fn read_dictionaries<L: Library>(
+    alloc: Global,
+    library: &mut L,
+    names: &Texts,
+) -> Result<Dictionaries, DictionaryFault>
+    requires taken { L.taken library.old ≤ dictionary_limit }
+    requires read_out { IsReadOut (L.content library.old) }
+    ensures read { IfSome (told_files (L.content library.old)) (λ files.
+        Decides dictionaries_status (λ dictionaries. dictionaries) result (with_dictionaries files [] names.now)) }
+    ensures after { LibraryAfter (ended dictionaries_status result) dictionary_limit (told_files (L.content library.old)) (L.content library.new)
+        (L.taken library.new) (L.is_started library.new) (L.faults library.old) (L.faults library.new) }
+    ensures longer { L.taken library.new ≡ dictionary_limit + 1 → ended dictionaries_status result ≡ 10 }
+    ensures asked { AsksNames names.now (told_files (L.content library.old)) (L.asked library.old) (L.asked library.new) }
+    ensures unasked { AskedNone (L.asked library.old) (L.asked library.new) → L.taken library.new ≤ L.taken library.old }
+{
+    let mut dictionaries = Dictionaries::new(alloc);
+    for place in 0..names.len() {
+        let name = names.get(place).as_str();
+        match add_dictionary(alloc, library, name, &mut dictionaries) {
+            Ok(()) => {}
+            Err(cause) => {
+                return Err(DictionaryFault {
+                    number: place as u64 + 1,
+                    cause,
+                });
+            }
+        }
+    }
+    Ok(dictionaries)
+}
+
+/// Reads the dictionary of a name, and puts it behind the others.
+fn add_dictionary<L: Library>(
+    alloc: Global,
+    library: &mut L,
+    name: &str,
+    dictionaries: &mut Dictionaries,
+) -> Result<(), DictionaryCause>
+    ensures read { IfSome (told_files (L.content library.old)) (λ files. OnOk result (with_dictionary files dictionaries.old name.now ≡ Ok dictionaries.new)) }
+    ensures refused { IfSome (told_files (L.content library.old)) (λ files.
+        IfErr result (λ cause. is_free (cause_status cause) ≡ false → with_dictionary files dictionaries.old name.now ≡ Err cause)) }
+    ensures count { OnOk result (length dictionaries.new ≡ length dictionaries.old + 1) }
+    ensures after { LibraryAfter (ended cause_status result) dictionary_limit (told_files (L.content library.old)) (L.content library.new)
+        (L.taken library.new) (L.is_started library.new) (L.faults library.old) (L.faults library.new) }
+    ensures longer { L.taken library.new ≡ dictionary_limit + 1 → ended cause_status result ≡ 10 }
+    ensures asked { OnOk result (L.asked library.new ≡ ask name.now (L.asked library.old)) }
+    ensures asked_at_most { AskedAtMost name.now (L.asked library.old) (L.asked library.new) }
+    ensures unasked { (L.asked library.new ≡ ask name.now (L.asked library.old)) ⊎ (L.taken library.new ≡ 0) }
+{
+    let bytes = read_whole(alloc, library, name, DICTIONARY_LIMIT)?;
+    let words = read_dictionary(alloc, &bytes)?;
+    dictionaries.push(name, words)?;
+    Ok(())
+}

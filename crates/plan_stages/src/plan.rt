@@ -1,0 +1,83 @@
+//! From a schema's name to its plan.
+
+ghost use Rattle.std.specs.Prelude.{◌≡◌, ◌≢◌, ◌≤◌, ◌⊎◌, ◌+◌, IfSome};
+ghost use Rattle.schema_read.specs.Schema.{schema_of};
+ghost use Rattle.plan_stages.specs.Limits.{dictionary_limit, schema_limit};
+ghost use Rattle.plan_stages.specs.PlanNames.{cited_by, cited_by_read, AskedAlone, AskedNone, AsksForPlan, AsksNames};
+ghost use Rattle.plan_stages.specs.Plans.{limit_at, plan_in, plan_of_text, planned};
+ghost use Rattle.plan_stages.specs.Stages.{ended, limit_told, told_files, Decides, IsReadOut, LibraryAfter};
+ghost use Rattle.refusals.specs.Statuses.{plan_status};
+
+use crate::dictionary_files::read_dictionaries;
+use pd_outside::{Library, read_whole};
+use refusals::PlanFault;
+use schema_check::{check, citations};
+use schema_model::Schema;
+use schema_plan::Plan;
+use schema_read::read_schema;
+use std::alloc::Global;
+
+/// The most bytes of a schema's text.
+const SCHEMA_LIMIT: u64 = 1_048_576;
+
+/// The plan of the schema in the file of this name, for which that file is read and then each word list that the schema
+/// cites, in the order in which it first names them, up to the first fault.
+///
+/// The schema's text has at most 1,048,576 bytes and a word list 16,777,216. `Reading` tells that the text wasn't read,
+/// `Schema` that it is no schema, `Dictionary` that a word list isn't read, by its number from 1, and `Check` that the schema
+/// breaks a rule: each only where nothing is wrong before. Want of memory is told by any of them. Where the library doesn't
+/// tell its files, the clauses say only what can be said.
+pub fn plan_of<L: Library>(alloc: Global, library: &mut L, name: &str) -> Result<Plan, PlanFault>
+    ensures plan { IfSome (told_files (L.content library.old)) (λ files. Decides plan_status (λ plan. plan) result (plan_in files name.now)) }
+    ensures after { LibraryAfter (ended plan_status result) (limit_told limit_at result) (told_files (L.content library.old)) (L.content library.new)
+        (L.taken library.new) (L.is_started library.new) (L.faults library.old) (L.faults library.new) }
+
+    // What was taken tells which file was too long, and that the schema's wasn't.
+    ensures longer_schema { AskedAlone name.now (L.asked library.old) (L.asked library.new) →
+        (L.taken library.new ≤ schema_limit) ⊎ (ended plan_status result ≡ 10) }
+    ensures longer_dictionary { L.taken library.new ≡ dictionary_limit + 1 → ended plan_status result ≡ 10 }
+    ensures schema_read { ended plan_status result ≡ 3 → L.taken library.new ≤ schema_limit }
+
+    // No other name is asked than the schema's and those that it cites, in turn, and none behind the first at fault.
+    ensures asked { AsksForPlan name.now (told_files (L.content library.old)) (L.asked library.old) (L.asked library.new) }
+{
+    let bytes = read_whole(alloc, library, name, SCHEMA_LIMIT)?;
+    plan_of_text(alloc, library, &bytes)
+}
+
+/// The plan of a schema's text, which was read to its end.
+fn plan_of_text<L: Library>(alloc: Global, library: &mut L, bytes: &[u8]) -> Result<Plan, PlanFault>
+    requires taken { L.taken library.old ≤ schema_limit }
+    requires read_out { IsReadOut (L.content library.old) }
+    ensures plan { IfSome (told_files (L.content library.old)) (λ files. Decides plan_status (λ plan. plan) result (plan_of_text files bytes.now)) }
+    ensures after { LibraryAfter (ended plan_status result) (limit_told limit_at result) (told_files (L.content library.old)) (L.content library.new)
+        (L.taken library.new) (L.is_started library.new) (L.faults library.old) (L.faults library.new) }
+    ensures longer { L.taken library.new ≡ dictionary_limit + 1 → ended plan_status result ≡ 10 }
+    ensures schema_read { ended plan_status result ≡ 3 → L.taken library.new ≤ schema_limit }
+    ensures asked { AsksNames (cited_by_read (schema_of bytes.now)) (told_files (L.content library.old)) (L.asked library.old) (L.asked library.new) }
+    ensures unasked { AskedNone (L.asked library.old) (L.asked library.new) → L.taken library.new ≤ L.taken library.old }
+{
+    let schema = read_schema(alloc, bytes)?;
+    plan_of_schema(alloc, library, schema)
+}
+
+/// The plan of a schema with the dictionaries that it cites, each of which is read.
+fn plan_of_schema<L: Library>(
+    alloc: Global,
+    library: &mut L,
+    schema: Schema,
+) -> Result<Plan, PlanFault>
+    requires taken { L.taken library.old ≤ schema_limit }
+    requires read_out { IsReadOut (L.content library.old) }
+    ensures plan { IfSome (told_files (L.content library.old)) (λ files. Decides plan_status (λ plan. plan) result (planned files schema)) }
+    ensures after { LibraryAfter (ended plan_status result) (limit_told limit_at result) (told_files (L.content library.old)) (L.content library.new)
+        (L.taken library.new) (L.is_started library.new) (L.faults library.old) (L.faults library.new) }
+    ensures longer { L.taken library.new ≡ dictionary_limit + 1 → ended plan_status result ≡ 10 }
+    ensures is_schema { ended plan_status result ≢ 3 }
+    ensures asked { AsksNames (cited_by schema) (told_files (L.content library.old)) (L.asked library.old) (L.asked library.new) }
+    ensures unasked { AskedNone (L.asked library.old) (L.asked library.new) → L.taken library.new ≤ L.taken library.old }
+{
+    let names = citations(alloc, &schema)?;
+    let dictionaries = read_dictionaries(alloc, library, &names)?;
+    Ok(check(alloc, schema, dictionaries)?)
+}
