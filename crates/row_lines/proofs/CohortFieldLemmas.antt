@@ -16,7 +16,6 @@ use Rattle.schema_plan.specs.Ready.{ready_column, ready_columns, ready_kind}
 use Rattle.draw_values.specs.CohortValues.{ValuesOf, value_for}
 use Rattle.draw_values.specs.declared.values.Put.TheVariants.{Text, Null}
 use Rattle.draw_values.specs.Values.{is_own, put_of, written}
-use Rattle.life_intervals.specs.CohortKeys.{CohortOf}
 use Rattle.life_intervals.specs.Generator.{Generator, generator_of, last_unit}
 use Rattle.life_intervals.specs.Intervals.{row_at}
 use Rattle.life_intervals.specs.Keys.{key_in_cohort}
@@ -27,8 +26,8 @@ use Rattle.row_lines.specs.Lines.{field_in_table}
 use Rattle.row_lines.proofs.FieldLemmas.{in_table-key, in_table-own}
 
 -- what is kept is of the fields that a contract sees
-pub AreFieldsOf-view : (kept lines : LinesOf) (parents : CohortOf) (columns : List ReadyColumn) (first : ℕ) → kept ≡ lines → AreFieldsOf kept parents columns first → AreFieldsOf lines parents columns first
-AreFieldsOf-view kept lines parents columns first same known = subst (λ (of : LinesOf). AreFieldsOf of parents columns first) same known
+pub AreFieldsOf-view : (kept lines : LinesOf) (columns : List ReadyColumn) (first : ℕ) → kept ≡ lines → AreFieldsOf kept columns first → AreFieldsOf lines columns first
+AreFieldsOf-view kept lines columns first same known = subst (λ (of : LinesOf). AreFieldsOf of columns first) same known
 
 -- ---- columns
 
@@ -78,9 +77,9 @@ pub born_of_index : (lines : LinesOf) (index : ℕ) → lines.born ≤ lines.uni
 born_of_index lines index within below = birth-first_ordinal (layout_for lines).births lines.unit lines.born index within below
 
 -- its ordinal is no sum past 64 bits
-pub ordinal-limit : (lines : LinesOf) (parents : CohortOf) (columns : List ReadyColumn) (first : ℕ) → AreFieldsOf lines parents columns first →
+pub ordinal-limit : (lines : LinesOf) (columns : List ReadyColumn) (first : ℕ) → AreFieldsOf lines columns first →
     (index : ℕ) → index < cohort_size (layout_for lines).births lines.born → first + index < 2 ^ 64
-ordinal-limit lines parents columns first known index below =
+ordinal-limit lines columns first known index below =
     omega (
       arith,
       known.first_is,

@@ -1,5 +1,5 @@
 -- The line of a row of a cohort, field by field.
-use Rattle.std.proofs.Common.{◌≡◌, ◌<◌, ◌≤◌, ◌^◌, ℕ, zero, suc, ◌+◌, ◌-◌, ◌==◌, if◌then◌else◌, Bool, false, true, List, [], ◌∷◌, ◌++◌, map, length, min, sum_by, take, codes, refl, ap, subst, ◌∙◌, arith}
+use Rattle.std.proofs.Common.{◌≡◌, ◌<◌, ◌≤◌, ℕ, zero, suc, ◌+◌, ◌-◌, ◌==◌, if◌then◌else◌, Bool, false, true, List, [], ◌∷◌, ◌++◌, map, length, min, sum_by, take, codes, refl, ap, subst, ◌∙◌, arith}
 use Rattle.std.specs.List.{join_with_byte, range_with_len}
 use Rattle.std.proofs.lemmas.Bool.Decides.{nat_tests}
 use Rattle.std.proofs.lemmas.List.Folds.{fold-map}
@@ -11,9 +11,6 @@ use Rattle.schema_plan.specs.Layout.{ColumnLayout, KindLayout, PartLayout, Table
 use Rattle.schema_plan.specs.Lineage.{lineages, null_cost_of, null_cost_of_field, null_cost_of_part, one_if}
 use Rattle.schema_plan.specs.Limits.{IsInLimits, IsTableInLimits}
 use Rattle.schema_plan.specs.TableFacts.{line_cost, max_line}
-use Rattle.draw_values.specs.UnitDraws.{DrawsOf}
-use Rattle.life_intervals.specs.CohortKeys.{CohortOf}
-use Rattle.life_intervals.specs.CohortLives.{CohortAt}
 use Rattle.life_intervals.specs.CohortParents.{asked_for_change}
 use Rattle.life_intervals.specs.Generator.{generator_of, last_unit}
 use Rattle.cohort_sizes.proofs.CohortLemmas.{cohort-within}
@@ -64,9 +61,8 @@ max_line-columns lines =
     (layout_for lines).columns (λ bounds. bounds.size + 1)
 
 -- what is kept is of the lines that a contract sees
-pub AreLinesOf-view : (kept lines : LinesOf) (keys : CohortOf) (lives changes : CohortAt) (births : DrawsOf) (columns : List ReadyColumn) (fields : LinesOf) (byte : ℕ) → kept ≡ lines → AreLinesOf kept keys lives changes births columns fields byte →
-    AreLinesOf lines keys lives changes births columns fields byte
-AreLinesOf-view kept lines keys lives changes births columns fields byte same known = subst (λ (of : LinesOf). AreLinesOf of keys lives changes births columns fields byte) same known
+pub AreLinesOf-view : (kept lines : LinesOf) (columns : List ReadyColumn) (fields : LinesOf) (byte : ℕ) → kept ≡ lines → AreLinesOf kept columns fields byte → AreLinesOf lines columns fields byte
+AreLinesOf-view kept lines columns fields byte same known = subst (λ (of : LinesOf). AreLinesOf of columns fields byte) same known
 
 -- a field asks no more permutations than the schema counts for it, and that of the key one less where keys are scrambled
 sum_by-each : {A : Type 0} (f g : A → ℕ) → ((x : A) → f x ≤ g x) → (xs : List A) → sum_by f xs ≤ sum_by g xs
@@ -148,16 +144,6 @@ pub line_in_cohort-fields : (lines : LinesOf) (index count : ℕ) → count ≡ 
 unfolding line
 line_in_cohort-fields lines index count all =
     ap (λ (n : ℕ). join_with_byte (layout_of lines.plan).delimiter (map (text_in_cohort lines index) (range_with_len 0 n)) ++ codes "\n") all
-
--- a cohort has no more rows than a table
-pub cohort_size-limit : (lines : LinesOf) (keys : CohortOf) (lives changes : CohortAt) (births : DrawsOf) (columns : List ReadyColumn) (fields : LinesOf) (byte : ℕ) → AreLinesOf lines keys lives changes births columns fields byte →
-    cohort_size (layout_for lines).births lines.born ≤ 2 ^ 40
-cohort_size-limit lines keys lives changes births columns fields byte known =
-    omega (
-      arith,
-      known.limits.births.row_limit,
-      cohort-within (layout_for lines).births lines.born (last_unit lines.plan) (omega (arith, known.born, known.unit)),
-    )
 
 -- an ordinal lies behind the first of its cohort by its index
 pub ordinal_of-index : (start first ordinal : ℕ) → first ≡ start → start ≤ ordinal → start + (ordinal - first) ≡ ordinal

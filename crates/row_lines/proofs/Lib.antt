@@ -1,5 +1,4 @@
 pub mod ListLemmas
-mod ChangeDrawLemmas
 pub mod LineLemmas
 pub mod HeldRowLemmas
 pub mod FieldLemmas
@@ -10,5 +9,14 @@ pub mod CohortFieldLemmas
 pub mod PartLemmas
 mod StillLemmas
 mod LookupLemmas
-mod LineDrawLemmas
 mod ReportLemmas
+mod KeptLemmas
+mod PieceLemmas
+mod RunListLemmas
+pub mod RunTextLemmas
+pub mod RunFieldLemmas
+mod RunPieceLemmas
+mod RunLookupLemmas
+mod RunParentLemmas
+mod RunKeyLemmas
+mod RowOfRunLemmas

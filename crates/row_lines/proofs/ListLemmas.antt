@@ -1,5 +1,5 @@
--- Lists: pieces of what passes a test, and the first number of a range that does.
-use Rattle.std.proofs.Common.{◌≡◌, ℕ, zero, suc, ◌+◌, ◌-◌, ◌<◌, ◌≤◌, Bool, true, false, List, [], ◌∷◌, ◌++◌, Some, None, inl, inr, filter, if◌then◌else◌, refl, ap, sym, arith, ◌∙◌}
+-- Lists: pieces of what passes a test, the first number of a range that does, and a part of a list.
+use Rattle.std.proofs.Common.{◌≡◌, ℕ, zero, suc, ◌+◌, ◌-◌, ◌<◌, ◌≤◌, Bool, true, false, List, [], ◌∷◌, ◌++◌, Some, None, inl, inr, length, length-drop, length-take, get_or, get_or-drop, get_or-take, take, drop, filter, if◌then◌else◌, refl, ap, sym, arith, ◌∙◌}
 use Rattle.std.specs.List.{find, flat_map, range_with_len}
 use Rattle.std.proofs.lemmas.Bool.{cases_lt}
 use Rattle.std.proofs.lemmas.List.{append-nil}
@@ -8,7 +8,7 @@ use Rattle.std.proofs.lemmas.List.Elements.{filter-append}
 use Rattle.life_intervals.proofs.Ranges.{range_with_len-add}
 
 -- the pieces of what passes a test, of two lists
-flat_map-filter_append : {A B : Type 0} (f : A → List B) (p : A → Bool) (xs ys : List A) →
+pub flat_map-filter_append : {A B : Type 0} (f : A → List B) (p : A → Bool) (xs ys : List A) →
     flat_map f (filter p (xs ++ ys)) ≡ flat_map f (filter p xs) ++ flat_map f (filter p ys)
 flat_map-filter_append f p xs ys =
     ap (flat_map f) (filter-append p xs ys) ∙ flat_map-append f (filter p xs) (filter p ys)
@@ -67,3 +67,10 @@ find-range_first p a (suc n) k from below before passes = elim (cases_lt a k) [
 pub find-range_none : (p : ℕ → Bool) (a n : ℕ) → ((j : ℕ) → a ≤ j → j < a + n → p j ≡ false) → find p (range_with_len a n) ≡ None
 find-range_none p a zero fails = refl
 find-range_none p a (suc n) fails = rw (fails a (omega arith) (omega arith)) (find-range_none p (a + 1) n (λ j low high. fails j (omega arith) (omega arith)))
+
+-- a part has as many items as it was asked for, which stand in the list behind its start
+pub part_length : {A : Type 0} (start count : ℕ) (items : List A) → start + count ≤ length items → length (take (start + count - start) (drop start items)) ≡ count
+part_length start count items within = omega (arith, length-take (start + count - start) (drop start items), length-drop start items)
+
+pub get_or-part : {A : Type 0} (start count : ℕ) (items : List A) (i : ℕ) (d : A) → i < count → get_or (take count (drop start items)) i d ≡ get_or items (start + i) d
+get_or-part start count items i d inside = get_or-take count (drop start items) i d inside ∙ get_or-drop start items i d

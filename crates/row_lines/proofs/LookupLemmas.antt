@@ -200,13 +200,15 @@ parent_of-for lines index reference early inside =
     ap (parent (birth births lines.unit (ordinal_of lines index))) (index_here lines index early inside)
     ∙ ap (λ (unit : ℕ). parent unit index) (birth-first_ordinal births lines.unit lines.born index early inside)
 
--- how it is written for a row of a cohort
-pub text-lookup : (lines : LinesOf) → IsInLimits lines.plan → lines.table < length lines.plan.schema.tables → lines.born ≤ lines.unit → lines.unit ≤ last_unit lines.plan →
-    (column index : ℕ) (lookup : ReadyLookup) (reference : ReadyReference) (null : Bool) → IsLookupOf lines column lookup →
-    IsReferenceOf lines.plan lines.table lookup.via reference → reference.parent ≡ lookup.parent → reference.nulls ≡ false → index < cohort_size (layout_for lines).births lines.born → is_live_for lines index ≡ true →
-    is_null (column_at (layout_for lines).columns column).null (draws_of (generator_of lines.plan) lines.table (row_at (generator_of lines.plan) lines.table lines.unit (ordinal_of lines index)) column) ≡ null →
-    text_in_cohort lines index column ≡ (if null then codes "\\N" else text_held lines.plan lookup.parent lines.unit (parent_for lines index (reference_by lookup.via reference)) lookup.column)
-text-lookup lines limits table early within column index lookup reference null of refers to cascades inside alive null_is =
+-- how it is written, by the row's ordinal
+pub text-looked_up : (lines : LinesOf) → IsInLimits lines.plan → lines.table < length lines.plan.schema.tables → lines.unit ≤ last_unit lines.plan →
+    (column ordinal : ℕ) (lookup : ReadyLookup) (reference : ReadyReference) (null : Bool) → IsLookupOf lines column lookup →
+    IsReferenceOf lines.plan lines.table lookup.via reference → reference.parent ≡ lookup.parent → reference.nulls ≡ false → ordinal < born_count (layout_for lines).births lines.unit →
+    is_live (generator_of lines.plan) lines.table lines.unit ordinal ≡ true →
+    is_null (column_at (layout_for lines).columns column).null (draws_of (generator_of lines.plan) lines.table (row_at (generator_of lines.plan) lines.table lines.unit ordinal) column) ≡ null →
+    field_text (layout_of lines.plan).delimiter (field (generator_of lines.plan) lines.unit lines.table (row_at (generator_of lines.plan) lines.table lines.unit ordinal) column)
+    ≡ (if null then codes "\\N" else text_held lines.plan lookup.parent lines.unit (parent_of (generator_of lines.plan) lines.table lines.unit ordinal (reference_by lookup.via reference)) lookup.column)
+text-looked_up lines limits table within column ordinal lookup reference null of refers to cascades born alive null_is =
     let generator : Generator = generator_of lines.plan in
     let d : ℕ = (layout_of lines.plan).delimiter in
     let by : Reference = reference_by lookup.via reference in
@@ -216,20 +218,27 @@ text-lookup lines limits table early within column index lookup reference null o
     kind_of_lookup lines limits table column lookup of ∙ ap (λ (place : ℕ). lookup_kind lookup.via place lookup.column) (sym to) in
     ap (field_text d)
     (field-lookup (last_unit lines.plan) generator (AreSound-accepted lines.plan limits) lines.table (omega (arith, table, length-tables lines.plan)) lines.unit within
-    (ordinal_of lines index) (cohort_born lines index early inside) alive column lookup.via lookup.column by kind is
-    ∙ ap (λ (o : Option ℕ). unless_null (column_at (layout_for lines).columns column).null (draws_of generator lines.table (row_at generator lines.table lines.unit (ordinal_of lines index)) column) (option_and_then (shown by.parent) o))
-    (held_parent-cascades generator lines.table lines.unit (ordinal_of lines index) by cascades)
-    ∙ ap (λ (b : Bool). if b then None else shown by.parent (parent_of generator lines.table lines.unit (ordinal_of lines index) by)) null_is
-    ∙ ap (λ (j : ℕ). if null then None else shown by.parent j) (parent_of-for lines index by early inside)
-    ∙ ap (λ (place : ℕ). if null then None else shown place (parent_for lines index by)) to)
-    ∙ of_null null (shown lookup.parent (parent_for lines index by))
+    ordinal born alive column lookup.via lookup.column by kind is
+    ∙ ap (λ (o : Option ℕ). unless_null (column_at (layout_for lines).columns column).null (draws_of generator lines.table (row_at generator lines.table lines.unit ordinal) column) (option_and_then (shown by.parent) o))
+    (held_parent-cascades generator lines.table lines.unit ordinal by cascades)
+    ∙ ap (λ (b : Bool). if b then None else shown by.parent (parent_of generator lines.table lines.unit ordinal by)) null_is
+    ∙ ap (λ (place : ℕ). if null then None else shown place (parent_of generator lines.table lines.unit ordinal by)) to)
+    ∙ of_null null (shown lookup.parent (parent_of generator lines.table lines.unit ordinal by))
   where
     of_null : (null : Bool) (held : Option (List ℕ)) → field_text (layout_of lines.plan).delimiter (if null then None else held) ≡ (if null then codes "\\N" else field_text (layout_of lines.plan).delimiter held)
     of_null true held = refl
     of_null false held = refl
 
-    cohort_born : (lines : LinesOf) (index : ℕ) → lines.born ≤ lines.unit → index < cohort_size (layout_for lines).births lines.born → ordinal_of lines index < born_count (layout_for lines).births lines.unit
-    cohort_born lines index early inside = omega (arith, inside, cohort-within (layout_for lines).births lines.born lines.unit early)
+-- and for a row of a cohort
+pub text-lookup : (lines : LinesOf) → IsInLimits lines.plan → lines.table < length lines.plan.schema.tables → lines.born ≤ lines.unit → lines.unit ≤ last_unit lines.plan →
+    (column index : ℕ) (lookup : ReadyLookup) (reference : ReadyReference) (null : Bool) → IsLookupOf lines column lookup →
+    IsReferenceOf lines.plan lines.table lookup.via reference → reference.parent ≡ lookup.parent → reference.nulls ≡ false → index < cohort_size (layout_for lines).births lines.born → is_live_for lines index ≡ true →
+    is_null (column_at (layout_for lines).columns column).null (draws_of (generator_of lines.plan) lines.table (row_at (generator_of lines.plan) lines.table lines.unit (ordinal_of lines index)) column) ≡ null →
+    text_in_cohort lines index column ≡ (if null then codes "\\N" else text_held lines.plan lookup.parent lines.unit (parent_for lines index (reference_by lookup.via reference)) lookup.column)
+text-lookup lines limits table early within column index lookup reference null of refers to cascades inside alive null_is =
+    let born : ordinal_of lines index < born_count (layout_for lines).births lines.unit = omega (arith, inside, cohort-within (layout_for lines).births lines.born lines.unit early) in
+    text-looked_up lines limits table within column (ordinal_of lines index) lookup reference null of refers to cascades born alive null_is
+    ∙ ap (λ (j : ℕ). if null then codes "\\N" else text_held lines.plan lookup.parent lines.unit j lookup.column) (parent_of-for lines index (reference_by lookup.via reference) early inside)
 
 -- ---- the row as it is at the unit
 

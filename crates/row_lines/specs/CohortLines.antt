@@ -1,5 +1,5 @@
 -- The lines of one cohort, and what the code keeps of them.
-use Rattle.std.specs.Prelude.{◌≡◌, ◌<◌, ◌≤◌, ℕ, ◌+◌, Bool, List, Option, decimal, if◌then◌else◌, length, sum_by, true}
+use Rattle.std.specs.Prelude.{◌≡◌, ◌<◌, ◌≤◌, ℕ, ◌+◌, Bool, List, Option, decimal, false, get_or, if◌then◌else◌, length, sum_by, true}
 use Rattle.std.specs.Option.{option_map}
 use Rattle.row_text.specs.Fields.{field_text}
 use Rattle.cohort_sizes.specs.Births.{first_ordinal}
@@ -11,9 +11,6 @@ use Rattle.schema_plan.specs.Dictionaries.{Project}
 use Rattle.schema_plan.specs.declared.ready.ReadyColumn.{ReadyColumn}
 use Rattle.schema_plan.specs.Ready.{ready_columns}
 use Rattle.draw_values.specs.CohortValues.{ValuesOf}
-use Rattle.draw_values.specs.UnitDraws.{DrawsOf, unit_draws}
-use Rattle.life_intervals.specs.CohortKeys.{CohortOf}
-use Rattle.life_intervals.specs.CohortLives.{CohortAt}
 use Rattle.life_intervals.specs.Generator.{generator_of, last_unit, table_of}
 use Rattle.life_intervals.specs.Intervals.{change_unit, is_live, row_at}
 use Rattle.life_intervals.specs.Keys.{key_in_cohort, key_of}
@@ -94,9 +91,8 @@ change_for lines index = change_unit (generator_of lines.plan) lines.table lines
 abbrev pub values_at : LinesOf → ℕ → ValuesOf
 values_at lines changed = record { plan = lines.plan; table = lines.table; born = lines.born; changed = changed }
 
--- what is kept of the cohort is the cohort's parents, the first ordinal of its rows and what the schema says of the columns
-pub record AreFieldsOf (lines : LinesOf) (parents : CohortOf) (columns : List ReadyColumn) (first : ℕ) : Type 0 where
-  pub parents_are : parents ≡ record { plan = lines.plan; table = lines.table; unit = lines.born }
+-- what is kept of the cohort is the first ordinal of its rows and what the schema says of the columns
+pub record AreFieldsOf (lines : LinesOf) (columns : List ReadyColumn) (first : ℕ) : Type 0 where
   pub columns_are : columns ≡ ready_columns (layout_of lines.plan) lines.table
   pub first_is : first ≡ first_ordinal (layout_for lines).births lines.born
   pub sound : IsInLimits lines.plan
@@ -105,13 +101,8 @@ pub record AreFieldsOf (lines : LinesOf) (parents : CohortOf) (columns : List Re
   pub born : lines.born ≤ lines.unit
   pub unit : lines.unit ≤ last_unit lines.plan
 
--- what is kept of the cohort, its fields, its lives, its changes and the draws of its birth is the cohort's, and what is kept beside is
--- what the schema says
-pub record AreLinesOf (lines : LinesOf) (keys : CohortOf) (lives changes : CohortAt) (births : DrawsOf) (columns : List ReadyColumn) (fields : LinesOf) (byte : ℕ) : Type 0 where
-  pub keys_are : keys ≡ record { plan = lines.plan; table = lines.table; unit = lines.born }
-  pub lives_are : lives ≡ record { plan = lines.plan; table = lines.table; born = lines.born; unit = lines.unit }
-  pub changes_are : changes ≡ record { plan = lines.plan; table = lines.table; born = lines.born; unit = lines.unit }
-  pub births_are : births ≡ unit_draws lines.plan lines.table lines.born
+-- what is kept of the cohort's fields is the cohort's, and what is kept beside is what the schema says
+pub record AreLinesOf (lines : LinesOf) (columns : List ReadyColumn) (fields : LinesOf) (byte : ℕ) : Type 0 where
   pub columns_are : columns ≡ ready_columns (layout_of lines.plan) lines.table
   pub fields_are : fields ≡ lines
   pub sound : IsInLimits lines.plan
@@ -158,3 +149,7 @@ unfoldable pub asked_for_line : LinesOf → ℕ
 asked_for_line lines =
     sum_by (λ (column : ColumnLayout). asked_by true (layout_of lines.plan).delimiter (layout_of lines.plan).tables (layout_for lines) column.kind)
     (layout_for lines).columns
+
+-- the permutations of the column at a place, where a flag of it isn't true: its fields are made of the row, and not kept as pieces
+abbrev pub asked_where : List Bool → LinesOf → ℕ → ℕ
+asked_where short lines column = if get_or short column false then 0 else asked_for true lines column

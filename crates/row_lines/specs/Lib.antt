@@ -1,8 +1,11 @@
 pub mod Lines
-pub mod ChangeDraws
-pub mod LineDraws
 pub mod CohortLines
 pub mod Parts
 pub mod Lookups
+pub mod Kept
+pub mod Runs
+pub mod TableLines
+pub mod RunFields
+pub mod RunParents
 pub mod Reports
 pub mod Worked

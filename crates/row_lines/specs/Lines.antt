@@ -4,15 +4,17 @@ use Rattle.std.specs.List.{join_with_byte, range_with_len}
 use Rattle.std.specs.Option.{option_and_then, option_map}
 use Rattle.row_text.specs.Fields.{field_text}
 use Rattle.cohort_sizes.specs.Births.{cohort_size, first_ordinal}
+use Rattle.schema_plan.specs.Dictionaries.{Project}
 use Rattle.schema_plan.specs.Layout.{PartLayout, literal_part, cited_part, KindLayout, key_kind, template_kind, reference_kind, lookup_kind, TableLayout, table_at, column_at}
 use Rattle.schema_plan.specs.References.{Reference, references_of}
 use Rattle.draw_values.specs.declared.values.RowAt.{RowAt}
 use Rattle.draw_values.specs.Values.{RowDraws, draw_unit, own_value, unless_null}
-use Rattle.life_intervals.specs.Generator.{Generator}
+use Rattle.life_intervals.specs.Generator.{Generator, generator_of, last_unit}
 use Rattle.life_intervals.specs.Intervals.{is_live, row_at}
 use Rattle.life_intervals.specs.Keys.{key_in_cohort, key_of}
 use Rattle.life_intervals.specs.Rows.{Row, index_in_cohort}
 use Rattle.life_intervals.specs.Simulation.{rows_at}
+use Rattle.life_intervals.specs.Streams.{deleted, inserted, updated}
 
 -- the row of an ordinal that the table at a place holds at a unit; None where it holds none
 abbrev pub held_row : Generator → ℕ → ℕ → ℕ → Option Row
@@ -129,3 +131,15 @@ cohort_text generator unit place born =
 -- the text at a unit of the cohorts that are born before another
 unfoldable pub text_before : Generator → ℕ → ℕ → ℕ → List ℕ
 text_before generator unit place born = flat_map (cohort_text generator unit place) (range_with_len 0 born)
+
+-- the text of what a unit deletes from the table at a place: the key lines of the rows
+abbrev pub deleted_text : Project → ℕ → ℕ → List ℕ
+deleted_text plan unit place =
+    flat_map (λ (row : Row). key_line_of (generator_of plan) (last_unit plan) place row.ordinal) (deleted (generator_of plan) place unit)
+
+-- of what it updates there, and of what it inserts: the lines of the rows
+abbrev pub updated_text : Project → ℕ → ℕ → List ℕ
+updated_text plan unit place = flat_map (line (generator_of plan) unit place) (updated (generator_of plan) place unit)
+
+abbrev pub inserted_text : Project → ℕ → ℕ → List ℕ
+inserted_text plan unit place = flat_map (line (generator_of plan) unit place) (inserted (generator_of plan) place unit)

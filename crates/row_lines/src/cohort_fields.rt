@@ -9,16 +9,17 @@ ghost use Rattle.schema_plan.specs.Limits.{IsTableInLimits, is_lookup_kind};
 ghost use Rattle.schema_plan.specs.Lineage.{one_if};
 ghost use Rattle.schema_plan.specs.Ready.{ready_kind};
 ghost use Rattle.draw_values.specs.Values.{is_own, put_of, written};
-ghost use Rattle.life_intervals.specs.CohortParents.{AreCandidates, IsReferenceOf, held_cost, reference_by};
+ghost use Rattle.life_intervals.specs.CohortParents.{IsReferenceOf, held_cost, reference_by};
+ghost use Rattle.life_intervals.specs.Found.{IsFound};
 ghost use Rattle.life_intervals.specs.Generator.{last_unit, table_of};
 ghost use Rattle.row_lines.specs.CohortLines.{asked_for, held_key_for, key_for, layout_for, ordinal_of, parent_for, reference_value, size_for, text_in_table, values_at};
 ghost use Rattle.row_lines.specs.Parts.{IsCitable, IsPartOf, cited_asked, cited_size, cited_text, part_asked, part_size, written_part};
 
 use draw_values::{CohortValues, Put};
-use life_intervals::{Candidates, CohortParents, cohort, key as key_of};
+use life_intervals::{FoundRow, Rows, cohort};
 use line_pages::PageBuf;
 use row_text::put_null;
-use schema_plan::{Plan, ReadyColumn, ReadyKind, ReadyPart, ReadyReference};
+use schema_plan::{ReadyColumn, ReadyKind, ReadyPart, ReadyReference};
 use std::marker::Model;
 use std::sync::ledger::Ledger;
 use step_count::Steps;
@@ -28,12 +29,11 @@ use step_count::Steps;
 /// What a field takes from its row's change is told by the values that are handed in, and so is the key of the row, where it is known.
 #[derive(Drop)]
 pub(crate) struct CohortFields<'a> {
-    plan: &'a Plan,
+    rows: &'a Rows<'a>,
     table: u32,
     born: u64,
     unit: u64,
     first: u64,
-    parents: CohortParents<'a>,
     columns: &'a [ReadyColumn],
 }
 
@@ -42,35 +42,28 @@ impl<'a> Model for CohortFields<'a> {
 
     ghost Value = { LinesOf };
 
-    ghost view = { λ f. record { plan = f.plan.now; table = f.table; born = f.born; unit = f.unit } };
+    ghost view = { λ f. record { plan = f.rows.now; table = f.table; born = f.born; unit = f.unit } };
 
-    ghost invariant = { λ f. AreFieldsOf (record { plan = f.plan.now; table = f.table; born = f.born; unit = f.unit }) f.parents f.columns.now f.first };
+    ghost invariant = { λ f. AreFieldsOf (record { plan = f.rows.now; table = f.table; born = f.born; unit = f.unit }) f.columns.now f.first };
 }
 
 impl<'a> CohortFields<'a> {
-    /// The fields at `unit` of the rows of a table that are born at unit `born`, with the candidates of their parents, or with none,
-    /// where these are found anew for each row.
-    pub(crate) fn new(
-        plan: &'a Plan,
-        table: u32,
-        born: u64,
-        unit: u64,
-        candidates: &'a [Option<Candidates>],
-    ) -> CohortFields<'a>
-        requires table { table < length plan.now.schema.tables }
+    /// The fields at `unit` of the rows of a table that are born at unit `born`.
+    #[inline(always)]
+    pub(crate) fn new(rows: &'a Rows<'a>, table: u32, born: u64, unit: u64) -> CohortFields<'a>
+        requires table { table < length rows.now.schema.tables }
         requires born { born ≤ unit }
-        requires unit { unit ≤ last_unit plan.now }
-        requires candidates { AreCandidates plan.now table born candidates.now }
-        ensures { result ≡ record { plan = plan.now; table = table; born = born; unit = unit } }
+        requires unit { unit ≤ last_unit rows.now }
+        ensures { result ≡ record { plan = rows.now; table = table; born = born; unit = unit } }
     {
+        let plan = rows.plan();
         let _limits = plan.schema(); // each table is within its limits
         CohortFields {
-            plan,
+            rows,
             table,
             born,
             unit,
             first: cohort(plan, table, born).first,
-            parents: CohortParents::new(plan, table, born, candidates),
             columns: plan.columns(table),
         }
     }
@@ -86,6 +79,22 @@ impl<'a> CohortFields<'a> {
         self.first + index
     }
 
+    /// The row with this index in the cohort.
+    #[inline(always)]
+    pub(crate) fn found(&self, index: u64) -> FoundRow
+        requires { index < cohort_size (layout_for self.now).births self.now.born }
+        ensures found { IsFound self.now.plan self.now.table result }
+        ensures ordinal { result.ordinal ≡ ordinal_of self.now index }
+        ensures born { result.born ≡ self.now.born }
+        ensures index { result.index ≡ index }
+    {
+        FoundRow {
+            ordinal: self.ordinal(index),
+            born: self.born,
+            index,
+        }
+    }
+
     /// The key of the row with this index, found anew where it isn't known.
     #[inline(always)]
     fn key<L: Ledger>(&self, index: u64, key: Option<u64>, steps: &mut Steps<L>) -> u64
@@ -96,7 +105,7 @@ impl<'a> CohortFields<'a> {
     {
         match key {
             Some(key) => key,
-            None => key_of(self.plan, self.table, self.ordinal(index), steps),
+            None => self.rows.found_key(self.table, self.found(index), steps),
         }
     }
 
@@ -117,7 +126,9 @@ impl<'a> CohortFields<'a> {
         ensures table { reference.now.parent < self.now.table }
         ensures one_step { steps.new ≡ steps.old + 1 }
     {
-        self.parents.parent(column, reference, index, steps)
+        let row = self.found(index);
+        self.rows
+            .found_parent(self.table, row, column, reference, steps)
     }
 
     /// The key of the parent that the row with this index still has at the unit by a reference, which is ready in the column at a place;
@@ -136,11 +147,12 @@ impl<'a> CohortFields<'a> {
         ensures limit { IfSome result (λ key. key < 2 ^ 64) }
         ensures steps { steps.new ≤ steps.old + (held_cost (layout_of self.now.plan).tables (reference_by column reference.now) + one_if (table_of self.now.plan reference.now.parent).key.scramble) }
     {
+        let row = self.found(index);
         match self
-            .parents
-            .held(column, reference, index, self.unit, steps)
+            .rows
+            .found_held_parent(self.table, row, column, reference, self.unit, steps)
         {
-            Some(parent) => Some(key_of(self.plan, reference.parent, parent, steps)),
+            Some(parent) => Some(self.rows.key(reference.parent, parent, steps)),
             None => None,
         }
     }

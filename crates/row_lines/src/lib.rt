@@ -3,18 +3,29 @@
 //!
 //! A table is named by its place in the schema, and a row by its ordinal, its place in the order of birth in its table,
 //! or by its index in its cohort, the rows that are born at one unit; all count from 0. The text of a table is the lines
-//! of its rows, which `laws` puts together from those of its cohorts. Only `line_draws` takes memory.
+//! of its rows, which `laws` puts together from those of its cohorts. Only `TableLines::new` takes memory.
 #![tactic(auto)]
 
-mod changes;
+mod bytes;
 mod cohort_fields;
 mod cohort_lines;
-mod draws;
+mod kept;
 pub mod laws;
 mod reports;
 mod rows;
+mod run_buf;
+mod run_columns;
+mod run_keys;
+mod run_lines;
+mod run_lookups;
+mod run_parents;
+mod runs;
+mod table_lines;
 
 pub use cohort_lines::CohortLines;
-pub use draws::{LineDraws, line_draws};
 pub use reports::row_report;
 pub use rows::{live, put_key, put_line};
+pub use run_buf::RunBuf;
+pub use run_keys::put_keys;
+pub use runs::RunLines;
+pub use table_lines::TableLines;

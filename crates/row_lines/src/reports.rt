@@ -11,7 +11,7 @@ ghost use Rattle.life_intervals.specs.Keys.{key_of};
 ghost use Rattle.row_lines.specs.Reports.{gone_at, gone_text, held_text, report_on, row_report, state_text};
 
 use crate::cohort_lines::CohortLines;
-use life_intervals::{birth, cohort, cohort_orders, death, last_change, row_of_key};
+use life_intervals::{Rows, birth, cohort, death, last_change, row_of_key};
 use line_pages::PageBuf;
 use schema_plan::Plan;
 use std::sync::ledger::Ledger;
@@ -165,7 +165,7 @@ fn put_held<L: Ledger>(
     put_number_line(buf, b"changed ", changed);
     let born = birth(plan, table, j);
     let index = j - cohort(plan, table, born).first;
-    let orders = cohort_orders(plan, table, born);
-    let lines = CohortLines::new(plan, table, born, t, &orders, &[]);
+    let rows = Rows::of(plan);
+    let lines = CohortLines::new(&rows, table, born, t);
     lines.put_changed_line(index, key, changed, buf, steps);
 }

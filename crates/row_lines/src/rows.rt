@@ -11,7 +11,7 @@ ghost use Rattle.life_intervals.specs.Simulation.{holds_row, rows_at};
 ghost use Rattle.row_lines.specs.Lines.{key_line_of, line_of};
 
 use crate::cohort_lines::CohortLines;
-use life_intervals::{birth, born, cohort, cohort_orders, death, key};
+use life_intervals::{Rows, birth, born, cohort, death, key};
 use line_pages::{PageBuf, Piece};
 use schema_plan::Plan;
 use std::sync::ledger::Ledger;
@@ -58,8 +58,8 @@ pub fn put_line<L: Ledger>(
 {
     let born = birth(plan, table, j);
     let index = j - cohort(plan, table, born).first;
-    let orders = cohort_orders(plan, table, born);
-    CohortLines::new(plan, table, born, t, &orders, &[]).put_line(index, buf, steps);
+    let rows = Rows::of(plan);
+    CohortLines::new(&rows, table, born, t).put_line(index, buf, steps);
 }
 
 /// Appends the key line of the row of ordinal `j`: its key and a line feed, for which 21 bytes have to be free. It takes

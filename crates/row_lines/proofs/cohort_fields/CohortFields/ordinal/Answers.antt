@@ -4,12 +4,12 @@ use Rattle.row_lines.proofs.cohort_fields.CohortFields.ordinal.Goals as goal
 
 pub overflow_add-result : goal.overflow_add-result
 overflow_add-result c =
-    let known = AreFieldsOf-view _ c.args.self.now c.self.inside.parents c.self.inside.columns.now c.self.inside.first c.self.view_is c.self.invariant in
-    omega (arith, ordinal-limit c.args.self.now _ _ _ known c.args.index c.requires)
+    let known = AreFieldsOf-view _ c.args.self.now c.self.inside.columns.now c.self.inside.first c.self.view_is c.self.invariant in
+    omega (arith, ordinal-limit c.args.self.now _ _ known c.args.index c.requires)
 
 pub returns : goal.returns
 returns c =
-    let known = AreFieldsOf-view _ c.args.self.now c.self.inside.parents c.self.inside.columns.now c.self.inside.first c.self.view_is c.self.invariant in
+    let known = AreFieldsOf-view _ c.args.self.now c.self.inside.columns.now c.self.inside.first c.self.view_is c.self.invariant in
     record {
       ordinal = ap (λ (first : ℕ). first + c.args.index) known.first_is;
       early = known.born;

@@ -16,7 +16,7 @@ use Rattle.row_lines.proofs.cohort_fields.CohortFields.put.Goals.{After-index-co
 is_key : (g : _) (c : After-index-columns-column g) → c.index-columns-column.result.kind ≡ Key → (column_at (layout_for c.args.self.now).columns c.args.column).kind ≡ key_kind
 is_key g c key =
     let lines : LinesOf = c.args.self.now in
-    let known = AreFieldsOf-view _ lines c.self.inside.parents c.self.inside.columns.now c.self.inside.first c.self.view_is c.self.invariant in
+    let known = AreFieldsOf-view _ lines c.self.inside.columns.now c.self.inside.first c.self.view_is c.self.invariant in
     key_from_ready (layout_of lines.plan).delimiter _ (ap (λ (ready : ReadyColumn). ready.kind) (ready_at lines _ known.columns_are c.args.column c.index-columns-column.result c.requires.column c.index-columns-column.is) ∙ key)
 
 pub put_number-requires : goal.put_number-requires
@@ -32,7 +32,7 @@ put_number-requires g c =
 pub put_own-requires-clause-own : goal.put_own-requires-clause-own
 put_own-requires-clause-own g c =
     let lines : LinesOf = c.args.self.now in
-    let known = AreFieldsOf-view _ lines c.self.inside.parents c.self.inside.columns.now c.self.inside.first c.self.view_is c.self.invariant in
+    let known = AreFieldsOf-view _ lines c.self.inside.columns.now c.self.inside.first c.self.view_is c.self.invariant in
     let column = c.index-columns-column.result in
     let is = ready_at lines _ known.columns_are c.args.column column c.requires.column c.index-columns-column.is in
     own_from_ready (layout_of lines.plan).delimiter _ c.requires.no_lookup (λ key. c.in_default.not-Key (ap (λ (ready : ReadyColumn). ready.kind) (sym (is ∙ c.index-columns-column.is)) ∙ key))
@@ -44,7 +44,7 @@ text_is_key : (g : _) (c : After-index-columns-column g) (key : ℕ) → c.index
     text_in_table c.args.self.now c.args.index c.args.values.now.changed c.args.column ≡ decimal key
 text_is_key g c key is key_is small =
     let lines : LinesOf = c.args.self.now in
-    let known = AreFieldsOf-view _ lines c.self.inside.parents c.self.inside.columns.now c.self.inside.first c.self.view_is c.self.invariant in
+    let known = AreFieldsOf-view _ lines c.self.inside.columns.now c.self.inside.first c.self.view_is c.self.invariant in
     let never = key_never_null (layout_for lines).columns c.args.column known.limits.key_never_null known.limits.no_other_key c.requires.column (is_key g c is) in
     text-key lines c.args.column c.args.index c.args.values.now.changed key (is_key g c is) never known.born c.requires.row key_is small
 
@@ -76,7 +76,7 @@ returns-in-Key-clause-steps g c =
 here : (g : _) (c : After-index-columns-column g) (reference : ReadyReference) → c.index-columns-column.result.kind ≡ Reference reference → IsReferenceOf c.args.self.now.plan c.args.self.now.table c.args.column reference
 here g c reference held =
     let lines : LinesOf = c.args.self.now in
-    let known = AreFieldsOf-view _ lines c.self.inside.parents c.self.inside.columns.now c.self.inside.first c.self.view_is c.self.invariant in
+    let known = AreFieldsOf-view _ lines c.self.inside.columns.now c.self.inside.first c.self.view_is c.self.invariant in
     record {
       within = c.requires.column;
       is = ap (λ (ready : ReadyColumn). ready.kind) (ready_at lines _ known.columns_are c.args.column c.index-columns-column.result c.requires.column c.index-columns-column.is) ∙ held;
@@ -88,7 +88,7 @@ text_is_held : (g : _) (c : After-index-columns-column g) (reference : ReadyRefe
     ≡ field_text (layout_of c.args.self.now.plan).delimiter (reference_value c.args.self.now c.args.index (reference_by c.args.column reference))
 text_is_held g c reference held =
     let lines : LinesOf = c.args.self.now in
-    let known = AreFieldsOf-view _ lines c.self.inside.parents c.self.inside.columns.now c.self.inside.first c.self.view_is c.self.invariant in
+    let known = AreFieldsOf-view _ lines c.self.inside.columns.now c.self.inside.first c.self.view_is c.self.invariant in
     text-reference lines known.sound known.limits known.table known.born known.unit c.args.column c.args.index c.args.values.now.changed reference (here g c reference held) c.requires.row
 
 pub put_reference-requires-clause-reference : goal.put_reference-requires-clause-reference

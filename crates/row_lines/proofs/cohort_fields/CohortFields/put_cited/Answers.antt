@@ -16,8 +16,8 @@ use Rattle.row_lines.proofs.PartLemmas.{cited_for-held, cited_for-own, cited_siz
 use Rattle.row_lines.proofs.cohort_fields.CohortFields.put_cited.Goals as goal
 use Rattle.row_lines.proofs.cohort_fields.CohortFields.put_cited.Goals.{After-index-columns-column}
 
-known : (g : _) (c : After-index-columns-column g) → AreFieldsOf c.args.self.now c.self.inside.parents c.self.inside.columns.now c.self.inside.first
-known g c = AreFieldsOf-view _ c.args.self.now c.self.inside.parents c.self.inside.columns.now c.self.inside.first c.self.view_is c.self.invariant
+known : (g : _) (c : After-index-columns-column g) → AreFieldsOf c.args.self.now c.self.inside.columns.now c.self.inside.first
+known g c = AreFieldsOf-view _ c.args.self.now c.self.inside.columns.now c.self.inside.first c.self.view_is c.self.invariant
 
 ready : (g : _) (c : After-index-columns-column g) → ready_column (layout_of c.args.self.now.plan).delimiter (column_at (layout_for c.args.self.now).columns c.args.column) ≡ c.index-columns-column.result
 ready g c = ready_at c.args.self.now _ (known g c).columns_are c.args.column c.index-columns-column.result c.requires.column.within c.index-columns-column.is

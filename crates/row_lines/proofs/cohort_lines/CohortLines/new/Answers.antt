@@ -1,29 +1,20 @@
-use Rattle.std.proofs.Common.{ap, ◌∙◌}
+use Rattle.std.proofs.Common.{ap, subst, ◌∙◌}
 use Rattle.schema_model.specs.declared.table.Schema.{Schema}
 use Rattle.schema_plan.specs.Delimiters.{delimiter_byte}
-use Rattle.life_intervals.specs.declared.orders.CohortOrders.{CohortOrders}
+use Rattle.schema_plan.specs.Dictionaries.{Project}
+use Rattle.schema_plan.specs.Layout.{layout_of}
+use Rattle.schema_plan.specs.Limits.{IsInLimits, IsTableInLimits}
+use Rattle.schema_plan.specs.Ready.{ready_columns}
+use Rattle.life_intervals.specs.Generator.{last_unit, table_of}
 use Rattle.row_lines.proofs.cohort_lines.CohortLines.new.Goals as goal
-
-pub new-requires-2-clause-order : goal.new-requires-2-clause-order
-new-requires-2-clause-order c = ap (λ (orders : CohortOrders). orders.keys) c.requires.orders
-
-pub new-requires-3-clause-order : goal.new-requires-3-clause-order
-new-requires-3-clause-order c = ap (λ (orders : CohortOrders). orders.lives) c.requires.orders
-
-pub new-requires-4-clause-order : goal.new-requires-4-clause-order
-new-requires-4-clause-order c = ap (λ (orders : CohortOrders). orders.updates) c.requires.orders
 
 pub invariant_of-result : goal.invariant_of-result
 invariant_of-result c = record {
+  columns_are = c.columns.ensures.columns ∙ ap (λ (plan : Project). ready_columns (layout_of plan) c.args.table) c.plan-plan.ensures;
   fields_are = c.new.ensures;
-  keys_are = c.new-2.ensures;
-  lives_are = c.new-3.ensures;
-  changes_are = c.new-4.ensures;
-  births_are = c.new-5.ensures;
-  columns_are = c.columns.ensures.columns;
-  sound = c.schema.ensures.limits;
-  limits = c.columns.ensures.limits;
-  delimiter = c.delimiter_byte.ensures ∙ ap (λ (schema : Schema). delimiter_byte schema.delimiter) c.schema.ensures.value;
+  sound = subst IsInLimits c.plan-plan.ensures c.schema.ensures.limits;
+  limits = subst (λ (plan : Project). IsTableInLimits (last_unit plan) (table_of plan c.args.table)) c.plan-plan.ensures c.columns.ensures.limits;
+  delimiter = c.delimiter_byte.ensures ∙ ap (λ (schema : Schema). delimiter_byte schema.delimiter) c.schema.ensures.value ∙ ap (λ (plan : Project). (layout_of plan).delimiter) c.plan-plan.ensures;
   table = c.requires.table;
   born = c.requires.born;
   unit = c.requires.unit;

@@ -12,7 +12,7 @@ use Rattle.row_lines.proofs.cohort_lines.CohortLines.put_field.Goals as goal
 pub returns-in_default : goal.returns-in_default
 returns-in_default g c =
     let lines : LinesOf = c.args.self.now in
-    let known = AreLinesOf-view _ c.args.self.now c.self.inside.keys c.self.inside.lives c.self.inside.changes c.self.inside.births c.self.inside.columns.now c.self.inside.fields c.self.inside.delimiter c.self.view_is c.self.invariant in
+    let known = AreLinesOf-view _ c.args.self.now c.self.inside.columns.now c.self.inside.fields c.self.inside.delimiter c.self.view_is c.self.invariant in
     let is = ready_at lines _ known.columns_are c.args.column c.index-columns-column.result c.requires.column c.index-columns-column.is in
     let no_lookup : is_lookup_kind (column_at (layout_for lines).columns c.args.column).kind ≡ false =
     no_lookup-ready (layout_of lines.plan).delimiter (column_at (layout_for lines).columns c.args.column).kind

@@ -1,5 +1,6 @@
 use Rattle.std.proofs.Common.{◌≡◌, ◌<◌, ◌≤◌, ◌+◌, ◌-◌, ◌++◌, ℕ, List, false, length, ap, arith, subst, sym, ◌∙◌}
 use Rattle.cohort_sizes.specs.Births.{LiesIn, birth, born_count, cohort_size, first_ordinal}
+use Rattle.schema_plan.specs.Dictionaries.{Project}
 use Rattle.schema_plan.specs.FieldBounds.{bounds_at}
 use Rattle.schema_plan.specs.Layout.{layout_of}
 use Rattle.schema_plan.specs.Limits.{IsTableInLimits}
@@ -28,7 +29,7 @@ lies lines table born ordinal born_is inside within =
 pub new-fields-requires-clause-born : goal.new-fields-requires-clause-born
 new-fields-requires-clause-born g c =
     let lines : LinesOf = c.args.self.now in
-    let known = AreLinesOf-view _ c.args.self.now c.self.inside.keys c.self.inside.lives c.self.inside.changes c.self.inside.births c.self.inside.columns.now c.self.inside.fields c.self.inside.delimiter c.self.view_is c.self.invariant in
+    let known = AreLinesOf-view _ c.args.self.now c.self.inside.columns.now c.self.inside.fields c.self.inside.delimiter c.self.view_is c.self.invariant in
     omega (
       arith,
       c.unit-born.ensures,
@@ -40,19 +41,19 @@ new-fields-requires-clause-born g c =
 pub overflow_sub-index : goal.overflow_sub-index
 overflow_sub-index g c =
     let lines : LinesOf = c.args.self.now in
-    let known = AreLinesOf-view _ c.args.self.now c.self.inside.keys c.self.inside.lives c.self.inside.changes c.self.inside.births c.self.inside.columns.now c.self.inside.fields c.self.inside.delimiter c.self.view_is c.self.invariant in
+    let known = AreLinesOf-view _ c.args.self.now c.self.inside.columns.now c.self.inside.fields c.self.inside.delimiter c.self.view_is c.self.invariant in
     let here = lies lines c.args.lookup.now.parent c.unit-born.result c.args.parent (c.unit-born.ensures ∙ ap (λ (draws : DrawsOf). draws.unit) c.requires.draws) c.requires.born known.unit in
     omega (
       arith,
       c.cohort.ensures.first,
       here.begun,
-      ap (λ (of : LinesOf). first_ordinal (table_of of.plan c.args.lookup.now.parent).births c.unit-born.result) c.self.view_is,
+      ap (λ (plan : Project). first_ordinal (table_of plan c.args.lookup.now.parent).births c.unit-born.result) (c.plan-plan.ensures ∙ ap (λ (of : LinesOf). of.plan) c.self.view_is),
     )
 
 pub put-requires-clause-row : goal.put-requires-clause-row
 put-requires-clause-row g c =
     let lines : LinesOf = c.args.self.now in
-    let known = AreLinesOf-view _ c.args.self.now c.self.inside.keys c.self.inside.lives c.self.inside.changes c.self.inside.births c.self.inside.columns.now c.self.inside.fields c.self.inside.delimiter c.self.view_is c.self.invariant in
+    let known = AreLinesOf-view _ c.args.self.now c.self.inside.columns.now c.self.inside.fields c.self.inside.delimiter c.self.view_is c.self.invariant in
     let here = lies lines c.args.lookup.now.parent c.unit-born.result c.args.parent (c.unit-born.ensures ∙ ap (λ (draws : DrawsOf). draws.unit) c.requires.draws) c.requires.born known.unit in
     let same : c.new-fields.result ≡ parents lines c.args.lookup.now.parent c.unit-born.result =
     c.new-fields.ensures ∙ ap (λ (of : LinesOf). parents of c.args.lookup.now.parent c.unit-born.result) c.self.view_is in
@@ -62,7 +63,7 @@ put-requires-clause-row g c =
       c.cohort.ensures.first,
       here.begun,
       here.not_ended,
-      ap (λ (of : LinesOf). first_ordinal (table_of of.plan c.args.lookup.now.parent).births c.unit-born.result) c.self.view_is,
+      ap (λ (plan : Project). first_ordinal (table_of plan c.args.lookup.now.parent).births c.unit-born.result) (c.plan-plan.ensures ∙ ap (λ (of : LinesOf). of.plan) c.self.view_is),
     ))
 
 -- the fields that are made are the schema's
@@ -91,7 +92,7 @@ text_is fields lines first ordinal changed column same limits first_is begun sti
 pub returns-clause-text : goal.returns-clause-text
 returns-clause-text g c =
     let lines : LinesOf = c.args.self.now in
-    let known = AreLinesOf-view _ c.args.self.now c.self.inside.keys c.self.inside.lives c.self.inside.changes c.self.inside.births c.self.inside.columns.now c.self.inside.fields c.self.inside.delimiter c.self.view_is c.self.invariant in
+    let known = AreLinesOf-view _ c.args.self.now c.self.inside.columns.now c.self.inside.fields c.self.inside.delimiter c.self.view_is c.self.invariant in
     let table : ℕ = c.args.lookup.now.parent in
     let here = lies lines table c.unit-born.result c.args.parent (c.unit-born.ensures ∙ ap (λ (draws : DrawsOf). draws.unit) c.requires.draws) c.requires.born known.unit in
     let same : c.new-fields.result ≡ parents lines table c.unit-born.result =
@@ -99,13 +100,13 @@ returns-clause-text g c =
     c.put.ensures.text
     ∙ ap (λ (text : List ℕ). record { text = c.args.buf.now.text ++ text; room = c.args.buf.now.room })
     (text_is c.new-fields.result (parents lines table c.unit-born.result) c.cohort.result.first c.args.parent c.new-values.result.changed c.args.lookup.now.column same
-    (subst (λ (of : LinesOf). IsTableInLimits (last_unit of.plan) (table_of of.plan table)) c.self.view_is c.table-limits.ensures.limits)
-    (c.cohort.ensures.first ∙ ap (λ (of : LinesOf). first_ordinal (table_of of.plan table).births c.unit-born.result) c.self.view_is) here.begun c.requires.column)
+    (subst (λ (plan : Project). IsTableInLimits (last_unit plan) (table_of plan table)) (c.plan-plan.ensures ∙ ap (λ (of : LinesOf). of.plan) c.self.view_is) c.table-limits.ensures.limits)
+    (c.cohort.ensures.first ∙ ap (λ (plan : Project). first_ordinal (table_of plan table).births c.unit-born.result) (c.plan-plan.ensures ∙ ap (λ (of : LinesOf). of.plan) c.self.view_is)) here.begun c.requires.column)
 
 pub returns-clause-size : goal.returns-clause-size
 returns-clause-size g c =
     let lines : LinesOf = c.args.self.now in
-    let known = AreLinesOf-view _ c.args.self.now c.self.inside.keys c.self.inside.lives c.self.inside.changes c.self.inside.births c.self.inside.columns.now c.self.inside.fields c.self.inside.delimiter c.self.view_is c.self.invariant in
+    let known = AreLinesOf-view _ c.args.self.now c.self.inside.columns.now c.self.inside.fields c.self.inside.delimiter c.self.view_is c.self.invariant in
     let table : ℕ = c.args.lookup.now.parent in
     let here = lies lines table c.unit-born.result c.args.parent (c.unit-born.ensures ∙ ap (λ (draws : DrawsOf). draws.unit) c.requires.draws) c.requires.born known.unit in
     let same : c.new-fields.result ≡ parents lines table c.unit-born.result =
@@ -116,8 +117,8 @@ returns-clause-size g c =
       size_is c.new-fields.result _ c.args.lookup.now.column same c.requires.column,
       ap (λ (text : List ℕ). length text)
           (text_is c.new-fields.result (parents lines table c.unit-born.result) c.cohort.result.first c.args.parent c.new-values.result.changed c.args.lookup.now.column same
-          (subst (λ (of : LinesOf). IsTableInLimits (last_unit of.plan) (table_of of.plan table)) c.self.view_is c.table-limits.ensures.limits)
-          (c.cohort.ensures.first ∙ ap (λ (of : LinesOf). first_ordinal (table_of of.plan table).births c.unit-born.result) c.self.view_is) here.begun c.requires.column),
+          (subst (λ (plan : Project). IsTableInLimits (last_unit plan) (table_of plan table)) (c.plan-plan.ensures ∙ ap (λ (of : LinesOf). of.plan) c.self.view_is) c.table-limits.ensures.limits)
+          (c.cohort.ensures.first ∙ ap (λ (plan : Project). first_ordinal (table_of plan table).births c.unit-born.result) (c.plan-plan.ensures ∙ ap (λ (of : LinesOf). of.plan) c.self.view_is)) here.begun c.requires.column),
     )
 
 pub returns-clause-steps : goal.returns-clause-steps
@@ -131,5 +132,5 @@ returns-clause-steps g c =
       c.put.ensures.steps,
       ap (λ (of : LinesOf). asked_for false of c.args.lookup.now.column) same,
       asked-still (parents lines table c.unit-born.result) c.args.lookup.now.column
-          (subst (λ (of : LinesOf). IsTableInLimits (last_unit of.plan) (table_of of.plan table)) c.self.view_is c.table-limits.ensures.limits) c.requires.column,
+          (subst (λ (plan : Project). IsTableInLimits (last_unit plan) (table_of plan table)) (c.plan-plan.ensures ∙ ap (λ (of : LinesOf). of.plan) c.self.view_is) c.table-limits.ensures.limits) c.requires.column,
     )

@@ -1,28 +1,24 @@
-use Rattle.std.proofs.Common.{◌≡◌, ◌<◌, ◌≤◌, ◌+◌, ◌++◌, ℕ, List, [], Bool, IfSome, false, true, length, get_or, slice_get, ap, arith, subst, sym, ◌∙◌}
+use Rattle.std.proofs.Common.{◌≡◌, ◌<◌, ◌≤◌, ◌++◌, ℕ, List, Bool, false, true, length, ap, arith, subst, sym, ◌∙◌}
 use Rattle.schema_plan.specs.declared.ready.ReadyColumn.{ReadyColumn}
-use Rattle.schema_plan.specs.declared.ready.ReadyKind.TheVariants.{Reference}
 use Rattle.schema_plan.specs.declared.ready.ReadyLookup.{ReadyLookup}
 use Rattle.schema_plan.specs.declared.ready.ReadyReference.{ReadyReference}
 use Rattle.cohort_sizes.specs.Births.{birth, born_count, cohort_size}
-use Rattle.schema_plan.specs.Layout.{column_at, layout_of}
+use Rattle.schema_plan.specs.Layout.{column_at}
 use Rattle.schema_plan.specs.Limits.{IsInLimits}
-use Rattle.schema_plan.specs.Ready.{ready_columns}
 use Rattle.draw_values.specs.CohortValues.{ValuesOf, is_null_for}
-use Rattle.draw_values.specs.UnitDraws.{DrawsOf, unit_draws}
+use Rattle.schema_plan.specs.Dictionaries.{Project}
+use Rattle.draw_values.specs.UnitDraws.{unit_draws}
 use Rattle.draw_values.specs.Values.{is_null}
 use Rattle.life_intervals.specs.CohortParents.{IsReferenceOf, reference_by}
 use Rattle.life_intervals.specs.Generator.{generator_of, last_unit, rows_in_all, table_of}
 use Rattle.life_intervals.specs.Intervals.{row_at}
 use Rattle.cohort_sizes.proofs.CohortLemmas.{born_count-le}
 use Rattle.row_lines.specs.CohortLines.{LinesOf, change_for, is_live_for, layout_for, ordinal_of, parent_for, text_in_cohort, values_at}
-use Rattle.row_lines.specs.LineDraws.{LineDrawsOf, line_draws}
 use Rattle.row_lines.specs.Lines.{draws_of}
 use Rattle.row_lines.specs.Lookups.{IsLookupOf, text_held}
-use Rattle.row_lines.proofs.CohortFieldLemmas.{ready_at}
 use Rattle.row_lines.proofs.CohortLineLemmas.{AreLinesOf-view}
-use Rattle.row_lines.proofs.LineDrawLemmas.{draws_of_units-at, length-draws_of_units, length-parents, parents-at, some_is}
-use Rattle.row_lines.proofs.LineLemmas.{birth-within}
-use Rattle.row_lines.proofs.LookupLemmas.{asked-lookup, is_lookup, null-field, reference_cascades, reference_ready, reference_to, room-lookup, size-lookup, text-lookup, text-null}
+use Rattle.row_lines.proofs.LookupLemmas.{asked-lookup, null-field, room-lookup, size-lookup, text-lookup, text-null}
+use Rattle.row_lines.proofs.RunLookupLemmas.{lookup_by_reference, lookup_refers}
 use Rattle.row_lines.proofs.cohort_lines.CohortLines.put_lookup.Goals as goal
 
 -- whether the field is drawn to be null, as the row has it
@@ -34,12 +30,12 @@ null_is lines fields values column index ordinal null values_are same ordinal_is
 
 pub put_null-requires : goal.put_null-requires
 put_null-requires g c =
-    let known = AreLinesOf-view _ c.args.self.now c.self.inside.keys c.self.inside.lives c.self.inside.changes c.self.inside.births c.self.inside.columns.now c.self.inside.fields c.self.inside.delimiter c.self.view_is c.self.invariant in
+    let known = AreLinesOf-view _ c.args.self.now c.self.inside.columns.now c.self.inside.fields c.self.inside.delimiter c.self.view_is c.self.invariant in
     omega (arith, c.requires.room, room-lookup c.args.self.now known.sound known.table c.args.column c.args.lookup.now c.requires.lookup)
 
 pub returns-then-is_null-clause-text : goal.returns-then-is_null-clause-text
 returns-then-is_null-clause-text g c =
-    let known = AreLinesOf-view _ c.args.self.now c.self.inside.keys c.self.inside.lives c.self.inside.changes c.self.inside.births c.self.inside.columns.now c.self.inside.fields c.self.inside.delimiter c.self.view_is c.self.invariant in
+    let known = AreLinesOf-view _ c.args.self.now c.self.inside.columns.now c.self.inside.fields c.self.inside.delimiter c.self.view_is c.self.invariant in
     let text_is = text-null c.args.self.now c.args.column c.args.index
     (null_is c.args.self.now c.self.inside.fields c.args.values.now c.args.column c.args.index c.ordinal.result c.is_null.result c.requires.values known.fields_are c.ordinal.ensures.ordinal known.born c.requires.row known.table c.is_null.ensures
     ∙ c.if-is_null.true) in
@@ -48,7 +44,7 @@ returns-then-is_null-clause-text g c =
 
 pub returns-then-is_null-clause-size : goal.returns-then-is_null-clause-size
 returns-then-is_null-clause-size g c =
-    let known = AreLinesOf-view _ c.args.self.now c.self.inside.keys c.self.inside.lives c.self.inside.changes c.self.inside.births c.self.inside.columns.now c.self.inside.fields c.self.inside.delimiter c.self.view_is c.self.invariant in
+    let known = AreLinesOf-view _ c.args.self.now c.self.inside.columns.now c.self.inside.fields c.self.inside.delimiter c.self.view_is c.self.invariant in
     let text_is = text-null c.args.self.now c.args.column c.args.index
     (null_is c.args.self.now c.self.inside.fields c.args.values.now c.args.column c.args.index c.ordinal.result c.is_null.result c.requires.values known.fields_are c.ordinal.ensures.ordinal known.born c.requires.row known.table c.is_null.ensures
     ∙ c.if-is_null.true) in
@@ -62,24 +58,9 @@ returns-then-is_null-clause-size g c =
 pub returns-in_default : goal.returns-in_default
 returns-in_default g c =
     let lines : LinesOf = c.args.self.now in
-    let known = AreLinesOf-view _ c.args.self.now c.self.inside.keys c.self.inside.lives c.self.inside.changes c.self.inside.births c.self.inside.columns.now c.self.inside.fields c.self.inside.delimiter c.self.view_is c.self.invariant in
-    let looks = is_lookup lines known.sound known.table c.args.column c.args.lookup.now c.requires.lookup in
-    let is = ready_at lines _ known.columns_are c.args.lookup.now.via c.index-columns-lookup.result (omega (arith, looks.earlier, c.requires.lookup.within)) c.index-columns-lookup.is in
-    let found = reference_ready (layout_of lines.plan).delimiter c.args.lookup.now.parent (column_at (layout_for lines).columns c.args.lookup.now.via).kind looks.reference in
-    absurd (c.in_default.not-Reference found.0 (ap (λ (column : ReadyColumn). column.kind) (sym (is ∙ c.index-columns-lookup.is)) ∙ found.1))
-
--- one that is ready, to the lookup's table
-refers : (lines : LinesOf) → IsInLimits lines.plan → lines.table < length lines.plan.schema.tables → (columns : List ReadyColumn) → columns ≡ ready_columns (layout_of lines.plan) lines.table →
-    (column : ℕ) (lookup : ReadyLookup) (found : ReadyColumn) (reference : ReadyReference) → IsLookupOf lines column lookup → found ≡ get_or columns lookup.via found → found.kind ≡ Reference reference →
-    IsReferenceOf lines.plan lines.table lookup.via reference × (reference.parent ≡ lookup.parent) × (reference.nulls ≡ false)
-refers lines limits table columns are column lookup found reference of at held =
-    let looks = is_lookup lines limits table column lookup of in
-    let within : lookup.via < length (layout_for lines).columns = omega (arith, looks.earlier, of.within) in
-    let is = ap (λ (column : ReadyColumn). column.kind) (ready_at lines columns are lookup.via found within at) ∙ held in (
-      record { within = within; is = is },
-      reference_to (layout_of lines.plan).delimiter lookup.parent (column_at (layout_for lines).columns lookup.via).kind reference looks.reference is,
-      reference_cascades (layout_of lines.plan).delimiter lookup.parent (column_at (layout_for lines).columns lookup.via).kind reference looks.reference is,
-    )
+    let known = AreLinesOf-view _ c.args.self.now c.self.inside.columns.now c.self.inside.fields c.self.inside.delimiter c.self.view_is c.self.invariant in
+    let found = lookup_by_reference lines known.sound known.table c.self.inside.columns.now known.columns_are c.args.column c.args.lookup.now c.index-columns-lookup.result c.requires.lookup c.index-columns-lookup.is in
+    absurd (c.in_default.not-Reference found.0 (sym (ap (λ (column : ReadyColumn). column.kind) c.index-columns-lookup.is) ∙ found.1))
 
 -- the parent's table is an earlier one, and the parent is born by the row's birth
 table_below : (lines fields : LinesOf) (lookup : ReadyLookup) (reference : ReadyReference) → lines.table < length lines.plan.schema.tables → fields ≡ lines → reference.parent ≡ lookup.parent → reference.parent < fields.table →
@@ -99,119 +80,58 @@ parent_born lines fields lookup reference parent early same to born =
 pub birth-born-requires-clause-table : goal.birth-born-requires-clause-table
 birth-born-requires-clause-table g c =
     let lines : LinesOf = c.args.self.now in
-    let known = AreLinesOf-view _ c.args.self.now c.self.inside.keys c.self.inside.lives c.self.inside.changes c.self.inside.births c.self.inside.columns.now c.self.inside.fields c.self.inside.delimiter c.self.view_is c.self.invariant in
-    let found = refers lines known.sound known.table c.self.inside.columns.now known.columns_are c.args.column c.args.lookup.now c.index-columns-lookup.result c.in-Reference.reference c.requires.lookup c.index-columns-lookup.is
+    let known = AreLinesOf-view _ c.args.self.now c.self.inside.columns.now c.self.inside.fields c.self.inside.delimiter c.self.view_is c.self.invariant in
+    let found = lookup_refers lines known.sound known.table c.self.inside.columns.now known.columns_are c.args.column c.args.lookup.now c.index-columns-lookup.result c.in-Reference.reference c.requires.lookup c.index-columns-lookup.is
     (ap (λ (column : ReadyColumn). column.kind) c.index-columns-lookup.is ∙ c.in-Reference.is) in
-    subst (λ (of : LinesOf). c.args.lookup.now.parent < length of.plan.schema.tables) (sym c.self.view_is)
+    subst (λ (plan : Project). c.args.lookup.now.parent < length plan.schema.tables) (sym (c.plan-plan.ensures ∙ ap (λ (of : LinesOf). of.plan) c.self.view_is))
     (table_below lines c.self.inside.fields c.args.lookup.now c.in-Reference.reference known.table known.fields_are found.1 c.parent-parent.ensures.table)
 
 pub birth-born-requires-clause-row : goal.birth-born-requires-clause-row
 birth-born-requires-clause-row g c =
     let lines : LinesOf = c.args.self.now in
-    let known = AreLinesOf-view _ c.args.self.now c.self.inside.keys c.self.inside.lives c.self.inside.changes c.self.inside.births c.self.inside.columns.now c.self.inside.fields c.self.inside.delimiter c.self.view_is c.self.invariant in
-    let found = refers lines known.sound known.table c.self.inside.columns.now known.columns_are c.args.column c.args.lookup.now c.index-columns-lookup.result c.in-Reference.reference c.requires.lookup c.index-columns-lookup.is
+    let known = AreLinesOf-view _ c.args.self.now c.self.inside.columns.now c.self.inside.fields c.self.inside.delimiter c.self.view_is c.self.invariant in
+    let found = lookup_refers lines known.sound known.table c.self.inside.columns.now known.columns_are c.args.column c.args.lookup.now c.index-columns-lookup.result c.in-Reference.reference c.requires.lookup c.index-columns-lookup.is
     (ap (λ (column : ReadyColumn). column.kind) c.index-columns-lookup.is ∙ c.in-Reference.is) in
-    subst (λ (of : LinesOf). c.parent-parent.result < rows_in_all of.plan c.args.lookup.now.parent) (sym c.self.view_is)
+    subst (λ (plan : Project). c.parent-parent.result < rows_in_all plan c.args.lookup.now.parent) (sym (c.plan-plan.ensures ∙ ap (λ (of : LinesOf). of.plan) c.self.view_is))
     (omega (
       arith,
       parent_born lines c.self.inside.fields c.args.lookup.now c.in-Reference.reference c.parent-parent.result known.born known.fields_are found.1 c.parent-parent.ensures.born,
       born_count-le (table_of lines.plan c.args.lookup.now.parent).births lines.unit (last_unit lines.plan) known.unit,
     ))
 
--- the draws of the parent's birth are kept
-pub of_parent-draws-requires-clause-parent : goal.of_parent-draws-requires-clause-parent
-of_parent-draws-requires-clause-parent g c =
-    let lines : LinesOf = c.args.self.now in
-    let known = AreLinesOf-view _ c.args.self.now c.self.inside.keys c.self.inside.lives c.self.inside.changes c.self.inside.births c.self.inside.columns.now c.self.inside.fields c.self.inside.delimiter c.self.view_is c.self.invariant in
-    let found = refers lines known.sound known.table c.self.inside.columns.now known.columns_are c.args.column c.args.lookup.now c.index-columns-lookup.result c.in-Reference.reference c.requires.lookup c.index-columns-lookup.is
-    (ap (λ (column : ReadyColumn). column.kind) c.index-columns-lookup.is ∙ c.in-Reference.is) in
-    omega (
-      arith,
-      table_below lines c.self.inside.fields c.args.lookup.now c.in-Reference.reference known.table known.fields_are found.1 c.parent-parent.ensures.table,
-      ap (λ (of : LineDrawsOf). length of.parents) (subst (λ known. IfSome known (λ k. k.now ≡ line_draws lines.plan lines.table lines.unit)) c.in-Some.is c.requires.known),
-      length-parents lines.plan lines.table lines.unit,
-    )
-
-pub of_parent-draws-requires-clause-born : goal.of_parent-draws-requires-clause-born
-of_parent-draws-requires-clause-born g c =
-    let lines : LinesOf = c.args.self.now in
-    let known = AreLinesOf-view _ c.args.self.now c.self.inside.keys c.self.inside.lives c.self.inside.changes c.self.inside.births c.self.inside.columns.now c.self.inside.fields c.self.inside.delimiter c.self.view_is c.self.invariant in
-    let found = refers lines known.sound known.table c.self.inside.columns.now known.columns_are c.args.column c.args.lookup.now c.index-columns-lookup.result c.in-Reference.reference c.requires.lookup c.index-columns-lookup.is
-    (ap (λ (column : ReadyColumn). column.kind) c.index-columns-lookup.is ∙ c.in-Reference.is) in
-    let table : ℕ = c.args.lookup.now.parent in
-    omega (
-      arith,
-      ap (λ (of : LineDrawsOf). length (get_or of.parents table [])) (subst (λ known. IfSome known (λ k. k.now ≡ line_draws lines.plan lines.table lines.unit)) c.in-Some.is c.requires.known),
-      ap length (parents-at lines c.args.column c.args.lookup.now c.requires.lookup (table_below lines c.self.inside.fields c.args.lookup.now c.in-Reference.reference known.table known.fields_are found.1 c.parent-parent.ensures.table)),
-      length-draws_of_units lines.plan table 0 (lines.unit + 1),
-      c.birth-born.ensures.unit,
-      ap (λ (of : LinesOf). birth (table_of of.plan table).births (last_unit of.plan) c.parent-parent.result) c.self.view_is,
-      birth-within (table_of lines.plan table).births (last_unit lines.plan) lines.unit c.parent-parent.result known.unit
-          (parent_born lines c.self.inside.fields c.args.lookup.now c.in-Reference.reference c.parent-parent.result known.born known.fields_are found.1 c.parent-parent.ensures.born),
-    )
-
 pub put_looked_up-requires-clause-table : goal.put_looked_up-requires-clause-table
 put_looked_up-requires-clause-table g c =
     let lines : LinesOf = c.args.self.now in
-    let known = AreLinesOf-view _ c.args.self.now c.self.inside.keys c.self.inside.lives c.self.inside.changes c.self.inside.births c.self.inside.columns.now c.self.inside.fields c.self.inside.delimiter c.self.view_is c.self.invariant in
-    let found = refers lines known.sound known.table c.self.inside.columns.now known.columns_are c.args.column c.args.lookup.now c.index-columns-lookup.result c.in-Reference.reference c.requires.lookup c.index-columns-lookup.is
+    let known = AreLinesOf-view _ c.args.self.now c.self.inside.columns.now c.self.inside.fields c.self.inside.delimiter c.self.view_is c.self.invariant in
+    let found = lookup_refers lines known.sound known.table c.self.inside.columns.now known.columns_are c.args.column c.args.lookup.now c.index-columns-lookup.result c.in-Reference.reference c.requires.lookup c.index-columns-lookup.is
     (ap (λ (column : ReadyColumn). column.kind) c.index-columns-lookup.is ∙ c.in-Reference.is) in
     table_below lines c.self.inside.fields c.args.lookup.now c.in-Reference.reference known.table known.fields_are found.1 c.parent-parent.ensures.table
 
 pub put_looked_up-requires-clause-born : goal.put_looked_up-requires-clause-born
 put_looked_up-requires-clause-born g c =
     let lines : LinesOf = c.args.self.now in
-    let known = AreLinesOf-view _ c.args.self.now c.self.inside.keys c.self.inside.lives c.self.inside.changes c.self.inside.births c.self.inside.columns.now c.self.inside.fields c.self.inside.delimiter c.self.view_is c.self.invariant in
-    let found = refers lines known.sound known.table c.self.inside.columns.now known.columns_are c.args.column c.args.lookup.now c.index-columns-lookup.result c.in-Reference.reference c.requires.lookup c.index-columns-lookup.is
+    let known = AreLinesOf-view _ c.args.self.now c.self.inside.columns.now c.self.inside.fields c.self.inside.delimiter c.self.view_is c.self.invariant in
+    let found = lookup_refers lines known.sound known.table c.self.inside.columns.now known.columns_are c.args.column c.args.lookup.now c.index-columns-lookup.result c.in-Reference.reference c.requires.lookup c.index-columns-lookup.is
     (ap (λ (column : ReadyColumn). column.kind) c.index-columns-lookup.is ∙ c.in-Reference.is) in
     parent_born lines c.self.inside.fields c.args.lookup.now c.in-Reference.reference c.parent-parent.result known.born known.fields_are found.1 c.parent-parent.ensures.born
 
 pub put_looked_up-requires-clause-draws : goal.put_looked_up-requires-clause-draws
 put_looked_up-requires-clause-draws g c =
     let lines : LinesOf = c.args.self.now in
-    let known = AreLinesOf-view _ c.args.self.now c.self.inside.keys c.self.inside.lives c.self.inside.changes c.self.inside.births c.self.inside.columns.now c.self.inside.fields c.self.inside.delimiter c.self.view_is c.self.invariant in
-    let found = refers lines known.sound known.table c.self.inside.columns.now known.columns_are c.args.column c.args.lookup.now c.index-columns-lookup.result c.in-Reference.reference c.requires.lookup c.index-columns-lookup.is
-    (ap (λ (column : ReadyColumn). column.kind) c.index-columns-lookup.is ∙ c.in-Reference.is) in
     let table : ℕ = c.args.lookup.now.parent in
-    let born_is : c.birth-born.result ≡ birth (table_of lines.plan table).births (last_unit lines.plan) c.parent-parent.result =
-    c.birth-born.ensures.unit ∙ ap (λ (of : LinesOf). birth (table_of of.plan table).births (last_unit of.plan) c.parent-parent.result) c.self.view_is in
-    let early : c.birth-born.result ≤ lines.unit = omega (
-      arith,
-      born_is,
-      birth-within (table_of lines.plan table).births (last_unit lines.plan) lines.unit c.parent-parent.result known.unit
-          (parent_born lines c.self.inside.fields c.args.lookup.now c.in-Reference.reference c.parent-parent.result known.born known.fields_are found.1 c.parent-parent.ensures.born),
-    ) in
-    some_is _ _
-    (sym c.of_parent-draws.ensures
-    ∙ ap (λ (of : LineDrawsOf). slice_get (get_or of.parents table []) c.birth-born.result) (subst (λ known. IfSome known (λ k. k.now ≡ line_draws lines.plan lines.table lines.unit)) c.in-Some.is c.requires.known)
-    ∙ ap (λ (draws : List DrawsOf). slice_get draws c.birth-born.result) (parents-at lines c.args.column c.args.lookup.now c.requires.lookup (table_below lines c.self.inside.fields c.args.lookup.now c.in-Reference.reference known.table known.fields_are found.1 c.parent-parent.ensures.table))
-    ∙ draws_of_units-at lines.plan table (lines.unit + 1) c.birth-born.result (omega (arith, early)))
-    ∙ ap (unit_draws lines.plan table) born_is
+    let same = c.plan-plan.ensures ∙ ap (λ (of : LinesOf). of.plan) c.self.view_is in
+    c.new-draws.ensures
+    ∙ ap (λ (plan : Project). unit_draws plan table c.birth-born.result) same
+    ∙ ap (unit_draws lines.plan table) (c.birth-born.ensures.unit ∙ ap (λ (plan : Project). birth (table_of plan table).births (last_unit plan) c.parent-parent.result) same)
 
 pub new-draws-requires-clause-table : goal.new-draws-requires-clause-table
 new-draws-requires-clause-table g c =
     let lines : LinesOf = c.args.self.now in
-    let known = AreLinesOf-view _ c.args.self.now c.self.inside.keys c.self.inside.lives c.self.inside.changes c.self.inside.births c.self.inside.columns.now c.self.inside.fields c.self.inside.delimiter c.self.view_is c.self.invariant in
-    let found = refers lines known.sound known.table c.self.inside.columns.now known.columns_are c.args.column c.args.lookup.now c.index-columns-lookup.result c.in-Reference.reference c.requires.lookup c.index-columns-lookup.is
+    let known = AreLinesOf-view _ c.args.self.now c.self.inside.columns.now c.self.inside.fields c.self.inside.delimiter c.self.view_is c.self.invariant in
+    let found = lookup_refers lines known.sound known.table c.self.inside.columns.now known.columns_are c.args.column c.args.lookup.now c.index-columns-lookup.result c.in-Reference.reference c.requires.lookup c.index-columns-lookup.is
     (ap (λ (column : ReadyColumn). column.kind) c.index-columns-lookup.is ∙ c.in-Reference.is) in
-    subst (λ (of : LinesOf). c.args.lookup.now.parent < length of.plan.schema.tables) (sym c.self.view_is)
+    subst (λ (plan : Project). c.args.lookup.now.parent < length plan.schema.tables) (sym (c.plan-plan.ensures ∙ ap (λ (of : LinesOf). of.plan) c.self.view_is))
     (table_below lines c.self.inside.fields c.args.lookup.now c.in-Reference.reference known.table known.fields_are found.1 c.parent-parent.ensures.table)
-
-pub put_looked_up-requires-in-None-clause-table : goal.put_looked_up-requires-in-None-clause-table
-put_looked_up-requires-in-None-clause-table g c =
-    let lines : LinesOf = c.args.self.now in
-    let known = AreLinesOf-view _ c.args.self.now c.self.inside.keys c.self.inside.lives c.self.inside.changes c.self.inside.births c.self.inside.columns.now c.self.inside.fields c.self.inside.delimiter c.self.view_is c.self.invariant in
-    let found = refers lines known.sound known.table c.self.inside.columns.now known.columns_are c.args.column c.args.lookup.now c.index-columns-lookup.result c.in-Reference.reference c.requires.lookup c.index-columns-lookup.is
-    (ap (λ (column : ReadyColumn). column.kind) c.index-columns-lookup.is ∙ c.in-Reference.is) in
-    table_below lines c.self.inside.fields c.args.lookup.now c.in-Reference.reference known.table known.fields_are found.1 c.parent-parent.ensures.table
-
-pub put_looked_up-requires-in-None-clause-born : goal.put_looked_up-requires-in-None-clause-born
-put_looked_up-requires-in-None-clause-born g c =
-    let lines : LinesOf = c.args.self.now in
-    let known = AreLinesOf-view _ c.args.self.now c.self.inside.keys c.self.inside.lives c.self.inside.changes c.self.inside.births c.self.inside.columns.now c.self.inside.fields c.self.inside.delimiter c.self.view_is c.self.invariant in
-    let found = refers lines known.sound known.table c.self.inside.columns.now known.columns_are c.args.column c.args.lookup.now c.index-columns-lookup.result c.in-Reference.reference c.requires.lookup c.index-columns-lookup.is
-    (ap (λ (column : ReadyColumn). column.kind) c.index-columns-lookup.is ∙ c.in-Reference.is) in
-    parent_born lines c.self.inside.fields c.args.lookup.now c.in-Reference.reference c.parent-parent.result known.born known.fields_are found.1 c.parent-parent.ensures.born
 
 -- what is put is what the parent holds
 text_is : (lines fields : LinesOf) → IsInLimits lines.plan → lines.table < length lines.plan.schema.tables → lines.born ≤ lines.unit → lines.unit ≤ last_unit lines.plan → fields ≡ lines →
@@ -224,22 +144,22 @@ text_is lines fields limits table early within same column index parent lookup r
     text-lookup lines limits table early within column index lookup reference false of refers.0 refers.1 refers.2 inside alive drawn
     ∙ ap (λ (j : ℕ). text_held lines.plan lookup.parent lines.unit j lookup.column) (sym (parent_is ∙ ap (λ (of : LinesOf). parent_for of index (reference_by lookup.via reference)) same))
 
-pub returns-in-Some-clause-text : goal.returns-in-Some-clause-text
-returns-in-Some-clause-text g c =
+pub returns-clause-text : goal.returns-clause-text
+returns-clause-text g c =
     let lines : LinesOf = c.args.self.now in
-    let known = AreLinesOf-view _ c.args.self.now c.self.inside.keys c.self.inside.lives c.self.inside.changes c.self.inside.births c.self.inside.columns.now c.self.inside.fields c.self.inside.delimiter c.self.view_is c.self.invariant in
-    let found = refers lines known.sound known.table c.self.inside.columns.now known.columns_are c.args.column c.args.lookup.now c.index-columns-lookup.result c.in-Reference.reference c.requires.lookup c.index-columns-lookup.is
+    let known = AreLinesOf-view _ c.args.self.now c.self.inside.columns.now c.self.inside.fields c.self.inside.delimiter c.self.view_is c.self.invariant in
+    let found = lookup_refers lines known.sound known.table c.self.inside.columns.now known.columns_are c.args.column c.args.lookup.now c.index-columns-lookup.result c.in-Reference.reference c.requires.lookup c.index-columns-lookup.is
     (ap (λ (column : ReadyColumn). column.kind) c.index-columns-lookup.is ∙ c.in-Reference.is) in
     let drawn = null_is lines c.self.inside.fields c.args.values.now c.args.column c.args.index c.ordinal.result c.is_null.result c.requires.values known.fields_are c.ordinal.ensures.ordinal known.born c.requires.row known.table c.is_null.ensures ∙ c.if-is_null.false in
     c.put_looked_up.ensures.text
     ∙ ap (λ (text : List ℕ). record { text = c.args.buf.now.text ++ text; room = c.args.buf.now.room })
     (sym (text_is lines c.self.inside.fields known.sound known.table known.born known.unit known.fields_are c.args.column c.args.index c.parent-parent.result c.args.lookup.now c.in-Reference.reference c.requires.lookup found c.requires.row c.requires.alive drawn c.parent-parent.ensures.parent))
 
-pub returns-in-Some-clause-size : goal.returns-in-Some-clause-size
-returns-in-Some-clause-size g c =
+pub returns-clause-size : goal.returns-clause-size
+returns-clause-size g c =
     let lines : LinesOf = c.args.self.now in
-    let known = AreLinesOf-view _ c.args.self.now c.self.inside.keys c.self.inside.lives c.self.inside.changes c.self.inside.births c.self.inside.columns.now c.self.inside.fields c.self.inside.delimiter c.self.view_is c.self.invariant in
-    let found = refers lines known.sound known.table c.self.inside.columns.now known.columns_are c.args.column c.args.lookup.now c.index-columns-lookup.result c.in-Reference.reference c.requires.lookup c.index-columns-lookup.is
+    let known = AreLinesOf-view _ c.args.self.now c.self.inside.columns.now c.self.inside.fields c.self.inside.delimiter c.self.view_is c.self.invariant in
+    let found = lookup_refers lines known.sound known.table c.self.inside.columns.now known.columns_are c.args.column c.args.lookup.now c.index-columns-lookup.result c.in-Reference.reference c.requires.lookup c.index-columns-lookup.is
     (ap (λ (column : ReadyColumn). column.kind) c.index-columns-lookup.is ∙ c.in-Reference.is) in
     let drawn = null_is lines c.self.inside.fields c.args.values.now c.args.column c.args.index c.ordinal.result c.is_null.result c.requires.values known.fields_are c.ordinal.ensures.ordinal known.born c.requires.row known.table c.is_null.ensures ∙ c.if-is_null.false in
     omega (
@@ -250,50 +170,13 @@ returns-in-Some-clause-size g c =
       c.put_looked_up.ensures.size,
     )
 
-pub returns-in-Some-clause-steps : goal.returns-in-Some-clause-steps
-returns-in-Some-clause-steps g c =
+pub returns-clause-steps : goal.returns-clause-steps
+returns-clause-steps g c =
     let lines : LinesOf = c.args.self.now in
-    let known = AreLinesOf-view _ c.args.self.now c.self.inside.keys c.self.inside.lives c.self.inside.changes c.self.inside.births c.self.inside.columns.now c.self.inside.fields c.self.inside.delimiter c.self.view_is c.self.invariant in
+    let known = AreLinesOf-view _ c.args.self.now c.self.inside.columns.now c.self.inside.fields c.self.inside.delimiter c.self.view_is c.self.invariant in
     omega (
       arith,
       asked-lookup lines known.sound known.table c.args.column c.args.lookup.now c.requires.lookup,
       c.parent-parent.ensures.one_step,
       c.put_looked_up.ensures.steps,
-    )
-
-pub returns-in-None-clause-text : goal.returns-in-None-clause-text
-returns-in-None-clause-text g c =
-    let lines : LinesOf = c.args.self.now in
-    let known = AreLinesOf-view _ c.args.self.now c.self.inside.keys c.self.inside.lives c.self.inside.changes c.self.inside.births c.self.inside.columns.now c.self.inside.fields c.self.inside.delimiter c.self.view_is c.self.invariant in
-    let found = refers lines known.sound known.table c.self.inside.columns.now known.columns_are c.args.column c.args.lookup.now c.index-columns-lookup.result c.in-Reference.reference c.requires.lookup c.index-columns-lookup.is
-    (ap (λ (column : ReadyColumn). column.kind) c.index-columns-lookup.is ∙ c.in-Reference.is) in
-    let drawn = null_is lines c.self.inside.fields c.args.values.now c.args.column c.args.index c.ordinal.result c.is_null.result c.requires.values known.fields_are c.ordinal.ensures.ordinal known.born c.requires.row known.table c.is_null.ensures ∙ c.if-is_null.false in
-    c.put_looked_up-in-None.ensures.text
-    ∙ ap (λ (text : List ℕ). record { text = c.args.buf.now.text ++ text; room = c.args.buf.now.room })
-    (sym (text_is lines c.self.inside.fields known.sound known.table known.born known.unit known.fields_are c.args.column c.args.index c.parent-parent.result c.args.lookup.now c.in-Reference.reference c.requires.lookup found c.requires.row c.requires.alive drawn c.parent-parent.ensures.parent))
-
-pub returns-in-None-clause-size : goal.returns-in-None-clause-size
-returns-in-None-clause-size g c =
-    let lines : LinesOf = c.args.self.now in
-    let known = AreLinesOf-view _ c.args.self.now c.self.inside.keys c.self.inside.lives c.self.inside.changes c.self.inside.births c.self.inside.columns.now c.self.inside.fields c.self.inside.delimiter c.self.view_is c.self.invariant in
-    let found = refers lines known.sound known.table c.self.inside.columns.now known.columns_are c.args.column c.args.lookup.now c.index-columns-lookup.result c.in-Reference.reference c.requires.lookup c.index-columns-lookup.is
-    (ap (λ (column : ReadyColumn). column.kind) c.index-columns-lookup.is ∙ c.in-Reference.is) in
-    let drawn = null_is lines c.self.inside.fields c.args.values.now c.args.column c.args.index c.ordinal.result c.is_null.result c.requires.values known.fields_are c.ordinal.ensures.ordinal known.born c.requires.row known.table c.is_null.ensures ∙ c.if-is_null.false in
-    omega (
-      arith,
-      size-lookup lines known.sound known.table c.args.column c.args.lookup.now c.requires.lookup,
-      ap (λ (text : List ℕ). length text)
-          (text_is lines c.self.inside.fields known.sound known.table known.born known.unit known.fields_are c.args.column c.args.index c.parent-parent.result c.args.lookup.now c.in-Reference.reference c.requires.lookup found c.requires.row c.requires.alive drawn c.parent-parent.ensures.parent),
-      c.put_looked_up-in-None.ensures.size,
-    )
-
-pub returns-in-None-clause-steps : goal.returns-in-None-clause-steps
-returns-in-None-clause-steps g c =
-    let lines : LinesOf = c.args.self.now in
-    let known = AreLinesOf-view _ c.args.self.now c.self.inside.keys c.self.inside.lives c.self.inside.changes c.self.inside.births c.self.inside.columns.now c.self.inside.fields c.self.inside.delimiter c.self.view_is c.self.invariant in
-    omega (
-      arith,
-      asked-lookup lines known.sound known.table c.args.column c.args.lookup.now c.requires.lookup,
-      c.parent-parent.ensures.one_step,
-      c.put_looked_up-in-None.ensures.steps,
     )

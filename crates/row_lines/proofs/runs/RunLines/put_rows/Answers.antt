@@ -1,0 +1,26 @@
+use Rattle.std.proofs.Common.{◌≤◌, ℕ, List, length, length-take, take, arith}
+use Rattle.std.proofs.Math.Nat.{mul-le-mul_left, mul-le-mul_right}
+use Rattle.schema_plan.specs.Layout.{layout_of}
+use Rattle.schema_plan.specs.TableFacts.{line_cost}
+use Rattle.life_intervals.specs.CohortParents.{asked_for_death}
+use Rattle.life_intervals.proofs.CohortParentLemmas.{asked_for_death-cost}
+use Rattle.row_lines.specs.Runs.{RunLinesOf}
+use Rattle.row_lines.proofs.RunPieceLemmas.{AreRunLines-view}
+use Rattle.row_lines.proofs.runs.RunLines.put_rows.Goals as goal
+
+pub returns-clause-steps : goal.returns-clause-steps
+returns-clause-steps g c =
+    let lines : RunLinesOf = c.args.self.now in
+    let known = AreRunLines-view _ lines c.self.inside.lines.now c.self.view_is c.self.invariant in
+    let rows : List ℕ = take c.args.count c.args.work.now.rows.ordinals in
+    let all : length rows ≤ c.args.count = omega (arith, length-take c.args.count c.args.work.now.rows.ordinals) in
+    let living : List ℕ = take c.find_living-living.result c.find_living-living.new.ordinals in
+    let some : length living ≤ c.args.count = omega (arith, all, c.find_living-living.ensures.few, length-take c.find_living-living.result c.find_living-living.new.ordinals) in
+    omega (
+      arith,
+      c.find_living-living.ensures.steps,
+      c.put_living.ensures.steps,
+      mul-le-mul_right (asked_for_death lines.plan lines.table) all,
+      mul-le-mul_left c.args.count (asked_for_death-cost lines.plan known.sound lines.table known.table),
+      mul-le-mul_right (line_cost (layout_of lines.plan) lines.table) some,
+    )

@@ -1,0 +1,65 @@
+//! What the loops of a run work on.
+
+use draw_values::RunNumbers;
+use line_pages::Piece;
+
+/// The most rows of a run: more of them at once are no faster.
+pub(crate) const MOST_ROWS: usize = 256;
+
+/// How many pieces the columns of a run share.
+pub(crate) const PIECES: usize = 1024;
+
+/// Rows of a table, side by side: their ordinals, the units of their births, and whether each is alive.
+#[derive(Drop)]
+pub(crate) struct RowBuf {
+    pub(crate) ordinals: [u64; MOST_ROWS],
+    pub(crate) births: [u64; MOST_ROWS],
+    pub(crate) live: [bool; MOST_ROWS],
+}
+
+impl RowBuf {
+    fn new() -> RowBuf {
+        RowBuf {
+            ordinals: [0; MOST_ROWS],
+            births: [0; MOST_ROWS],
+            live: [false; MOST_ROWS],
+        }
+    }
+}
+
+/// What the fields of rows are made of: the units of their last changes, their keys, their parents by one reference, with the keys of
+/// these, and a piece for each field.
+#[derive(Drop)]
+pub(crate) struct FieldBuf {
+    pub(crate) changes: [u64; MOST_ROWS],
+    pub(crate) keys: [u64; MOST_ROWS],
+    pub(crate) parents: RowBuf,
+    pub(crate) parent_keys: [u64; MOST_ROWS],
+    pub(crate) numbers: RunNumbers,
+    pub(crate) pieces: [Piece; PIECES],
+}
+
+/// What the loops of a run work on: its rows, and what their fields are made of. It is made once for many runs, and holds nothing from
+/// one to the next.
+#[derive(Drop)]
+pub struct RunBuf {
+    pub(crate) rows: RowBuf,
+    pub(crate) fields: FieldBuf,
+}
+
+impl RunBuf {
+    /// Room for a run.
+    pub fn new() -> RunBuf {
+        RunBuf {
+            rows: RowBuf::new(),
+            fields: FieldBuf {
+                changes: [0; MOST_ROWS],
+                keys: [0; MOST_ROWS],
+                parents: RowBuf::new(),
+                parent_keys: [0; MOST_ROWS],
+                numbers: RunNumbers::new(),
+                pieces: [Piece::new(); PIECES],
+            },
+        }
+    }
+}

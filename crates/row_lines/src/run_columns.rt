@@ -1,0 +1,222 @@
+//! The fields of a run's rows, column by column, as pieces.
+
+ghost use Rattle.std.specs.Prelude.{◌≡◌, ◌<◌, ◌≤◌, ℕ, ◌+◌, ◌*◌, [], ◌∷◌, ◌++◌, codes, false, get_or, if◌then◌else◌, length, sum_by, true};
+ghost use Rattle.std.specs.List.{range_with_len};
+ghost use Rattle.line_pages.specs.Pieces.{piece_text};
+ghost use Rattle.line_pages.specs.Rows.{piece_text_at};
+ghost use Rattle.schema_plan.specs.Layout.{column_at, key_kind, layout_of};
+ghost use Rattle.schema_plan.specs.Lineage.{one_if};
+ghost use Rattle.life_intervals.specs.CohortParents.{IsReferenceOf, held_cost, reference_by};
+ghost use Rattle.life_intervals.specs.Generator.{table_of};
+ghost use Rattle.row_lines.specs.Runs.{AreKeys, layout_for};
+ghost use Rattle.row_lines.specs.RunFields.{AreMade, AreRowsOf, asked_short};
+ghost use Rattle.row_lines.specs.RunParents.{AreKnown};
+ghost use Rattle.row_lines.specs.TableLines.{behind_of, column_of, has_short_keys, is_short_at};
+
+use crate::bytes::byte_behind;
+use crate::run_buf::{MOST_ROWS, RowBuf};
+use crate::run_parents::Parents;
+use crate::runs::RunLines;
+use draw_values::{RunNumbers, RunRows};
+use line_pages::Piece;
+use schema_plan::{ReadyKind, ReadyReference};
+use std::sync::ledger::Ledger;
+use step_count::Steps;
+
+impl<'a> RunLines<'a> {
+    /// Makes the fields of the rows of a run, column by column, where they are short. The columns stand one after the other, each over
+    /// as many pieces as there are rows.
+    pub(crate) fn put_columns<L: Ledger>(
+        &self,
+        rows: RunRows<'_>,
+        keys: &[u64],
+        work: &mut RowBuf,
+        parent_keys: &mut [u64],
+        numbers: &mut RunNumbers,
+        pieces: &mut [Piece],
+        steps: &mut Steps<L>,
+    )
+        requires rows { AreRowsOf self.now rows }
+        requires keys { AreKeys self.now rows.ordinals.now keys.now }
+        requires parent_keys { length parent_keys.old ≡ MOST_ROWS }
+        requires pieces { length rows.ordinals.now * length (layout_for self.now).columns ≤ length pieces.old }
+        ensures made { (column : ℕ) → column < length (layout_for self.now).columns → is_short_at self.now.plan self.now.table column ≡ true → AreMade self.now rows.entry.ordinals.now pieces.new (column * length rows.entry.ordinals.now) column }
+        ensures steps { steps.new ≤ steps.old + length rows.entry.ordinals.now * sum_by (asked_short self.now) (range_with_len 0 (length (layout_for self.now).columns)) }
+    {
+        let count = rows.ordinals.len();
+        let (all_ordinals, all_births) = (&mut work.ordinals[..], &mut work.births[..]);
+        let mut parents = Parents {
+            by: None,
+            ordinals: &mut all_ordinals[..count],
+            births: &mut all_births[..count],
+        };
+        let all_live = &mut work.live[..];
+        let live = &mut all_live[..count];
+        for column in 0..self.column_count() {
+            let start = column * count;
+            let fields = &mut pieces[start..start + count];
+            self.put_column(
+                column,
+                rows,
+                keys,
+                &mut parents,
+                parent_keys,
+                live,
+                numbers,
+                fields,
+                steps,
+            );
+        }
+    }
+
+    /// Makes those of the column at a place, where they are short.
+    fn put_column<L: Ledger>(
+        &self,
+        column: usize,
+        rows: RunRows<'_>,
+        keys: &[u64],
+        parents: &mut Parents<'_>,
+        parent_keys: &mut [u64],
+        live: &mut [bool],
+        numbers: &mut RunNumbers,
+        pieces: &mut [Piece],
+        steps: &mut Steps<L>,
+    )
+        requires column { column < length (layout_for self.now).columns }
+        requires rows { AreRowsOf self.now rows }
+        requires keys { AreKeys self.now rows.ordinals.now keys.now }
+        requires known { AreKnown self.now rows.ordinals.now parents.old }
+        requires parent_keys { length parent_keys.old ≡ MOST_ROWS }
+        requires live { length live.old ≡ length rows.ordinals.now }
+        requires pieces { length pieces.old ≡ length rows.ordinals.now }
+        ensures made { is_short_at self.now.plan self.now.table column ≡ true → AreMade self.now rows.entry.ordinals.now pieces.new 0 column }
+        ensures known { AreKnown self.now rows.entry.ordinals.now parents.new }
+        ensures steps { steps.new ≤ steps.old + length rows.entry.ordinals.now * asked_short self.now column }
+    {
+        let short = self.lines.short();
+        if !short[column] {
+            return;
+        }
+        let plan = self.rows.plan();
+        let behind = byte_behind(plan, self.table, column);
+        let columns = plan.columns(self.table);
+        match &columns[column].kind {
+            ReadyKind::Key => self.put_own_keys(column, rows, keys, behind, pieces),
+            ReadyKind::Reference(reference) => {
+                self.put_references(
+                    column,
+                    reference,
+                    rows,
+                    parents,
+                    parent_keys,
+                    live,
+                    behind,
+                    pieces,
+                    steps,
+                )
+            }
+            ReadyKind::Lookup(lookup) => {
+                self.put_lookups(column, lookup, rows, parents, numbers, pieces, steps)
+            }
+            _ => self.put_drawn(column, rows, numbers, pieces),
+        }
+    }
+
+    /// Makes the keys of the rows.
+    fn put_own_keys(
+        &self,
+        column: usize,
+        rows: RunRows<'_>,
+        keys: &[u64],
+        behind: u8,
+        pieces: &mut [Piece],
+    )
+        requires column { column < length (layout_for self.now).columns }
+        requires key { (column_at (layout_for self.now).columns column).kind ≡ key_kind }
+        requires short { has_short_keys self.now.plan self.now.table ≡ true }
+        requires behind { behind ≡ behind_of self.now.plan self.now.table column }
+        requires rows { AreRowsOf self.now rows }
+        requires keys { AreKeys self.now rows.ordinals.now keys.now }
+        requires pieces { length pieces.old ≡ length rows.ordinals.now }
+        ensures { AreMade self.now rows.entry.ordinals.now pieces.new 0 column }
+    {
+        self.digits.fill(keys, behind, pieces);
+    }
+
+    /// Makes the fields of a column of units or drawn values.
+    fn put_drawn(
+        &self,
+        column: usize,
+        rows: RunRows<'_>,
+        numbers: &mut RunNumbers,
+        pieces: &mut [Piece],
+    )
+        requires column { column < length (layout_for self.now).columns }
+        requires short { (column_of self.now.plan self.now.table column).short ≡ true }
+        requires rows { AreRowsOf self.now rows }
+        requires pieces { length pieces.old ≡ length rows.ordinals.now }
+        ensures { AreMade self.now rows.entry.ordinals.now pieces.new 0 column }
+    {
+        let columns = self.lines.columns();
+        let plan = self.rows.plan();
+        columns[column].fill(plan, self.digits, rows, numbers, pieces);
+    }
+
+    /// Makes the keys of the rows' parents by a reference, which is ready in the column at a place; null ones where it has become null.
+    fn put_references<L: Ledger>(
+        &self,
+        column: usize,
+        reference: &ReadyReference,
+        rows: RunRows<'_>,
+        parents: &mut Parents<'_>,
+        parent_keys: &mut [u64],
+        live: &mut [bool],
+        behind: u8,
+        pieces: &mut [Piece],
+        steps: &mut Steps<L>,
+    )
+        requires reference { IsReferenceOf self.now.plan self.now.table column reference.now }
+        requires short { has_short_keys self.now.plan reference.now.parent ≡ true }
+        requires behind { behind ≡ behind_of self.now.plan self.now.table column }
+        requires rows { AreRowsOf self.now rows }
+        requires known { AreKnown self.now rows.ordinals.now parents.old }
+        requires parent_keys { length parent_keys.old ≡ MOST_ROWS }
+        requires live { length live.old ≡ length rows.ordinals.now }
+        requires pieces { length pieces.old ≡ length rows.ordinals.now }
+        ensures made { AreMade self.now rows.entry.ordinals.now pieces.new 0 column }
+        ensures known { AreKnown self.now rows.entry.ordinals.now parents.new }
+        ensures steps { steps.new ≤ steps.old + length rows.entry.ordinals.now * (held_cost (layout_of self.now.plan).tables (reference_by column reference.now) + one_if (table_of self.now.plan reference.now.parent).key.scramble) }
+    {
+        self.find_parents(column, reference, rows, parents, steps);
+        let keys = &mut parent_keys[..rows.ordinals.len()];
+        let (ordinals, births) = (parents.ordinals(), parents.births());
+        self.rows
+            .put_keys(reference.parent, ordinals, births, keys, steps);
+        self.digits.fill(keys, behind, pieces);
+        if !reference.nulls {
+            return;
+        }
+        self.rows
+            .put_lives(reference.parent, self.unit, ordinals, births, live, steps);
+        put_nulls(live, null_piece(behind), pieces);
+    }
+}
+
+/// A null field, and the byte behind it.
+fn null_piece(behind: u8) -> Piece
+    ensures { piece_text result ≡ codes "\\N" ++ behind ∷ [] }
+{
+    Piece::of_byte(behind).prepend(b'N').prepend(b'\\')
+}
+
+/// Puts a piece in the place of those beside which a flag is false.
+fn put_nulls(held: &[bool], null: Piece, pieces: &mut [Piece])
+    requires { length held.now ≡ length pieces.old }
+    ensures { (i : ℕ) → i < length pieces.old → piece_text_at pieces.new i ≡ (if get_or held.now i false then piece_text_at pieces.old i else piece_text null) }
+{
+    for (i, piece) in pieces.iter_mut().enumerate() {
+        if !held[i] {
+            *piece = null;
+        }
+    }
+}

@@ -1,0 +1,114 @@
+//! The parents of a run's rows, found once for all the fields that need them.
+
+ghost use Rattle.std.specs.Prelude.{◌≡◌, ◌≤◌, ◌+◌, None, Some, length};
+ghost use Rattle.life_intervals.specs.CohortParents.{IsReferenceOf};
+ghost use Rattle.row_lines.specs.RunFields.{AreRowsOf};
+ghost use Rattle.row_lines.specs.RunParents.{AreKnown, AreParents, is_by};
+
+use crate::runs::RunLines;
+use draw_values::RunRows;
+use schema_plan::ReadyReference;
+use std::marker::Model;
+use std::sync::ledger::Ledger;
+use step_count::Steps;
+
+/// The parents of a run's rows by the reference in a column: their ordinals, and the units of their births. A contract sees the column,
+/// None where they aren't found, and both lists.
+#[derive(Drop)]
+pub(crate) struct Parents<'a> {
+    pub(crate) by: Option<usize>,
+    pub(crate) ordinals: &'a mut [u64],
+    pub(crate) births: &'a mut [u64],
+}
+
+impl<'a> Model for Parents<'a> {
+    ghost use Rattle.row_lines.specs.RunParents.{ParentsOf};
+
+    ghost Value = { ParentsOf };
+
+    ghost view = { λ p. record { by = p.by; ordinals = p.ordinals.now; births = p.births.now } };
+}
+
+impl<'a> Parents<'a> {
+    /// Their ordinals.
+    #[inline(always)]
+    pub(crate) fn ordinals(&self) -> &[u64]
+        ensures { result.now ≡ self.now.ordinals }
+    {
+        &*self.ordinals
+    }
+
+    /// The units of their births.
+    #[inline(always)]
+    pub(crate) fn births(&self) -> &[u64]
+        ensures { result.now ≡ self.now.births }
+    {
+        &*self.births
+    }
+
+    /// Whether they are those by the reference in a column.
+    fn is_by(&self, column: usize) -> bool
+        ensures { result ≡ is_by self.now column }
+    {
+        match self.by {
+            Some(by) => by == column,
+            None => false,
+        }
+    }
+}
+
+impl<'a> RunLines<'a> {
+    /// Finds the parents of the rows by the reference that is ready in the column at a place, where they aren't known.
+    pub(crate) fn find_parents<L: Ledger>(
+        &self,
+        column: usize,
+        reference: &ReadyReference,
+        rows: RunRows<'_>,
+        parents: &mut Parents<'_>,
+        steps: &mut Steps<L>,
+    )
+        requires reference { IsReferenceOf self.now.plan self.now.table column reference.now }
+        requires rows { AreRowsOf self.now rows }
+        requires known { AreKnown self.now rows.ordinals.now parents.old }
+        ensures found { AreParents self.now rows.entry.ordinals.now column reference.now parents.new }
+        ensures known { AreKnown self.now rows.entry.ordinals.now parents.new }
+        ensures steps { steps.new ≤ steps.old + length rows.entry.ordinals.now }
+    {
+        if !parents.is_by(column) {
+            self.put_parents(column, reference, rows, parents, steps);
+        }
+    }
+
+    /// Finds them.
+    fn put_parents<L: Ledger>(
+        &self,
+        column: usize,
+        reference: &ReadyReference,
+        rows: RunRows<'_>,
+        parents: &mut Parents<'_>,
+        steps: &mut Steps<L>,
+    )
+        requires reference { IsReferenceOf self.now.plan self.now.table column reference.now }
+        requires rows { AreRowsOf self.now rows }
+        requires ordinals { length parents.old.ordinals ≡ length rows.ordinals.now }
+        requires births { length parents.old.births ≡ length rows.ordinals.now }
+        ensures by { parents.new.by ≡ Some column }
+        ensures found { AreParents self.now rows.entry.ordinals.now column reference.now parents.new }
+        ensures steps { steps.new ≤ steps.old + length rows.entry.ordinals.now }
+    {
+        let ordinals = &mut *parents.ordinals;
+        self.rows.put_parents(
+            self.table,
+            column as u32,
+            reference,
+            rows.ordinals,
+            rows.births,
+            ordinals,
+            steps,
+        );
+        let births = &mut *parents.births;
+        self.rows
+            .put_births(reference.parent, self.unit, ordinals, births);
+        parents.by = Some(column);
+    }
+}
