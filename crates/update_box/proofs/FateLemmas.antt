@@ -1,5 +1,5 @@
 -- What a unit does to the rows of a scan, row by row and cohort by cohort.
-use Rattle.std.proofs.Common.{◌≡◌, ℕ, ◌+◌, ◌-◌, ◌<◌, ◌≤◌, ◌==◌, Bool, true, false, ◌&&◌, List, [], ◌∷◌, ◌++◌, length, filter, Option, Some, None, ne_eqb, true-eqb, refl, ap, ap₂, arith, sym, ◌∙◌}
+use Rattle.std.proofs.Common.{◌≡◌, ℕ, ◌+◌, ◌-◌, ◌<◌, ◌≤◌, ◌==◌, Bool, true, false, not, ◌&&◌, List, [], ◌∷◌, ◌++◌, length, filter, Option, Some, None, ne_eqb, true-eqb, refl, ap, ap₂, arith, sym, ◌∙◌}
 use Rattle.std.specs.Prelude.{if◌then◌else◌}
 use Rattle.std.specs.List.{range_with_len}
 use Rattle.std.proofs.lemmas.Bool.{false≢true, le-ltb, ltb-false}
@@ -17,9 +17,16 @@ use Rattle.life_intervals.proofs.CohortAtLemmas.{change_in-none, is_live_in-over
 use Rattle.cohort_sizes.proofs.CohortLemmas.{cohort-within}
 use Rattle.life_intervals.proofs.DeathLemmas.{is_at-later}
 use Rattle.life_intervals.proofs.LifeLemmas.{death-later}
+use Rattle.update_box.specs.declared.scan.Fate.{Fate}
 use Rattle.update_box.specs.declared.scan.Fate.TheVariants.{Changes, Dies, Rests}
 use Rattle.update_box.specs.Fates.{changes_at, dies_at, fate_of, lists_before, with_row}
+use Rattle.update_box.specs.UnitLists.{TableLists}
 use Rattle.update_box.proofs.RangeLemmas.{filter-range_more, filter-range_rest}
+
+-- a test that doesn't pass
+pub not-true : (test : Bool) → not test ≡ true → test ≡ false
+not-true true is = cc
+not-true false is = refl
 
 -- ---- one row more
 
@@ -41,7 +48,7 @@ with_row-by false false deleted updated inserted ordinal apart =
     ap₂ (λ (xs ys : List ℕ). record { deleted = xs; updated = ys; inserted = inserted }) (sym (append-nil deleted)) (sym (append-nil updated))
 
 -- the lists of a scan grow by the row of the next ordinal
-pub lists_before-next : (plan : Project) (unit place ordinal : ℕ) →
+lists_before-next : (plan : Project) (unit place ordinal : ℕ) →
     with_row (fate_of plan unit place ordinal) ordinal (lists_before plan unit place ordinal) ≡ lists_before plan unit place (ordinal + 1)
 lists_before-next plan unit place ordinal =
     let dies : ℕ → Bool = dies_at plan unit place in
@@ -50,6 +57,15 @@ lists_before-next plan unit place ordinal =
     with_row-by (dies ordinal) (changes ordinal) (filter dies (range_with_len 0 ordinal)) (filter changes (range_with_len 0 ordinal)) inserted ordinal
     (λ at. ap (λ (alive : Bool). alive && change_unit (generator_of plan) place unit ordinal == unit) (is_at-dead (death (generator_of plan) place unit ordinal) unit at))
     ∙ ap₂ (λ (xs ys : List ℕ). record { deleted = xs; updated = ys; inserted = inserted }) (sym (filter-range_more dies ordinal)) (sym (filter-range_more changes ordinal))
+
+-- so the lists of a scan go on by the fate of the next row
+pub lists_before-grown : (plan : Project) (unit place at ordinal : ℕ) (fate : Fate) (lists : TableLists) → ordinal ≡ at → fate ≡ fate_of plan unit place ordinal →
+    lists ≡ lists_before plan unit place at → with_row fate ordinal lists ≡ lists_before plan unit place (at + 1)
+lists_before-grown plan unit place at ordinal fate lists is by so_far =
+    ap (λ (of : Fate). with_row of ordinal lists) by
+    ∙ ap (λ (j : ℕ). with_row (fate_of plan unit place j) j lists) is
+    ∙ ap (with_row (fate_of plan unit place at) at) so_far
+    ∙ lists_before-next plan unit place at
 
 -- ---- cohorts of which no row dies or changes
 

@@ -34,13 +34,9 @@ use Rattle.life_intervals.proofs.SimulationLemmas.{rows_at-rows_of}
 use Rattle.row_lines.specs.Lines.{field, parent_of_row}
 use Rattle.row_lines.proofs.FieldLemmas.{field-key}
 use Rattle.row_lines.proofs.ReferenceFieldLemmas.{field-reference, held_parent-cascades, parent_of_row-by, parents-held_parent}
+use Rattle.update_box.proofs.FateLemmas.{not-true}
 use Rattle.update_box.specs.TextLaws.{field_of_line, lines_with_key}
 use Rattle.update_box.proofs.RangeLemmas.{count_by-filter_one, count_by-map}
-
--- a test that doesn't pass
-pub not-true : (test : Bool) → not test ≡ true → test ≡ false
-not-true true is = cc
-not-true false is = refl
 
 -- what a line holds in a column of its table
 field_of_line-is : (generator : Generator) (unit place column : ℕ) (row : Row) → column < length (table_at generator.tables place).columns →

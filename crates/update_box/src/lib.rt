@@ -9,4 +9,4 @@ mod scan;
 mod units;
 
 pub use scan::{TableRows, table_rows};
-pub use units::{UnitRows, unit_rows};
+pub use units::{UnitRows, rows_of_unit, unit_rows};

@@ -2,17 +2,15 @@
 
 ghost use Rattle.std.specs.Prelude.{◌≡◌, ◌+◌, ◌<◌, ◌≤◌, IfOk, length, true};
 ghost use Rattle.cohort_sizes.specs.Births.{first_ordinal};
-ghost use Rattle.life_intervals.specs.CohortLives.{ordinal_in, size_of};
-ghost use Rattle.life_intervals.specs.CohortOrders.{cohort_orders};
-ghost use Rattle.life_intervals.specs.CohortParents.{AreCandidates};
-ghost use Rattle.life_intervals.specs.Generator.{last_unit, table_of};
+ghost use Rattle.life_intervals.specs.Found.{IsFound};
+ghost use Rattle.life_intervals.specs.Generator.{generator_of, last_unit, table_of};
+ghost use Rattle.life_intervals.specs.Intervals.{death};
 ghost use Rattle.update_box.specs.Fates.{fate_of, lists_before, with_row};
 ghost use Rattle.update_box.specs.TableLists.{lists_of};
 ghost use Rattle.update_box.specs.UnitLists.{table_lists};
 
 use life_intervals::{
-    Candidates, Cohort, CohortChanges, CohortLives, CohortOrders, Survival, cohort, may_change,
-    survival_at, table_candidates, table_orders,
+    Cohort, FoundRow, Rows, Survival, cohort, may_change, row_of_cohort, survival_at,
 };
 use line_pages::Memory;
 use schema_plan::Plan;
@@ -42,24 +40,43 @@ enum Fate {
     Rests,
 }
 
-/// What unit `t` does to the row with this index in a cohort, whose lives and changes are taken at the unit.
+/// The unit at which a row dies that is born by unit `t`; None where it never does.
 #[inline(always)]
-fn fate_in<L: Ledger>(
-    lives: &CohortLives<'_>,
-    changes: &CohortChanges<'_>,
+fn death_by<L: Ledger>(
+    rows: &Rows<'_>,
+    table: u32,
+    row: FoundRow,
     t: u64,
-    index: u64,
+    steps: &mut Steps<L>,
+) -> Option<u64>
+    requires table { table < length rows.now.schema.tables }
+    requires row { IsFound rows.now table row }
+    requires born { row.born ≤ t }
+    requires unit { t ≤ last_unit rows.now }
+    ensures { result ≡ death (generator_of rows.now) table t row.ordinal }
+{
+    rows.found_death(table, row, steps)
+}
+
+/// What unit `t` does to a row that is born before it.
+#[inline(always)]
+fn fate_of<L: Ledger>(
+    rows: &Rows<'_>,
+    table: u32,
+    row: FoundRow,
+    t: u64,
     steps: &mut Steps<L>,
 ) -> Fate
-    requires unit { t ≡ lives.now.unit }
-    requires same { changes.now ≡ lives.now }
-    requires row { index < size_of lives.now }
-    ensures { result ≡ fate_of lives.now.plan t lives.now.table (ordinal_in lives.now index) }
+    requires table { table < length rows.now.schema.tables }
+    requires row { IsFound rows.now table row }
+    requires born { row.born < t }
+    requires unit { t ≤ last_unit rows.now }
+    ensures { result ≡ fate_of rows.now t table row.ordinal }
 {
-    match lives.death(index, steps) {
+    match death_by(rows, table, row, t, steps) {
         Some(death) if death < t => Fate::Rests,
         Some(death) if death == t => Fate::Dies,
-        _ if changes.unit(index, steps) == t => Fate::Changes,
+        _ if rows.found_change(table, row, t, steps) == t => Fate::Changes,
         _ => Fate::Rests,
     }
 }
@@ -97,32 +114,27 @@ fn is_settled(plan: &Plan, table: u32, born: u64, t: u64) -> bool
 
 /// Appends to the lists what unit `t` deletes and updates of the cohort of unit `born`.
 fn put_cohort<L: Ledger>(
-    plan: &Plan,
+    rows: &Rows<'_>,
     table: u32,
     born: u64,
     t: u64,
-    orders: &CohortOrders,
-    candidates: &[Option<Candidates>],
-    rows: &mut TableRows,
+    lists: &mut TableRows,
     steps: &mut Steps<L>,
 ) -> Result<(), Memory>
-    requires table { table < length plan.now.schema.tables }
+    requires table { table < length rows.now.schema.tables }
     requires born { born < t }
-    requires unit { t ≤ last_unit plan.now }
-    requires orders { orders.now ≡ cohort_orders plan.now table born }
-    requires candidates { AreCandidates plan.now table born candidates.now }
-    requires before { lists_of rows.old ≡ lists_before plan.now t table (first_ordinal (table_of plan.now table).births born) }
-    ensures { IfOk result (λ _. lists_of rows.new ≡ lists_before plan.now t table (first_ordinal (table_of plan.now table).births (born + 1))) }
+    requires unit { t ≤ last_unit rows.now }
+    requires before { lists_of lists.old ≡ lists_before rows.now t table (first_ordinal (table_of rows.now table).births born) }
+    ensures { IfOk result (λ _. lists_of lists.new ≡ lists_before rows.now t table (first_ordinal (table_of rows.now table).births (born + 1))) }
 {
+    let plan = rows.plan();
     if is_settled(plan, table, born, t) {
         return Ok(());
     }
-    let lives = CohortLives::new(plan, table, born, t, &orders.lives, candidates);
-    let changes = CohortChanges::new(plan, table, born, t, &orders.updates, candidates);
-    let Cohort { first, size } = cohort(plan, table, born);
-    for index in 0..size {
-        let fate = fate_in(&lives, &changes, t, index, steps);
-        put_row(rows, first + index, fate)?;
+    for index in 0..cohort(plan, table, born).size {
+        let row = row_of_cohort(plan, table, born, index);
+        let fate = fate_of(rows, table, row, t, steps);
+        put_row(lists, row.ordinal, fate)?;
     }
     Ok(())
 }
@@ -130,39 +142,25 @@ fn put_cohort<L: Ledger>(
 /// The rows of a table that the step to unit `t` deletes, updates and inserts. At `Memory` none are told.
 pub fn table_rows<L: Ledger>(
     alloc: Global,
-    plan: &Plan,
+    rows: &Rows<'_>,
     table: u32,
     t: u64,
     steps: &mut Steps<L>,
 ) -> Result<TableRows, Memory>
-    requires table { table < length plan.now.schema.tables }
+    requires table { table < length rows.now.schema.tables }
     requires some { 1 ≤ t }
-    requires unit { t ≤ last_unit plan.now }
-    ensures { IfOk result (λ rows. lists_of rows ≡ table_lists plan.now t table) }
+    requires unit { t ≤ last_unit rows.now }
+    ensures { IfOk result (λ lists. lists_of lists ≡ table_lists rows.now t table) }
 {
+    let plan = rows.plan();
     let _sound = plan.schema(); // so the simulation has a closed form
-    let Ok(orders) = table_orders(alloc, plan, table, t - 1) else {
-        return Err(Memory);
-    };
-    let Ok(candidates) = table_candidates(alloc, plan, table, t - 1) else {
-        return Err(Memory);
-    };
-    let mut rows = TableRows {
+    let mut lists = TableRows {
         deleted: Vec::new(alloc),
         updated: Vec::new(alloc),
         inserted: cohort(plan, table, t),
     };
     for born in 0..t {
-        put_cohort(
-            plan,
-            table,
-            born,
-            t,
-            &orders[born as usize],
-            candidates[born as usize].as_slice(),
-            &mut rows,
-            steps,
-        )?;
+        put_cohort(rows, table, born, t, &mut lists, steps)?;
     }
-    Ok(rows)
+    Ok(lists)
 }

@@ -6,7 +6,7 @@ ghost use Rattle.update_box.specs.TableLists.{table_lists_at};
 ghost use Rattle.update_box.specs.UnitLists.{unit_lists};
 
 use crate::scan::{TableRows, table_rows};
-use life_intervals::Cohort;
+use life_intervals::{Cohort, JobOrders, Rows};
 use line_pages::Memory;
 use schema_plan::Plan;
 use std::alloc::Global;
@@ -75,10 +75,28 @@ pub fn unit_rows<L: Ledger>(
     requires unit { t ≤ last_unit plan.now }
     ensures { IfOk result (λ rows. rows ≡ unit_lists plan.now t) }
 {
-    let _limits = plan.schema(); // there are at most 64 tables
+    let Ok(orders) = JobOrders::new(alloc, plan, 0, plan.tables(), t) else {
+        return Err(Memory);
+    };
+    let rows = Rows::with(plan, &orders);
+    rows_of_unit(alloc, &rows, t, steps)
+}
+
+/// The same with the orders that are kept for the plan, or with none.
+pub fn rows_of_unit<L: Ledger>(
+    alloc: Global,
+    rows: &Rows<'_>,
+    t: u64,
+    steps: &mut Steps<L>,
+) -> Result<UnitRows, Memory>
+    requires some { 1 ≤ t }
+    requires unit { t ≤ last_unit rows.now }
+    ensures { IfOk result (λ lists. lists ≡ unit_lists rows.now t) }
+{
+    let _limits = rows.plan().schema(); // there are at most 64 tables
     let mut tables = Vec::new(alloc);
-    for table in 0..plan.tables() {
-        tables.push(table_rows(alloc, plan, table, t, steps)?)?;
+    for table in 0..rows.plan().tables() {
+        tables.push(table_rows(alloc, rows, table, t, steps)?)?;
     }
     Ok(UnitRows { unit: t, tables })
 }

@@ -4,8 +4,7 @@ use Rattle.life_intervals.specs.Changes.{may_change}
 use Rattle.life_intervals.specs.Generator.{table_of}
 use Rattle.cohort_sizes.proofs.CohortLemmas.{born_count-next}
 use Rattle.update_box.specs.Fates.{lists_before}
-use Rattle.update_box.proofs.FateLemmas.{lists_before-rested, rested-over, rested-sure}
-use Rattle.update_box.proofs.KeyLineLemmas.{not-true}
+use Rattle.update_box.proofs.FateLemmas.{lists_before-rested, not-true, rested-over, rested-sure}
 use Rattle.update_box.proofs.scan.is_settled.Goals as goal
 
 pub returns-in-Over : goal.returns-in-Over

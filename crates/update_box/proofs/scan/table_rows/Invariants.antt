@@ -6,4 +6,4 @@ use Rattle.update_box.specs.TableLists.{lists_of}
 use Rattle.update_box.proofs.scan.table_rows.Given as goal
 
 abbrev pub invariant-loop-born : goal.invariant-loop-born
-invariant-loop-born g l = lists_of l.rows ≡ lists_before l.plan l.t l.table (first_ordinal (table_of l.plan l.table).births l.born)
+invariant-loop-born g l = lists_of l.lists ≡ lists_before l.rows l.t l.table (first_ordinal (table_of l.rows l.table).births l.born)

@@ -2,13 +2,14 @@ use Rattle.std.proofs.Common.{◌≡◌, ◌∷◌, ◌++◌, ℕ, [], List, len
 use Rattle.std.specs.List.{range_with_len}
 use Rattle.std.proofs.lemmas.List.{map-append}
 use Rattle.std.proofs.lemmas.List.FromFn.{map-range_with_len_more}
+use Rattle.schema_plan.specs.Dictionaries.{Project}
 use Rattle.update_box.specs.TableLists.{lists_of}
 use Rattle.update_box.specs.UnitLists.{TableLists, table_lists}
-use Rattle.update_box.proofs.units.unit_rows.Goals as goal
+use Rattle.update_box.proofs.units.rows_of_unit.Goals as goal
 
 pub loop-table-preserved : goal.loop-table-preserved
 loop-table-preserved g c =
-    let lists : ℕ → TableLists = table_lists c.args.plan.now c.args.t in
+    let lists : ℕ → TableLists = table_lists c.args.rows.now c.args.t in
     ap (map lists_of) c.in_ok-push.ensures.items
     ∙ map-append lists_of c.loop-table.tables.items (c.in_ok-table_rows.field-0 ∷ [])
     ∙ ap (λ (done : List TableLists). done ++ lists_of c.in_ok-table_rows.field-0 ∷ []) c.loop-table.invariant
@@ -17,6 +18,6 @@ loop-table-preserved g c =
 
 pub returns : goal.returns
 returns g c =
-    let lists : ℕ → TableLists = table_lists c.args.plan.now c.args.t in
-    let end : c.loop-table.table ≡ length c.args.plan.now.schema.tables = omega (arith, c.loop-table-test.false, c.loop-table.auto.table-end, c.tables-table-end.ensures) in
+    let lists : ℕ → TableLists = table_lists c.args.rows.now c.args.t in
+    let end : c.loop-table.table ≡ length c.args.rows.now.schema.tables = omega (arith, c.loop-table-test.false, c.loop-table.auto.table-end, c.tables-table-end.ensures, ap (λ (p : Project). length p.schema.tables) c.plan-2.ensures) in
     ap (λ (tables : List TableLists). record { unit = c.args.t; tables = tables }) (c.loop-table.invariant ∙ ap (λ (n : ℕ). map lists (range_with_len 0 n)) end)
