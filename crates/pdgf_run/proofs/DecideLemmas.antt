@@ -1,32 +1,34 @@
 -- What words come to, as it is found.
-use Rattle.std.proofs.Common.{◌≡◌, ◌≢◌, ◌≤◌, ℕ, suc, Bool, true, false, List, [], ◌∷◌, ◌++◌, length, take, Option, None, Some, Result, Ok, Err, inl, inr, refl, ap, sym, subst, ◌∙◌, arith}
-use Rattle.std.specs.Prelude.{⊤, if◌then◌else◌, IfErr, IfSome, IsErr, OnOk, ◌↔◌}
-use Rattle.std.specs.Option.{option_map, option_or}
-use Rattle.std.proofs.lemmas.Bool.Decides.{nat_tests}
-use Rattle.pd_outside.specs.Files.{File, bytes_of}
-use Rattle.pd_outside.specs.Library.{Content, ask, AskedAtMost, AskedPrefixOf}
-use Rattle.schema_read.specs.Schema.{schema_of}
-use Rattle.pdgf_run.proofs.DictionaryLemmas.{asked_also, asked_first, none_asked, IfSome-same}
+use Rattle.std.proofs.Common.{◌≡◌, ◌≢◌, ℕ, Bool, true, false, List, [], ◌∷◌, Option, None, Some, Result, Ok, Err, inl, inr, refl, ap, sym, subst, ◌∙◌, arith}
+use Rattle.std.specs.Prelude.{⊤, ◌⊎◌, if◌then◌else◌, IfErr, IfSome, IsErr, OnOk, ◌↔◌}
+use Rattle.std.specs.Option.{option_map, option_and_then, option_or}
+use Rattle.pd_outside.specs.Faults.{Rose, counted}
+use Rattle.pd_outside.specs.Files.{File}
+use Rattle.pd_outside.specs.Library.{Content, left}
+use Rattle.plan_stages.specs.PlanNames.{AsksForPlan}
+use Rattle.plan_stages.specs.Plans.{plan_in}
+use Rattle.plan_stages.specs.Stages.{ended, in_stage, on_ok, told_files, Decides, IsReadOut, LibraryAfter}
+use Rattle.refusals.specs.Statuses.{is_free, job_status, plan_status, status_of}
+use Rattle.refusals.specs.declared.refusal.JobFault.{JobFault}
+use Rattle.refusals.specs.declared.refusal.JobFault.TheVariants as job
+use Rattle.refusals.specs.declared.refusal.PlanFault.{PlanFault}
+use Rattle.refusals.specs.declared.refusal.Refusal.{Refusal}
+use Rattle.refusals.specs.declared.refusal.Refusal.TheVariants as refusal
+use Rattle.request_words.specs.Form.{given_in, has_form, mode_in}
+use Rattle.request_words.specs.Options.{Given, is_number, mode_named, order, request_of, takes}
+use Rattle.request_words.specs.Words.{first_fault, of_mode, option_fault, request, unless_fault}
+use Rattle.request_words.specs.declared.usage.Mode.{Mode}
+use Rattle.request_words.specs.declared.usage.Mode.TheVariants.{Check, Snapshot, Unit, Row}
+use Rattle.request_words.specs.declared.usage.OptionName.{OptionName}
+use Rattle.request_words.specs.declared.usage.OptionName.TheVariants as option
+use Rattle.request_words.specs.declared.usage.Request.{Request}
+use Rattle.request_words.specs.declared.usage.UsageFault.{UsageFault}
+use Rattle.request_words.specs.declared.usage.UsageFault.TheVariants as usage
+use Rattle.schema_plan.specs.Dictionaries.{Project}
 use Rattle.pdgf_run.specs.Jobs.{due_of}
-use Rattle.pdgf_run.specs.Limits.{schema_limit}
-use Rattle.pdgf_run.specs.ReadingList.{cited_by_read, cited_in, up_to_fault, AsksInTurn, AsksNames}
-use Rattle.pdgf_run.specs.Stages.{in_stage, Decides}
-use Rattle.pdgf_run.specs.Statuses.{is_free, job_status, status_of, text_status}
-use Rattle.pdgf_run.specs.Verdict.{of_file, of_request, of_text, told_files, verdict, WhereTold}
-use Rattle.pdgf_run.specs.Words.{Given, directory_wrong, form, in_mode as words_in_mode, is_number, missing, mode_named, number_wrong, of_form, request, request_of, unless_wrong, unwanted, wrong, wrong_at_unit, wrong_option}
+use Rattle.pdgf_run.specs.ReadingList.{AsksInTurn}
+use Rattle.pdgf_run.specs.Verdict.{in_mode, job_over, of_request, verdict, WhereTold}
 use Rattle.pdgf_run.specs.declared.job.Job.{Job}
-use Rattle.pdgf_run.specs.declared.refusal.JobFault.{JobFault}
-use Rattle.pdgf_run.specs.declared.refusal.JobFault.TheVariants as job
-use Rattle.pdgf_run.specs.declared.refusal.Refusal.{Refusal}
-use Rattle.pdgf_run.specs.declared.refusal.Refusal.TheVariants as refusal
-use Rattle.pdgf_run.specs.declared.refusal.TextFault.{TextFault}
-use Rattle.pdgf_run.specs.declared.usage.Mode.{Mode}
-use Rattle.pdgf_run.specs.declared.usage.Mode.TheVariants.{Check, Snapshot, Unit, Row}
-use Rattle.pdgf_run.specs.declared.usage.OptionName.{OptionName}
-use Rattle.pdgf_run.specs.declared.usage.OptionName.TheVariants as option
-use Rattle.pdgf_run.specs.declared.usage.Request.{Request}
-use Rattle.pdgf_run.specs.declared.usage.UsageFault.{UsageFault}
-use Rattle.pdgf_run.specs.declared.usage.UsageFault.TheVariants as usage
 
 -- ---- words that give no request
 
@@ -44,105 +46,113 @@ pub decided_for_words : (words : List (List ℕ)) (content : Option Content) (fa
 decided_for_words words None fault told = tt
 decided_for_words words (Some c) fault told = λ not_free. verdict-of_request words c.files (Err fault) (told (not_memory fault not_free))
 
+-- they are refused with status 2, or memory ran out
+words_status : (fault : UsageFault) → (status_of (refusal.Words fault) ≡ 2) ⊎ (status_of (refusal.Words fault) ≡ 7)
+words_status usage.Memory = inr refl
+words_status usage.Words = inl refl
+words_status usage.Mode = inl refl
+words_status (usage.Unwanted name) = inl refl
+words_status (usage.Missing name) = inl refl
+words_status (usage.Number name) = inl refl
+words_status (usage.EmptyDirectory name) = inl refl
+
+-- nothing was done to the library
+unchanged : (status limit : ℕ) (content : Option Content) (taken : ℕ) (is_started : Bool) (faults : ℕ) → (status ≡ 2) ⊎ (status ≡ 7) →
+    LibraryAfter status limit (told_files content) content taken is_started faults faults
+unchanged status limit content taken is_started faults (inl two) = record {
+  files = refl;
+  read_out = λ zero. absurd (omega (arith, two, zero));
+  within = λ zero. absurd (omega (arith, two, zero));
+  too_long = λ ten. absurd (omega (arith, two, ten));
+  failed_once = λ five. absurd (omega (arith, two, five));
+  stopped = λ five. absurd (omega (arith, two, five));
+  no_fault = λ other. refl;
+  never_falls = omega arith;
+}
+unchanged status limit content taken is_started faults (inr seven) = record {
+  files = refl;
+  read_out = λ zero. absurd (omega (arith, seven, zero));
+  within = λ zero. absurd (omega (arith, seven, zero));
+  too_long = λ ten. absurd (omega (arith, seven, ten));
+  failed_once = λ five. absurd (omega (arith, seven, five));
+  stopped = λ five. absurd (omega (arith, seven, five));
+  no_fault = λ other. refl;
+  never_falls = omega arith;
+}
+
+pub after_words : (fault : UsageFault) (limit : ℕ) (content : Option Content) (taken : ℕ) (is_started : Bool) (faults : ℕ) →
+    LibraryAfter (status_of (refusal.Words fault)) limit (told_files content) content taken is_started faults faults
+after_words fault limit content taken is_started faults =
+    unchanged (status_of (refusal.Words fault)) limit content taken is_started faults (words_status fault)
+
 -- ---- words that give one
 
 -- what is decided of a request is decided of its words
 pub decided_for_request : (words : List (List ℕ)) (content : Option Content) (r : Request) (made : Result Job JobFault) → request words ≡ Ok r →
-    IfSome (told_files content) (λ files. Decides job_status due_of made (of_file r files (bytes_of files r.schema))) →
+    IfSome (told_files content) (λ files. Decides job_status due_of made (job_over r files)) →
     WhereTold words content (Decides status_of due_of (in_stage refusal.Job made))
 decided_for_request words None r made is decided = tt
 decided_for_request words (Some c) r (Ok job) is decided = verdict-of_request words c.files (Ok r) is ∙ ap (in_stage refusal.Job) decided
 decided_for_request words (Some c) r (Err fault) is decided = λ not_free.
     verdict-of_request words c.files (Ok r) is ∙ ap (in_stage refusal.Job) (decided not_free)
 
--- ---- the schema's file
+-- ---- a plan, or none
 
-of_file-within : (r : Request) (files : List File) (bytes : List ℕ) → length bytes ≤ schema_limit → of_file r files bytes ≡ in_stage job.Text (of_text r files bytes)
-of_file-within r files bytes within = grind (arith, nat_tests)
+-- what is decided where there is no plan
+no_plan : (made : Result Project PlanFault) (r : Request) (fault : PlanFault) → made ≡ Err fault → on_ok (in_stage job.Plan made) (in_mode r.mode r) ≡ Err (job.Plan fault)
+no_plan made r fault is = ap (λ (m : Result Project PlanFault). on_ok (in_stage job.Plan m) (in_mode r.mode r)) is
 
--- what is decided of bytes is decided of their file
-decided_for_file : (files : List File) (r : Request) (bytes : List ℕ) (made : Result Job TextFault) → bytes ≡ bytes_of files r.schema → length bytes ≤ schema_limit →
-    Decides text_status due_of made (of_text r files bytes) → Decides job_status due_of (in_stage job.Text made) (of_file r files (bytes_of files r.schema))
-decided_for_file files r bytes (Ok made) whole within decided =
-    ap (of_file r files) (sym whole) ∙ of_file-within r files bytes within ∙ ap (in_stage job.Text) decided
-decided_for_file files r bytes (Err fault) whole within decided = λ free.
-    ap (of_file r files) (sym whole) ∙ of_file-within r files bytes within ∙ ap (in_stage job.Text) (decided free)
+pub decided_without_plan : (told : Option (List File)) (r : Request) (name : List ℕ) (fault : PlanFault) → name ≡ r.schema →
+    IfSome told (λ files. Decides plan_status (λ plan. plan) (Err fault) (plan_in files name)) →
+    IfSome told (λ files. Decides job_status due_of (Err (job.Plan fault)) (job_over r files))
+decided_without_plan None r name fault is decided = tt
+decided_without_plan (Some files) r name fault is decided = λ free.
+    no_plan (plan_in files r.schema) r fault (ap (plan_in files) (sym is) ∙ decided free)
 
-pub decided_for_text : (content : Option Content) (told : Option (List File)) (r : Request) (name bytes text : List ℕ) (made : Result Job TextFault) →
-    name ≡ r.schema → told ≡ told_files content → IfSome content (λ c. bytes ≡ bytes_of c.files name) → length bytes ≤ schema_limit → text ≡ bytes →
-    IfSome told (λ files. Decides text_status due_of made (of_text r files text)) →
-    IfSome (told_files content) (λ files. Decides job_status due_of (in_stage job.Text made) (of_file r files (bytes_of files r.schema)))
-decided_for_text None told r name bytes text made named same whole within is decided = tt
-decided_for_text (Some c) told r name bytes text made named same whole within is decided =
-    decided_for_file c.files r text made (is ∙ whole ∙ ap (bytes_of c.files) named) (subst (λ (b : List ℕ). length b ≤ schema_limit) (sym is) within)
-    (IfSome-same (λ files. Decides text_status due_of made (of_text r files text)) told (Some c.files) same decided)
+-- what is decided of a plan
+decided_over : (made : Result Project PlanFault) (r : Request) (plan : Project) (answer : Result Job JobFault) → made ≡ Ok plan →
+    Decides job_status due_of answer (in_mode r.mode r plan) → Decides job_status due_of answer (on_ok (in_stage job.Plan made) (in_mode r.mode r))
+decided_over made r plan answer is decided =
+    subst (λ (m : Result Project PlanFault). Decides job_status due_of answer (on_ok (in_stage job.Plan m) (in_mode r.mode r))) (sym is) decided
+
+pub decided_with_plan : (told : Option (List File)) (r : Request) (name : List ℕ) (plan : Project) (answer : Result Job JobFault) → name ≡ r.schema →
+    IfSome told (λ files. Decides plan_status (λ plan. plan) (Ok plan) (plan_in files name)) → Decides job_status due_of answer (in_mode r.mode r plan) →
+    IfSome told (λ files. Decides job_status due_of answer (job_over r files))
+decided_with_plan None r name plan answer is planned decided = tt
+decided_with_plan (Some files) r name plan answer is planned decided =
+    decided_over (plan_in files r.schema) r plan answer (ap (plan_in files) (sym is) ∙ planned) decided
+
+-- a mode answers a job, want of memory, or what is out of range
+mode_status : (answer : Result Job JobFault) → IfErr answer (λ fault. (job_status fault ≡ 7) ⊎ (job_status fault ≡ 8)) →
+    (ended job_status answer ≡ 0) ⊎ ((ended job_status answer ≡ 7) ⊎ (ended job_status answer ≡ 8))
+mode_status (Ok job) refused = inl refl
+mode_status (Err fault) refused = inr refused
+
+pub mode_others : (answer : Result Job JobFault) → IfErr answer (λ fault. (job_status fault ≡ 7) ⊎ (job_status fault ≡ 8)) →
+    (ended job_status answer ≢ 2) × (ended job_status answer ≢ 3) × (ended job_status answer ≢ 5) × (ended job_status answer ≢ 10)
+mode_others answer refused = go (ended job_status answer) (mode_status answer refused)
+  where
+    go : (status : ℕ) → (status ≡ 0) ⊎ ((status ≡ 7) ⊎ (status ≡ 8)) → (status ≢ 2) × (status ≢ 3) × (status ≢ 5) × (status ≢ 10)
+    go status (inl zero) = (λ e. absurd (omega (arith, zero, e)), λ e. absurd (omega (arith, zero, e)), λ e. absurd (omega (arith, zero, e)), λ e. absurd (omega (arith, zero, e)))
+    go status (inr (inl seven)) =
+        (λ e. absurd (omega (arith, seven, e)), λ e. absurd (omega (arith, seven, e)), λ e. absurd (omega (arith, seven, e)), λ e. absurd (omega (arith, seven, e)))
+    go status (inr (inr eight)) =
+        (λ e. absurd (omega (arith, eight, e)), λ e. absurd (omega (arith, eight, e)), λ e. absurd (omega (arith, eight, e)), λ e. absurd (omega (arith, eight, e)))
 
 -- ---- the names that are asked
-
--- nothing was asked
-pub asks_nothing : (q : Result Request UsageFault) (told : Option (List File)) (before : Option (List (List ℕ))) → AsksInTurn q told before before
-asks_nothing q None before = record { told = tt; bytes = []; untold = record { count = 0; asked = none_asked before } }
-asks_nothing q (Some files) before = record {
-  told = record { count = 0; asked = none_asked before };
-  bytes = [];
-  untold = record { count = 0; asked = none_asked before };
-}
 
 -- what a request asks for, its words do
 pub asks_of_words : (words : List (List ℕ)) (r : Request) (told : Option (List File)) (before now : Option (List (List ℕ))) → request words ≡ Ok r →
     AsksInTurn (Ok r) told before now → AsksInTurn (request words) told before now
 asks_of_words words r told before now is asks = subst (λ (q : Result Request UsageFault). AsksInTurn q told before now) (sym is) asks
 
--- the schema's name was asked, and nothing else
-asks_schema : (r : Request) (told : Option (List File)) (before now : Option (List (List ℕ))) → now ≡ ask r.schema before → AsksInTurn (Ok r) told before now
-asks_schema r None before now once = record { told = tt; bytes = []; untold = asked_first _ (r.schema ∷ []) (cited_in []) before now once refl }
-asks_schema r (Some files) before now once = record {
-  told = asked_first _ (r.schema ∷ []) (up_to_fault files (cited_in (bytes_of files r.schema))) before now once refl;
-  bytes = [];
-  untold = asked_first _ (r.schema ∷ []) (cited_in []) before now once refl;
-}
+-- what its schema's name asks for, a request does
+asks_of_schema : (r : Request) (told : Option (List File)) (before now : Option (List (List ℕ))) → AsksForPlan r.schema told before now → AsksInTurn (Ok r) told before now
+asks_of_schema r told before now asks = record { told = asks.told; bytes = asks.bytes; untold = asks.untold }
 
-pub asks_schema_at_most : (r : Request) (told : Option (List File)) (before now : Option (List (List ℕ))) → AskedAtMost r.schema before now → AsksInTurn (Ok r) told before now
-asks_schema_at_most r told before now (inl once) = asks_schema r told before now once
-asks_schema_at_most r told before now (inr never) = subst (AsksInTurn (Ok r) told before) (sym never) (asks_nothing (Ok r) told before)
-
--- one name, and behind it the first of a list
-asked_behind : (name : List ℕ) (list : List (List ℕ)) (before mid now : Option (List (List ℕ))) → mid ≡ ask name before → AskedPrefixOf list mid now →
-    AskedPrefixOf (name ∷ list) before now
-asked_behind name list before mid now once more = record {
-  count = suc more.count;
-  asked = more.asked ∙ ap (option_map (λ (names : List (List ℕ)). names ++ take more.count list)) once ∙ asked_also (name ∷ []) (take more.count list) before;
-}
-
-cited_in-within : (bytes : List ℕ) → length bytes ≤ schema_limit → cited_in bytes ≡ cited_by_read (schema_of bytes)
-cited_in-within bytes within = grind (arith, nat_tests)
-
--- the schema's name was asked, and then some of its dictionaries'
-asks_schema_then : (content : Option Content) (told : Option (List File)) (r : Request) (bytes text : List ℕ) (before mid now : Option (List (List ℕ))) →
-    told ≡ told_files content → IfSome content (λ c. bytes ≡ bytes_of c.files r.schema) → cited_by_read (schema_of text) ≡ cited_in bytes → mid ≡ ask r.schema before →
-    AsksNames (cited_by_read (schema_of text)) told mid now → AsksInTurn (Ok r) (told_files content) before now
-asks_schema_then None told r bytes text before mid now same whole cited once asks = record {
-  told = tt;
-  bytes = bytes;
-  untold = asked_behind r.schema (cited_in bytes) before mid now once (subst (λ (list : List (List ℕ)). AskedPrefixOf list mid now) cited asks.untold);
-}
-asks_schema_then (Some c) told r bytes text before mid now same whole cited once asks = record {
-  told =
-      asked_behind r.schema (up_to_fault c.files (cited_in (bytes_of c.files r.schema))) before mid now once
-      (subst (λ (list : List (List ℕ)). AskedPrefixOf (up_to_fault c.files list) mid now) (cited ∙ ap cited_in whole)
-      (IfSome-same (λ (f : List File). AskedPrefixOf (up_to_fault f (cited_by_read (schema_of text))) mid now) told (Some c.files) same asks.told));
-  bytes = bytes;
-  untold = asked_behind r.schema (cited_in bytes) before mid now once (subst (λ (list : List (List ℕ)). AskedPrefixOf list mid now) cited asks.untold);
-}
-
-pub asks_then : (content : Option Content) (told : Option (List File)) (r : Request) (name bytes text : List ℕ) (before mid now : Option (List (List ℕ))) → name ≡ r.schema →
-    told ≡ told_files content → IfSome content (λ c. bytes ≡ bytes_of c.files name) → length bytes ≤ schema_limit → text ≡ bytes → mid ≡ ask name before →
-    AsksNames (cited_by_read (schema_of text)) told mid now → AsksInTurn (Ok r) (told_files content) before now
-asks_then content told r name bytes text before mid now named same whole within is once asks =
-    asks_schema_then content told r bytes text before mid now same
-    (subst (λ (n : List ℕ). IfSome content (λ (c : Content). bytes ≡ bytes_of c.files n)) named whole)
-    (ap (λ (b : List ℕ). cited_by_read (schema_of b)) is ∙ sym (cited_in-within bytes within))
-    (once ∙ ap (λ (n : List ℕ). ask n before) named) asks
+pub asks_of_name : (r : Request) (name : List ℕ) (told : Option (List File)) (before now : Option (List (List ℕ))) → name ≡ r.schema →
+    AsksForPlan name told before now → AsksInTurn (Ok r) told before now
+asks_of_name r name told before now is asks = asks_of_schema r told before now (subst (λ (n : List ℕ). AsksForPlan n told before now) is asks)
 
 -- ---- words are never at fault for want of memory
 
@@ -155,62 +165,76 @@ option_or-of_words : (first second : Option UsageFault) → IfSome first IsOfWor
 option_or-of_words None second one two = two
 option_or-of_words (Some fault) second one two = one
 
-missing-of_words : (name : OptionName) (word : Option (List ℕ)) → IfSome (missing name word) IsOfWords
-missing-of_words name None = tt
-missing-of_words name (Some word) = tt
-
-unwanted-of_words : (name : OptionName) (word : Option (List ℕ)) → IfSome (unwanted name word) IsOfWords
-unwanted-of_words name None = tt
-unwanted-of_words name (Some word) = tt
-
 number-of_words : (name : OptionName) (is : Bool) → IfSome (if is then None else Some (usage.Number name)) IsOfWords
 number-of_words name true = tt
 number-of_words name false = tt
 
-number_wrong-of_words : (name : OptionName) (word : Option (List ℕ)) → IfSome (number_wrong name word) IsOfWords
-number_wrong-of_words name None = tt
-number_wrong-of_words name (Some word) = number-of_words name (is_number word)
+-- what a mode does with an option, by an option and a mode that does it
+unwanted-of_words : (name : OptionName) (value : Option (List ℕ)) → IfSome (option_fault (takes Check option.Unit) name value) IsOfWords
+unwanted-of_words name None = tt
+unwanted-of_words name (Some value) = tt
 
-directory_wrong-of_words : (name : OptionName) (word : Option (List ℕ)) → IfSome (directory_wrong name word) IsOfWords
-directory_wrong-of_words name None = tt
-directory_wrong-of_words name (Some []) = tt
-directory_wrong-of_words name (Some (byte ∷ rest)) = tt
+text-of_words : (name : OptionName) (value : Option (List ℕ)) → IfSome (option_fault (takes Check option.Schema) name value) IsOfWords
+text-of_words name None = tt
+text-of_words name (Some value) = tt
 
-wrong_at_unit-of_words : (given : Given) → IfSome (wrong_at_unit given) IsOfWords
-wrong_at_unit-of_words given =
-    option_or-of_words _ _ (number_wrong-of_words option.Unit given.unit)
-    (option_or-of_words _ _ (unwanted-of_words option.Key given.key) (directory_wrong-of_words option.Out given.out))
+optional_text-of_words : (name : OptionName) (value : Option (List ℕ)) → IfSome (option_fault (takes Unit option.Table) name value) IsOfWords
+optional_text-of_words name None = tt
+optional_text-of_words name (Some value) = tt
 
-wrong_option-of_words : (mode : Mode) (given : Given) → IfSome (wrong_option mode given) IsOfWords
-wrong_option-of_words Check given =
-    option_or-of_words _ _ (unwanted-of_words option.Unit given.unit)
-    (option_or-of_words _ _ (unwanted-of_words option.Table given.table)
-    (option_or-of_words _ _ (unwanted-of_words option.Key given.key) (unwanted-of_words option.Out given.out)))
-wrong_option-of_words Snapshot given = wrong_at_unit-of_words given
-wrong_option-of_words Unit given = wrong_at_unit-of_words given
-wrong_option-of_words Row given =
-    option_or-of_words _ _ (number_wrong-of_words option.Unit given.unit)
-    (option_or-of_words _ _ (missing-of_words option.Table given.table)
-    (option_or-of_words _ _ (number_wrong-of_words option.Key given.key) (unwanted-of_words option.Out given.out)))
+needed_number-of_words : (name : OptionName) (value : Option (List ℕ)) → IfSome (option_fault (takes Row option.Key) name value) IsOfWords
+needed_number-of_words name None = tt
+needed_number-of_words name (Some value) = number-of_words name (is_number value)
 
-wrong-of_words : (mode : Mode) (given : Given) → IfSome (wrong mode given) IsOfWords
-wrong-of_words mode given = option_or-of_words _ _ (missing-of_words option.Schema given.schema) (wrong_option-of_words mode given)
+directory-of_words : (name : OptionName) (value : Option (List ℕ)) → IfSome (option_fault (takes Unit option.Out) name value) IsOfWords
+directory-of_words name None = tt
+directory-of_words name (Some []) = tt
+directory-of_words name (Some (byte ∷ rest)) = tt
 
-unless_wrong-of_words : (fault : Option UsageFault) (r : Request) → IfSome fault IsOfWords → IfErr (unless_wrong fault r) IsOfWords
-unless_wrong-of_words None r of = tt
-unless_wrong-of_words (Some fault) r of = of
+option_fault-of_words : (mode : Mode) (name : OptionName) (value : Option (List ℕ)) → IfSome (option_fault (takes mode name) name value) IsOfWords
+option_fault-of_words Check option.Schema = text-of_words option.Schema
+option_fault-of_words Snapshot option.Schema = text-of_words option.Schema
+option_fault-of_words Unit option.Schema = text-of_words option.Schema
+option_fault-of_words Row option.Schema = text-of_words option.Schema
+option_fault-of_words Check option.Unit = unwanted-of_words option.Unit
+option_fault-of_words Snapshot option.Unit = needed_number-of_words option.Unit
+option_fault-of_words Unit option.Unit = needed_number-of_words option.Unit
+option_fault-of_words Row option.Unit = needed_number-of_words option.Unit
+option_fault-of_words Check option.Table = unwanted-of_words option.Table
+option_fault-of_words Snapshot option.Table = optional_text-of_words option.Table
+option_fault-of_words Unit option.Table = optional_text-of_words option.Table
+option_fault-of_words Row option.Table = text-of_words option.Table
+option_fault-of_words Check option.Key = unwanted-of_words option.Key
+option_fault-of_words Snapshot option.Key = unwanted-of_words option.Key
+option_fault-of_words Unit option.Key = unwanted-of_words option.Key
+option_fault-of_words Row option.Key = needed_number-of_words option.Key
+option_fault-of_words Check option.Out = unwanted-of_words option.Out
+option_fault-of_words Snapshot option.Out = directory-of_words option.Out
+option_fault-of_words Unit option.Out = directory-of_words option.Out
+option_fault-of_words Row option.Out = unwanted-of_words option.Out
 
-in_mode-of_words : (mode : Option Mode) (given : Given) → IfErr (words_in_mode mode given) IsOfWords
-in_mode-of_words None given = tt
-in_mode-of_words (Some mode) given = unless_wrong-of_words (wrong mode given) (request_of mode given) (wrong-of_words mode given)
+first_fault-of_words : (mode : Mode) (given : Given) (names : List OptionName) → IfSome (first_fault mode given names) IsOfWords
+first_fault-of_words mode given [] = tt
+first_fault-of_words mode given (name ∷ names) =
+    option_or-of_words _ _ (option_fault-of_words mode name (given name)) (first_fault-of_words mode given names)
 
-of_form-of_words : (given : Option Given) → IfErr (of_form given) IsOfWords
-of_form-of_words None = tt
-of_form-of_words (Some given) = in_mode-of_words (mode_named given.mode) given
+unless_fault-of_words : (fault : Option UsageFault) (r : Request) → IfSome fault IsOfWords → IfErr (unless_fault fault r) IsOfWords
+unless_fault-of_words None r of = tt
+unless_fault-of_words (Some fault) r of = of
+
+of_mode-of_words : (mode : Option Mode) (given : Given) → IfErr (of_mode mode given) IsOfWords
+of_mode-of_words None given = tt
+of_mode-of_words (Some mode) given = unless_fault-of_words (first_fault mode given order) (request_of mode given) (first_fault-of_words mode given order)
+
+if-of_words : (is : Bool) (q : Result Request UsageFault) → IfErr q IsOfWords → IfErr (if is then q else Err usage.Words) IsOfWords
+if-of_words true q of = of
+if-of_words false q of = tt
 
 request-of_words : (words : List (List ℕ)) → IfErr (request words) IsOfWords
 unfolding request
-request-of_words words = of_form-of_words (form words)
+request-of_words [] = tt
+request-of_words (program ∷ words) =
+    if-of_words (has_form words) _ (of_mode-of_words (option_and_then mode_named (mode_in words)) (given_in words))
 
 of_words-status : (fault : UsageFault) → IsOfWords fault → status_of (refusal.Words fault) ≡ 2
 of_words-status usage.Memory of = absurd of
@@ -230,3 +254,16 @@ usage_status (Err fault) r of told other = (λ two. refl, λ err. let same : r �
 pub refused-usage : (words : List (List ℕ)) (r : Refusal) → IfErr (request words) (λ fault. ◌≡◌ {A = Result Job Refusal} (Err r) (Err (refusal.Words fault))) → OnOk (request words) (status_of r ≢ 2) →
     (status_of r ≡ 2) ↔ IsErr (request words)
 refused-usage words r told other = usage_status (request words) r (request-of_words words) told other
+
+-- ---- what the library leaves
+
+-- a count that was counted up rose
+pub rose : (before now : ℕ) → now ≡ counted before → Rose before now
+rose before now is = grind (arith)
+
+-- what was read is read to its end
+pub read_to_the_end : (before now : Option Content) → told_files now ≡ told_files before → IsReadOut now → option_map left now ≡ option_map (λ (c : Content). []) before
+read_to_the_end None None same out = refl
+read_to_the_end None (Some n) same out = absurd (cc)
+read_to_the_end (Some b) None same out = absurd (cc)
+read_to_the_end (Some b) (Some n) same out = ap Some out

@@ -1,17 +1,16 @@
 -- Texts of tables one after the other, and files as they are finished one after the other.
-use Rattle.std.proofs.Common.{◌≡◌, ◌<◌, ℕ, zero, suc, ◌+◌, ◌-◌, List, [], ◌∷◌, ◌++◌, map, length, get_or, take, drop, Option, None, Some, refl, ap, arith, sym, subst, ◌∙◌, append_assoc, Bool, false}
+use Rattle.std.proofs.Common.{◌≡◌, ◌<◌, ℕ, zero, suc, ◌+◌, ◌-◌, List, [], ◌∷◌, ◌++◌, map, length, get_or, take, drop, Option, None, Some, ap, arith, sym, subst, ◌∙◌, append_assoc, Bool, false}
 use Rattle.std.specs.Prelude.{IfSome, is_some}
 use Rattle.std.specs.List.{flat_map}
 use Rattle.std.specs.Option.{option_map}
 use Rattle.std.proofs.lemmas.List.{append-nil, map-append, take-append-drop, take_more}
 use Rattle.std.proofs.lemmas.List.Concat.{flat_map-append}
 use Rattle.std.proofs.lemmas.List.Folds.{flat_map-map}
-use Rattle.pd_outside.proofs.Appending.{append_both, files_then_prefix, nothing_begun, nothing_done}
+use Rattle.pd_outside.proofs.Appending.{append_both, files_then_prefix, nothing_done}
 use Rattle.pd_outside.specs.Files.{File}
 use Rattle.pd_outside.specs.Shelf.{Held, append_bytes, finish_files, HoldsPrefixOf, IsPrefixOfNext}
 use Rattle.schema_plan.specs.Dictionaries.{Project}
-use Rattle.life_intervals.proofs.Ranges.{flat_map-range_with_len_more}
-use Rattle.pdgf_run.specs.DueFiles.{Part, check_line, check_lines, part_text, texts_of}
+use Rattle.pdgf_run.specs.DueFiles.{Part, text_of_part, texts_of}
 
 -- ---- pieces, one after the other
 
@@ -44,27 +43,14 @@ pub flat_map-at : {A : Type 0} (f : A → List ℕ) (xs : List A) (i : ℕ) (x :
     flat_map f xs ≡ flat_map f (take i xs) ++ (f x ++ flat_map f (drop (i + 1) xs))
 flat_map-at f xs i x below is = ap (flat_map f) (item-at xs i x below is) ∙ flat_map-append f (take i xs) (x ∷ drop (i + 1) xs)
 
--- ---- what is told of tables: nothing, and one more line
+-- ---- the texts of parts
 
-pub check_lines-zero : (plan : Project) → check_lines plan 0 ≡ []
-unfolding check_lines
-check_lines-zero plan = refl
-
-pub check_lines-add_one : (plan : Project) (count : ℕ) → check_lines plan (count + 1) ≡ check_lines plan count ++ check_line plan count
-unfolding check_lines
-check_lines-add_one plan count = flat_map-range_with_len_more (check_line plan) count
-
--- the texts of parts
 pub texts_of-map : {A : Type 0} (plan : Project) (unit : ℕ) (part : A → Part) (items : List A) →
-    texts_of plan unit (map part items) ≡ flat_map (λ item. part_text plan unit (part item)) items
+    texts_of plan unit (map part items) ≡ flat_map (λ item. text_of_part plan unit (part item)) items
 unfolding texts_of
-texts_of-map plan unit part items = flat_map-map (part_text plan unit) part items
+texts_of-map plan unit part items = flat_map-map (text_of_part plan unit) part items
 
 -- ---- files, one after the other
-
-finished_both : (done more : List File) (before : Option Held) → option_map (finish_files more) (option_map (finish_files done) before) ≡ option_map (finish_files (done ++ more)) before
-finished_both done more None = refl
-finished_both done more (Some h) = ap (λ (files : List File). Some (record { finished = files; begun = None })) (append_assoc h.finished done more)
 
 begins_next_of_more : (rest more : List File) (begun : Option File) → IsPrefixOfNext rest begun → IsPrefixOfNext (rest ++ more) begun
 begins_next_of_more rest more None prefix = tt
@@ -81,21 +67,6 @@ prefix_of_more due more before now prefix = record {
   prefix = begins_next_of_more prefix.rest more prefix.begun prefix.prefix;
   held = prefix.held;
 }
-
--- the files before an item, and the item's own
-map-take_more : {A B : Type 0} (f : A → B) (xs : List A) (i : ℕ) (x : A) → i < length xs → x ≡ get_or xs i x → map f (take (i + 1) xs) ≡ map f (take i xs) ++ f x ∷ []
-map-take_more f xs i x below is =
-    ap (map f) (take_more xs i x below ∙ ap (λ (y : _). take i xs ++ y ∷ []) (sym is)) ∙ map-append f (take i xs) (x ∷ [])
-
--- one more file is finished
-pub one_more_finished : {A : Type 0} (f : A → File) (items : List A) (i : ℕ) (item : A) (before mid now : Option Held) → i < length items → item ≡ get_or items i item →
-    mid ≡ option_map (finish_files (map f (take i items))) before → now ≡ option_map (finish_files (f item ∷ [])) mid →
-    now ≡ option_map (finish_files (map f (take (i + 1) items))) before
-one_more_finished f items i item before mid now below is first then =
-    then
-    ∙ ap (option_map (finish_files (f item ∷ []))) first
-    ∙ finished_both (map f (take i items)) (f item ∷ []) before
-    ∙ ap (λ (due : List File). option_map (finish_files due) before) (sym (map-take_more f items i item below is))
 
 parts_at : {A : Type 0} (f : A → File) (items : List A) (i : ℕ) (item : A) → i < length items → item ≡ get_or items i item →
     (map f (take i items) ++ f item ∷ []) ++ map f (drop (i + 1) items) ≡ map f items
@@ -118,13 +89,6 @@ next_in_part f items i item before mid now below is first prefix =
     subst (λ (due : List File). HoldsPrefixOf due before now) (parts_at f items i item below is)
     (prefix_of_more (map f (take i items) ++ f item ∷ []) (map f (drop (i + 1) items)) before now
     (files_then_prefix (map f (take i items)) (f item ∷ []) before mid now first prefix))
-
--- nothing is finished
-pub finished_nothing : (before : Option Held) → IfSome before (λ h. is_some h.begun ≡ false) → before ≡ option_map (finish_files []) before
-finished_nothing None none = refl
-finished_nothing (Some h) none =
-    ap (λ (begun : Option File). Some (record h { begun = begun })) (nothing_begun h.begun none)
-    ∙ ap (λ (files : List File). Some (record { finished = files; begun = None })) (sym (append-nil h.finished))
 
 -- where nothing is told to be begun, none is
 pub told_none : (before : Option Held) (is_begun : Bool) → IfSome before (λ h. is_some h.begun ≡ is_begun) → is_begun ≡ false → IfSome before (λ h. is_some h.begun ≡ false)

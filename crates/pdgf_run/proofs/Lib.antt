@@ -1,6 +1,7 @@
 pub mod FillLemmas
 pub mod JobLemmas
+mod RunFillLemmas
+mod TableLemmas
 mod StreamTextLemmas
 pub mod DecideLemmas
-pub mod DictionaryLemmas
 pub mod ReportLemmas

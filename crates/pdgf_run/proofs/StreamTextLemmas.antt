@@ -2,7 +2,7 @@
 use Rattle.std.proofs.Common.{◌≡◌, ℕ, ◌+◌, ◌<◌, ◌≤◌, ◌==◌, true, ◌&&◌, Option, Some, None, List, length, filter, take, option_map, All, refl, ap, arith, sym, subst, ◌∙◌}
 use Rattle.std.specs.Prelude.{IfSome}
 use Rattle.std.specs.List.{flat_map, range_with_len}
-use Rattle.std.proofs.lemmas.Bool.{and_parts, eqb-true, lt-ltb}
+use Rattle.std.proofs.lemmas.Bool.{and_parts, lt-ltb}
 use Rattle.std.proofs.lemmas.List.Elements.{All-filter, filter_passes}
 use Rattle.std.proofs.lemmas.List.Folds.{flat_map-map}
 use Rattle.std.proofs.lemmas.List.FromFn.{get_or-range_with_len, length-range_with_len}
@@ -26,10 +26,9 @@ use Rattle.life_intervals.proofs.ParentLemmas.{parents-alive_now}
 use Rattle.life_intervals.proofs.RowLemmas.{death_by-first_ordinal}
 use Rattle.life_intervals.proofs.Ranges.{filter-range_with_len_all}
 use Rattle.life_intervals.proofs.StreamLemmas.{inserted-newborn, updated-changing}
-use Rattle.row_lines.specs.Lines.{cohort_text, first_lines, key_line_of, line, line_of}
+use Rattle.row_lines.specs.Lines.{cohort_text, deleted_text, first_lines, inserted_text, key_line_of, line, line_of, updated_text}
 use Rattle.update_box.specs.UnitLists.{ordinals}
 use Rattle.update_box.proofs.StepLemmas.{deleted-ordinals, updated-ordinals}
-use Rattle.pdgf_run.specs.DueFiles.{deleted_text, inserted_text, updated_text}
 
 -- the numbers of a range from 0 are less than its length
 range-below : (n : ℕ) → All (λ j. j < n) (range_with_len 0 n)
@@ -81,15 +80,6 @@ updated-live plan limits place below unit within =
     let test : ℕ → _ = λ ordinal. is_live generator place unit ordinal && change_unit generator place unit ordinal == unit in
     subst (λ (js : List ℕ). All (λ j. is_live generator place unit j ≡ true) js) (sym (updated-ordinals plan limits place below unit within))
     (λ i d among. (and_parts _ _ (filter_passes test (range_with_len 0 (first_ordinal (table_of plan place).births unit)) i d among)).0)
-
--- and changes at it
-pub updated-changed : (plan : Project) → IsInLimits plan → (place : ℕ) → place < length plan.schema.tables → (unit : ℕ) → unit ≤ last_unit plan →
-    All (λ j. change_unit (generator_of plan) place unit j ≡ unit) (ordinals (updated (generator_of plan) place unit))
-updated-changed plan limits place below unit within =
-    let generator : Generator = generator_of plan in
-    let test : ℕ → _ = λ ordinal. is_live generator place unit ordinal && change_unit generator place unit ordinal == unit in
-    subst (λ (js : List ℕ). All (λ j. change_unit generator place unit j ≡ unit) js) (sym (updated-ordinals plan limits place below unit within))
-    (λ i d among. eqb-true _ _ (and_parts _ _ (filter_passes test (range_with_len 0 (first_ordinal (table_of plan place).births unit)) i d among)).1)
 
 -- ---- what is inserted
 

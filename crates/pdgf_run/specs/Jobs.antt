@@ -1,17 +1,16 @@
 -- What a job is due.
-use Rattle.std.specs.Prelude.{◌≡◌, ◌<◌, ◌≤◌, ℕ, if◌then◌else◌, List, [], ◌∷◌, length, map, max, All, Bool, Option, Some, None, ⊤}
+use Rattle.std.specs.Prelude.{◌≡◌, ◌<◌, ◌≤◌, ℕ, ◌+◌, ◌^◌, if◌then◌else◌, List, [], ◌∷◌, get_or, length, map, max, All, Bool, Option, Some, None, ⊤}
 use Rattle.std.specs.List.{range_with_len}
 use Rattle.pd_outside.specs.Files.{File}
 use Rattle.schema_plan.specs.Dictionaries.{Project}
 use Rattle.schema_plan.specs.Layout.{layout_of}
 use Rattle.schema_plan.specs.TableFacts.{reach}
-use Rattle.life_intervals.specs.CohortOrders.{cohort_orders, table_orders}
-use Rattle.life_intervals.specs.CohortParents.{cohort_candidates, table_candidates}
+use Rattle.life_intervals.specs.JobOrders.{AreOrdersOf, entries_of}
 use Rattle.life_intervals.specs.Generator.{generator_of, last_unit}
 use Rattle.life_intervals.specs.Streams.{deleted, updated}
-use Rattle.row_lines.specs.LineDraws.{line_draws}
+use Rattle.row_lines.specs.TableLines.{AreTableLines, TableLinesOf}
 use Rattle.update_box.specs.UnitLists.{ordinals}
-use Rattle.pdgf_run.specs.DueFiles.{Part, ending_of, file_of, name_at, path_of, standard_output, text_files}
+use Rattle.pdgf_run.specs.DueFiles.{Part, ending_of, file_with, name_at, path_of, standard_output, text_files}
 use Rattle.pdgf_run.specs.declared.job.Content.{Content}
 use Rattle.pdgf_run.specs.declared.job.Content.TheVariants as content
 use Rattle.pdgf_run.specs.declared.job.Job.{Job}
@@ -21,7 +20,7 @@ use Rattle.pdgf_run.specs.declared.job.JobRows.TheVariants as rows
 use Rattle.pdgf_run.specs.declared.job.JobPart.{JobPart}
 use Rattle.pdgf_run.specs.declared.job.FilesJob.{FilesJob}
 use Rattle.pdgf_run.specs.declared.job.Places.{Places}
-use Rattle.pdgf_run.specs.declared.job.TableLines.{TableLines}
+use Rattle.pdgf_run.specs.declared.job.JobTables.{JobTables}
 
 -- the places, in order
 abbrev pub places_of : Places → List ℕ
@@ -29,10 +28,10 @@ places_of places = range_with_len places.from places.count
 
 -- what some rows are of their table
 abbrev pub content_of : JobRows → Content
-content_of (rows.Snapshot lines) = content.Snapshot
+content_of rows.Snapshot = content.Snapshot
 content_of (rows.Deleted ordinals) = content.Deleted
-content_of (rows.Updated ordinals lines) = content.Updated
-content_of (rows.Inserted orders candidates draws) = content.Inserted
+content_of (rows.Updated ordinals) = content.Updated
+content_of rows.Inserted = content.Inserted
 
 -- what a part holds
 abbrev pub part_of : JobPart → Part
@@ -40,12 +39,12 @@ part_of part = record { place = part.place; content = content_of part.rows }
 
 -- the file of a part that has one of its own
 abbrev pub own_file : Project → ℕ → JobPart → File
-own_file plan unit part = file_of plan unit part.name (part_of part ∷ [])
+own_file plan unit part = file_with plan unit part.name (part_of part ∷ [])
 
 -- the files of some parts: one for each, or one for all
 abbrev pub files_by : Project → ℕ → Bool → List JobPart → List File
 files_by plan unit apart parts =
-    if apart then map (own_file plan unit) parts else file_of plan unit standard_output (map part_of parts) ∷ []
+    if apart then map (own_file plan unit) parts else file_with plan unit standard_output (map part_of parts) ∷ []
 
 -- the files of a job over tables
 abbrev pub files_due : FilesJob → List File
@@ -57,35 +56,42 @@ due_of (Text bytes) = text_files bytes.items
 due_of (Page page) = text_files page.text
 due_of (Files job) = files_due job
 
--- what the lines at a unit of the table at a place are made from
-pub record AreLinesAt (plan : Project) (unit place : ℕ) (lines : TableLines) : Type 0 where
-  pub orders : lines.orders.items ≡ table_orders plan place unit
-  pub candidates : lines.candidates.items ≡ table_candidates plan place unit
-  pub draws : lines.draws ≡ line_draws plan place unit
+-- the table at a place is one of those at some places
+pub record IsAmong (places : Places) (place : ℕ) : Type 0 where
+  pub begun : places.from ≤ place
+  pub not_ended : place < places.from + places.count
 
--- the rows of a part, with what is made ready for them, are those of the table at a place at a unit
+-- what is made ready for the lines of the tables at some places is theirs
+pub record AreTablesOf (plan : Project) (tables : JobTables) : Type 0 where
+  pub orders : AreOrdersOf plan tables.orders
+  pub entries : entries_of tables.orders ≤ 2 ^ 23
+  pub within : tables.places.from + tables.places.count ≤ length plan.schema.tables
+  pub one_each : length tables.lines.items ≡ tables.places.count
+  pub lines : (number : ℕ) (d : TableLinesOf) → number < tables.places.count →
+      AreTableLines plan (tables.places.from + number) (get_or tables.lines.items number d)
+
+-- the rows of a part are those of the table at a place at a unit
 abbrev pub AreRowsOf : Project → ℕ → ℕ → JobRows → Type 0
-AreRowsOf plan unit place (rows.Snapshot lines) = AreLinesAt plan unit place lines
+AreRowsOf plan unit place rows.Snapshot = ⊤
 AreRowsOf plan unit place (rows.Deleted kept) = (1 ≤ unit) × (kept.items ≡ ordinals (deleted (generator_of plan) place unit))
-AreRowsOf plan unit place (rows.Updated kept lines) =
-    (1 ≤ unit) × (kept.items ≡ ordinals (updated (generator_of plan) place unit)) × AreLinesAt plan unit place lines
-AreRowsOf plan unit place (rows.Inserted orders candidates draws) =
-    (orders ≡ cohort_orders plan place unit) × (candidates ≡ cohort_candidates plan place unit)
-    × (draws ≡ line_draws plan place unit)
+AreRowsOf plan unit place (rows.Updated kept) = (1 ≤ unit) × (kept.items ≡ ordinals (updated (generator_of plan) place unit))
+AreRowsOf plan unit place rows.Inserted = ⊤
 
--- a part is one of the plan's tables
-pub record IsPartOf (plan : Project) (unit : ℕ) (part : JobPart) : Type 0 where
+-- a part is one of the plan's tables, at one of some places
+pub record IsPartOf (plan : Project) (unit : ℕ) (places : Places) (part : JobPart) : Type 0 where
   pub place : part.place < length plan.schema.tables
+  pub among : IsAmong places part.place
   pub rows : AreRowsOf plan unit part.place part.rows
 
--- a job's unit and parts are the plan's, and its buffer holds the greatest line and each key line, and has room for no more
+-- a job's unit, tables and parts are the plan's, and its page takes the greatest line and each key line, and no more than they or 64 KiB
+-- want
 pub record CanWrite (job : FilesJob) : Type 0 where
   pub unit : job.unit ≤ last_unit job.plan
-  pub small : last_unit job.plan ≤ 10000
-  pub parts : All (IsPartOf job.plan job.unit) job.parts.items
+  pub tables : AreTablesOf job.plan job.tables
+  pub parts : All (IsPartOf job.plan job.unit job.tables.places) job.parts.items
   pub room : reach (layout_of job.plan) ≤ job.page.room
   pub key_room : 21 ≤ job.page.room
-  pub no_more : job.page.room ≤ max (reach (layout_of job.plan)) 21
+  pub no_more : job.page.room ≤ max (reach (layout_of job.plan)) (2 ^ 16)
 
 abbrev pub CanFill : Job → Type 0
 CanFill (Text bytes) = ⊤
@@ -105,5 +111,5 @@ pub record Named : Type 0 where
 abbrev pub named : JobPart → Named
 named part = record { name = part.name; part = part_of part }
 
-abbrev pub with_name : Project → ℕ → Option (List ℕ) → Part → Named
-with_name plan unit out part = record { name = file_name plan unit out part; part = part }
+abbrev pub with_its_name : Project → ℕ → Option (List ℕ) → Part → Named
+with_its_name plan unit out part = record { name = file_name plan unit out part; part = part }

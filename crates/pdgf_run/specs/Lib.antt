@@ -1,12 +1,7 @@
 pub mod Appends
-pub mod Stages
-pub mod DictionaryFiles
 pub mod DueFiles
 pub mod Jobs
-pub mod KnownRows
-pub mod Limits
 pub mod ReadingList
-pub mod Statuses
 pub mod TopCall
 pub mod Verdict
-pub mod Words
+pub mod modes

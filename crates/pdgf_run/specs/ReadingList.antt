@@ -1,35 +1,10 @@
 -- The names that are asked of a library, each in its turn.
-use Rattle.std.specs.Prelude.{◌≡◌, ℕ, nat_lt, List, [], ◌∷◌, ◌++◌, length, Option, Some, None, Result, Ok, Err, IfSome, is_ok, if◌then◌else◌}
-use Rattle.std.specs.Result.{result_unwrap_or}
-use Rattle.pd_outside.specs.Files.{File, bytes_of}
+use Rattle.std.specs.Prelude.{ℕ, List, [], Option, Result, Ok, Err, IfSome}
+use Rattle.pd_outside.specs.Files.{File}
 use Rattle.pd_outside.specs.Library.{AskedPrefixOf}
-use Rattle.schema_model.specs.declared.table.Schema.{Schema}
-use Rattle.schema_read.specs.Schema.{schema_of}
-use Rattle.pdgf_run.specs.DictionaryFiles.{words_in}
-use Rattle.pdgf_run.specs.Limits.{schema_limit}
-use Rattle.pdgf_run.specs.Verdict.{citations_of}
-use Rattle.pdgf_run.specs.declared.usage.Request.{Request}
-use Rattle.pdgf_run.specs.declared.usage.UsageFault.{UsageFault}
-
--- ---- what a schema's text asks for
-
--- the dictionaries that a schema cites; none where it is at fault by itself
-abbrev pub cited_by : Schema → List (List ℕ)
-cited_by schema = result_unwrap_or (citations_of schema) []
-
--- those that what was read of a text cites
-abbrev pub cited_by_read : {F : Type 0} → Result Schema F → List (List ℕ)
-cited_by_read (Err fault) = []
-cited_by_read (Ok schema) = cited_by schema
-
--- those that a schema's text cites, where it isn't too long
-abbrev pub cited_in : List ℕ → List (List ℕ)
-cited_in bytes = if nat_lt schema_limit (length bytes) then [] else cited_by_read (schema_of bytes)
-
--- names up to and with the first whose file gives no dictionary
-abbrev pub up_to_fault : List File → List (List ℕ) → List (List ℕ)
-up_to_fault files [] = []
-up_to_fault files (name ∷ names) = name ∷ (if is_ok (words_in files name) then up_to_fault files names else [])
+use Rattle.plan_stages.specs.PlanNames.{plan_names, possible_names}
+use Rattle.request_words.specs.declared.usage.Request.{Request}
+use Rattle.request_words.specs.declared.usage.UsageFault.{UsageFault}
 
 -- ---- what words ask for
 
@@ -37,19 +12,14 @@ up_to_fault files (name ∷ names) = name ∷ (if is_ok (words_in files name) th
 -- first that is at fault
 abbrev pub reading_list : Result Request UsageFault → List File → List (List ℕ)
 reading_list (Err fault) files = []
-reading_list (Ok request) files = request.schema ∷ up_to_fault files (cited_in (bytes_of files request.schema))
+reading_list (Ok request) files = plan_names files request.schema
 
 -- the names that it may ask for where its schema has these bytes
 abbrev pub possible_list : Result Request UsageFault → List ℕ → List (List ℕ)
 possible_list (Err fault) bytes = []
-possible_list (Ok request) bytes = request.schema ∷ cited_in bytes
+possible_list (Ok request) bytes = possible_names bytes request.schema
 
 -- ---- what was asked
-
--- Of a schema's dictionaries the first were asked for, in their order; where files are told, none behind the first at fault.
-pub record AsksNames (names : List (List ℕ)) (files : Option (List File)) (before now : Option (List (List ℕ))) : Type 0 where
-  pub told : IfSome files (λ (f : List File). AskedPrefixOf (up_to_fault f names) before now)
-  pub untold : AskedPrefixOf names before now
 
 -- The names asked meanwhile are the first of the reading list, in its order, where files are told; and they are always the
 -- first of those that may be asked for, given some bytes of the schema.
@@ -57,13 +27,3 @@ pub record AsksInTurn (request : Result Request UsageFault) (files : Option (Lis
   pub told : IfSome files (λ (f : List File). AskedPrefixOf (reading_list request f) before now)
   pub bytes : List ℕ
   pub untold : AskedPrefixOf (possible_list request bytes) before now
-
--- names are told, and none was asked meanwhile
-abbrev pub AskedNone : Option (List (List ℕ)) → Option (List (List ℕ)) → Type 0
-AskedNone None now = ⊥
-AskedNone (Some names) now = now ≡ Some names
-
--- names are told, and this one alone was asked meanwhile
-abbrev pub AskedAlone : List ℕ → Option (List (List ℕ)) → Option (List (List ℕ)) → Type 0
-AskedAlone name None now = ⊥
-AskedAlone name (Some names) now = now ≡ Some (names ++ name ∷ [])

@@ -6,12 +6,15 @@ ghost use Rattle.std.specs.Option.{option_map};
 ghost use Rattle.pd_outside.specs.Faults.{Rose, counted};
 ghost use Rattle.pd_outside.specs.Library.{Content, left};
 ghost use Rattle.pd_outside.specs.Shelf.{HoldsPrefixOf};
-ghost use Rattle.pdgf_run.specs.Limits.{dictionary_limit, schema_limit};
-ghost use Rattle.pdgf_run.specs.ReadingList.{AskedAlone, AsksInTurn};
-ghost use Rattle.pdgf_run.specs.Statuses.{fixed_text, is_status, text_of};
+ghost use Rattle.plan_stages.specs.Limits.{dictionary_limit, schema_limit};
+ghost use Rattle.plan_stages.specs.PlanNames.{AskedAlone};
+ghost use Rattle.plan_stages.specs.Stages.{told_files};
+ghost use Rattle.refusals.specs.Messages.{fixed_text, message_of};
+ghost use Rattle.refusals.specs.Statuses.{is_status};
+ghost use Rattle.request_words.specs.Words.{request};
+ghost use Rattle.pdgf_run.specs.ReadingList.{AsksInTurn};
 ghost use Rattle.pdgf_run.specs.TopCall.{Carries, IsPastLimit};
-ghost use Rattle.pdgf_run.specs.Verdict.{told_files, WhereTold};
-ghost use Rattle.pdgf_run.specs.Words.{request};
+ghost use Rattle.pdgf_run.specs.Verdict.{WhereTold};
 
 use crate::report::refused;
 use crate::run::pdgf;
@@ -35,9 +38,9 @@ pub fn run_program<R: Threads + Sync, L: Library, S: Shelf>(
 
     // Words that can't be read: one isn't UTF-8, or there was no memory for them. Then nothing is read or written.
     ensures not_utf8 { IfErr words (λ error. error_kind error ≢ ErrorKind.OutOfMemory →
-        result ≡ record { status = 2; message = text_of (Refusal.Words UsageFault.Words) }) }
+        result ≡ record { status = 2; message = message_of (Refusal.Words UsageFault.Words) }) }
     ensures no_memory { IfErr words (λ error. error_kind error ≡ ErrorKind.OutOfMemory →
-        result ≡ record { status = 7; message = text_of (Refusal.Words UsageFault.Memory) }) }
+        result ≡ record { status = 7; message = message_of (Refusal.Words UsageFault.Memory) }) }
     ensures nothing_read { OnErr words (library.new ≡ library.old) }
     ensures nothing_written { OnErr words (shelf.new ≡ shelf.old) }
 
@@ -51,7 +54,7 @@ pub fn run_program<R: Threads + Sync, L: Library, S: Shelf>(
     ensures known { IsTrue (is_status result.status) }
     ensures message { IfSome (fixed_text result.status) (λ text. result.message ≡ text) }
     ensures usage { IfOk words (λ words. (result.status ≡ 2) ↔ IsErr (request (map string_bytes words.items))) }
-    ensures usage_text { IfOk words (λ words. IfErr (request (map string_bytes words.items)) (λ fault. result.message ≡ text_of (Refusal.Words fault))) }
+    ensures usage_text { IfOk words (λ words. IfErr (request (map string_bytes words.items)) (λ fault. result.message ≡ message_of (Refusal.Words fault))) }
     ensures too_long { result.status ≡ 10 → IsPastLimit result.message (L.taken library.new) }
     ensures longer_schema { IfOk words (λ words. IfOk (request (map string_bytes words.items)) (λ request. AskedAlone request.schema (L.asked library.old) (L.asked library.new) →
         L.taken library.new ≡ schema_limit + 1 → result.status ≡ 10)) }

@@ -1,531 +1,399 @@
-//! The files of a job, line by line onto a shelf.
+//! The files of a job, a page of lines at a time onto a shelf.
 
-ghost use Rattle.std.specs.Prelude.{◌≡◌, ◌<◌, ◌≤◌, ◌∷◌, [], All, false, true, IsTrue, OnErr, OnOk, length, map};
+ghost use Rattle.std.specs.Prelude.{◌≡◌, ◌-◌, ◌+◌, ◌*◌, ◌<◌, ◌≤◌, ◌∷◌, [], All, false, true, IsTrue, OnErr, OnOk, length, map};
 ghost use Rattle.pd_outside.specs.Faults.{FailsAtLast, Rose};
-ghost use Rattle.cohort_sizes.specs.Births.{born_count, cohort_size};
+ghost use Rattle.cohort_sizes.specs.Births.{born_count};
 ghost use Rattle.schema_plan.specs.Layout.{layout_of};
 ghost use Rattle.schema_plan.specs.TableFacts.{max_line, reach};
-ghost use Rattle.life_intervals.specs.CohortOrders.{cohort_orders, table_orders};
-ghost use Rattle.life_intervals.specs.CohortParents.{cohort_candidates, table_candidates};
 ghost use Rattle.life_intervals.specs.Generator.{generator_of, last_unit, rows_in_all, table_of};
-ghost use Rattle.life_intervals.specs.Intervals.{change_unit, is_live};
+ghost use Rattle.life_intervals.specs.Intervals.{is_live};
 ghost use Rattle.life_intervals.specs.Streams.{deleted as deleted_rows, updated as updated_rows};
-ghost use Rattle.row_lines.specs.CohortLines.{change_for, is_live_for, layout_for, line_in_cohort, living_line};
-ghost use Rattle.row_lines.specs.LineDraws.{line_draws};
-ghost use Rattle.row_lines.specs.Lines.{cohort_text, key_line_of, line_of};
+ghost use Rattle.row_lines.specs.Runs.{keys_text, listed_text, run_text};
 ghost use Rattle.update_box.specs.UnitLists.{ordinals};
 ghost use Rattle.pdgf_run.specs.Appends.{Appends, Finishes};
-ghost use Rattle.pdgf_run.specs.DueFiles.{content_text, file_of, part_text, standard_output, texts_of};
-ghost use Rattle.pdgf_run.specs.KnownRows.{IsRowOf};
-ghost use Rattle.pdgf_run.specs.Jobs.{AreLinesAt, CanFill, CanWrite, IsPartOf, due_of, files_due, own_file, part_of};
+ghost use Rattle.pdgf_run.specs.DueFiles.{content_text, file_with, text_of_part, standard_output, texts_of};
+ghost use Rattle.pdgf_run.specs.Jobs.{AreTablesOf, CanFill, CanWrite, IsPartOf, due_of, files_due, own_file, part_of};
 
-use crate::job::{Content, FilesJob, Job, JobPart, JobRows, TableLines};
-use life_intervals::{Candidates, CohortOrders, Survival, birth, cohort};
-use line_pages::PageBuf;
+use crate::job::{Content, FilesJob, Job, JobPart, JobRows, JobTables};
+use life_intervals::{Cohort, Rows, born, cohort};
+use line_pages::{Digits, PageBuf};
 use pd_outside::{Failed, Shelf, WriteFailed, write_all};
-use row_lines::{CohortLines, LineDraws, put_key};
-use schema_model::Sequence;
-use schema_plan::Plan;
+use row_lines::{RunBuf, RunLines, put_keys};
 use std::marker::Brand;
 use std::sync::ledger::{Blank, Ledger};
 use step_count::Steps;
 
-/// How many rows' keys, changes and lives are taken before their lines are written. Side by side they take a fraction of the time
-/// that each takes between two lines, since none waits for another.
-const ROWS_AT_ONCE: usize = 256;
+/// The size of the longest key line.
+const KEY_LINE: usize = 21;
 
-/// A row of a cohort by its index, with its key, the unit of its last change, and whether it is alive.
-#[derive(Clone, Copy)]
-struct KnownRow {
-    index: u64,
-    key: u64,
-    changed: u64,
-    is_live: bool,
+/// A page, and what the lines of a run of rows are made in.
+#[derive(Drop)]
+struct Desk {
+    page: PageBuf,
+    work: RunBuf,
 }
 
-/// Writes the line of a row of a cohort, or nothing where it isn't alive.
-fn write_row<S: Shelf, B: Ledger>(
+/// How many lines of at most so many bytes a page takes, at least one of which fits.
+fn lines_at_once(room: usize, most: u64) -> u64
+    requires some { 1 ≤ room }
+    requires fits { most ≤ room }
+    ensures some { 1 ≤ result }
+    ensures room { result * most ≤ room }
+{
+    room as u64 / most.max(1)
+}
+
+/// Writes the lines of the living among some rows one after the other, which the page takes at once.
+fn write_run<S: Shelf, B: Ledger>(
     shelf: &mut S,
-    page: &mut PageBuf,
-    lines: &CohortLines<'_>,
-    draws: &LineDraws,
-    row: KnownRow,
+    desk: &mut Desk,
+    lines: &RunLines<'_>,
+    first: u64,
+    count: u64,
     steps: &mut Steps<B>,
 ) -> Result<(), WriteFailed>
     requires begun { IsTrue (S.is_begun shelf.old) }
-    requires row { IsRowOf lines.now row }
-    requires draws { draws.now ≡ line_draws lines.now.plan lines.now.table lines.now.unit }
-    requires room { max_line (layout_of lines.now.plan) lines.now.table ≤ page.old.room }
-    ensures line { Appends result (living_line lines.now row.index) (S.held shelf.old) (S.held shelf.new) }
+    requires rows { first + count ≤ born_count (table_of lines.now.plan lines.now.table).births lines.now.unit }
+    requires room { count * max_line (layout_of lines.now.plan) lines.now.table ≤ desk.old.page.room }
+    ensures text { Appends result (run_text lines.now first count) (S.held shelf.old) (S.held shelf.new) }
     ensures cause { OnErr result (Rose (S.faults shelf.old) (S.faults shelf.new)) }
     ensures no_fault { OnOk result (S.faults shelf.new ≡ S.faults shelf.old) }
     ensures at_last { FailsAtLast result (S.faults shelf.old) (S.faults shelf.new) (S.last_failed shelf.new) }
     ensures never_falls { S.faults shelf.old ≤ S.faults shelf.new }
     ensures begun { IsTrue (S.is_begun shelf.new) }
-    ensures room { page.new.room ≡ page.old.room }
+    ensures room { desk.new.page.room ≡ desk.old.page.room }
 {
-    if !row.is_live {
-        return Ok(());
-    }
-    page.clear();
-    lines.put_known_line(row.index, row.key, row.changed, draws, page, steps);
-    write_all(shelf, page.text())
+    desk.page.clear();
+    lines.put_run(first, count, &mut desk.work, &mut desk.page, steps);
+    write_all(shelf, desk.page.text())
 }
 
-/// Writes the lines at a unit of the living of a cohort, which has `size` rows.
-fn write_cohort<S: Shelf, B: Ledger>(
+/// Writes the lines of the living among the rows from one up to another, so many rows at once.
+fn write_range<S: Shelf, B: Ledger>(
     shelf: &mut S,
-    page: &mut PageBuf,
-    lines: &CohortLines<'_>,
-    size: u64,
-    draws: &LineDraws,
+    desk: &mut Desk,
+    lines: &RunLines<'_>,
+    first: u64,
+    end: u64,
+    at_once: u64,
     steps: &mut Steps<B>,
 ) -> Result<(), WriteFailed>
     requires begun { IsTrue (S.is_begun shelf.old) }
-    requires size { size ≡ cohort_size (layout_for lines.now).births lines.now.born }
-    requires draws { draws.now ≡ line_draws lines.now.plan lines.now.table lines.now.unit }
-    requires room { max_line (layout_of lines.now.plan) lines.now.table ≤ page.old.room }
-    ensures lines { Appends result (cohort_text (generator_of lines.now.plan) lines.now.unit lines.now.table lines.now.born) (S.held shelf.old) (S.held shelf.new) }
+    requires ordered { first ≤ end }
+    requires rows { end ≤ born_count (table_of lines.now.plan lines.now.table).births lines.now.unit }
+    requires some { 1 ≤ at_once }
+    requires room { at_once * max_line (layout_of lines.now.plan) lines.now.table ≤ desk.old.page.room }
+    ensures text { Appends result (run_text lines.now first (end - first)) (S.held shelf.old) (S.held shelf.new) }
     ensures cause { OnErr result (Rose (S.faults shelf.old) (S.faults shelf.new)) }
     ensures no_fault { OnOk result (S.faults shelf.new ≡ S.faults shelf.old) }
     ensures at_last { FailsAtLast result (S.faults shelf.old) (S.faults shelf.new) (S.last_failed shelf.new) }
     ensures never_falls { S.faults shelf.old ≤ S.faults shelf.new }
     ensures begun { IsTrue (S.is_begun shelf.new) }
-    ensures room { page.new.room ≡ page.old.room }
+    ensures room { desk.new.page.room ≡ desk.old.page.room }
 {
-    if let Survival::Over = lines.survival() {
-        return Ok(());
-    }
-    let mut keys = [0; ROWS_AT_ONCE];
-    let mut changed = [0; ROWS_AT_ONCE];
-    let mut live = [false; ROWS_AT_ONCE];
-    let mut first = 0;
-    while first < size {
-        let count = (size - first).min(ROWS_AT_ONCE as u64);
-        lines.put_keys(first, count, &mut keys, steps);
-        lines.put_changes(first, count, &mut changed, steps);
-        lines.put_lives(first, count, &mut live, steps);
-        for index in 0..count {
-            let row = KnownRow {
-                index: first + index,
-                key: keys[index as usize],
-                changed: changed[index as usize],
-                is_live: live[index as usize],
-            };
-            match write_row(shelf, page, lines, draws, row, steps) {
-                Ok(()) => {}
-                Err(WriteFailed) => return Err(WriteFailed),
-            }
+    let mut next = first;
+    while next < end {
+        let count = (end - next).min(at_once);
+        match write_run(shelf, desk, lines, next, count, steps) {
+            Ok(()) => {}
+            Err(WriteFailed) => return Err(WriteFailed),
         }
-        first += count;
+        next += count;
     }
     Ok(())
 }
 
-/// A table by its place, at a unit.
-#[derive(Clone, Copy)]
-struct TableAt<'a> {
-    plan: &'a Plan,
-    place: u32,
-    unit: u64,
-}
-
-/// Writes the lines at a unit of the living among the rows that are born at another.
-fn write_born<S: Shelf, B: Ledger>(
+/// Writes the lines of the rows of these ordinals, which are alive, so many rows at once.
+fn write_listed<S: Shelf, B: Ledger>(
     shelf: &mut S,
-    page: &mut PageBuf,
-    at: &TableAt<'_>,
-    born: u64,
-    orders: &CohortOrders,
-    candidates: &[Option<Candidates>],
-    draws: &LineDraws,
+    desk: &mut Desk,
+    lines: &RunLines<'_>,
+    ordinals: &[u64],
+    at_once: u64,
     steps: &mut Steps<B>,
 ) -> Result<(), WriteFailed>
     requires begun { IsTrue (S.is_begun shelf.old) }
-    requires table { at.now.place < length at.now.plan.now.schema.tables }
-    requires unit { at.now.unit ≤ last_unit at.now.plan.now }
-    requires small { last_unit at.now.plan.now ≤ 10000 }
-    requires room { reach (layout_of at.now.plan.now) ≤ page.old.room }
-    requires born { born ≤ at.now.unit }
-    requires orders { orders.now ≡ cohort_orders at.now.plan.now at.now.place born }
-    requires candidates { candidates.now ≡ cohort_candidates at.now.plan.now at.now.place born }
-    requires draws { draws.now ≡ line_draws at.now.plan.now at.now.place at.now.unit }
-    ensures lines { Appends result (cohort_text (generator_of at.now.plan.now) at.now.unit at.now.place born) (S.held shelf.old) (S.held shelf.new) }
+    requires born { All (λ j. j < born_count (table_of lines.now.plan lines.now.table).births lines.now.unit) ordinals.now }
+    requires alive { All (λ j. is_live (generator_of lines.now.plan) lines.now.table lines.now.unit j ≡ true) ordinals.now }
+    requires some { 1 ≤ at_once }
+    requires room { at_once * max_line (layout_of lines.now.plan) lines.now.table ≤ desk.old.page.room }
+    ensures text { Appends result (listed_text lines.now ordinals.now) (S.held shelf.old) (S.held shelf.new) }
     ensures cause { OnErr result (Rose (S.faults shelf.old) (S.faults shelf.new)) }
     ensures no_fault { OnOk result (S.faults shelf.new ≡ S.faults shelf.old) }
     ensures at_last { FailsAtLast result (S.faults shelf.old) (S.faults shelf.new) (S.last_failed shelf.new) }
     ensures never_falls { S.faults shelf.old ≤ S.faults shelf.new }
     ensures begun { IsTrue (S.is_begun shelf.new) }
-    ensures room { page.new.room ≡ page.old.room }
+    ensures room { desk.new.page.room ≡ desk.old.page.room }
 {
-    let lines = CohortLines::new(at.plan, at.place, born, at.unit, orders, candidates);
-    let size = cohort(at.plan, at.place, born).size;
-    write_cohort(shelf, page, &lines, size, draws, steps)
+    let mut next = 0;
+    while next < ordinals.len() {
+        let count = (ordinals.len() - next).min(at_once as usize);
+        desk.page.clear();
+        lines.put_listed(
+            &ordinals[next..next + count],
+            &mut desk.work,
+            &mut desk.page,
+            steps,
+        );
+        match write_all(shelf, desk.page.text()) {
+            Ok(()) => {}
+            Err(WriteFailed) => return Err(WriteFailed),
+        }
+        next += count;
+    }
+    Ok(())
+}
+
+/// Writes the key lines of the rows of a table that have these ordinals.
+fn write_keys<S: Shelf, B: Ledger>(
+    shelf: &mut S,
+    desk: &mut Desk,
+    rows: &Rows<'_>,
+    digits: &Digits,
+    place: u32,
+    ordinals: &[u64],
+    steps: &mut Steps<B>,
+) -> Result<(), WriteFailed>
+    requires begun { IsTrue (S.is_begun shelf.old) }
+    requires table { place < length rows.now.schema.tables }
+    requires born { All (λ j. j < rows_in_all rows.now place) ordinals.now }
+    requires room { 21 ≤ desk.old.page.room }
+    ensures text { Appends result (keys_text rows.now place ordinals.now) (S.held shelf.old) (S.held shelf.new) }
+    ensures cause { OnErr result (Rose (S.faults shelf.old) (S.faults shelf.new)) }
+    ensures no_fault { OnOk result (S.faults shelf.new ≡ S.faults shelf.old) }
+    ensures at_last { FailsAtLast result (S.faults shelf.old) (S.faults shelf.new) (S.last_failed shelf.new) }
+    ensures never_falls { S.faults shelf.old ≤ S.faults shelf.new }
+    ensures begun { IsTrue (S.is_begun shelf.new) }
+    ensures room { desk.new.page.room ≡ desk.old.page.room }
+{
+    desk.page.clear();
+    let at_once = lines_at_once(desk.page.free(), KEY_LINE as u64) as usize;
+    let mut next = 0;
+    while next < ordinals.len() {
+        let count = (ordinals.len() - next).min(at_once);
+        desk.page.clear();
+        put_keys(
+            rows,
+            digits,
+            place,
+            &ordinals[next..next + count],
+            &mut desk.work,
+            &mut desk.page,
+            steps,
+        );
+        match write_all(shelf, desk.page.text()) {
+            Ok(()) => {}
+            Err(WriteFailed) => return Err(WriteFailed),
+        }
+        next += count;
+    }
+    Ok(())
 }
 
 /// Writes the text of a table at a unit: the lines of the rows that are born by then and alive.
-fn write_table<S: Shelf, B: Ledger>(
+fn write_snapshot<S: Shelf, B: Ledger>(
     shelf: &mut S,
-    page: &mut PageBuf,
-    at: &TableAt<'_>,
-    orders: &[CohortOrders],
-    candidates: &[Sequence<Option<Candidates>>],
-    draws: &LineDraws,
-    steps: &mut Steps<B>,
-) -> Result<(), WriteFailed>
-    requires begun { IsTrue (S.is_begun shelf.old) }
-    requires table { at.now.place < length at.now.plan.now.schema.tables }
-    requires unit { at.now.unit ≤ last_unit at.now.plan.now }
-    requires small { last_unit at.now.plan.now ≤ 10000 }
-    requires room { reach (layout_of at.now.plan.now) ≤ page.old.room }
-    requires orders { orders.now ≡ table_orders at.now.plan.now at.now.place at.now.unit }
-    requires candidates { candidates.now ≡ table_candidates at.now.plan.now at.now.place at.now.unit }
-    requires draws { draws.now ≡ line_draws at.now.plan.now at.now.place at.now.unit }
-    ensures text { Appends result (content_text at.now.plan.now at.now.unit at.now.place Content.Snapshot) (S.held shelf.old) (S.held shelf.new) }
-    ensures cause { OnErr result (Rose (S.faults shelf.old) (S.faults shelf.new)) }
-    ensures no_fault { OnOk result (S.faults shelf.new ≡ S.faults shelf.old) }
-    ensures at_last { FailsAtLast result (S.faults shelf.old) (S.faults shelf.new) (S.last_failed shelf.new) }
-    ensures never_falls { S.faults shelf.old ≤ S.faults shelf.new }
-    ensures begun { IsTrue (S.is_begun shelf.new) }
-    ensures room { page.new.room ≡ page.old.room }
-{
-    let _sound = at.plan.schema(); // so the simulation is its closed form
-    for born in 0..at.unit + 1 {
-        match write_born(
-            shelf,
-            page,
-            at,
-            born,
-            &orders[born as usize],
-            candidates[born as usize].as_slice(),
-            draws,
-            steps,
-        ) {
-            Ok(()) => {}
-            Err(WriteFailed) => return Err(WriteFailed),
-        }
-    }
-    Ok(())
-}
-
-/// Writes the key line of the row of a table that has this ordinal.
-fn write_key<S: Shelf, B: Ledger>(
-    shelf: &mut S,
-    page: &mut PageBuf,
-    at: &TableAt<'_>,
-    ordinal: u64,
-    steps: &mut Steps<B>,
-) -> Result<(), WriteFailed>
-    requires begun { IsTrue (S.is_begun shelf.old) }
-    requires table { at.now.place < length at.now.plan.now.schema.tables }
-    requires row { ordinal < rows_in_all at.now.plan.now at.now.place }
-    requires room { 21 ≤ page.old.room }
-    ensures line { Appends result (key_line_of (generator_of at.now.plan.now) (last_unit at.now.plan.now) at.now.place ordinal) (S.held shelf.old) (S.held shelf.new) }
-    ensures cause { OnErr result (Rose (S.faults shelf.old) (S.faults shelf.new)) }
-    ensures no_fault { OnOk result (S.faults shelf.new ≡ S.faults shelf.old) }
-    ensures at_last { FailsAtLast result (S.faults shelf.old) (S.faults shelf.new) (S.last_failed shelf.new) }
-    ensures never_falls { S.faults shelf.old ≤ S.faults shelf.new }
-    ensures begun { IsTrue (S.is_begun shelf.new) }
-    ensures room { page.new.room ≡ page.old.room }
-{
-    page.clear();
-    put_key(at.plan, at.place, ordinal, page, steps);
-    write_all(shelf, page.text())
-}
-
-/// Writes the key lines of the rows of a table that a unit deletes, which these ordinals name.
-fn write_deleted<S: Shelf, B: Ledger>(
-    shelf: &mut S,
-    page: &mut PageBuf,
-    at: &TableAt<'_>,
-    deleted: &[u64],
-    steps: &mut Steps<B>,
-) -> Result<(), WriteFailed>
-    requires begun { IsTrue (S.is_begun shelf.old) }
-    requires table { at.now.place < length at.now.plan.now.schema.tables }
-    requires unit { at.now.unit ≤ last_unit at.now.plan.now }
-    requires small { last_unit at.now.plan.now ≤ 10000 }
-    requires room { reach (layout_of at.now.plan.now) ≤ page.old.room }
-    requires key_room { 21 ≤ page.old.room }
-    requires some { 1 ≤ at.now.unit }
-    requires rows { deleted.now ≡ ordinals (deleted_rows (generator_of at.now.plan.now) at.now.place at.now.unit) }
-    ensures text { Appends result (content_text at.now.plan.now at.now.unit at.now.place Content.Deleted) (S.held shelf.old) (S.held shelf.new) }
-    ensures cause { OnErr result (Rose (S.faults shelf.old) (S.faults shelf.new)) }
-    ensures no_fault { OnOk result (S.faults shelf.new ≡ S.faults shelf.old) }
-    ensures at_last { FailsAtLast result (S.faults shelf.old) (S.faults shelf.new) (S.last_failed shelf.new) }
-    ensures never_falls { S.faults shelf.old ≤ S.faults shelf.new }
-    ensures begun { IsTrue (S.is_begun shelf.new) }
-    ensures room { page.new.room ≡ page.old.room }
-{
-    let _sound = at.plan.schema(); // so each of them is born before
-    for ordinal in deleted {
-        match write_key(shelf, page, at, *ordinal, steps) {
-            Ok(()) => {}
-            Err(WriteFailed) => return Err(WriteFailed),
-        }
-    }
-    Ok(())
-}
-
-/// Writes the line of a living row of a cohort, whose last change is at this unit.
-fn write_line<S: Shelf, B: Ledger>(
-    shelf: &mut S,
-    page: &mut PageBuf,
-    lines: &CohortLines<'_>,
-    draws: &LineDraws,
-    index: u64,
-    changed: u64,
-    steps: &mut Steps<B>,
-) -> Result<(), WriteFailed>
-    requires begun { IsTrue (S.is_begun shelf.old) }
-    requires row { index < cohort_size (layout_for lines.now).births lines.now.born }
-    requires alive { is_live_for lines.now index ≡ true }
-    requires changed { changed ≡ change_for lines.now index }
-    requires draws { draws.now ≡ line_draws lines.now.plan lines.now.table lines.now.unit }
-    requires room { max_line (layout_of lines.now.plan) lines.now.table ≤ page.old.room }
-    ensures line { Appends result (line_in_cohort lines.now index) (S.held shelf.old) (S.held shelf.new) }
-    ensures cause { OnErr result (Rose (S.faults shelf.old) (S.faults shelf.new)) }
-    ensures no_fault { OnOk result (S.faults shelf.new ≡ S.faults shelf.old) }
-    ensures at_last { FailsAtLast result (S.faults shelf.old) (S.faults shelf.new) (S.last_failed shelf.new) }
-    ensures never_falls { S.faults shelf.old ≤ S.faults shelf.new }
-    ensures begun { IsTrue (S.is_begun shelf.new) }
-    ensures room { page.new.room ≡ page.old.room }
-{
-    let key = lines.key(index, steps);
-    page.clear();
-    lines.put_known_line(index, key, changed, draws, page, steps);
-    write_all(shelf, page.text())
-}
-
-/// The lines of the rows that are born at a unit.
-fn cohort_lines<'a>(at: &TableAt<'a>, from: &'a TableLines, born: u64) -> CohortLines<'a>
-    requires table { at.now.place < length at.now.plan.now.schema.tables }
-    requires unit { at.now.unit ≤ last_unit at.now.plan.now }
-    requires small { last_unit at.now.plan.now ≤ 10000 }
-    requires from { AreLinesAt at.now.plan.now at.now.unit at.now.place from.now }
-    requires born { born ≤ at.now.unit }
-    ensures { result ≡ record { plan = at.now.plan.now; table = at.now.place; born = born; unit = at.now.unit } }
-{
-    let orders = from.orders.as_slice();
-    let candidates = from.candidates.as_slice();
-    CohortLines::new(
-        at.plan,
-        at.place,
-        born,
-        at.unit,
-        &orders[born as usize],
-        candidates[born as usize].as_slice(),
-    )
-}
-
-/// Turns to the lines of the rows that are born at a unit, where they are those of another.
-#[inline(always)]
-fn turn_to<'a>(
-    at: &TableAt<'a>,
-    from: &'a TableLines,
+    desk: &mut Desk,
+    rows: &Rows<'_>,
+    lines: &RunLines<'_>,
+    place: u32,
     unit: u64,
-    born: &mut u64,
-    lines: &mut CohortLines<'a>,
-)
-    requires table { at.now.place < length at.now.plan.now.schema.tables }
-    requires unit { at.now.unit ≤ last_unit at.now.plan.now }
-    requires small { last_unit at.now.plan.now ≤ 10000 }
-    requires from { AreLinesAt at.now.plan.now at.now.unit at.now.place from.now }
-    requires born { unit ≤ at.now.unit }
-    requires lines { lines.old ≡ record { plan = at.now.plan.now; table = at.now.place; born = born.old; unit = at.now.unit } }
-    ensures born { born.new ≡ unit }
-    ensures lines { lines.new ≡ record { plan = at.now.plan.now; table = at.now.place; born = unit; unit = at.now.unit } }
-{
-    if unit != *born {
-        *born = unit;
-        *lines = cohort_lines(at, from, unit);
-    }
-}
-
-/// Writes the line of a row of a table that the unit updates.
-fn write_updated_row<'a, S: Shelf, B: Ledger>(
-    shelf: &mut S,
-    page: &mut PageBuf,
-    at: &TableAt<'a>,
-    ordinal: u64,
-    from: &'a TableLines,
-    born: &mut u64,
-    lines: &mut CohortLines<'a>,
+    at_once: u64,
     steps: &mut Steps<B>,
 ) -> Result<(), WriteFailed>
     requires begun { IsTrue (S.is_begun shelf.old) }
-    requires table { at.now.place < length at.now.plan.now.schema.tables }
-    requires unit { at.now.unit ≤ last_unit at.now.plan.now }
-    requires small { last_unit at.now.plan.now ≤ 10000 }
-    requires row { ordinal < born_count (table_of at.now.plan.now at.now.place).births at.now.unit }
-    requires alive { is_live (generator_of at.now.plan.now) at.now.place at.now.unit ordinal ≡ true }
-    requires changed { change_unit (generator_of at.now.plan.now) at.now.place at.now.unit ordinal ≡ at.now.unit }
-    requires from { AreLinesAt at.now.plan.now at.now.unit at.now.place from.now }
-    requires lines { lines.old ≡ record { plan = at.now.plan.now; table = at.now.place; born = born.old; unit = at.now.unit } }
-    requires room { max_line (layout_of at.now.plan.now) at.now.place ≤ page.old.room }
-    ensures line { Appends result (line_of (generator_of at.now.plan.now) at.now.unit at.now.place ordinal) (S.held shelf.old) (S.held shelf.new) }
+    requires rows { lines.now.plan ≡ rows.now }
+    requires table { lines.now.table < length rows.now.schema.tables }
+    requires unit { lines.now.unit ≤ last_unit rows.now }
+    requires place { place ≡ lines.now.table }
+    requires at { unit ≡ lines.now.unit }
+    requires some { 1 ≤ at_once }
+    requires room { at_once * max_line (layout_of rows.now) lines.now.table ≤ desk.old.page.room }
+    ensures text { Appends result (content_text rows.now lines.now.unit lines.now.table Content.Snapshot) (S.held shelf.old) (S.held shelf.new) }
     ensures cause { OnErr result (Rose (S.faults shelf.old) (S.faults shelf.new)) }
     ensures no_fault { OnOk result (S.faults shelf.new ≡ S.faults shelf.old) }
     ensures at_last { FailsAtLast result (S.faults shelf.old) (S.faults shelf.new) (S.last_failed shelf.new) }
     ensures never_falls { S.faults shelf.old ≤ S.faults shelf.new }
     ensures begun { IsTrue (S.is_begun shelf.new) }
-    ensures room { page.new.room ≡ page.old.room }
-    ensures lines { lines.new ≡ record { plan = at.now.plan.now; table = at.now.place; born = born.new; unit = at.now.unit } }
+    ensures room { desk.new.page.room ≡ desk.old.page.room }
 {
-    let unit = birth(at.plan, at.place, ordinal);
-    turn_to(at, from, unit, born, lines);
-    let index = ordinal - cohort(at.plan, at.place, unit).first;
-    write_line(shelf, page, lines, &from.draws, index, at.unit, steps)
-}
-
-/// Writes the lines of the rows of a table that a unit updates, which these ordinals name.
-fn write_updated<'a, S: Shelf, B: Ledger>(
-    shelf: &mut S,
-    page: &mut PageBuf,
-    at: &TableAt<'a>,
-    updated: &[u64],
-    from: &'a TableLines,
-    steps: &mut Steps<B>,
-) -> Result<(), WriteFailed>
-    requires begun { IsTrue (S.is_begun shelf.old) }
-    requires table { at.now.place < length at.now.plan.now.schema.tables }
-    requires unit { at.now.unit ≤ last_unit at.now.plan.now }
-    requires small { last_unit at.now.plan.now ≤ 10000 }
-    requires room { reach (layout_of at.now.plan.now) ≤ page.old.room }
-    requires some { 1 ≤ at.now.unit }
-    requires rows { updated.now ≡ ordinals (updated_rows (generator_of at.now.plan.now) at.now.place at.now.unit) }
-    requires from { AreLinesAt at.now.plan.now at.now.unit at.now.place from.now }
-    ensures text { Appends result (content_text at.now.plan.now at.now.unit at.now.place Content.Updated) (S.held shelf.old) (S.held shelf.new) }
-    ensures cause { OnErr result (Rose (S.faults shelf.old) (S.faults shelf.new)) }
-    ensures no_fault { OnOk result (S.faults shelf.new ≡ S.faults shelf.old) }
-    ensures at_last { FailsAtLast result (S.faults shelf.old) (S.faults shelf.new) (S.last_failed shelf.new) }
-    ensures never_falls { S.faults shelf.old ≤ S.faults shelf.new }
-    ensures begun { IsTrue (S.is_begun shelf.new) }
-    ensures room { page.new.room ≡ page.old.room }
-{
-    let _sound = at.plan.schema(); // so each of them is born before, and alive
-    let mut born = 0;
-    let mut lines = cohort_lines(at, from, born);
-    for ordinal in updated {
-        match write_updated_row(
-            shelf, page, at, *ordinal, from, &mut born, &mut lines, steps,
-        ) {
-            Ok(()) => {}
-            Err(WriteFailed) => return Err(WriteFailed),
-        }
-    }
-    Ok(())
+    let _sound = rows.plan().schema(); // so the simulation is its closed form
+    let first = lines.first_living();
+    let end = born(rows.plan(), place, unit);
+    write_range(shelf, desk, lines, first, end, at_once, steps)
 }
 
 /// Writes the lines of the cohort of a table that a unit inserts.
 fn write_inserted<S: Shelf, B: Ledger>(
     shelf: &mut S,
-    page: &mut PageBuf,
-    at: &TableAt<'_>,
-    orders: &CohortOrders,
-    candidates: &[Option<Candidates>],
-    draws: &LineDraws,
+    desk: &mut Desk,
+    rows: &Rows<'_>,
+    lines: &RunLines<'_>,
+    place: u32,
+    unit: u64,
+    at_once: u64,
     steps: &mut Steps<B>,
 ) -> Result<(), WriteFailed>
     requires begun { IsTrue (S.is_begun shelf.old) }
-    requires table { at.now.place < length at.now.plan.now.schema.tables }
-    requires unit { at.now.unit ≤ last_unit at.now.plan.now }
-    requires small { last_unit at.now.plan.now ≤ 10000 }
-    requires room { reach (layout_of at.now.plan.now) ≤ page.old.room }
-    requires orders { orders.now ≡ cohort_orders at.now.plan.now at.now.place at.now.unit }
-    requires candidates { candidates.now ≡ cohort_candidates at.now.plan.now at.now.place at.now.unit }
-    requires draws { draws.now ≡ line_draws at.now.plan.now at.now.place at.now.unit }
-    ensures text { Appends result (content_text at.now.plan.now at.now.unit at.now.place Content.Inserted) (S.held shelf.old) (S.held shelf.new) }
+    requires rows { lines.now.plan ≡ rows.now }
+    requires table { lines.now.table < length rows.now.schema.tables }
+    requires unit { lines.now.unit ≤ last_unit rows.now }
+    requires place { place ≡ lines.now.table }
+    requires at { unit ≡ lines.now.unit }
+    requires some { 1 ≤ at_once }
+    requires room { at_once * max_line (layout_of rows.now) lines.now.table ≤ desk.old.page.room }
+    ensures text { Appends result (content_text rows.now lines.now.unit lines.now.table Content.Inserted) (S.held shelf.old) (S.held shelf.new) }
     ensures cause { OnErr result (Rose (S.faults shelf.old) (S.faults shelf.new)) }
     ensures no_fault { OnOk result (S.faults shelf.new ≡ S.faults shelf.old) }
     ensures at_last { FailsAtLast result (S.faults shelf.old) (S.faults shelf.new) (S.last_failed shelf.new) }
     ensures never_falls { S.faults shelf.old ≤ S.faults shelf.new }
     ensures begun { IsTrue (S.is_begun shelf.new) }
-    ensures room { page.new.room ≡ page.old.room }
+    ensures room { desk.new.page.room ≡ desk.old.page.room }
 {
-    let _sound = at.plan.schema(); // so each of them is alive
-    write_born(shelf, page, at, at.unit, orders, candidates, draws, steps)
+    let _sound = rows.plan().schema(); // so each of them is alive
+    let Cohort { first, size } = cohort(rows.plan(), place, unit);
+    write_range(shelf, desk, lines, first, first + size, at_once, steps)
+}
+
+/// Writes the lines of the rows of a table that a unit updates, which these ordinals name.
+fn write_updated<S: Shelf, B: Ledger>(
+    shelf: &mut S,
+    desk: &mut Desk,
+    rows: &Rows<'_>,
+    lines: &RunLines<'_>,
+    updated: &[u64],
+    at_once: u64,
+    steps: &mut Steps<B>,
+) -> Result<(), WriteFailed>
+    requires begun { IsTrue (S.is_begun shelf.old) }
+    requires rows { lines.now.plan ≡ rows.now }
+    requires table { lines.now.table < length rows.now.schema.tables }
+    requires unit { lines.now.unit ≤ last_unit rows.now }
+    requires later { 1 ≤ lines.now.unit }
+    requires ordinals { updated.now ≡ ordinals (updated_rows (generator_of rows.now) lines.now.table lines.now.unit) }
+    requires some { 1 ≤ at_once }
+    requires room { at_once * max_line (layout_of rows.now) lines.now.table ≤ desk.old.page.room }
+    ensures text { Appends result (content_text rows.now lines.now.unit lines.now.table Content.Updated) (S.held shelf.old) (S.held shelf.new) }
+    ensures cause { OnErr result (Rose (S.faults shelf.old) (S.faults shelf.new)) }
+    ensures no_fault { OnOk result (S.faults shelf.new ≡ S.faults shelf.old) }
+    ensures at_last { FailsAtLast result (S.faults shelf.old) (S.faults shelf.new) (S.last_failed shelf.new) }
+    ensures never_falls { S.faults shelf.old ≤ S.faults shelf.new }
+    ensures begun { IsTrue (S.is_begun shelf.new) }
+    ensures room { desk.new.page.room ≡ desk.old.page.room }
+{
+    let _sound = rows.plan().schema(); // so each of them is born before, and alive
+    write_listed(shelf, desk, lines, updated, at_once, steps)
+}
+
+/// Writes the key lines of the rows of a table that a unit deletes, which these ordinals name.
+fn write_deleted<S: Shelf, B: Ledger>(
+    shelf: &mut S,
+    desk: &mut Desk,
+    rows: &Rows<'_>,
+    unit: u64,
+    tables: &JobTables,
+    place: u32,
+    deleted: &[u64],
+    steps: &mut Steps<B>,
+) -> Result<(), WriteFailed>
+    requires begun { IsTrue (S.is_begun shelf.old) }
+    requires tables { AreTablesOf rows.now tables.now }
+    requires table { place < length rows.now.schema.tables }
+    requires unit { unit ≤ last_unit rows.now }
+    requires later { 1 ≤ unit }
+    requires ordinals { deleted.now ≡ ordinals (deleted_rows (generator_of rows.now) place unit) }
+    requires room { 21 ≤ desk.old.page.room }
+    ensures text { Appends result (content_text rows.now unit place Content.Deleted) (S.held shelf.old) (S.held shelf.new) }
+    ensures cause { OnErr result (Rose (S.faults shelf.old) (S.faults shelf.new)) }
+    ensures no_fault { OnOk result (S.faults shelf.new ≡ S.faults shelf.old) }
+    ensures at_last { FailsAtLast result (S.faults shelf.old) (S.faults shelf.new) (S.last_failed shelf.new) }
+    ensures never_falls { S.faults shelf.old ≤ S.faults shelf.new }
+    ensures begun { IsTrue (S.is_begun shelf.new) }
+    ensures room { desk.new.page.room ≡ desk.old.page.room }
+{
+    let _sound = rows.plan().schema(); // so each of them is born before
+    write_keys(shelf, desk, rows, &tables.digits, place, deleted, steps)
 }
 
 /// Writes a part of a table.
 fn write_part<S: Shelf, B: Ledger>(
     shelf: &mut S,
-    page: &mut PageBuf,
-    plan: &Plan,
+    desk: &mut Desk,
+    rows: &Rows<'_>,
     unit: u64,
+    tables: &JobTables,
     part: &JobPart,
     steps: &mut Steps<B>,
 ) -> Result<(), WriteFailed>
     requires begun { IsTrue (S.is_begun shelf.old) }
-    requires part { IsPartOf plan.now unit part.now }
-    requires unit { unit ≤ last_unit plan.now }
-    requires small { last_unit plan.now ≤ 10000 }
-    requires room { reach (layout_of plan.now) ≤ page.old.room }
-    requires key_room { 21 ≤ page.old.room }
-    ensures text { Appends result (part_text plan.now unit (part_of part.now)) (S.held shelf.old) (S.held shelf.new) }
+    requires tables { AreTablesOf rows.now tables.now }
+    requires part { IsPartOf rows.now unit tables.now.places part.now }
+    requires unit { unit ≤ last_unit rows.now }
+    requires room { reach (layout_of rows.now) ≤ desk.old.page.room }
+    requires key_room { 21 ≤ desk.old.page.room }
+    ensures text { Appends result (text_of_part rows.now unit (part_of part.now)) (S.held shelf.old) (S.held shelf.new) }
     ensures cause { OnErr result (Rose (S.faults shelf.old) (S.faults shelf.new)) }
     ensures no_fault { OnOk result (S.faults shelf.new ≡ S.faults shelf.old) }
     ensures at_last { FailsAtLast result (S.faults shelf.old) (S.faults shelf.new) (S.last_failed shelf.new) }
     ensures never_falls { S.faults shelf.old ≤ S.faults shelf.new }
     ensures begun { IsTrue (S.is_begun shelf.new) }
-    ensures room { page.new.room ≡ page.old.room }
+    ensures room { desk.new.page.room ≡ desk.old.page.room }
 {
-    let at = TableAt {
-        plan,
-        place: part.place,
-        unit,
-    };
+    let place = part.place;
+    let lines = tables.lines_of(rows, unit, place);
+    desk.page.clear();
+    let at_once = lines_at_once(desk.page.free(), rows.plan().max_line(place));
     match &part.rows {
-        JobRows::Snapshot(lines) => write_table(
+        JobRows::Snapshot => write_snapshot(shelf, desk, rows, &lines, place, unit, at_once, steps),
+        JobRows::Deleted(deleted) => write_deleted(
             shelf,
-            page,
-            &at,
-            lines.orders.as_slice(),
-            lines.candidates.as_slice(),
-            &lines.draws,
+            desk,
+            rows,
+            unit,
+            tables,
+            place,
+            deleted.as_slice(),
             steps,
         ),
-        JobRows::Deleted(deleted) => write_deleted(shelf, page, &at, deleted.as_slice(), steps),
-        JobRows::Updated(updated, lines) => {
-            write_updated(shelf, page, &at, updated.as_slice(), lines, steps)
-        }
-        JobRows::Inserted(orders, candidates, draws) => write_inserted(
+        JobRows::Updated(updated) => write_updated(
             shelf,
-            page,
-            &at,
-            orders,
-            candidates.as_slice(),
-            draws,
+            desk,
+            rows,
+            &lines,
+            updated.as_slice(),
+            at_once,
             steps,
         ),
+        JobRows::Inserted => write_inserted(shelf, desk, rows, &lines, place, unit, at_once, steps),
     }
 }
 
 /// Writes some parts, one after the other.
 fn write_parts<S: Shelf, B: Ledger>(
     shelf: &mut S,
-    page: &mut PageBuf,
-    plan: &Plan,
+    desk: &mut Desk,
+    rows: &Rows<'_>,
     unit: u64,
+    tables: &JobTables,
     parts: &[JobPart],
     steps: &mut Steps<B>,
 ) -> Result<(), WriteFailed>
     requires begun { IsTrue (S.is_begun shelf.old) }
-    requires parts { All (IsPartOf plan.now unit) parts.now }
-    requires unit { unit ≤ last_unit plan.now }
-    requires small { last_unit plan.now ≤ 10000 }
-    requires room { reach (layout_of plan.now) ≤ page.old.room }
-    requires key_room { 21 ≤ page.old.room }
-    ensures text { Appends result (texts_of plan.now unit (map part_of parts.now)) (S.held shelf.old) (S.held shelf.new) }
+    requires tables { AreTablesOf rows.now tables.now }
+    requires parts { All (IsPartOf rows.now unit tables.now.places) parts.now }
+    requires unit { unit ≤ last_unit rows.now }
+    requires room { reach (layout_of rows.now) ≤ desk.old.page.room }
+    requires key_room { 21 ≤ desk.old.page.room }
+    ensures text { Appends result (texts_of rows.now unit (map part_of parts.now)) (S.held shelf.old) (S.held shelf.new) }
     ensures cause { OnErr result (Rose (S.faults shelf.old) (S.faults shelf.new)) }
     ensures no_fault { OnOk result (S.faults shelf.new ≡ S.faults shelf.old) }
     ensures at_last { FailsAtLast result (S.faults shelf.old) (S.faults shelf.new) (S.last_failed shelf.new) }
     ensures never_falls { S.faults shelf.old ≤ S.faults shelf.new }
     ensures begun { IsTrue (S.is_begun shelf.new) }
-    ensures room { page.new.room ≡ page.old.room }
+    ensures room { desk.new.page.room ≡ desk.old.page.room }
 {
     for part in parts {
-        match write_part(shelf, page, plan, unit, part, steps) {
+        match write_part(shelf, desk, rows, unit, tables, part, steps) {
             Ok(()) => {}
             Err(WriteFailed) => return Err(WriteFailed),
         }
@@ -536,32 +404,33 @@ fn write_parts<S: Shelf, B: Ledger>(
 /// Writes a file of some parts, from its begin to its end.
 fn write_file<S: Shelf, B: Ledger>(
     shelf: &mut S,
-    page: &mut PageBuf,
-    plan: &Plan,
+    desk: &mut Desk,
+    rows: &Rows<'_>,
     unit: u64,
+    tables: &JobTables,
     name: &str,
     parts: &[JobPart],
     steps: &mut Steps<B>,
 ) -> Result<(), WriteFailed>
     requires none_begun { S.is_begun shelf.old ≡ false }
-    requires parts { All (IsPartOf plan.now unit) parts.now }
-    requires unit { unit ≤ last_unit plan.now }
-    requires small { last_unit plan.now ≤ 10000 }
-    requires room { reach (layout_of plan.now) ≤ page.old.room }
-    requires key_room { 21 ≤ page.old.room }
-    ensures file { Finishes result (file_of plan.now unit name.now (map part_of parts.now) ∷ []) (S.held shelf.old) (S.held shelf.new) }
+    requires tables { AreTablesOf rows.now tables.now }
+    requires parts { All (IsPartOf rows.now unit tables.now.places) parts.now }
+    requires unit { unit ≤ last_unit rows.now }
+    requires room { reach (layout_of rows.now) ≤ desk.old.page.room }
+    requires key_room { 21 ≤ desk.old.page.room }
+    ensures file { Finishes result (file_with rows.now unit name.now (map part_of parts.now) ∷ []) (S.held shelf.old) (S.held shelf.new) }
     ensures none_begun { OnOk result (S.is_begun shelf.new ≡ false) }
     ensures cause { OnErr result (Rose (S.faults shelf.old) (S.faults shelf.new)) }
     ensures no_fault { OnOk result (S.faults shelf.new ≡ S.faults shelf.old) }
     ensures at_last { FailsAtLast result (S.faults shelf.old) (S.faults shelf.new) (S.last_failed shelf.new) }
     ensures never_falls { S.faults shelf.old ≤ S.faults shelf.new }
-    ensures room { page.new.room ≡ page.old.room }
+    ensures room { desk.new.page.room ≡ desk.old.page.room }
 {
     match shelf.begin(name) {
         Ok(()) => {}
         Err(Failed) => return Err(WriteFailed),
     }
-    match write_parts(shelf, page, plan, unit, parts, steps) {
+    match write_parts(shelf, desk, rows, unit, tables, parts, steps) {
         Ok(()) => {}
         Err(WriteFailed) => return Err(WriteFailed),
     }
@@ -574,33 +443,35 @@ fn write_file<S: Shelf, B: Ledger>(
 /// Writes a file for each of some parts, in order. Nothing further is begun after a failure.
 fn write_apart<S: Shelf, B: Ledger>(
     shelf: &mut S,
-    page: &mut PageBuf,
-    plan: &Plan,
+    desk: &mut Desk,
+    rows: &Rows<'_>,
     unit: u64,
+    tables: &JobTables,
     parts: &[JobPart],
     steps: &mut Steps<B>,
 ) -> Result<(), WriteFailed>
     requires none_begun { S.is_begun shelf.old ≡ false }
-    requires parts { All (IsPartOf plan.now unit) parts.now }
-    requires unit { unit ≤ last_unit plan.now }
-    requires small { last_unit plan.now ≤ 10000 }
-    requires room { reach (layout_of plan.now) ≤ page.old.room }
-    requires key_room { 21 ≤ page.old.room }
-    ensures files { Finishes result (map (own_file plan.now unit) parts.now) (S.held shelf.old) (S.held shelf.new) }
+    requires tables { AreTablesOf rows.now tables.now }
+    requires parts { All (IsPartOf rows.now unit tables.now.places) parts.now }
+    requires unit { unit ≤ last_unit rows.now }
+    requires room { reach (layout_of rows.now) ≤ desk.old.page.room }
+    requires key_room { 21 ≤ desk.old.page.room }
+    ensures files { Finishes result (map (own_file rows.now unit) parts.now) (S.held shelf.old) (S.held shelf.new) }
     ensures none_begun { OnOk result (S.is_begun shelf.new ≡ false) }
     ensures cause { OnErr result (Rose (S.faults shelf.old) (S.faults shelf.new)) }
     ensures no_fault { OnOk result (S.faults shelf.new ≡ S.faults shelf.old) }
     ensures at_last { FailsAtLast result (S.faults shelf.old) (S.faults shelf.new) (S.last_failed shelf.new) }
     ensures never_falls { S.faults shelf.old ≤ S.faults shelf.new }
-    ensures room { page.new.room ≡ page.old.room }
+    ensures room { desk.new.page.room ≡ desk.old.page.room }
 {
     for number in 0..parts.len() {
         let part = &parts[number..number + 1];
         match write_file(
             shelf,
-            page,
-            plan,
+            desk,
+            rows,
             unit,
+            tables,
             parts[number].name.as_str(),
             part,
             steps,
@@ -634,22 +505,21 @@ fn write_files<S: Shelf, B: Ledger>(
         plan,
         unit,
         apart,
+        tables,
         parts,
-        mut page,
+        page,
     } = job;
     let mut steps = Steps::<B>::new(blank);
+    let mut desk = Desk {
+        page,
+        work: RunBuf::new(),
+    };
+    let rows = Rows::with(&plan, &tables.orders);
+    let (desk, parts) = (&mut desk, parts.as_slice());
     if apart {
-        write_apart(shelf, &mut page, &plan, unit, parts.as_slice(), &mut steps)
+        write_apart(shelf, desk, &rows, unit, &tables, parts, &mut steps)
     } else {
-        write_file(
-            shelf,
-            &mut page,
-            &plan,
-            unit,
-            "-",
-            parts.as_slice(),
-            &mut steps,
-        )
+        write_file(shelf, desk, &rows, unit, &tables, "-", parts, &mut steps)
     }
 }
 

@@ -1,31 +1,24 @@
 //! What a request comes to, before anything is written.
 
-ghost use Rattle.std.specs.Prelude.{◌≡◌, ◌<◌, ◌≤◌, ◌+◌, ◌∷◌, ◌++◌, [], All, IfOk, IfSome, OnOk, length, map, max};
+ghost use Rattle.std.specs.Prelude.{◌≡◌, ◌<◌, ◌≤◌, ◌+◌, ◌∷◌, ◌++◌, ◌^◌, [], All, IfOk, IfSome, OnOk, length, map, max};
 ghost use Rattle.std.specs.Option.{option_map};
 ghost use Rattle.schema_plan.specs.Layout.{layout_of};
 ghost use Rattle.schema_plan.specs.TableFacts.{reach};
 ghost use Rattle.life_intervals.specs.Generator.{last_unit};
-ghost use Rattle.pdgf_run.specs.declared.usage.Mode.TheVariants.{Snapshot, Unit};
-ghost use Rattle.pdgf_run.specs.DueFiles.{chosen, ending_of, parts_at, parts_of, table_files};
-ghost use Rattle.pdgf_run.specs.Jobs.{AreLinesAt, AreRowsOf, CanWrite, IsPartOf, content_of, file_name, files_due, named, places_of, with_name};
+ghost use Rattle.pdgf_run.specs.DueFiles.{chosen_places, ending_of};
+ghost use Rattle.pdgf_run.specs.Jobs.{AreRowsOf, AreTablesOf, IsAmong, IsPartOf, content_of, file_name, named, places_of, with_its_name};
 
-use crate::check::name_of;
-use crate::usage::Mode;
+use crate::tables::name_of;
 use itoa::Buffer;
-use life_intervals::{
-    Candidates, CohortOrders, cohort_candidates, cohort_orders, table_candidates, table_orders,
-};
-use line_pages::{Memory, PageBuf};
-use row_lines::{LineDraws, line_draws};
-use schema_model::{Sequence, Text as Name};
+use life_intervals::{JobOrders, Rows};
+use line_pages::{Digits, Memory, PageBuf};
+use row_lines::{RunLines, TableLines};
+use schema_model::Text as Name;
 use schema_plan::Plan;
 use std::alloc::Global;
-use std::sync::ledger::{Blank, Ledger};
-use step_count::Steps;
-use update_box::{TableRows, table_rows};
 
-/// The size of the longest key line.
-const KEY_LINE: usize = 21;
+/// The room of a page, where no line is longer: so many bytes are handed to the shelf at once.
+const PAGE_ROOM: usize = 1 << 16;
 
 /// All that is to be written, with all the memory that it takes.
 #[derive(Drop)]
@@ -45,6 +38,7 @@ pub(crate) struct FilesJob {
     pub(crate) plan: Plan,
     pub(crate) unit: u64,
     pub(crate) apart: bool,
+    pub(crate) tables: JobTables,
     pub(crate) parts: Vec<JobPart>,
     pub(crate) page: PageBuf,
 }
@@ -66,26 +60,26 @@ pub(crate) struct JobPart {
     pub(crate) rows: JobRows,
 }
 
-/// What the lines at a unit of a table's rows are made from: the orders and the candidates of the cohorts up to the unit, and what the
-/// fields are drawn from.
+/// What the lines at a unit of the rows of the tables at some places are made from, table by table.
 #[derive(Drop)]
-pub(crate) struct TableLines {
-    pub(crate) orders: Vec<CohortOrders>,
-    pub(crate) candidates: Vec<Sequence<Option<Candidates>>>,
-    pub(crate) draws: LineDraws,
+pub(crate) struct JobTables {
+    pub(crate) places: Places,
+    pub(crate) orders: JobOrders,
+    pub(crate) digits: Digits,
+    pub(crate) lines: Vec<TableLines>,
 }
 
-/// The rows of a part, with what doesn't change from row to row.
+/// The rows of a part.
 #[derive(Drop)]
 pub(crate) enum JobRows {
     /// All at the unit.
-    Snapshot(TableLines),
+    Snapshot,
     /// Those that the unit deletes, by their ordinals.
     Deleted(Vec<u64>),
     /// Those that it updates.
-    Updated(Vec<u64>, TableLines),
-    /// Its cohort, with the orders and the candidates of this, and what their lines are drawn from.
-    Inserted(CohortOrders, Sequence<Option<Candidates>>, LineDraws),
+    Updated(Vec<u64>),
+    /// Its cohort.
+    Inserted,
 }
 
 /// The places of `count` tables from the one at place `from` on.
@@ -97,7 +91,7 @@ pub(crate) struct Places {
 
 /// The tables that are chosen: all, or the one of a name; None where no table has the name.
 pub(crate) fn choose(plan: &Plan, table: &Option<Name>) -> Option<Places>
-    ensures places { chosen plan.now.schema table.now ≡ option_map places_of result }
+    ensures places { chosen_places plan.now.schema table.now ≡ option_map places_of result }
     ensures within { IfSome result (λ places. places.from + places.count ≤ length plan.now.schema.tables) }
 {
     match table {
@@ -164,239 +158,84 @@ fn content_of(rows: &JobRows) -> Content
     ensures { result ≡ content_of rows.now }
 {
     match rows {
-        JobRows::Snapshot(..) => Content::Snapshot,
+        JobRows::Snapshot => Content::Snapshot,
         JobRows::Deleted(..) => Content::Deleted,
         JobRows::Updated(..) => Content::Updated,
-        JobRows::Inserted(..) => Content::Inserted,
+        JobRows::Inserted => Content::Inserted,
     }
 }
 
 /// Puts a part of the table at a place behind others.
-fn push_part(
+pub(crate) fn push_part(
     alloc: Global,
     plan: &Plan,
     unit: u64,
+    places: Places,
     place: u32,
     rows: JobRows,
     out: &Option<Name>,
     parts: &mut Vec<JobPart>,
 ) -> Result<(), Memory>
     requires place { place < length plan.now.schema.tables }
+    requires among { IsAmong places place }
     requires rows { AreRowsOf plan.now unit place rows }
-    requires are { All (IsPartOf plan.now unit) parts.old.items }
+    requires are { All (IsPartOf plan.now unit places) parts.old.items }
     ensures named { OnOk result (map named parts.new.items
-        ≡ map named parts.old.items ++ with_name plan.now unit out.now (record { place = place; content = content_of rows }) ∷ []) }
-    ensures are { OnOk result (All (IsPartOf plan.now unit) parts.new.items) }
+        ≡ map named parts.old.items ++ with_its_name plan.now unit out.now (record { place = place; content = content_of rows }) ∷ []) }
+    ensures are { OnOk result (All (IsPartOf plan.now unit places) parts.new.items) }
 {
     let name = part_name(alloc, plan, place, unit, content_of(&rows), out)?;
     parts.push(JobPart { name, place, rows })?;
     Ok(())
 }
 
-/// What the lines of a table are made from at a unit.
-fn table_lines(alloc: Global, plan: &Plan, place: u32, unit: u64) -> Result<TableLines, Memory>
-    requires place { place < length plan.now.schema.tables }
+/// What the lines at a unit of the rows of the tables at some places are made from. At `Memory` nothing is.
+pub(crate) fn job_tables(
+    alloc: Global,
+    plan: &Plan,
+    unit: u64,
+    places: Places,
+) -> Result<JobTables, Memory>
     requires unit { unit ≤ last_unit plan.now }
-    ensures { IfOk result (λ lines. AreLinesAt plan.now unit place lines) }
+    requires within { places.from + places.count ≤ length plan.now.schema.tables }
+    ensures tables { IfOk result (AreTablesOf plan.now) }
+    ensures places { IfOk result (λ tables. tables.places ≡ places) }
 {
-    let Ok(orders) = table_orders(alloc, plan, place, unit) else {
+    let _limits = plan.schema(); // there are at most 64 tables
+    let Ok(orders) = JobOrders::new(alloc, plan, places.from, places.count, unit) else {
         return Err(Memory);
     };
-    let Ok(candidates) = table_candidates(alloc, plan, place, unit) else {
-        return Err(Memory);
-    };
-    let draws = line_draws(alloc, plan, place, unit)?;
-    Ok(TableLines {
+    let digits = Digits::new(alloc)?;
+    let mut lines = Vec::new(alloc);
+    for number in 0..places.count {
+        lines.push(TableLines::new(alloc, plan, places.from + number, unit)?)?;
+    }
+    Ok(JobTables {
+        places,
         orders,
-        candidates,
-        draws,
+        digits,
+        lines,
     })
 }
 
-/// Puts what a snapshot holds of a table behind others.
-fn push_snapshot(
-    alloc: Global,
-    plan: &Plan,
-    unit: u64,
-    place: u32,
-    out: &Option<Name>,
-    parts: &mut Vec<JobPart>,
-) -> Result<(), Memory>
-    requires place { place < length plan.now.schema.tables }
-    requires unit { unit ≤ last_unit plan.now }
-    requires are { All (IsPartOf plan.now unit) parts.old.items }
-    ensures named { OnOk result (map named parts.new.items
-        ≡ map named parts.old.items ++ map (with_name plan.now unit out.now) (parts_at Snapshot place)) }
-    ensures are { OnOk result (All (IsPartOf plan.now unit) parts.new.items) }
-{
-    let lines = table_lines(alloc, plan, place, unit)?;
-    let rows = JobRows::Snapshot(lines);
-    push_part(alloc, plan, unit, place, rows, out, parts)
-}
-
-/// Puts what a unit deletes, updates and inserts in a table behind others.
-fn push_changes<B: Ledger>(
-    alloc: Global,
-    plan: &Plan,
-    unit: u64,
-    place: u32,
-    out: &Option<Name>,
-    parts: &mut Vec<JobPart>,
-    steps: &mut Steps<B>,
-) -> Result<(), Memory>
-    requires place { place < length plan.now.schema.tables }
-    requires some { 1 ≤ unit }
-    requires unit { unit ≤ last_unit plan.now }
-    requires are { All (IsPartOf plan.now unit) parts.old.items }
-    ensures named { OnOk result (map named parts.new.items
-        ≡ map named parts.old.items ++ map (with_name plan.now unit out.now) (parts_at Unit place)) }
-    ensures are { OnOk result (All (IsPartOf plan.now unit) parts.new.items) }
-{
-    let TableRows {
-        deleted,
-        updated,
-        ..
-    } = table_rows(alloc, plan, place, unit, steps)?;
-    let lines = table_lines(alloc, plan, place, unit)?;
-    let Ok(candidates) = cohort_candidates(alloc, plan, place, unit) else {
-        return Err(Memory);
-    };
-    let draws = line_draws(alloc, plan, place, unit)?;
-    let inserted = JobRows::Inserted(cohort_orders(plan, place, unit), candidates, draws);
-    push_part(
-        alloc,
-        plan,
-        unit,
-        place,
-        JobRows::Deleted(deleted),
-        out,
-        parts,
-    )?;
-    push_part(
-        alloc,
-        plan,
-        unit,
-        place,
-        JobRows::Updated(updated, lines),
-        out,
-        parts,
-    )?;
-    push_part(alloc, plan, unit, place, inserted, out, parts)
-}
-
-/// The parts of a snapshot of some tables.
-fn snapshot_parts(
-    alloc: Global,
-    plan: &Plan,
-    unit: u64,
-    places: Places,
-    out: &Option<Name>,
-) -> Result<Vec<JobPart>, Memory>
-    requires unit { unit ≤ last_unit plan.now }
-    requires within { places.from + places.count ≤ length plan.now.schema.tables }
-    ensures named { IfOk result (λ parts. map named parts.items ≡ map (with_name plan.now unit out.now) (parts_of Snapshot (places_of places))) }
-    ensures are { IfOk result (λ parts. All (IsPartOf plan.now unit) parts.items) }
-{
-    let _limits = plan.schema(); // there are at most 64 tables
-    let mut parts = Vec::new(alloc);
-    for number in 0..places.count {
-        push_snapshot(alloc, plan, unit, places.from + number, out, &mut parts)?;
+impl JobTables {
+    /// The lines at a unit of the rows of the table at a place, which is one of them.
+    pub(crate) fn lines_of<'a>(&'a self, rows: &'a Rows<'a>, unit: u64, place: u32) -> RunLines<'a>
+        requires tables { AreTablesOf rows.now self.now }
+        requires among { IsAmong self.now.places place }
+        requires unit { unit ≤ last_unit rows.now }
+        ensures { result ≡ record { plan = rows.now; table = place; unit = unit } }
+    {
+        let lines = &self.lines[(place - self.places.from) as usize];
+        RunLines::new(rows, lines, &self.digits, place, unit)
     }
-    Ok(parts)
 }
 
-/// The parts of what a unit changes in some tables.
-fn unit_parts<B: Ledger>(
-    alloc: Global,
-    plan: &Plan,
-    unit: u64,
-    places: Places,
-    out: &Option<Name>,
-    steps: &mut Steps<B>,
-) -> Result<Vec<JobPart>, Memory>
-    requires some { 1 ≤ unit }
-    requires unit { unit ≤ last_unit plan.now }
-    requires within { places.from + places.count ≤ length plan.now.schema.tables }
-    ensures named { IfOk result (λ parts. map named parts.items ≡ map (with_name plan.now unit out.now) (parts_of Unit (places_of places))) }
-    ensures are { IfOk result (λ parts. All (IsPartOf plan.now unit) parts.items) }
-{
-    let _limits = plan.schema(); // there are at most 64 tables
-    let mut parts = Vec::new(alloc);
-    for number in 0..places.count {
-        push_changes(
-            alloc,
-            plan,
-            unit,
-            places.from + number,
-            out,
-            &mut parts,
-            steps,
-        )?;
-    }
-    Ok(parts)
-}
-
-/// A buffer for each line of a plan's tables.
-fn page_for(alloc: Global, plan: &Plan) -> Result<PageBuf, Memory>
+/// A page that takes each line of a plan's tables, and many of most.
+pub(crate) fn page_for(alloc: Global, plan: &Plan) -> Result<PageBuf, Memory>
     ensures lines { IfOk result (λ page. reach (layout_of plan.now) ≤ page.room) }
     ensures key_lines { IfOk result (λ page. 21 ≤ page.room) }
-    ensures no_more { IfOk result (λ page. page.room ≤ max (reach (layout_of plan.now)) 21) }
+    ensures no_more { IfOk result (λ page. page.room ≤ max (reach (layout_of plan.now)) (2 ^ 16)) }
 {
-    PageBuf::with_room(alloc, (plan.reach() as usize).max(KEY_LINE))
-}
-
-/// The snapshot of some tables at a unit.
-pub(crate) fn snapshot_job(
-    alloc: Global,
-    plan: Plan,
-    unit: u64,
-    places: Places,
-    out: &Option<Name>,
-) -> Result<FilesJob, Memory>
-    requires unit { unit ≤ last_unit plan }
-    requires within { places.from + places.count ≤ length plan.schema.tables }
-    ensures due { IfOk result (λ job. files_due job ≡ table_files Snapshot plan unit (places_of places) out.now) }
-    ensures can { IfOk result CanWrite }
-{
-    let _limits = plan.schema(); // there are at most 10,000 units
-    let parts = snapshot_parts(alloc, &plan, unit, places, out)?;
-    let page = page_for(alloc, &plan)?;
-    Ok(FilesJob {
-        plan,
-        unit,
-        apart: out.is_some(),
-        parts,
-        page,
-    })
-}
-
-/// What a unit changes in some tables.
-pub(crate) fn unit_job<B: Ledger>(
-    alloc: Global,
-    plan: Plan,
-    unit: u64,
-    places: Places,
-    out: &Option<Name>,
-    blank: Blank,
-) -> Result<FilesJob, Memory>
-    requires name { blank.name ≡ B.name }
-    requires parts { blank.parts ≡ B.parts }
-    requires some { 0 < blank.parts }
-    requires later { 1 ≤ unit }
-    requires unit { unit ≤ last_unit plan }
-    requires within { places.from + places.count ≤ length plan.schema.tables }
-    ensures due { IfOk result (λ job. files_due job ≡ table_files Unit plan unit (places_of places) out.now) }
-    ensures can { IfOk result CanWrite }
-{
-    let _limits = plan.schema(); // there are at most 10,000 units
-    let mut steps = Steps::<B>::new(blank);
-    let parts = unit_parts(alloc, &plan, unit, places, out, &mut steps)?;
-    let page = page_for(alloc, &plan)?;
-    Ok(FilesJob {
-        plan,
-        unit,
-        apart: out.is_some(),
-        parts,
-        page,
-    })
+    PageBuf::with_room(alloc, (plan.reach() as usize).max(PAGE_ROOM))
 }

@@ -3,11 +3,11 @@
 ghost use Rattle.std.specs.Prelude.{◌≡◌, [], OnOk};
 ghost use Rattle.std.specs.Io.KnownBytes.{Appends};
 ghost use Rattle.std.specs.Process.{exit_status};
-ghost use Rattle.pdgf_run.specs.Statuses as status;
+ghost use Rattle.refusals.specs.Messages as text;
+ghost use Rattle.refusals.specs.Statuses as status;
 
-use crate::Refusal;
-use crate::message::line;
 use pd_outside::Message;
+use refusals::{Refusal, write_failed_message};
 use std::io;
 use std::io::Write;
 use std::process::ExitCode;
@@ -49,17 +49,17 @@ pub(crate) fn done() -> Report
 
 /// A write failed.
 pub(crate) fn write_failed() -> Report
-    ensures { result ≡ record { status = status.write_failed_status; message = status.write_failed_text } }
+    ensures { result ≡ record { status = status.write_failed_status; message = text.write_failed_text } }
 {
     Report {
         status: 6,
-        message: line(b"write failed"),
+        message: write_failed_message(),
     }
 }
 
 /// The request is refused.
 pub(crate) fn refused(refusal: Refusal) -> Report
-    ensures { result ≡ record { status = status.status_of refusal; message = status.text_of refusal } }
+    ensures { result ≡ record { status = status.status_of refusal; message = text.message_of refusal } }
 {
     Report {
         status: refusal.status(),

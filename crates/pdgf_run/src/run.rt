@@ -5,12 +5,15 @@ ghost use Rattle.std.specs.Option.{option_map};
 ghost use Rattle.pd_outside.specs.Faults.{Rose, counted};
 ghost use Rattle.pd_outside.specs.Library.{Content, left};
 ghost use Rattle.pd_outside.specs.Shelf.{HoldsPrefixOf};
-ghost use Rattle.pdgf_run.specs.Limits.{dictionary_limit, schema_limit};
-ghost use Rattle.pdgf_run.specs.ReadingList.{AskedAlone, AsksInTurn};
-ghost use Rattle.pdgf_run.specs.Statuses.{fixed_text, is_status, text_of};
+ghost use Rattle.plan_stages.specs.Limits.{dictionary_limit, schema_limit};
+ghost use Rattle.plan_stages.specs.PlanNames.{AskedAlone};
+ghost use Rattle.plan_stages.specs.Stages.{told_files};
+ghost use Rattle.refusals.specs.Messages.{fixed_text, message_of};
+ghost use Rattle.refusals.specs.Statuses.{is_status};
+ghost use Rattle.request_words.specs.Words.{request};
+ghost use Rattle.pdgf_run.specs.ReadingList.{AsksInTurn};
 ghost use Rattle.pdgf_run.specs.TopCall.{Carries, IsPastLimit};
-ghost use Rattle.pdgf_run.specs.Verdict.{told_files, WhereTold};
-ghost use Rattle.pdgf_run.specs.Words.{request};
+ghost use Rattle.pdgf_run.specs.Verdict.{WhereTold};
 
 use crate::decide::decide;
 use crate::fill::fill;
@@ -47,7 +50,7 @@ pub fn pdgf<R: Threads + Sync, L: Library, S: Shelf, G: Gate + Sync>(
     ensures known { IsTrue (is_status result.status) }
     ensures message { IfSome (fixed_text result.status) (λ text. result.message ≡ text) }
     ensures usage { (result.status ≡ 2) ↔ IsErr (request (map string_bytes words.now)) }
-    ensures usage_text { IfErr (request (map string_bytes words.now)) (λ fault. result.message ≡ text_of (Refusal.Words fault)) }
+    ensures usage_text { IfErr (request (map string_bytes words.now)) (λ fault. result.message ≡ message_of (Refusal.Words fault)) }
     ensures too_long { result.status ≡ 10 → IsPastLimit result.message (L.taken library.new) }
     ensures longer_schema { IfOk (request (map string_bytes words.now)) (λ request. AskedAlone request.schema (L.asked library.old) (L.asked library.new) →
         L.taken library.new ≡ schema_limit + 1 → result.status ≡ 10) }

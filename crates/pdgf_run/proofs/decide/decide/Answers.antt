@@ -1,6 +1,6 @@
 use Rattle.std.proofs.Common.{Ok, Err}
 use Rattle.std.proofs.lemmas.Result.{err_from_is_err_and}
-use Rattle.pdgf_run.proofs.DecideLemmas.{asks_of_words, decided_for_request, decided_for_words}
+use Rattle.pdgf_run.proofs.DecideLemmas.{after_words, asks_of_words, decided_for_request, decided_for_words}
 use Rattle.pdgf_run.proofs.decide.decide.Goals as goal
 
 pub returns-in_err-request-clause-verdict : goal.returns-in_err-request-clause-verdict
@@ -8,11 +8,21 @@ returns-in_err-request-clause-verdict g c =
     let made = err_from_is_err_and c.from_residual.result c.from_residual.ensures.1 in
     rw (made.1, made.2) (decided_for_words _ _ _ c.in_err-request.ensures.refused)
 
+pub returns-in_err-request-clause-after : goal.returns-in_err-request-clause-after
+returns-in_err-request-clause-after g c =
+    let made = err_from_is_err_and c.from_residual.result c.from_residual.ensures.1 in
+    rw (made.1, made.2) (after_words _ _ _ _ _ _)
+
 pub returns-in_err-job_of_request-clause-verdict : goal.returns-in_err-job_of_request-clause-verdict
 returns-in_err-job_of_request-clause-verdict g c =
     let made = err_from_is_err_and c.from_residual-in_err-job_of_request.result c.from_residual-in_err-job_of_request.ensures.1 in
     rw (made.1, made.2)
     (decided_for_request _ _ c.in_ok-request.request (Err c.in_err-job_of_request.field-0.0) c.in_ok-request.ensures.read c.in_err-job_of_request.ensures.job)
+
+pub returns-in_err-job_of_request-clause-after : goal.returns-in_err-job_of_request-clause-after
+returns-in_err-job_of_request-clause-after g c =
+    let made = err_from_is_err_and c.from_residual-in_err-job_of_request.result c.from_residual-in_err-job_of_request.ensures.1 in
+    rw (made.1, made.2) c.in_err-job_of_request.ensures.after
 
 pub returns-in_err-job_of_request-clause-asked : goal.returns-in_err-job_of_request-clause-asked
 returns-in_err-job_of_request-clause-asked g c = asks_of_words _ c.in_ok-request.request _ _ _ c.in_ok-request.ensures.read c.in_err-job_of_request.ensures.asked

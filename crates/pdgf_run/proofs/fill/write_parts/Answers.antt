@@ -4,7 +4,7 @@ use Rattle.std.specs.Option.{option_map}
 use Rattle.std.proofs.lemmas.List.{take_all}
 use Rattle.pd_outside.proofs.Appending.{append_nothing, prefix_after}
 use Rattle.pd_outside.specs.Shelf.{append_bytes}
-use Rattle.pdgf_run.specs.DueFiles.{part_text}
+use Rattle.pdgf_run.specs.DueFiles.{text_of_part}
 use Rattle.pdgf_run.specs.Jobs.{part_of}
 use Rattle.pdgf_run.specs.declared.job.JobPart.{JobPart}
 use Rattle.pdgf_run.proofs.FillLemmas.{appended_then, flat_map-at, flat_map-take_more, texts_of-map}
@@ -20,7 +20,7 @@ loop-part-init g c = record {
 
 pub loop-part-preserved : goal.loop-part-preserved
 loop-part-preserved g c =
-    let text : JobPart → List ℕ = λ part. part_text c.args.plan.now c.args.unit (part_of part) in
+    let text : JobPart → List ℕ = λ part. text_of_part c.args.rows.now c.args.unit (part_of part) in
     record {
       text =
           appended_then (flat_map text (take c.loop-part.part-index c.args.parts.now)) (text c.part-item.result) _ _ _ _
@@ -32,17 +32,17 @@ loop-part-preserved g c =
 
 pub returns-in-Err-clause-text : goal.returns-in-Err-clause-text
 returns-in-Err-clause-text g c =
-    let text : JobPart → List ℕ = λ part. part_text c.args.plan.now c.args.unit (part_of part) in
+    let text : JobPart → List ℕ = λ part. text_of_part c.args.rows.now c.args.unit (part_of part) in
     prefix_after _ _ _ _ _ _ _
-    (texts_of-map c.args.plan.now c.args.unit part_of c.args.parts.now
+    (texts_of-map c.args.rows.now c.args.unit part_of c.args.parts.now
     ∙ flat_map-at text c.args.parts.now c.loop-part.part-index c.part-item.result c.loop-part-test.true c.part-item.is)
     c.loop-part.invariant.text c.in-Err.ensures.text
 
 pub returns-clause-text : goal.returns-clause-text
 returns-clause-text g c =
-    let text : JobPart → List ℕ = λ part. part_text c.args.plan.now c.args.unit (part_of part) in
+    let text : JobPart → List ℕ = λ part. text_of_part c.args.rows.now c.args.unit (part_of part) in
     c.loop-part.invariant.text
     ∙ ap (λ (parts : List JobPart). option_map (append_bytes (flat_map text parts)) (g.S.Shelf.held c.args.shelf.now))
     (take_all c.loop-part.part-index c.args.parts.now (omega (arith, c.loop-part-test.false)))
     ∙ ap (λ (bytes : List ℕ). option_map (append_bytes bytes) (g.S.Shelf.held c.args.shelf.now))
-    (sym (texts_of-map c.args.plan.now c.args.unit part_of c.args.parts.now))
+    (sym (texts_of-map c.args.rows.now c.args.unit part_of c.args.parts.now))

@@ -1,9 +1,12 @@
-use Rattle.std.proofs.Common.{◌≡◌, sym, subst, map, string_bytes}
+use Rattle.std.proofs.Common.{◌≡◌, ◌≢◌, [], sym, subst, map, string_bytes, false}
 use Rattle.std.specs.Prelude.{IsErr, ◌↔◌}
-use Rattle.pdgf_run.specs.Words.{request}
+use Rattle.std.specs.Option.{option_map}
+use Rattle.pd_outside.specs.Faults.{Rose, counted}
+use Rattle.pd_outside.specs.Library.{Content, left}
+use Rattle.request_words.specs.Words.{request}
 use Rattle.pdgf_run.specs.declared.report.Report.{Report}
 use Rattle.pdgf_run.specs.TopCall.{IsPastLimit}
-use Rattle.pdgf_run.proofs.DecideLemmas.{refused-usage}
+use Rattle.pdgf_run.proofs.DecideLemmas.{read_to_the_end, refused-usage, rose}
 use Rattle.pdgf_run.proofs.ReportLemmas.{past_limit}
 use Rattle.pdgf_run.proofs.run.pdgf.Goals as goal
 
@@ -15,4 +18,29 @@ returns-in-Err-clause-usage g c =
 pub returns-in-Err-clause-too_long : goal.returns-in-Err-clause-too_long
 returns-in-Err-clause-too_long g c =
     subst (λ (report : Report). report.status ≡ 10 → IsPastLimit report.message (g.L.Library.taken c.decide.new.library)) (sym c.refused.ensures)
-    (λ ten. past_limit c.in-Err.refusal _ ten (c.in-Err.ensures.too_long ten))
+    (λ ten. past_limit c.in-Err.refusal _ ten (c.in-Err.ensures.after.too_long ten))
+
+pub returns-in-Err-clause-read_failed : goal.returns-in-Err-clause-read_failed
+returns-in-Err-clause-read_failed g c =
+    subst (λ (report : Report). report.status ≡ 5 → Rose (g.L.Library.faults c.args.library.now) (g.L.Library.faults c.decide.new.library)) (sym c.refused.ensures)
+    (λ five. rose _ _ (c.in-Err.ensures.after.failed_once five))
+
+pub returns-in-Err-clause-stopped : goal.returns-in-Err-clause-stopped
+returns-in-Err-clause-stopped g c =
+    subst (λ (report : Report). report.status ≡ 5 → g.L.Library.is_started c.decide.new.library ≡ false) (sym c.refused.ensures) c.in-Err.ensures.after.stopped
+
+pub returns-in-Err-clause-read_failed_once : goal.returns-in-Err-clause-read_failed_once
+returns-in-Err-clause-read_failed_once g c =
+    subst (λ (report : Report). report.status ≡ 5 → g.L.Library.faults c.decide.new.library ≡ counted (g.L.Library.faults c.args.library.now)) (sym c.refused.ensures)
+    c.in-Err.ensures.after.failed_once
+
+pub returns-in-Err-clause-library_faults : goal.returns-in-Err-clause-library_faults
+returns-in-Err-clause-library_faults g c =
+    subst (λ (report : Report). report.status ≢ 5 → g.L.Library.faults c.decide.new.library ≡ g.L.Library.faults c.args.library.now) (sym c.refused.ensures)
+    c.in-Err.ensures.after.no_fault
+
+pub returns-in-Err-clause-read_out : goal.returns-in-Err-clause-read_out
+returns-in-Err-clause-read_out g c =
+    subst (λ (report : Report). report.status ≡ 0 → option_map left (g.L.Library.content c.decide.new.library) ≡ option_map (λ (k : Content). []) (g.L.Library.content c.args.library.now))
+    (sym c.refused.ensures)
+    (λ zero. read_to_the_end _ _ c.in-Err.ensures.after.files (c.in-Err.ensures.after.read_out zero))

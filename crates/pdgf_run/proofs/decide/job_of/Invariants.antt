@@ -1,7 +1,0 @@
-use Rattle.pdgf_run.proofs.decide.job_of.Given as goal
-
-abbrev pub ghosts-plan_unit : goal.ghosts-plan_unit
-ghosts-plan_unit a = record { name = a.blank.name; parts = a.blank.parts }
-
-abbrev pub ghosts-plan_row : goal.ghosts-plan_row
-ghosts-plan_row a = record { name = a.blank.name; parts = a.blank.parts }

@@ -1,0 +1,18 @@
+use Rattle.std.proofs.Common.{◌≡◌, ◌≤◌, ◌-◌, true}
+use Rattle.std.specs.Option.{option_map}
+use Rattle.pd_outside.specs.Shelf.{append_bytes}
+use Rattle.row_lines.specs.Runs.{run_text}
+use Rattle.pdgf_run.proofs.fill.write_range.Given as goal
+
+abbrev pub invariant-loop-next : goal.invariant-loop-next
+invariant-loop-next g l = record {
+  begun_at : l.first ≤ l.next;
+  within : l.next ≤ l.end;
+  text : g.S.Shelf.held l.shelf ≡ option_map (append_bytes (run_text l.lines l.first (l.next - l.first))) (g.S.Shelf.held l.fn.shelf);
+  begun : g.S.Shelf.is_begun l.shelf ≡ true;
+  no_fault : g.S.Shelf.faults l.shelf ≡ g.S.Shelf.faults l.fn.shelf;
+  room : l.desk.page.room ≡ l.fn.desk.page.room;
+}
+
+abbrev pub decreases-loop-next : goal.decreases-loop-next
+decreases-loop-next g l = l.end - l.next

@@ -1,9 +1,0 @@
-use Rattle.std.proofs.Common.{◌++◌, List, ℕ, ap, append_assoc, codes, decimal, ◌∙◌}
-use Rattle.pdgf_run.specs.Statuses.{grammar_text}
-use Rattle.pdgf_run.proofs.message.put_broken.Goals as goal
-
-pub returns-clause-text : goal.returns-clause-text
-returns-clause-text c =
-    c.put_grammar.ensures.text
-    ∙ ap (λ (words : List ℕ). words ++ grammar_text c.args.fault) c.put_counted.ensures.text
-    ∙ append_assoc c.args.message.now (codes "dictionary " ++ decimal c.args.number) (grammar_text c.args.fault)

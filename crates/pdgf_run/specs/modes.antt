@@ -1,0 +1,4 @@
+pub mod Check
+pub mod Row
+pub mod Snapshot
+pub mod Unit
