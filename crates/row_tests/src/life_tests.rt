@@ -4,19 +4,16 @@
 ghost use Rattle.std.specs.Prelude.{◌≡◌, ◌^◌, ◌<◌, ◌≤◌, [], ◌∷◌, Some, length, map, true};
 ghost use Rattle.cohort_sizes.specs.Births.{cohort_size};
 ghost use Rattle.life_intervals.specs.Changes.{last_due};
-ghost use Rattle.life_intervals.specs.CohortOrders.{cohort_orders, table_orders};
-ghost use Rattle.life_intervals.specs.CohortParents.{AreCandidates, table_candidates};
 ghost use Rattle.life_intervals.specs.Generator.{last_unit, table_of};
+ghost use Rattle.life_intervals.specs.JobOrders.{AreOrdersOf};
 ghost use Rattle.life_intervals.specs.Rows.{life_by};
 
 use crate::fixtures::{SALES, has_parents, is_row, with_number};
 use crate::told::{Told, assert_all};
 use life_intervals::{
-    Candidates, Cohort, CohortChanges, CohortKeys, CohortLives, CohortOrders, Survival, birth,
-    born, cohort, cohort_orders, death, key, last_change, own_death, parent, row_of_key,
-    survival_at, table_candidates, table_orders,
+    Cohort, JobOrders, Rows, Survival, birth, born, cohort, death, key, last_change, own_death,
+    parent, row_of_cohort, row_of_key, survival_at,
 };
-use schema_model::Sequence;
 use schema_plan::Plan;
 use std::alloc::Global;
 use std::marker::Brand;
@@ -46,35 +43,29 @@ fn is_no_key<L: Ledger>(plan: &Plan, table: u32, number: u64, steps: &mut Steps<
     table < plan.tables() && row_of_key(plan, table, number, steps).is_none()
 }
 
-/// The keys of a table, one after the other, as one number; and those that the orders of its cohorts give.
-fn key_checksums<L: Ledger>(
-    plan: &Plan,
-    orders: &Vec<CohortOrders>,
-    steps: &mut Steps<L>,
-) -> (u64, u64)
+/// The keys of a table, one after the other, as one number; and those by orders that are kept.
+fn key_checksums<L: Ledger>(plan: &Plan, orders: &JobOrders, steps: &mut Steps<L>) -> (u64, u64)
     requires table { 0 < length plan.now.schema.tables }
-    requires orders { orders.now.items ≡ table_orders plan.now 0 (last_unit plan.now) }
+    requires orders { AreOrdersOf plan.now orders.now }
 {
+    let rows = Rows::with(plan, orders);
     let mut sum = 0u64;
-    let mut ordered = 0u64;
+    let mut kept = 0u64;
     for row in 0..born(plan, 0, plan.units()) {
         sum = with_number(sum, key(plan, 0, row, steps));
-        let unit = birth(plan, 0, row);
-        let keys = CohortKeys::new(plan, 0, unit, &orders[unit as usize].keys);
-        let index = row - cohort(plan, 0, unit).first;
-        ordered = with_number(ordered, keys.key(index, steps));
+        kept = with_number(kept, rows.key(0, row, steps));
     }
-    (sum, ordered)
+    (sum, kept)
 }
 
 fn has_keys<L: Ledger>(alloc: Global, plan: &Plan, sum: u64, steps: &mut Steps<L>) -> bool {
     if plan.tables() != 1 {
         return false;
     }
-    match table_orders(alloc, plan, 0, plan.units()) {
+    match JobOrders::new(alloc, plan, 0, 1, plan.units()) {
         Ok(orders) => {
-            let (asked, ordered) = key_checksums(plan, &orders, steps);
-            asked == sum && ordered == sum
+            let (asked, kept) = key_checksums(plan, &orders, steps);
+            asked == sum && kept == sum
         }
         Err(_) => false,
     }
@@ -140,34 +131,23 @@ fn survives(plan: &Plan, table: u32, born: u64, ages: &[Survival]) -> bool {
 
 /// Whether the row with an index in the cohort of a table that is born at a unit is alive at another, and when it changed last.
 fn row_at<L: Ledger>(
-    plan: &Plan,
+    rows: &Rows<'_>,
     table: u32,
     birth: u64,
     unit: u64,
-    orders: &CohortOrders,
-    candidates: &[Option<Candidates>],
     index: u64,
     steps: &mut Steps<L>,
 ) -> (bool, u64)
-    requires table { table < length plan.now.schema.tables }
+    requires table { table < length rows.now.schema.tables }
     requires birth { birth ≤ unit }
-    requires unit { unit ≤ last_unit plan.now }
-    requires orders { orders.now ≡ cohort_orders plan.now table birth }
-    requires candidates { AreCandidates plan.now table birth candidates.now }
-    requires row { index < cohort_size (table_of plan.now table).births birth }
+    requires unit { unit ≤ last_unit rows.now }
+    requires row { index < cohort_size (table_of rows.now table).births birth }
 {
-    let lives = CohortLives::new(plan, table, birth, unit, &orders.lives, candidates);
-    let changes = CohortChanges::new(plan, table, birth, unit, &orders.updates, candidates);
-    (lives.is_live(index, steps), changes.unit(index, steps))
-}
-
-fn survival_of(plan: &Plan, birth: u64, unit: u64) -> Survival
-    requires table { 0 < length plan.now.schema.tables }
-    requires birth { birth ≤ unit }
-    requires unit { unit ≤ last_unit plan.now }
-{
-    let orders = cohort_orders(plan, 0, birth);
-    CohortLives::new(plan, 0, birth, unit, &orders.lives, &[]).survival()
+    let row = row_of_cohort(rows.plan(), table, birth, index);
+    (
+        rows.is_live(table, row, unit, steps),
+        rows.found_change(table, row, unit, steps),
+    )
 }
 
 fn has_rows<L: Ledger>(
@@ -181,13 +161,13 @@ fn has_rows<L: Ledger>(
     requires birth { birth ≤ unit }
     requires unit { unit ≤ last_unit plan.now }
 {
-    let orders = cohort_orders(plan, 0, birth);
+    let by_rounds = Rows::of(plan);
     let size = cohort(plan, 0, birth).size;
     let mut index = 0;
     let mut is_told = true;
     for (live, changed) in rows {
         if index < size {
-            let (is_live, last) = row_at(plan, 0, birth, unit, &orders, &[], index, steps);
+            let (is_live, last) = row_at(&by_rounds, 0, birth, unit, index, steps);
             is_told = is_told && is_live == *live && last == *changed;
             index += 1;
         } else {
@@ -208,47 +188,41 @@ fn is_cohort<L: Ledger>(
     plan.tables() == 1
         && birth <= unit
         && unit <= plan.units()
-        && survival_of(plan, birth, unit) == survival
+        && survival_at(plan, 0, birth, unit) == survival
         && has_rows(plan, birth, unit, rows, steps)
 }
 
 /// A number, and behind it for each row of a cohort whether it is alive and when it changed last, as one number.
 fn with_cohort<L: Ledger>(
-    plan: &Plan,
+    rows: &Rows<'_>,
     birth: u64,
     unit: u64,
-    orders: &CohortOrders,
     before: u64,
     steps: &mut Steps<L>,
 ) -> u64
-    requires table { 0 < length plan.now.schema.tables }
+    requires table { 0 < length rows.now.schema.tables }
     requires birth { birth ≤ unit }
-    requires unit { unit ≤ last_unit plan.now }
-    requires orders { orders.now ≡ cohort_orders plan.now 0 birth }
+    requires unit { unit ≤ last_unit rows.now }
 {
     let mut sum = before;
-    for index in 0..cohort(plan, 0, birth).size {
-        let (live, changed) = row_at(plan, 0, birth, unit, orders, &[], index, steps);
+    for index in 0..cohort(rows.plan(), 0, birth).size {
+        let (live, changed) = row_at(rows, 0, birth, unit, index, steps);
         sum = with_number(sum, changed.wrapping_mul(2).wrapping_add(u64::from(live)));
     }
     sum
 }
 
-/// The same of all cohorts at a unit.
-fn row_checksum<L: Ledger>(
-    plan: &Plan,
-    unit: u64,
-    orders: &Vec<CohortOrders>,
-    steps: &mut Steps<L>,
-) -> u64
+/// The same of all cohorts at a unit, by orders that are kept.
+fn row_checksum<L: Ledger>(plan: &Plan, unit: u64, orders: &JobOrders, steps: &mut Steps<L>) -> u64
     requires table { 0 < length plan.now.schema.tables }
     requires unit { unit ≤ last_unit plan.now }
-    requires orders { orders.now.items ≡ table_orders plan.now 0 unit }
+    requires orders { AreOrdersOf plan.now orders.now }
 {
     let _limits = plan.schema(); // there are at most 10,000 units
+    let rows = Rows::with(plan, orders);
     let mut sum = 0u64;
     for birth in 0..unit + 1 {
-        sum = with_cohort(plan, birth, unit, &orders[birth as usize], sum, steps);
+        sum = with_cohort(&rows, birth, unit, sum, steps);
     }
     sum
 }
@@ -263,45 +237,23 @@ fn has_all_rows<L: Ledger>(
     if plan.tables() != 1 || unit > plan.units() {
         return false;
     }
-    match table_orders(alloc, plan, 0, unit) {
+    match JobOrders::new(alloc, plan, 0, 1, unit) {
         Ok(orders) => row_checksum(plan, unit, &orders, steps) == sum,
         Err(_) => false,
     }
 }
 
-/// Whether the first row of the table at place 1 is alive at a unit, by the candidates of the rows of unit 0.
-fn is_first_live<L: Ledger>(
-    plan: &Plan,
-    unit: u64,
-    candidates: &[Option<Candidates>],
-    steps: &mut Steps<L>,
-) -> bool
-    requires table { 1 < length plan.now.schema.tables }
-    requires row { 0 < cohort_size (table_of plan.now 1).births 0 }
-    requires unit { unit ≤ last_unit plan.now }
-    requires candidates { AreCandidates plan.now 1 0 candidates.now }
+/// Whether the first row of the table at place 1 is alive at a unit.
+fn is_first_live<L: Ledger>(rows: &Rows<'_>, unit: u64, steps: &mut Steps<L>) -> bool
+    requires table { 1 < length rows.now.schema.tables }
+    requires row { 0 < cohort_size (table_of rows.now 1).births 0 }
+    requires unit { unit ≤ last_unit rows.now }
 {
-    let orders = cohort_orders(plan, 1, 0);
-    let (live, _) = row_at(plan, 1, 0, unit, &orders, candidates, 0, steps);
+    let (live, _) = row_at(rows, 1, 0, unit, 0, steps);
     live
 }
 
-/// The same by the first of a table's candidates.
-fn is_first_live_by_table<L: Ledger>(
-    plan: &Plan,
-    unit: u64,
-    candidates: &Vec<Sequence<Option<Candidates>>>,
-    steps: &mut Steps<L>,
-) -> bool
-    requires table { 1 < length plan.now.schema.tables }
-    requires row { 0 < cohort_size (table_of plan.now 1).births 0 }
-    requires unit { unit ≤ last_unit plan.now }
-    requires candidates { candidates.now.items ≡ table_candidates plan.now 1 unit }
-{
-    is_first_live(plan, unit, candidates[0].as_slice(), steps)
-}
-
-/// Whether the first row of the table at place 1 is alive at a unit, or not, by candidates found before and by none.
+/// Whether the first row of the table at place 1 is alive at a unit, or not, by orders that are kept and by none.
 fn is_first_as_told<L: Ledger>(
     alloc: Global,
     plan: &Plan,
@@ -312,10 +264,10 @@ fn is_first_as_told<L: Ledger>(
     if plan.tables() != 3 || cohort(plan, 1, 0).size != 1 || unit > plan.units() {
         return false;
     }
-    match table_candidates(alloc, plan, 1, unit) {
-        Ok(candidates) => {
-            is_first_live_by_table(plan, unit, &candidates, steps) == live
-                && is_first_live(plan, unit, &[], steps) == live
+    match JobOrders::new(alloc, plan, 1, 1, unit) {
+        Ok(orders) => {
+            is_first_live(&Rows::with(plan, &orders), unit, steps) == live
+                && is_first_live(&Rows::of(plan), unit, steps) == live
         }
         Err(_) => false,
     }

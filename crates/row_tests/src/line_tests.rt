@@ -1,20 +1,18 @@
 //! Lines, key lines and reports worked out by hand, and texts that an independent program wrote, in Python from the rules of
 //! cohorts, keys and lines, with no shared code (docs/SECOND_PROGRAM.md).
 
-ghost use Rattle.std.specs.Prelude.{◌≡◌, ◌<◌, ◌≤◌, length, true};
-ghost use Rattle.cohort_sizes.specs.Births.{born_count, cohort_size};
+ghost use Rattle.std.specs.Prelude.{◌≡◌, ◌*◌, ◌<◌, ◌≤◌, length, true};
+ghost use Rattle.cohort_sizes.specs.Births.{born_count};
 ghost use Rattle.schema_plan.specs.Layout.{layout_of};
 ghost use Rattle.schema_plan.specs.TableFacts.{max_line};
 ghost use Rattle.life_intervals.specs.Generator.{generator_of, last_unit, table_of};
 ghost use Rattle.life_intervals.specs.Intervals.{is_live};
-ghost use Rattle.life_intervals.specs.CohortOrders.{cohort_orders};
-ghost use Rattle.row_lines.specs.CohortLines.{is_live_for, layout_for};
 
 use crate::fixtures::{SALES, has_parents, is_row, with_text};
 use crate::told::{Told, assert_all};
-use life_intervals::{CohortOrders, Survival, born, cohort, cohort_orders, key, parent};
-use line_pages::PageBuf;
-use row_lines::{CohortLines, live, put_key, put_line, row_report};
+use life_intervals::{JobOrders, Rows, born, key, parent};
+use line_pages::{Digits, PageBuf};
+use row_lines::{RunBuf, RunLines, TableLines, live, put_key, put_line, row_report};
 use schema_plan::Plan;
 use std::alloc::Global;
 use std::marker::Brand;
@@ -151,86 +149,50 @@ fn is_child<L: Ledger>(
     }
 }
 
-/// A checksum, and behind what it stands for the line of a row of a cohort.
-fn with_line<L: Ledger>(
-    alloc: Global,
-    lines: &CohortLines<'_>,
-    room: usize,
-    index: u64,
-    sum: u64,
-    steps: &mut Steps<L>,
-) -> u64
-    requires row { index < cohort_size (layout_for lines.now).births lines.now.born }
-    requires alive { is_live_for lines.now index ≡ true }
-    requires room { max_line (layout_of lines.now.plan) lines.now.table ≤ room }
-{
-    match PageBuf::with_room(alloc, room) {
-        Ok(page) => {
-            let mut page = page;
-            lines.put_line(index, &mut page, steps);
-            with_text(sum, page.text())
-        }
-        Err(_) => 0,
-    }
-}
+/// How many rows go onto a page, which is no divisor of the rows of a run.
+const ROWS_AT_ONCE: u64 = 100;
 
-/// The same by the orders of the cohort, where lives say that all of it are alive at the unit.
-fn with_sure_line<L: Ledger>(
-    alloc: Global,
-    plan: &Plan,
-    born: u64,
-    unit: u64,
-    orders: &CohortOrders,
-    index: u64,
-    sum: u64,
+/// The lines of all rows of a table, a page after the other, as one number.
+fn text_checksum<L: Ledger>(
+    lines: &RunLines<'_>,
+    page: &mut PageBuf,
+    rows: u64,
     steps: &mut Steps<L>,
 ) -> u64
-    requires table { 0 < length plan.now.schema.tables }
-    requires born { born ≤ unit }
-    requires unit { unit ≤ last_unit plan.now }
-    requires orders { orders.now ≡ cohort_orders plan.now 0 born }
-    requires row { index < cohort_size (table_of plan.now 0).births born }
+    requires rows { rows ≤ born_count (table_of lines.now.plan lines.now.table).births lines.now.unit }
+    requires room { 100 * max_line (layout_of lines.now.plan) lines.now.table ≤ page.old.room }
 {
-    let lines = CohortLines::new(plan, 0, born, unit, orders, &[]);
-    let room = plan.max_line(0) as usize;
-    match lines.survival() {
-        Survival::Sure => with_line(alloc, &lines, room, index, sum, steps),
-        _ => 0,
-    }
-}
-
-/// The same of all rows of a cohort.
-fn with_cohort<L: Ledger>(
-    alloc: Global,
-    plan: &Plan,
-    born: u64,
-    unit: u64,
-    sum: u64,
-    steps: &mut Steps<L>,
-) -> u64
-    requires table { 0 < length plan.now.schema.tables }
-    requires born { born ≤ unit }
-    requires unit { unit ≤ last_unit plan.now }
-{
-    let orders = cohort_orders(plan, 0, born);
-    let mut sum = sum;
-    for index in 0..cohort(plan, 0, born).size {
-        sum = with_sure_line(alloc, plan, born, unit, &orders, index, sum, steps);
+    let mut work = RunBuf::new();
+    let mut sum = 0;
+    let mut first = 0;
+    while first < rows {
+        let count = (rows - first).min(ROWS_AT_ONCE);
+        page.clear();
+        lines.put_run(first, count, &mut work, page, steps);
+        sum = with_text(sum, page.text());
+        first += count;
     }
     sum
 }
 
+/// The text of the first table at its last unit, as one number; None where memory is wanting.
+fn text_sum<L: Ledger>(alloc: Global, plan: &Plan, steps: &mut Steps<L>) -> Option<u64>
+    requires table { 0 < length plan.now.schema.tables }
+    requires short { max_line (layout_of plan.now) 0 ≤ 100 }
+{
+    let unit = plan.units();
+    let orders = JobOrders::new(alloc, plan, 0, 1, unit).ok()?;
+    let digits = Digits::new(alloc).ok()?;
+    let lines = TableLines::new(alloc, plan, 0, unit).ok()?;
+    let rows = Rows::with(plan, &orders);
+    let lines = RunLines::new(&rows, &lines, &digits, 0, unit);
+    let room = 100 * plan.max_line(0);
+    let mut page = PageBuf::with_room(alloc, room as usize).ok()?;
+    Some(text_checksum(&lines, &mut page, born(plan, 0, unit), steps))
+}
+
 fn has_text<L: Ledger>(alloc: Global, plan: &Plan, sum: u64, steps: &mut Steps<L>) -> bool {
-    if plan.tables() != 1 {
-        return false;
-    }
-    let _limits = plan.schema(); // there are at most 10,000 units
-    let last = plan.units();
-    let mut so_far = 0;
-    for born in 0..last + 1 {
-        so_far = with_cohort(alloc, plan, born, last, so_far, steps);
-    }
-    so_far == sum
+    plan.tables() == 1 && plan.max_line(0) <= 100 && text_sum(alloc, plan, steps) == Some(sum)
 }
 
 /// Whether what is told of lines holds.

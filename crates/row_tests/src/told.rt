@@ -54,7 +54,7 @@ pub(crate) enum Told<'a> {
     Cohort(u64, Survival, &'a [(bool, u64)]),
     /// Of all rows that are born by the unit whether they are alive at it and when they changed last, as this number.
     Rows(u64),
-    /// Whether the first row of unit 0 is alive at the unit, by candidates found before and by none.
+    /// Whether the first row of unit 0 is alive at the unit, by orders that are kept and by none.
     FirstLive(bool),
     /// The row's line at a unit.
     Line(u64, &'a str),

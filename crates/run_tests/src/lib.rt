@@ -8,7 +8,7 @@ mod outside;
 #[cfg(test)]
 mod pages;
 #[cfg(test)]
-mod refusals;
+mod refused;
 #[cfg(test)]
 mod run;
 #[cfg(test)]

@@ -50,9 +50,9 @@ static ONE_TABLE: [Run<'static>; 13] = [
         ..DONE
     },
     Run {
-        name: "snapshot 6 of one table",
+        name: "snapshot 6 of one table, by words in another order",
         schema: LIVING,
-        words: "pdgf snapshot s.toml --unit 6",
+        words: "pdgf --unit=6 snapshot s.toml",
         finished: &[("-", Sum(2_396_203_592_591_509_865))],
         ..DONE
     },

@@ -41,7 +41,8 @@ static FAILING: [Run<'static>; 10] = [
     },
     Run {
         name: "one line",
-        fail: ShelfFail::Write(2),
+        fail: ShelfFail::Write(5),
+        step: 1,
         begun: Some("-"),
         begun_bytes: "1\t0\n",
         ..STOPPED
@@ -73,7 +74,8 @@ static FAILING: [Run<'static>; 10] = [
         name: "an empty second file",
         schema: THREE,
         words: THREE_OUT,
-        fail: ShelfFail::Write(4),
+        fail: ShelfFail::Write(7),
+        step: 1,
         begun: Some("d/b.tbl"),
         finished: &[A],
         ..STOPPED
@@ -82,7 +84,8 @@ static FAILING: [Run<'static>; 10] = [
         name: "a line of the third file",
         schema: THREE,
         words: THREE_OUT,
-        fail: ShelfFail::Write(6),
+        fail: ShelfFail::Write(16),
+        step: 1,
         begun: Some("d/c.tbl"),
         begun_bytes: "0\t1\n",
         finished: &[A, B],
