@@ -23,7 +23,7 @@ use std::alloc::Global;
 use std::marker::Model;
 
 /// The most units whose seeds are kept of a column.
-const SEED_ROOM: u64 = 10_001;
+const SEED_ROOM: u64 = 4096;
 
 /// A column, prepared for runs: its seeds, the byte that stands behind its fields, and the pieces of its entries. A contract sees
 /// these, and the column's place.

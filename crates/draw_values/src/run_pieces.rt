@@ -22,15 +22,33 @@ use line_pages::{Digits, Piece};
 use schema_plan::{ReadyLeaf, ReadyWords};
 use weight_tables::Weights;
 
-/// Units of rows, each of at most 5 digits.
+/// Units of rows, each of at most 5 digits. Neighbours often have one unit, whose piece is made once.
 #[inline(always)]
 pub(crate) fn fill_units(digits: &Digits, units: &[u64], behind: u8, pieces: &mut [Piece])
     requires lengths { length units.now ≡ length pieces.old }
     requires small { (i : ℕ) → i < length units.now → slice_index units.now i ≤ 10000 }
     ensures { (i : ℕ) → i < length pieces.old → slice_index_or (map piece_text pieces.new) i [] ≡ with_behind behind (decimal (slice_index units.now i)) }
 {
+    let mut unit = 0;
+    let mut made = digits.piece(unit, behind);
     for (i, piece) in pieces.iter_mut().enumerate() {
-        *piece = digits.piece(units[i], behind);
+        made = unit_piece(digits, units[i], unit, made, behind);
+        unit = units[i];
+        *piece = made;
+    }
+}
+
+/// A unit, with the byte behind it: the piece that is made, where it is of the same unit.
+#[inline(always)]
+fn unit_piece(digits: &Digits, unit: u64, made_of: u64, made: Piece, behind: u8) -> Piece
+    requires small { unit ≤ 10000 }
+    requires made { piece_text made ≡ with_behind behind (decimal made_of) }
+    ensures { piece_text result ≡ with_behind behind (decimal unit) }
+{
+    if unit == made_of {
+        made
+    } else {
+        digits.piece(unit, behind)
     }
 }
 

@@ -5,7 +5,7 @@ ghost use Rattle.schema_plan.specs.FieldBounds.{greatest_by};
 ghost use Rattle.draw_values.specs.Values.{chosen_group};
 
 use fixed_divisors::FixedDivisor;
-use line_pages::PageBuf;
+use line_pages::{PageBuf, Piece};
 use row_text::WrittenTexts;
 use weight_tables::Weights;
 
@@ -40,5 +40,18 @@ pub(crate) fn put_entry(entries: &WrittenTexts, group: usize, buf: &mut PageBuf)
     ensures text { buf.new ≡ record buf.old { text = buf.old.text ++ slice_index_or entries.now group [] } }
     ensures size { length (slice_index_or entries.now group []) ≤ greatest_by length entries.now }
 {
-    buf.put(entries.get(group));
+    put_text(entries.get(group), buf);
+}
+
+/// Appends a text, which is copied as a piece where it is of one byte.
+#[inline(always)]
+fn put_text(text: &[u8], buf: &mut PageBuf)
+    requires { length buf.old.text + length text.now ≤ buf.old.room }
+    ensures { buf.new ≡ record buf.old { text = buf.old.text ++ text.now } }
+{
+    if text.len() == 1 {
+        buf.put_piece(&Piece::of_byte(text[0]));
+    } else {
+        buf.put(text);
+    }
 }

@@ -10,16 +10,16 @@ entry_is c = get_or_from_slice_get c.args.entries.now c.args.group c.get.result.
 pub returns-clause-size : goal.returns-clause-size
 returns-clause-size c = greatest_by-each (length {A = ℕ}) c.args.entries.now c.args.group [] c.requires.group
 
-pub put-requires : goal.put-requires
-put-requires c =
+pub put_text-requires : goal.put_text-requires
+put_text-requires c =
     omega (
       arith,
-      ap (λ (entry : List ℕ). length entry) (entry_is (goal.at.put-requires c).After-get),
+      ap (λ (entry : List ℕ). length entry) (entry_is (goal.at.put_text-requires c).After-get),
       greatest_by-each (length {A = ℕ}) c.args.entries.now c.args.group [] c.requires.group,
       c.requires.room,
     )
 
 pub returns-clause-text : goal.returns-clause-text
 returns-clause-text c =
-    c.put.ensures
+    c.put_text.ensures
     ∙ ap (λ (entry : List ℕ). record { text = c.args.buf.now.text ++ entry; room = c.args.buf.now.room }) (sym (entry_is (goal.at.returns-clause-text c).After-get))
