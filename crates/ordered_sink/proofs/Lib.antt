@@ -1,0 +1,4 @@
+pub mod CallLemmas
+pub mod RoundLemmas
+pub mod SlotLemmas
+pub mod WaitingLemmas

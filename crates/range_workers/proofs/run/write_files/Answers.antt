@@ -1,0 +1,55 @@
+use Rattle.std.proofs.Common.{◌≡◌, ◌+◌, ◌<◌, List, [], ◌∷◌, arith, drop, length, subst, ◌∙◌}
+use Rattle.std.specs.Option.{option_map}
+use Rattle.pd_outside.specs.Files.{File}
+use Rattle.pd_outside.specs.Shelf.{HoldsPrefixOf, finish_files}
+use Rattle.range_workers.proofs.MarkLemmas.{due_file-is, due_files-all, due_files-around, due_files-onto, end_before_told, mark_ordered, mark_within}
+use Rattle.range_workers.proofs.WriteLemmas.{finished_then, next_in_part}
+use Rattle.range_workers.proofs.run.write_files.Goals as goal
+
+pub write_file-requires-clause-ordered : goal.write_file-requires-clause-ordered
+write_file-requires-clause-ordered g c =
+    let count = g.P.Packer.count c.args.packer.now in
+    let below : c.loop-i.i < length c.args.marks.now = omega (arith, c.loop-i-test.true, c.len-i-end.ensures) in
+    let end = end_before_told c.count-count.result count c.end-end.result (drop (c.loop-i.i + 1) c.args.marks.now) c.count-count.ensures.count c.end-end.ensures in
+    omega (arith, end, c.first.ensures, mark_ordered count c.loop-i.i c.args.marks.now c.requires.marks below)
+
+pub write_file-requires-clause-within : goal.write_file-requires-clause-within
+write_file-requires-clause-within g c =
+    let count = g.P.Packer.count c.args.packer.now in
+    let end = end_before_told c.count-count.result count c.end-end.result (drop (c.loop-i.i + 1) c.args.marks.now) c.count-count.ensures.count c.end-end.ensures in
+    omega (arith, end, mark_within count (c.loop-i.i + 1) c.args.marks.now c.requires.marks)
+
+pub returns-in-Err-clause-prefix : goal.returns-in-Err-clause-prefix
+returns-in-Err-clause-prefix g c =
+    let text = g.P.Packer.text c.args.packer.now in
+    let count = g.P.Packer.count c.args.packer.now in
+    let marks = c.args.marks.now in
+    let below : c.loop-i.i < length marks = omega (arith, c.loop-i-test.true, c.len-i-end.ensures) in
+    let end = end_before_told c.count-count.result count c.end-end.result (drop (c.loop-i.i + 1) marks) c.count-count.ensures.count c.end-end.ensures in
+    let file = due_file-is text count c.loop-i.i marks c.name.result.now c.first.result c.end-end.result c.name.ensures c.first.ensures end in
+    next_in_part _ _ _ _ _ _ _ (due_files-around text count c.loop-i.i marks below) c.loop-i.invariant.files
+    (subst (λ (it : File). HoldsPrefixOf (it ∷ []) (g.S.Shelf.held c.loop-i.shelf) (g.S.Shelf.held c.write_file.new.shelf)) file c.in-Err.ensures.prefix)
+
+pub loop-i-preserved : goal.loop-i-preserved
+loop-i-preserved g c =
+    let text = g.P.Packer.text c.args.packer.now in
+    let count = g.P.Packer.count c.args.packer.now in
+    let marks = c.args.marks.now in
+    let below : c.loop-i.i < length marks = omega (arith, c.loop-i-test.true, c.len-i-end.ensures) in
+    let end = end_before_told c.count-count.result count c.end-end.result (drop (c.loop-i.i + 1) marks) c.count-count.ensures.count c.end-end.ensures in
+    let file = due_file-is text count c.loop-i.i marks c.name.result.now c.first.result c.end-end.result c.name.ensures c.first.ensures end in
+    record {
+      files =
+          finished_then _ _ _ _ _ _ (due_files-onto text count c.loop-i.i marks below) c.loop-i.invariant.files
+          (subst (λ (it : File). g.S.Shelf.held c.write_file.new.shelf ≡ option_map (finish_files (it ∷ [])) (g.S.Shelf.held c.loop-i.shelf)) file c.in-Ok.ensures.file);
+      none_begun = c.in-Ok.ensures.none_begun;
+      no_fault = c.in-Ok.ensures.no_fault ∙ c.loop-i.invariant.no_fault;
+      room = c.in-Ok.ensures.room ∙ c.loop-i.invariant.room;
+    }
+
+pub returns-clause-files : goal.returns-clause-files
+returns-clause-files g c =
+    let text = g.P.Packer.text c.args.packer.now in
+    let count = g.P.Packer.count c.args.packer.now in
+    subst (λ (files : List File). g.S.Shelf.held c.loop-i.shelf ≡ option_map (finish_files files) (g.S.Shelf.held c.args.shelf.now))
+    (due_files-all text count c.loop-i.i c.args.marks.now (omega (arith, c.loop-i-test.false, c.len-i-end.ensures))) c.loop-i.invariant.files

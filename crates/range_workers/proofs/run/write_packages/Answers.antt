@@ -1,0 +1,22 @@
+use Rattle.std.proofs.Common.{◌+◌, arith, ◌∙◌}
+use Rattle.pd_outside.proofs.Appending.{prefix_after}
+use Rattle.range_workers.specs.Marks.{texts}
+use Rattle.range_workers.proofs.WriteLemmas.{appended_then, texts_around, texts_onto}
+use Rattle.range_workers.proofs.run.write_packages.Goals as goal
+
+pub loop-n-preserved : goal.loop-n-preserved
+loop-n-preserved g c =
+    let text = g.P.Packer.text c.args.packer.now in
+    record {
+      from = omega (arith, c.loop-n.invariant.from);
+      within = omega (arith, c.loop-n-test.true);
+      text = appended_then (texts text c.args.first c.loop-n.n) (text c.loop-n.n) _ _ _ _ (texts_onto text c.args.first c.loop-n.n c.loop-n.invariant.from) c.loop-n.invariant.text c.in-Ok.ensures.text;
+      begun = c.in-Ok.ensures.begun;
+      no_fault = c.in-Ok.ensures.no_fault ∙ c.loop-n.invariant.no_fault;
+      room = c.in-Ok.ensures.room ∙ c.loop-n.invariant.room;
+    }
+
+pub returns-in-Err-clause-prefix : goal.returns-in-Err-clause-prefix
+returns-in-Err-clause-prefix g c =
+    let text = g.P.Packer.text c.args.packer.now in
+    prefix_after _ (texts text c.args.first c.loop-n.n) (text c.loop-n.n) (texts text (c.loop-n.n + 1) c.args.end) _ _ _ (texts_around text c.args.first c.loop-n.n c.args.end c.loop-n.invariant.from c.loop-n-test.true) c.loop-n.invariant.text c.in-Err.ensures.prefix

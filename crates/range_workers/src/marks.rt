@@ -1,0 +1,90 @@
+//! The names under which the packages of a job are written.
+
+ghost use Rattle.std.specs.Prelude.{◌≡◌, ◌<◌, ◌+◌, ◌++◌, ◌∷◌, [], OnErr, OnOk, drop, length};
+ghost use Rattle.range_workers.specs.Marks.{end_before, mark_at};
+
+use crate::Memory;
+use std::alloc::Global;
+use std::marker::Model;
+
+/// Where the packages of a job go: a list of package numbers, each with a name. The packages from that number on are written under
+/// that name, up to the number of the next mark.
+#[derive(Drop)]
+pub struct Marks {
+    entries: Vec<Entry>,
+}
+
+/// A mark as it is kept.
+#[derive(Drop)]
+struct Entry {
+    first: u64,
+    name: String,
+}
+
+impl Model for Marks {
+    ghost use Rattle.std.specs.Prelude.{List, map};
+    ghost use Rattle.range_workers.specs.Marks.{Mark};
+    ghost use Rattle.range_workers.specs.Entry.{mark_of};
+
+    ghost Value = { List Mark };
+
+    ghost view = { λ marks. map mark_of marks.entries.items };
+}
+
+impl Marks {
+    /// No mark.
+    pub fn new(alloc: Global) -> Marks
+        ensures { result ≡ [] }
+    {
+        Marks {
+            entries: Vec::new(alloc),
+        }
+    }
+
+    /// Adds a mark at the end: the packages from this number on are written under this name. At `Memory` the list is as before.
+    pub fn push(&mut self, first: u64, name: &str) -> Result<(), Memory>
+        ensures ok { OnOk result (self.new ≡ self.old ++ record { first = first; name = name.now } ∷ []) }
+        ensures err { OnErr result (self.new ≡ self.old) }
+    {
+        let alloc = *self.entries.allocator();
+        let name = String::from_str(alloc, name)?;
+        self.entries.push(Entry { first, name })?;
+        Ok(())
+    }
+
+    /// The number of marks.
+    pub(crate) fn len(&self) -> usize
+        ensures { result ≡ length self.now }
+    {
+        self.entries.len()
+    }
+
+    /// The name of mark `i`, counted from 0.
+    pub(crate) fn name(&self, i: usize) -> &str
+        requires { i < length self.now }
+        ensures { result.now ≡ (mark_at self.now i).name }
+    {
+        self.entries[i].name.as_str()
+    }
+
+    /// The number of the first package under mark `i`.
+    pub(crate) fn first(&self, i: usize) -> u64
+        requires { i < length self.now }
+        ensures { result ≡ (mark_at self.now i).first }
+    {
+        self.entries[i].first
+    }
+
+    /// The number behind the last package under mark `i`, where there are so many packages in all.
+    #[tactic(auto, using(crate::proofs::MarkLemmas::end_before_mark, crate::proofs::MarkLemmas::end_before_none))]
+    pub(crate) fn end(&self, i: usize, count: u64) -> u64
+        requires { i < length self.now }
+        ensures { result ≡ end_before count (drop (i + 1) self.now) }
+    {
+        if i == self.len() - 1 {
+            count
+        } else {
+            self.first(i + 1)
+        }
+    }
+}
