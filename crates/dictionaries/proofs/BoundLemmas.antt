@@ -13,7 +13,7 @@ use Rattle.std.specs.Str.{IsUtf8, is_utf8}
 use Rattle.std.specs.Str.Lossy.{utf8_valid_len}
 use Rattle.std.specs.Str.Parse.{digits_value}
 use Rattle.dictionaries.specs.WordList.{WordList, IsWordList}
-use Rattle.dictionaries.specs.Grammar.{Line, without_mark, entry_lines, is_tab, text_of, is_weight, weight_named, weight_of, fault_of, first_fault_from, word_list, unless_fault, dictionary_of_lines, dictionary_of}
+use Rattle.dictionaries.specs.Grammar.{Line, without_mark, entry_lines, is_tab, text_of, is_weight, weight_named, weight_of, fault_of, first_fault_from, word_list, word_list_unless_fault, dictionary_of_lines, dictionary_of}
 use Rattle.dictionaries.specs.declared.fault.DictFault.{DictFault}
 use Rattle.dictionaries.specs.declared.fault.DictFault.TheVariants.{NotUtf8, LongEntry, BadWeight, TooMany}
 use Rattle.dictionaries.proofs.TextLemmas.{All-text_of}
@@ -131,11 +131,11 @@ IsWordList-word_list line others none utf8 =
       small = omega (arith, sum_by-le (λ w. w) 1000000 (map weight lines) light);
     }
 
-IsWordList-unless_fault : (fault : Option DictFault) (lines : List Line) (list : WordList) → first_fault_from 1 lines ≡ fault →
-    All IsUtf8 (map (λ l. text_of l.bytes) lines) → unless_fault fault lines ≡ Ok list → IsWordList list
-IsWordList-unless_fault (Some fault) lines list first utf8 read = cc
-IsWordList-unless_fault None [] list first utf8 read = cc
-IsWordList-unless_fault None (line ∷ others) list first utf8 read =
+IsWordList-word_list_unless_fault : (fault : Option DictFault) (lines : List Line) (list : WordList) → first_fault_from 1 lines ≡ fault →
+    All IsUtf8 (map (λ l. text_of l.bytes) lines) → word_list_unless_fault fault lines ≡ Ok list → IsWordList list
+IsWordList-word_list_unless_fault (Some fault) lines list first utf8 read = cc
+IsWordList-word_list_unless_fault None [] list first utf8 read = cc
+IsWordList-word_list_unless_fault None (line ∷ others) list first utf8 read =
     let list-is : word_list (line ∷ others) ≡ list = cc in
     subst IsWordList list-is (IsWordList-word_list line others first utf8)
 
@@ -146,7 +146,7 @@ IsWordList-dictionary_of bytes list read =
     let at : Bool → Result WordList DictFault = λ b. if b then dictionary_of_lines lines else Err (NotUtf8 (utf8_valid_len bytes)) in
     elim (cases_Bool (is_utf8 bytes)) [
       | inl text ↦
-          IsWordList-unless_fault (first_fault_from 1 lines) lines list refl (All-text_of bytes (IsUtf8-from_is_utf8 bytes text))
+          IsWordList-word_list_unless_fault (first_fault_from 1 lines) lines list refl (All-text_of bytes (IsUtf8-from_is_utf8 bytes text))
           (sym (ap at text) ∙ read)
       | inr other ↦
           let refused : Err (NotUtf8 (utf8_valid_len bytes)) ≡ Ok list = sym (ap at other) ∙ read in

@@ -5,7 +5,7 @@ use Rattle.std.proofs.lemmas.Str.{IsUtf8-from_is_utf8, is_utf8-from_IsUtf8}
 use Rattle.std.specs.Str.{IsUtf8, is_utf8}
 use Rattle.std.specs.Str.Lossy.{utf8_valid_len}
 use Rattle.dictionaries.specs.WordList.{WordList}
-use Rattle.dictionaries.specs.Grammar.{Line, without_mark, entry_lines, first_fault_from, word_list, unless_fault, dictionary_of_lines, dictionary_of}
+use Rattle.dictionaries.specs.Grammar.{Line, without_mark, entry_lines, first_fault_from, word_list, word_list_unless_fault, dictionary_of_lines, dictionary_of}
 use Rattle.dictionaries.specs.declared.fault.DictFault.{DictFault}
 use Rattle.dictionaries.specs.declared.fault.DictFault.TheVariants.{NotUtf8, Empty}
 
@@ -25,15 +25,15 @@ dictionary_of-text bytes text = ap (answer bytes) (is_utf8-from_IsUtf8 bytes tex
 pub dictionary_of-fault : (bytes : List ℕ) (fault : DictFault) → IsUtf8 bytes →
     first_fault_from 1 (entry_lines (without_mark bytes)) ≡ Some fault → dictionary_of bytes ≡ Err fault
 dictionary_of-fault bytes fault text first =
-    dictionary_of-text bytes text ∙ ap (λ (o : Option DictFault). unless_fault o (entry_lines (without_mark bytes))) first
+    dictionary_of-text bytes text ∙ ap (λ (o : Option DictFault). word_list_unless_fault o (entry_lines (without_mark bytes))) first
 
-unless_fault-list : (lines : List Line) → 0 < length lines → unless_fault None lines ≡ Ok (word_list lines)
-unless_fault-list [] some = absurd (omega arith)
-unless_fault-list (line ∷ others) some = refl
+word_list_unless_fault-list : (lines : List Line) → 0 < length lines → word_list_unless_fault None lines ≡ Ok (word_list lines)
+word_list_unless_fault-list [] some = absurd (omega arith)
+word_list_unless_fault-list (line ∷ others) some = refl
 
-unless_fault-empty : (lines : List Line) → length lines ≡ 0 → unless_fault None lines ≡ Err Empty
-unless_fault-empty [] none = refl
-unless_fault-empty (line ∷ others) none = absurd (omega arith)
+word_list_unless_fault-empty : (lines : List Line) → length lines ≡ 0 → word_list_unless_fault None lines ≡ Err Empty
+word_list_unless_fault-empty [] none = refl
+word_list_unless_fault-empty (line ∷ others) none = absurd (omega arith)
 
 -- no line has a fault, and there is an entry
 pub dictionary_of-list : (bytes : List ℕ) → IsUtf8 bytes →
@@ -41,7 +41,7 @@ pub dictionary_of-list : (bytes : List ℕ) → IsUtf8 bytes →
     dictionary_of bytes ≡ Ok (word_list (entry_lines (without_mark bytes)))
 dictionary_of-list bytes text right some =
     let lines = entry_lines (without_mark bytes) in
-    dictionary_of-text bytes text ∙ ap (λ (o : Option DictFault). unless_fault o lines) right ∙ unless_fault-list lines some
+    dictionary_of-text bytes text ∙ ap (λ (o : Option DictFault). word_list_unless_fault o lines) right ∙ word_list_unless_fault-list lines some
 
 is_ok-list : (given : Result WordList DictFault) (list : WordList) → given ≡ Ok list → IsOk given
 is_ok-list given list is = rw is refl
@@ -56,4 +56,4 @@ pub dictionary_of-empty : (bytes : List ℕ) → IsUtf8 bytes →
     first_fault_from 1 (entry_lines (without_mark bytes)) ≡ None → length (entry_lines (without_mark bytes)) ≡ 0 → dictionary_of bytes ≡ Err Empty
 dictionary_of-empty bytes text right none =
     let lines = entry_lines (without_mark bytes) in
-    dictionary_of-text bytes text ∙ ap (λ (o : Option DictFault). unless_fault o lines) right ∙ unless_fault-empty lines none
+    dictionary_of-text bytes text ∙ ap (λ (o : Option DictFault). word_list_unless_fault o lines) right ∙ word_list_unless_fault-empty lines none

@@ -21,7 +21,7 @@ use Rattle.std.specs.Str.Lines.{strip_carriage_return}
 use Rattle.std.specs.Str.Parse.{digits_value}
 use Rattle.dictionaries.specs.WordList.{WordList, IsWordList}
 use Rattle.dictionaries.specs.Grammar.{Line, byte_order_mark, entry_lines, without_mark, word_list, is_line_feed, lines, numbered_line, numbered_from, has_entry, is_tab, text_of, is_weight, weight_named, weight_of, fault_of, first_fault_from, dictionary_of}
-use Rattle.dictionaries.specs.Written.{IsPlain, written, written_line, written_lines}
+use Rattle.dictionaries.specs.Written.{IsPlain, written_list, written_line, written_lines}
 use Rattle.dictionaries.proofs.LineLemmas.{digits_model}
 use Rattle.dictionaries.proofs.DictionaryLemmas.{dictionary_of-list}
 
@@ -202,8 +202,8 @@ IsUtf8-byte_order_mark : IsUtf8 byte_order_mark
 unfolding encode
 IsUtf8-byte_order_mark = IsUtf8-encode 65279 refl
 
-pub dictionary_of-written : (list : WordList) → IsWordList list → All IsPlain list.entries → dictionary_of (written list) ≡ Ok list
-dictionary_of-written list sound plain =
+pub dictionary_of-written_list : (list : WordList) → IsWordList list → All IsPlain list.entries → dictionary_of (written_list list) ≡ Ok list
+dictionary_of-written_list list sound plain =
     let rest = written_lines list.entries list.weights in
     let fit : AreFit list.entries list.weights = record {
       short = sound.short;
@@ -213,10 +213,10 @@ dictionary_of-written list sound plain =
       positive = sound.positive;
       light = sound.light;
     } in
-    let utf8 : IsUtf8 (written list) = IsUtf8-append byte_order_mark rest IsUtf8-byte_order_mark (IsUtf8-written_lines list.entries list.weights fit) in
+    let utf8 : IsUtf8 (written_list list) = IsUtf8-append byte_order_mark rest IsUtf8-byte_order_mark (IsUtf8-written_lines list.entries list.weights fit) in
     let read = AreReadAs-written 1 1 list.entries list.weights fit (omega (arith, sound.few)) in
-    let lines = entry_lines (without_mark (written list)) in
+    let lines = entry_lines (without_mark (written_list list)) in
     let same : word_list lines ≡ list = rw (read.texts, read.weighed) refl in
     let some : 0 < length lines =
     omega (arith, sound.some, ap (λ (l : WordList). length l.entries) same, length-map lines (λ (l : Line). text_of l.bytes)) in
-    dictionary_of-list (written list) utf8 read.right some ∙ ap Ok same
+    dictionary_of-list (written_list list) utf8 read.right some ∙ ap Ok same

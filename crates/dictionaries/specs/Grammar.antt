@@ -97,13 +97,13 @@ word_list lines = record {
 }
 
 -- the word list of the lines where none has a fault, and there is one
-abbrev pub unless_fault : Option DictFault → List Line → Result WordList DictFault
-unless_fault (Some fault) lines = Err fault
-unless_fault None [] = Err Empty
-unless_fault None (line ∷ others) = Ok (word_list (line ∷ others))
+abbrev pub word_list_unless_fault : Option DictFault → List Line → Result WordList DictFault
+word_list_unless_fault (Some fault) lines = Err fault
+word_list_unless_fault None [] = Err Empty
+word_list_unless_fault None (line ∷ others) = Ok (word_list (line ∷ others))
 
 abbrev pub dictionary_of_lines : List Line → Result WordList DictFault
-dictionary_of_lines lines = unless_fault (first_fault_from 1 lines) lines
+dictionary_of_lines lines = word_list_unless_fault (first_fault_from 1 lines) lines
 
 -- the word list that the bytes stand for, or their first fault
 unfoldable pub dictionary_of : List ℕ → Result WordList DictFault

@@ -17,5 +17,5 @@ written_lines (entry ∷ entries) (weight ∷ weights) = written_line entry weig
 written_lines entries weights = []
 
 -- the lines of a word list, behind a byte order mark
-abbrev pub written : WordList → List ℕ
-written list = byte_order_mark ++ written_lines list.entries list.weights
+abbrev pub written_list : WordList → List ℕ
+written_list list = byte_order_mark ++ written_lines list.entries list.weights

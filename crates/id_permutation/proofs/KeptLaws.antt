@@ -7,7 +7,7 @@ use Rattle.std.proofs.Math.Seq.{drop-append_seam, take-length}
 use Rattle.id_permutation.specs.Placement.{height_of, width_of}
 use Rattle.id_permutation.specs.Order.{Arrangement}
 use Rattle.id_permutation.specs.OrderList.{OrderList}
-use Rattle.id_permutation.specs.Kept.{arrangement_by, form_entries, tables_by, IsSmall, Fits, form_at, AreMore, arrangement_of, IsKept, AreKept}
+use Rattle.id_permutation.specs.Kept.{arrangement_by, form_entries, tables_by, IsSmall, IsCountable, form_at, AreMore, arrangement_of, IsKeptOrder, AreKept}
 use Rattle.id_permutation.specs.declared.forms.Form.{Form}
 use Rattle.id_permutation.specs.declared.forms.Form.TheVariants.{InPlace, Rounds, Tables}
 use Rattle.id_permutation.specs.declared.kept.KeptOrder.{KeptOrder}
@@ -18,12 +18,12 @@ length-tables_by (InPlace size) seed = refl
 length-tables_by (Rounds size) seed = refl
 length-tables_by (Tables size) seed = length-tables_of (height_of size) (width_of size) seed
 
-pub IsSmall-fits : (form : Form) (kept : ℕ) → Fits form kept → IsSmall form
+pub IsSmall-fits : (form : Form) (kept : ℕ) → IsCountable form kept → IsSmall form
 IsSmall-fits (InPlace size) kept fits = tt
 IsSmall-fits (Rounds size) kept fits = tt
 IsSmall-fits (Tables size) kept fits = fits.0
 
-counted-more : (form : Form) (kept : ℕ) → kept < 2 ^ 32 → Fits form kept → kept + form_entries form < 2 ^ 32
+counted-more : (form : Form) (kept : ℕ) → kept < 2 ^ 32 → IsCountable form kept → kept + form_entries form < 2 ^ 32
 counted-more (InPlace size) kept h fits = omega arith
 counted-more (Rounds size) kept h fits = omega arith
 counted-more (Tables size) kept h fits = fits.1
@@ -49,8 +49,8 @@ arrangement_of-more : (forms more : List Form) (order : KeptOrder) → AreMore f
 arrangement_of-more forms more order are h = ap (λ (form : Form). arrangement_by form order.seed) (are.same order.form h)
 
 -- and its tables
-IsKept-more : (forms more : List Form) (entries added : List ℕ) (order : KeptOrder) → AreMore forms more → IsKept forms entries order → IsKept more (entries ++ added) order
-IsKept-more forms more entries added order are is =
+IsKeptOrder-more : (forms more : List Form) (entries added : List ℕ) (order : KeptOrder) → AreMore forms more → IsKeptOrder forms entries order → IsKeptOrder more (entries ++ added) order
+IsKeptOrder-more forms more entries added order are is =
     let longer : length forms ≤ length more = are.longer in
     let known : order.form < length forms = is.known in
     let same : form_at more order.form ≡ form_at forms order.form = are.same order.form known in
@@ -64,8 +64,8 @@ IsKept-more forms more entries added order are is =
     record { known = omega arith; within = has.0; exact = has.1 }
 
 -- the new order is kept
-IsKept-new : (forms : List Form) (entries tables : List ℕ) (order : KeptOrder) (form : Form) → order.form < length forms → form_at forms order.form ≡ form → order.first ≡ length entries → tables ≡ tables_by form order.seed → IsKept forms (entries ++ tables) order
-IsKept-new forms entries tables order form known at first made =
+IsKeptOrder-new : (forms : List Form) (entries tables : List ℕ) (order : KeptOrder) (form : Form) → order.form < length forms → form_at forms order.form ≡ form → order.first ≡ length entries → tables ≡ tables_by form order.seed → IsKeptOrder forms (entries ++ tables) order
+IsKeptOrder-new forms entries tables order form known at first made =
     let long : length tables ≡ form_entries form = ap length made ∙ length-tables_by form order.seed in
     let all : length (entries ++ tables) ≡ length entries + length tables = length-append entries tables in
     let HasTables : Form → Type 0 = λ form. (order.first + form_entries form ≤ length (entries ++ tables)) × (slice_range (entries ++ tables) order.first (order.first + form_entries form) ≡ tables_by form order.seed) in
@@ -87,19 +87,19 @@ abbrev pub list_of : List Form → List ℕ → List KeptOrder → OrderList
 list_of forms entries orders = listed (map (arrangement_of forms) orders) (length entries)
 
 -- all orders are kept
-AreKept-more : (forms more : List Form) (entries tables : List ℕ) (orders : List KeptOrder) (order : KeptOrder) (form : Form) → AreKept forms entries orders → AreMore forms more → order.form < length more → form_at more order.form ≡ form → order.first ≡ length entries → tables ≡ tables_by form order.seed → Fits form (length entries) → AreKept more (entries ++ tables) (orders ++ order ∷ [])
+AreKept-more : (forms more : List Form) (entries tables : List ℕ) (orders : List KeptOrder) (order : KeptOrder) (form : Form) → AreKept forms entries orders → AreMore forms more → order.form < length more → form_at more order.form ≡ form → order.first ≡ length entries → tables ≡ tables_by form order.seed → IsCountable form (length entries) → AreKept more (entries ++ tables) (orders ++ order ∷ [])
 AreKept-more forms more entries tables orders order form kept are known at first made fits =
     let counted : length entries + form_entries form < 2 ^ 32 = counted-more form (length entries) kept.counted fits in
     let long : length tables ≡ form_entries form = ap length made ∙ length-tables_by form order.seed in
     let all : length (entries ++ tables) ≡ length entries + length tables = length-append entries tables in
     record {
-      each = All-append (IsKept more (entries ++ tables)) orders (order ∷ [])
-          (λ k d h. IsKept-more forms more entries tables (get_or orders k d) are (kept.each k d h))
-          (All-one (IsKept more (entries ++ tables)) order (IsKept-new more entries tables order form known at first made));
+      each = All-append (IsKeptOrder more (entries ++ tables)) orders (order ∷ [])
+          (λ k d h. IsKeptOrder-more forms more entries tables (get_or orders k d) are (kept.each k d h))
+          (All-one (IsKeptOrder more (entries ++ tables)) order (IsKeptOrder-new more entries tables order form known at first made));
       counted = omega arith;
     }
 
-pub AreKept-added : (forms more : List Form) (entries tables new_entries : List ℕ) (orders new_orders : List KeptOrder) (order : KeptOrder) (form : Form) → AreKept forms entries orders → AreMore forms more → new_entries ≡ entries ++ tables → new_orders ≡ orders ++ order ∷ [] → order.form < length more → form_at more order.form ≡ form → order.first ≡ length entries → tables ≡ tables_by form order.seed → Fits form (length entries) → AreKept more new_entries new_orders
+pub AreKept-added : (forms more : List Form) (entries tables new_entries : List ℕ) (orders new_orders : List KeptOrder) (order : KeptOrder) (form : Form) → AreKept forms entries orders → AreMore forms more → new_entries ≡ entries ++ tables → new_orders ≡ orders ++ order ∷ [] → order.form < length more → form_at more order.form ≡ form → order.first ≡ length entries → tables ≡ tables_by form order.seed → IsCountable form (length entries) → AreKept more new_entries new_orders
 AreKept-added forms more entries tables new_entries orders new_orders order form kept are entries_added order_added known at first made fits =
     subst (λ (es : List ℕ). AreKept more es new_orders) (sym entries_added)
     (subst (λ (os : List KeptOrder). AreKept more (entries ++ tables) os) (sym order_added)
@@ -111,7 +111,7 @@ AreKept-forms forms more entries new_entries orders new_orders kept are same_ent
     subst (λ (es : List ℕ). AreKept more es new_orders) (sym same_entries)
     (subst (λ (os : List KeptOrder). AreKept more entries os) (sym same_orders)
     (record {
-      each = λ k d h. subst (λ (es : List ℕ). IsKept more es (get_or orders k d)) (append-nil entries) (IsKept-more forms more entries [] (get_or orders k d) are (kept.each k d h));
+      each = λ k d h. subst (λ (es : List ℕ). IsKeptOrder more es (get_or orders k d)) (append-nil entries) (IsKeptOrder-more forms more entries [] (get_or orders k d) are (kept.each k d h));
       counted = kept.counted;
     }))
 

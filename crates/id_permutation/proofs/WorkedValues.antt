@@ -1,7 +1,7 @@
 -- The definitions at small numbers. The values are those of an independent program, written in Python from the rules of the
 -- placement and of Philox4x32-10.
 use Rattle.std.proofs.Common.{◌≡◌, [], ◌∷◌, refl}
-use Rattle.philox_seeds.specs.Philox.{philox4x32_10, next_key, round_key, round as philox_round, rounds as philox_rounds}
+use Rattle.philox_seeds.specs.Philox.{philox4x32_10, next_key, round_key, philox_round, philox_rounds}
 use Rattle.philox_seeds.specs.SeedTree.{keyed_number}
 use Rattle.id_permutation.specs.Least.{least, least_from}
 use Rattle.id_permutation.specs.Walk.{inverse_below, iterate, first_below}

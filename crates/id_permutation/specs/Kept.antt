@@ -38,10 +38,10 @@ IsSmall (Rounds size) = Unit {0}
 IsSmall (Tables size) = size ≤ 2 ^ 32
 
 -- and the entries are counted in 32 bits, behind as many as are kept
-abbrev pub Fits : Form → ℕ → Type 0
-Fits (InPlace size) kept = Unit {0}
-Fits (Rounds size) kept = Unit {0}
-Fits (Tables size) kept = (size ≤ 2 ^ 32) × (kept + table_entries size < 2 ^ 32)
+abbrev pub IsCountable : Form → ℕ → Type 0
+IsCountable (InPlace size) kept = Unit {0}
+IsCountable (Rounds size) kept = Unit {0}
+IsCountable (Tables size) kept = (size ≤ 2 ^ 32) × (kept + table_entries size < 2 ^ 32)
 
 -- form k of a list that has one
 abbrev pub form_at : List Form → ℕ → Form
@@ -57,12 +57,12 @@ abbrev pub arrangement_of : List Form → KeptOrder → Arrangement
 arrangement_of forms order = arrangement_by (form_at forms order.form) order.seed
 
 -- its form is there, and its tables stand among the entries
-pub record IsKept (forms : List Form) (entries : List ℕ) (order : KeptOrder) : Type 0 where
+pub record IsKeptOrder (forms : List Form) (entries : List ℕ) (order : KeptOrder) : Type 0 where
   pub known : order.form < length forms
   pub within : order.first + form_entries (form_at forms order.form) ≤ length entries
   pub exact : slice_range entries order.first (order.first + form_entries (form_at forms order.form)) ≡ tables_by (form_at forms order.form) order.seed
 
 -- so does each order, and the entries are counted in 32 bits
 pub record AreKept (forms : List Form) (entries : List ℕ) (orders : List KeptOrder) : Type 0 where
-  pub each : All (IsKept forms entries) orders
+  pub each : All (IsKeptOrder forms entries) orders
   pub counted : length entries < 2 ^ 32

@@ -1,7 +1,7 @@
 //! The forms that kept orders have, and which form an order gets.
 
 ghost use Rattle.std.specs.Prelude.{◌≡◌, ◌-◌, ◌<◌, ◌≤◌, ◌^◌, IsTrue, IfOk, OnErr, length};
-ghost use Rattle.id_permutation.specs.Kept.{form_at, form_entries, tables_by, IsFormOf, Fits, IsSmall, AreMore};
+ghost use Rattle.id_permutation.specs.Kept.{form_at, form_entries, tables_by, IsFormOf, IsCountable, IsSmall, AreMore};
 ghost use Rattle.id_permutation.specs.Placement.{height_of, width_of};
 ghost use Rattle.id_permutation.specs.Tables.{tables_of};
 
@@ -27,7 +27,7 @@ pub fn permutation_form(forms: &[Form], size: u64, kept: usize, room: u64) -> Fo
     requires small { size ≤ 2 ^ 40 }
     ensures exact { IsFormOf size result }
     ensures room { form_entries result ≤ room }
-    ensures fits { Fits result kept }
+    ensures fits { IsCountable result kept }
 {
     let shape = shape_of(forms, size);
     let entries = shape.entries();

@@ -3,7 +3,7 @@
 ghost use Rattle.std.specs.Prelude.{◌≡◌, ◌==◌, ◌+◌, ◌<◌, ◌≤◌, ◌^◌, ◌++◌, ◌∷◌, [], Some, IfSome, IfOk, OnOk, OnErr, length, slice_get};
 ghost use Rattle.id_permutation.specs.Order.{Arrangement};
 ghost use Rattle.id_permutation.specs.OrderList.{OrderList};
-ghost use Rattle.id_permutation.specs.Kept.{arrangement_by, form_entries, tables_by, IsFormOf, Fits};
+ghost use Rattle.id_permutation.specs.Kept.{arrangement_by, form_entries, tables_by, IsFormOf, IsCountable};
 
 use crate::forms::{Form, form_index, permutation_form, tables_for};
 use crate::memory::Memory;
@@ -117,7 +117,7 @@ impl KeptOrders {
     }
 
     fn push_form(&mut self, form: Form, seed: u64) -> Result<(), Memory>
-        requires { Fits form self.old.entries }
+        requires { IsCountable form self.old.entries }
         ensures kept { OnOk result (self.new.orders ≡ self.old.orders ++ arrangement_by form seed ∷ []) }
         ensures entries { OnOk result (self.new.entries ≡ self.old.entries + form_entries form) }
         ensures refused { OnErr result (self.new ≡ self.old) }

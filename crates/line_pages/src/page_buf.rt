@@ -18,13 +18,13 @@ pub struct PageBuf {
 
 impl Model for PageBuf {
     ghost use Rattle.std.specs.Prelude.{length, take};
-    ghost use Rattle.line_pages.specs.Pages.{Page, Fits};
+    ghost use Rattle.line_pages.specs.Pages.{Page, IsWithinRoom};
 
     ghost Value = { Page };
 
     ghost view = { λ p. record { text = take p.len p.bytes.items; room = p.room } };
 
-    ghost invariant = { λ p. Fits p.len p.room (length p.bytes.items) };
+    ghost invariant = { λ p. IsWithinRoom p.len p.room (length p.bytes.items) };
 }
 
 impl PageBuf {

@@ -2,7 +2,7 @@
 //! from the rule that a weight is max(1, 10**9 // (i + 1)**power).
 
 use std::process::Abort;
-use weight_tables::Weights;
+use weight_tables::{Weights, harmonic};
 
 // The number selects the group.
 fn assert_group(rt: &impl Abort, weights: &Weights, x: u64, group: usize) {
@@ -55,7 +55,7 @@ fn harmonic_weights_are_as_worked_out(rt: HostRuntime) {
     ];
     for (size, power, shares) in cases {
         assert!(rt; 1 <= size && size <= 4096 && 1 <= power && power <= 3);
-        let weights = Weights::harmonic(rt.alloc(), size, power).expect(&rt, "memory");
+        let weights = harmonic(rt.alloc(), size, power).expect(&rt, "memory");
         assert_shares(&rt, &weights, shares);
     }
 }

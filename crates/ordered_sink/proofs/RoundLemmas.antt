@@ -9,7 +9,7 @@ use Rattle.ordered_sink.specs.declared.offers.Numbered.{Numbered}
 use Rattle.ordered_sink.specs.declared.offers.Refused.{Refused}
 use Rattle.ordered_sink.specs.declared.offers.Refused.TheVariants.{Beyond, Taken}
 use Rattle.ordered_sink.specs.Ordered.{Round, after_next, after_offer, answer, begun, due, has_number, next, no_round, page_of, was_offered, with_page, without_page}
-use Rattle.ordered_sink.specs.Slots.{Keeps, pages_from}
+use Rattle.ordered_sink.specs.Slots.{KeepsRound, pages_from}
 use Rattle.ordered_sink.proofs.SlotLemmas.{empty-done, is_some-slot, none_from, numbered, page_of-slot, pages_from-empty, pages_from-replicate, with_page-at, without_page-slot}
 
 -- what is told of an offer, by the two tests
@@ -49,7 +49,7 @@ round_in-new capacity =
     ap (λ size. record (no_round capacity) { capacity = size; waiting = pages_from 0 (replicate capacity None) }) (length-replicate capacity empty)
     ∙ ap (λ pages. record (no_round capacity) { waiting = pages }) (pages_from-replicate 0 capacity)
 
-pub round_in-begun : (slots : List (Option Page)) (first count handed next_first next_count : ℕ) → Keeps slots first count handed → handed ≡ count →
+pub round_in-begun : (slots : List (Option Page)) (first count handed next_first next_count : ℕ) → KeepsRound slots first count handed → handed ≡ count →
     round_in slots next_first next_count 0 ≡ begun (round_in slots first count handed) next_first next_count
 round_in-begun slots first count handed next_first next_count keeps done =
     ap (λ pages. record (round_in slots next_first next_count 0) { waiting = pages })
@@ -69,7 +69,7 @@ was_offered-slot slots first count handed n from =
     ∙ is_some-slot first n slots (omega arith)
 
 -- a page that wasn't offered goes to its slot
-pub round_in-offered : (slots : List (Option Page)) (first count handed n : ℕ) (page : Page) → Keeps slots first count handed →
+pub round_in-offered : (slots : List (Option Page)) (first count handed n : ℕ) (page : Page) → KeepsRound slots first count handed →
     has_number (round_in slots first count handed) n ≡ true → was_offered (round_in slots first count handed) n ≡ false →
     round_in (slice_set slots (n - first) (Some page)) first count handed ≡ after_offer (round_in slots first count handed) n page
 round_in-offered slots first count handed n page keeps has new =

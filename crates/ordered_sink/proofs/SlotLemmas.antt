@@ -6,7 +6,7 @@ use Rattle.std.proofs.lemmas.Bool.{cases_lt, cond-false, cond-true, eq-eqb, le-l
 use Rattle.line_pages.specs.Pages.{Page}
 use Rattle.ordered_sink.specs.declared.offers.Numbered.{Numbered}
 use Rattle.ordered_sink.specs.Ordered.{page_of, with_page, without_page}
-use Rattle.ordered_sink.specs.Slots.{Keeps, pages_from}
+use Rattle.ordered_sink.specs.Slots.{KeepsRound, pages_from}
 
 abbrev pub numbered : ℕ → Page → Numbered
 numbered n page = record { n = n; page = page }
@@ -125,7 +125,7 @@ pages_from-replicate n zero = refl
 pages_from-replicate n (suc capacity) = pages_from-replicate (n + 1) capacity
 
 -- once all pages of a round are handed out, all slots are empty
-pub empty-done : (slots : List (Option Page)) (first count handed : ℕ) → Keeps slots first count handed → handed ≡ count → (i : ℕ) → slice_index_or slots i None ≡ None
+pub empty-done : (slots : List (Option Page)) (first count handed : ℕ) → KeepsRound slots first count handed → handed ≡ count → (i : ℕ) → slice_index_or slots i None ≡ None
 empty-done slots first count handed keeps done i =
     elim (cases_lt i handed) [
       | inl under ↦ keeps.before i under

@@ -22,7 +22,7 @@ pub struct Ordered {
 impl Model for Ordered {
     ghost use Rattle.std.specs.Prelude.{length};
     ghost use Rattle.ordered_sink.specs.Ordered.{Round};
-    ghost use Rattle.ordered_sink.specs.Slots.{Keeps, pages_from};
+    ghost use Rattle.ordered_sink.specs.Slots.{KeepsRound, pages_from};
 
     ghost Value = { Round };
 
@@ -34,7 +34,7 @@ impl Model for Ordered {
       waiting = pages_from o.first o.slots.items;
     } };
 
-    ghost invariant = { λ o. Keeps o.slots.items o.first o.count o.handed };
+    ghost invariant = { λ o. KeepsRound o.slots.items o.first o.count o.handed };
 }
 
 impl Ordered {

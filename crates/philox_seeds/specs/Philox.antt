@@ -29,8 +29,8 @@ abbrev pub low_word : ℕ → ℕ
 low_word x = x % 2 ^ 32
 
 -- one round: both products, of 64 bits, fall into words, and the high ones are mixed with the other words and the key
-unfoldable pub round : Words → Key → Words
-round words key = record {
+unfoldable pub philox_round : Words → Key → Words
+philox_round words key = record {
   c0 = bit_xor (bit_xor (high_word (multiplier_1 * words.c2)) words.c1) key.k0;
   c1 = low_word (multiplier_1 * words.c2);
   c2 = bit_xor (bit_xor (high_word (multiplier_0 * words.c0)) words.c3) key.k1;
@@ -47,14 +47,14 @@ round_key key zero = key
 round_key key (suc i) = next_key (round_key key i)
 
 -- the words after the first n rounds
-unfoldable pub rounds : ℕ → Words → Key → Words
-rounds zero counter key = counter
-rounds (suc n) counter key = round (rounds n counter key) (round_key key n)
+unfoldable pub philox_rounds : ℕ → Words → Key → Words
+philox_rounds zero counter key = counter
+philox_rounds (suc n) counter key = philox_round (philox_rounds n counter key) (round_key key n)
 
 -- the block of a counter under a key: ten rounds
 unfoldable pub philox4x32_10 : Words → Key → Words
-philox4x32_10 counter key = rounds 10 counter key
+philox4x32_10 counter key = philox_rounds 10 counter key
 
 -- the words as a list, in order
-abbrev pub word_list : Words → List ℕ
-word_list words = words.c0 ∷ words.c1 ∷ words.c2 ∷ words.c3 ∷ []
+abbrev pub listed_words : Words → List ℕ
+listed_words words = words.c0 ∷ words.c1 ∷ words.c2 ∷ words.c3 ∷ []

@@ -3,8 +3,8 @@ use Rattle.std.specs.Prelude.{ℕ, ◌+◌, ◌*◌, ◌^◌}
 use Rattle.philox_seeds.specs.Philox.{high_word, low_word, philox4x32_10}
 
 -- the number of 64 bits with these two words
-abbrev pub joined : ℕ → ℕ → ℕ
-joined low high = low + 2 ^ 32 * high
+abbrev pub number_of_words : ℕ → ℕ → ℕ
+number_of_words low high = low + 2 ^ 32 * high
 
 -- the number that a seed, as the key, gives at a counter of four words: words 0 and 1 of the block, joined
 unfoldable pub keyed_number : ℕ → ℕ → ℕ → ℕ → ℕ → ℕ
@@ -12,7 +12,7 @@ keyed_number seed c0 c1 c2 c3 =
     let block = philox4x32_10
     (record { c0 = c0; c1 = c1; c2 = c2; c3 = c3 })
     (record { k0 = low_word seed; k1 = high_word seed }) in
-    joined block.c0 block.c1
+    number_of_words block.c0 block.c1
 
 -- the levels of the tree, each a counter word 2
 abbrev pub table_level : ℕ

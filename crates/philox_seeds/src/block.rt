@@ -1,7 +1,7 @@
 //! The block of Philox4x32-10: ten rounds over the four words of a counter.
 
 ghost use Rattle.std.specs.Prelude.{◌≡◌, ℕ, ◌∷◌, [], slice_index};
-ghost use Rattle.philox_seeds.specs.Philox.{high_word, low_word, round, next_key, philox4x32_10, word_list};
+ghost use Rattle.philox_seeds.specs.Philox.{high_word, low_word, philox_round, next_key, philox4x32_10, listed_words};
 
 const MULTIPLIER_0: u64 = 0xD251_1F53;
 
@@ -46,9 +46,9 @@ pub fn low_word(x: u64) -> u32
 }
 
 #[inline(always)]
-#[tactic(auto, unfolding(crate::specs::Philox::round))]
+#[tactic(auto, unfolding(crate::specs::Philox::philox_round))]
 fn round(words: Words, key: Key) -> Words
-    ensures { result ≡ round words key }
+    ensures { result ≡ philox_round words key }
 {
     let product_0 = MULTIPLIER_0 * u64::from(words.c0);
     let product_1 = MULTIPLIER_1 * u64::from(words.c2);
@@ -88,7 +88,7 @@ pub fn block(counter: Words, key: Key) -> Words
 /// The block of Philox4x32-10 at `counter` under `key`, words in the order of the paper.
 #[inline(always)]
 pub fn philox4x32_10(counter: [u32; 4], key: [u32; 2]) -> [u32; 4]
-    ensures block { result ≡ word_list (philox4x32_10
+    ensures block { result ≡ listed_words (philox4x32_10
         (record {
           c0 = slice_index counter 0;
           c1 = slice_index counter 1;

@@ -2,7 +2,7 @@
 
 ghost use Rattle.std.specs.Prelude.{◌≡◌, ℕ, slice_index};
 ghost use Rattle.philox_seeds.specs.Philox.{high_word, low_word};
-ghost use Rattle.philox_seeds.specs.SeedTree.{joined, keyed_number, child, table_seed, column_seed, unit_seed, row_seed, draw, permutation_seed, key_order_seed, life_order_seed, update_order_seed, reference_order_seed};
+ghost use Rattle.philox_seeds.specs.SeedTree.{number_of_words, keyed_number, child, table_seed, column_seed, unit_seed, row_seed, draw, permutation_seed, key_order_seed, life_order_seed, update_order_seed, reference_order_seed};
 
 use crate::block::{Key, Words, block, high_word, low_word};
 
@@ -27,7 +27,7 @@ const DRAW_LEVEL: u32 = 5;
 
 #[inline(always)]
 fn joined(low: u32, high: u32) -> u64
-    ensures { result ≡ joined low high }
+    ensures { result ≡ number_of_words low high }
 {
     u64::from(high) << 32 | u64::from(low)
 }

@@ -9,4 +9,4 @@ mod memory;
 mod weights;
 
 pub use memory::Memory;
-pub use weights::Weights;
+pub use weights::{Weights, harmonic};

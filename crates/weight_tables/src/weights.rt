@@ -127,6 +127,18 @@ impl Weights {
     }
 }
 
+/// The weights of `size` groups, from 1 to 4096, of which group i weighs 10^9 / (i + 1)^power, rounded down, and at least 1; `power`
+/// is from 1 to 3. At `Memory` none are made.
+pub fn harmonic(alloc: Global, size: u32, power: u32) -> Result<Weights, Memory>
+    requires some { 1 ≤ size }
+    requires few { size ≤ 4096 }
+    requires least_power { 1 ≤ power }
+    requires greatest_power { power ≤ 3 }
+    ensures { IfOk result (λ weights. weights ≡ harmonic_weights size power) }
+{
+    Weights::harmonic(alloc, size, power)
+}
+
 /// The prefix sum of each weight.
 fn prefix_sums_of(alloc: Global, list: &[u64]) -> Result<Vec<u64>, Memory>
     requires { sum list.now ≤ 2 ^ 40 }

@@ -1,7 +1,7 @@
 use Rattle.std.proofs.Common.{◌++◌, ◌∷◌, [], sym, ap, ◌∙◌, subst, arith}
 use Rattle.std.proofs.lemmas.Result.{err_from_is_err_and}
 use Rattle.id_permutation.specs.OrderList.{OrderList}
-use Rattle.id_permutation.specs.Kept.{arrangement_by, Fits}
+use Rattle.id_permutation.specs.Kept.{arrangement_by, IsCountable}
 use Rattle.id_permutation.proofs.KeptLaws.{AreKept-added, AreKept-forms, arrangements-new, entries-added, view-forms}
 use Rattle.id_permutation.proofs.kept.KeptOrders.push_form.Goals as goal
 
@@ -18,7 +18,7 @@ pub invariant_of-self-2 : goal.invariant_of-self-2
 invariant_of-self-2 c =
     AreKept-added _ _ _ _ _ _ _ _ c.args.form c.self.invariant c.form_index.ensures.more c.in_ok-keep.ensures.tables c.in_ok-keep.ensures.order
     c.in_ok-index.ensures.below c.in_ok-index.ensures.exact (grind arith) (c.deref.ensures.value ∙ c.in_ok-tables.ensures)
-    (subst (Fits c.args.form) (sym (ap (λ (list : OrderList). list.entries) c.self.view_is)) c.requires)
+    (subst (IsCountable c.args.form) (sym (ap (λ (list : OrderList). list.entries) c.self.view_is)) c.requires)
 
 pub returns-clause-kept : goal.returns-clause-kept
 returns-clause-kept c =
