@@ -19,7 +19,7 @@ use Rattle.schema_plan.specs.Dictionaries.{AreWordLists, Dictionary, Project}
 use Rattle.schema_plan.specs.Layout.{ColumnLayout, column_at, column_layout, kind_layout, leaf_layout, no_column, part_layout, place_of_column}
 use Rattle.schema_plan.specs.Limits.{AreParts, CitesStill, IsCase, IsKindInLimits, IsLeafInLimits, IsPart, IsPickOf, IsStillPart, can_change, is_cited, is_moving_kind as is_moving_layout, moves}
 use Rattle.schema_plan.specs.References.{Reference, reference_of}
-use Rattle.schema_plan.specs.Rules.{are_supplied, changes_at, cites_still, is_between, is_case, is_change, is_citable, is_date_range, is_key_in_range, is_length_range, is_moving_kind, is_null_share, is_number_range, is_part, is_pick_of, is_skew_range, is_spread, is_still_kind, is_still_part, is_template, is_weighted, kind_at, may_change, moves_at, null_at}
+use Rattle.schema_plan.specs.Rules.{are_supplied, is_redrawn_at, cites_still, is_between, is_case, is_change, is_citable, is_date_range, is_key_in_range, is_length_range, is_moving_kind, is_null_share, is_number_range, is_part, is_pick_of, is_skew_range, is_spread, is_still_kind, is_still_part, is_template, is_weighted, kind_at, may_be_redrawn, moves_at, null_at}
 use Rattle.schema_check.proofs.FromTests.{limit_from_test, passes_each}
 use Rattle.schema_check.proofs.LeafLimits.{leaf_in_limits, leaves_in_limits}
 use Rattle.schema_check.proofs.ReferenceLimits.{spread_from_test}
@@ -113,12 +113,12 @@ kind_in_limits project lists tables columns place within _ supplied numbers date
 
 -- ---- columns that change
 
-pub changes_at-layout : (dictionaries : List Dictionary) (tables : List Table) (columns : List Column) (j : ℕ) → j < length columns → (column_at (columns_layout dictionaries tables columns) j).changes ≡ changes_at columns j
-changes_at-layout dictionaries tables columns j h =
+pub is_redrawn_at-layout : (dictionaries : List Dictionary) (tables : List Table) (columns : List Column) (j : ℕ) → j < length columns → (column_at (columns_layout dictionaries tables columns) j).changes ≡ is_redrawn_at columns j
+is_redrawn_at-layout dictionaries tables columns j h =
     ap (λ (c : ColumnLayout). c.changes) (get_or-map (column_layout dictionaries tables columns) columns j a_column no_column h)
     ∙ sym (get_or-map (λ (c : Column). c.changes) columns j a_column false h)
 
-can_change-layout : (dictionaries : List Dictionary) (tables : List Table) (columns : List Column) (kind : Kind) → can_change (kind_layout dictionaries tables columns kind) ≡ may_change kind
+can_change-layout : (dictionaries : List Dictionary) (tables : List Table) (columns : List Column) (kind : Kind) → can_change (kind_layout dictionaries tables columns kind) ≡ may_be_redrawn kind
 can_change-layout dictionaries tables columns (kind.Leaf leaf) = refl
 can_change-layout dictionaries tables columns (kind.Template parts) = refl
 can_change-layout dictionaries tables columns (kind.Case on branches) = refl
@@ -134,11 +134,11 @@ unchanged_from_test : (changes may : Bool) → (not changes || may) ≡ true →
 unchanged_from_test true may h none = cc
 unchanged_from_test false may h none = refl
 
-pub unchanged : (dictionaries : List Dictionary) (tables : List Table) (columns : List Column) (place : ℕ) → place < length columns → is_change (kind_at columns place) (changes_at columns place) ≡ true →
+pub unchanged : (dictionaries : List Dictionary) (tables : List Table) (columns : List Column) (place : ℕ) → place < length columns → is_change (kind_at columns place) (is_redrawn_at columns place) ≡ true →
     can_change (column_at (columns_layout dictionaries tables columns) place).kind ≡ false → (column_at (columns_layout dictionaries tables columns) place).changes ≡ false
 unchanged dictionaries tables columns place within h none =
-    changes_at-layout dictionaries tables columns place within
-    ∙ unchanged_from_test (changes_at columns place) (may_change (kind_at columns place)) h
+    is_redrawn_at-layout dictionaries tables columns place within
+    ∙ unchanged_from_test (is_redrawn_at columns place) (may_be_redrawn (kind_at columns place)) h
     (sym (ap can_change (kind_at-layout dictionaries tables columns place within) ∙ can_change-layout dictionaries tables columns (kind_at columns place)) ∙ none)
 
 -- past the last column none moves
@@ -172,7 +172,7 @@ pub cites_still_columns : (dictionaries : List Dictionary) (tables : List Table)
 cites_still_columns dictionaries tables columns place within h none =
     subst (CitesStill (columns_layout dictionaries tables columns)) (sym (kind_at-layout dictionaries tables columns place within))
     (still_kind dictionaries tables columns (kind_at columns place)
-    (of_test (changes_at columns place) (is_still_kind columns (kind_at columns place)) (sym (changes_at-layout dictionaries tables columns place within) ∙ none) h))
+    (of_test (is_redrawn_at columns place) (is_still_kind columns (kind_at columns place)) (sym (is_redrawn_at-layout dictionaries tables columns place within) ∙ none) h))
   where
     of_test : (changes still : Bool) → changes ≡ false → (changes || still) ≡ true → still ≡ true
     of_test true still none h = cc

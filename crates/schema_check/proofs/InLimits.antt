@@ -18,7 +18,7 @@ use Rattle.schema_plan.specs.Dictionaries.{AreWordLists, Dictionary, Project}
 use Rattle.schema_plan.specs.Layout.{ColumnLayout, TableLayout, births_of, column_at, column_layout, key_kind, keys_of_kind, kind_layout, layout_of, span_of, table_at, table_layout}
 use Rattle.schema_plan.specs.Limits.{IsKindInLimits, IsLife, IsLookupInLimits, IsTableInLimits, IsInLimits, IsUpdatePeriod}
 use Rattle.schema_plan.specs.References.{IsReferenceInLimits, reference_of, references_of}
-use Rattle.schema_plan.specs.Rules.{are_phases, broken_rule, first_broken, number_of, rules, changes_at, cites_still, is_between, is_change, is_key, is_key_in_range, is_key_first, is_life, is_null_share, is_one_to_64, is_update_period, kind_at, null_at, references_before, schema_table, IsAccepted, Keeps}
+use Rattle.schema_plan.specs.Rules.{are_phases, broken_rule, first_broken, rule_number, rules, is_redrawn_at, cites_still, is_between, is_change, is_key, is_key_in_range, is_key_first, is_life, is_null_share, is_one_to_64, is_update_period, kind_at, null_at, references_before, schema_table, IsAccepted, Keeps}
 use Rattle.schema_plan.specs.Sites.{columns_at}
 use Rattle.schema_plan.specs.TableFacts.{cost, max_line}
 use Rattle.schema_check.proofs.ColumnLimits.{cites_still_columns, columns_layout, key_never_null, kind_at-layout, kind_in_limits, null_at-layout, null_limit, reference_never_null, unchanged}
@@ -33,7 +33,7 @@ use Rattle.schema_check.proofs.RuleLemmas.{columns_at-is}
 
 -- the place of a rule in the order, by its number
 abbrev index_of : Rule → ℕ
-index_of rule = position_or_len (λ other. number_of other == number_of rule) rules
+index_of rule = position_or_len (λ other. rule_number other == rule_number rule) rules
 
 keeps : (project : Project) → IsAccepted project → (rule : Rule) → slice_get rules (index_of rule) ≡ Some rule → Keeps rule project
 unfolding first_broken
@@ -105,7 +105,7 @@ table_in_limits project lists accepted units i h =
     let some : 1 ≤ length t.columns = leb-true 1 (length t.columns) counted.0 in
     let v5 = λ (j : ℕ) (lt : j < length t.columns). ap (λ columns. is_key_first j (kind_at columns j)) (sym same) ∙ keeps project accepted KeyColumn refl (OfColumn i j) (h, subst (λ (columns : List Column). j < length columns) (sym same) lt) in
     let v17 = λ (j : ℕ) (lt : j < length t.columns). ap (λ columns. cites_still columns j) (sym same) ∙ keeps project accepted StillCitations refl (OfColumn i j) (h, subst (λ (columns : List Column). j < length columns) (sym same) lt) in
-    let v25 = λ (j : ℕ) (lt : j < length t.columns). and_parts (is_null_share (kind_at t.columns j) (null_at t.columns j)) (is_change (kind_at t.columns j) (changes_at t.columns j)) (ap (λ columns. is_null_share (kind_at columns j) (null_at columns j) && is_change (kind_at columns j) (changes_at columns j)) (sym same) ∙ keeps project accepted ChangesAndNulls refl (OfColumn i j) (h, subst (λ (columns : List Column). j < length columns) (sym same) lt)) in
+    let v25 = λ (j : ℕ) (lt : j < length t.columns). and_parts (is_null_share (kind_at t.columns j) (null_at t.columns j)) (is_change (kind_at t.columns j) (is_redrawn_at t.columns j)) (ap (λ columns. is_null_share (kind_at columns j) (null_at columns j) && is_change (kind_at columns j) (is_redrawn_at columns j)) (sym same) ∙ keeps project accepted ChangesAndNulls refl (OfColumn i j) (h, subst (λ (columns : List Column). j < length columns) (sym same) lt)) in
     let layouts : length (columns_layout project.dictionaries project.schema.tables t.columns) ≡ length t.columns = length-map t.columns (column_layout project.dictionaries project.schema.tables t.columns) in
     record {
       births = record {

@@ -8,7 +8,7 @@ use Rattle.schema_model.specs.declared.column.Kind.{Kind}
 use Rattle.schema_model.specs.declared.column.Kind.TheVariants as kind
 use Rattle.schema_model.specs.declared.column.OnDelete.TheVariants.{Cascade}
 use Rattle.schema_plan.specs.Dictionaries.{Dictionary}
-use Rattle.schema_plan.specs.Layout.{ColumnLayout, column_at, column_layout, columns_of, kind_layout, parent_of, place_of_column, table_at, table_layout, table_layouts}
+use Rattle.schema_plan.specs.Layout.{ColumnLayout, column_at, column_layout, columns_of, kind_layout, place_of_parent, place_of_column, table_at, table_layout, table_layouts}
 use Rattle.schema_plan.specs.Limits.{IsLookupInLimits, IsCascadeTo, is_lookup_kind as is_lookup_layout, moves}
 use Rattle.schema_plan.specs.Rules.{has_still_column, is_lookup, is_lookup_kind, is_looked_up, kind_at, moves_at}
 use Rattle.schema_check.proofs.ColumnLimits.{columns_layout, kind_at-layout, still_from_test}
@@ -29,7 +29,7 @@ not-false false h = refl
 
 -- a kind by which something is looked up is a reference, with whose parent the row is deleted, to a table with the column
 reference_from_test : (dictionaries : List Dictionary) (tables : List Table) (columns : List Column) (kind : Kind) (name : List ℕ) → is_looked_up tables kind name ≡ true →
-    IsCascadeTo (parent_of tables kind) (kind_layout dictionaries tables columns kind) × (has_still_column (columns_of tables (parent_of tables kind)) name ≡ true)
+    IsCascadeTo (place_of_parent tables kind) (kind_layout dictionaries tables columns kind) × (has_still_column (columns_of tables (place_of_parent tables kind)) name ≡ true)
 reference_from_test dictionaries tables columns (kind.Ref table window spread Cascade) name h = (refl, h)
 reference_from_test dictionaries tables columns _ name h = absurd (cc)
 
@@ -39,7 +39,7 @@ lookup_in_limits dictionaries tables columns place within (kind.Lookup via name)
     let reference = place_of_column columns via in
     let parts = and_parts (nat_lt reference place) (is_looked_up tables (kind_at columns reference) name) h in
     let earlier : reference < place = ltb-true reference place parts.0 in
-    let parent = parent_of tables (kind_at columns reference) in
+    let parent = place_of_parent tables (kind_at columns reference) in
     let found = reference_from_test dictionaries tables columns (kind_at columns reference) name parts.1 in
     let others = columns_of tables parent in
     let other = place_of_column others name in
@@ -50,11 +50,13 @@ lookup_in_limits dictionaries tables columns place within (kind.Lookup via name)
     record {
       earlier = earlier;
       reference = subst (IsCascadeTo parent) (sym (kind_at-layout dictionaries tables columns reference (omega arith))) found.0;
-      within = omega (arith, is_there, ap length at, length-map others (column_layout dictionaries tables others));
-      still = ap (λ (layouts : List ColumnLayout). moves (column_at layouts other)) at ∙ still_from_test dictionaries tables others other w.1;
-      no_lookup = ap (λ (layouts : List ColumnLayout). is_lookup_layout (column_at layouts other).kind) at
-          ∙ ap is_lookup_layout (kind_at-layout dictionaries tables others other is_there)
-          ∙ is_lookup-layout dictionaries tables others (kind_at others other)
-          ∙ not-false (is_lookup_kind (kind_at others other)) v.1;
+      looked_up = record {
+        within = omega (arith, is_there, ap length at, length-map others (column_layout dictionaries tables others));
+        still = ap (λ (layouts : List ColumnLayout). moves (column_at layouts other)) at ∙ still_from_test dictionaries tables others other w.1;
+        no_lookup = ap (λ (layouts : List ColumnLayout). is_lookup_layout (column_at layouts other).kind) at
+            ∙ ap is_lookup_layout (kind_at-layout dictionaries tables others other is_there)
+            ∙ is_lookup-layout dictionaries tables others (kind_at others other)
+            ∙ not-false (is_lookup_kind (kind_at others other)) v.1;
+      };
     }
 lookup_in_limits dictionaries tables columns place within _ h = tt

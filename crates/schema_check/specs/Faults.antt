@@ -7,12 +7,12 @@ use Rattle.schema_check.specs.declared.checker.CheckFault.{CheckFault}
 use Rattle.schema_plan.specs.declared.rules.Rule.TheVariants.{CitedNames}
 use Rattle.schema_check.specs.declared.checker.CheckFault.TheVariants.{Rule, Memory}
 use Rattle.schema_plan.specs.Dictionaries.{Project, project_of}
-use Rattle.schema_plan.specs.Rules.{broken_rule, first_broken, number_of, IsAccepted}
+use Rattle.schema_plan.specs.Rules.{broken_rule, first_broken, rule_number, IsAccepted}
 use Rattle.schema_plan.specs.Sites.{table_number, column_number}
 
 -- a broken rule as it is told: its number and its place
 abbrev pub told : Broken → CheckFault
-told broken = Rule (number_of broken.rule) (table_number broken.site) (column_number broken.site)
+told broken = Rule (rule_number broken.rule) (table_number broken.site) (column_number broken.site)
 
 -- the refusal of a schema with its dictionaries, where it breaks a rule
 abbrev pub refusal_of : Project → Option CheckFault

@@ -10,9 +10,11 @@ ghost use Rattle.schema_plan.specs.Sites.{column_number, IsSiteOf};
 
 use crate::candidate::Candidate;
 use crate::cited_names::{CitedNames, copied_names};
-use crate::rules::{MAX_ITEMS, columns_at, first_break, first_broken};
+use crate::rules::{columns_at, first_break, first_broken};
 use schema_model::{Schema, Texts};
-use schema_plan::{Broken, Dictionaries, NO_FACTS, Plan, Rule, Site, TableFacts, fill_facts};
+use schema_plan::{
+    Broken, Dictionaries, MAX_ITEMS, NO_FACTS, Plan, Rule, Site, TableFacts, fill_facts,
+};
 use std::alloc::Global;
 
 /// Why a schema has no plan.

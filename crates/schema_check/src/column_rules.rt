@@ -3,7 +3,7 @@
 ghost use Rattle.std.specs.Prelude.{◌≡◌, ◌<◌, ◌≤◌, ◌||◌, length};
 ghost use Rattle.std.specs.List.{list_all};
 ghost use Rattle.schema_plan.specs.Layout.{place_of_column};
-ghost use Rattle.schema_plan.specs.Rules.{cites_still, is_case, is_change, is_citable, is_moving_kind, is_null_share, is_part, is_pick_of, is_still_kind, is_still_part, is_template, kind_at, may_change, moves_at};
+ghost use Rattle.schema_plan.specs.Rules.{cites_still, is_case, is_change, is_citable, is_moving_kind, is_null_share, is_part, is_pick_of, is_still_kind, is_still_part, is_template, kind_at, may_be_redrawn, moves_at};
 
 use schema_model::{Column, Kind, Leaf, Part, Text};
 use schema_plan::{becomes_null, place_of_column};
@@ -155,7 +155,7 @@ pub(crate) fn is_change(column: &Column) -> bool
 
 /// Whether the fields of a kind may be drawn anew where a row changes: no key, no unit, and none that other rows tell.
 fn may_change(kind: &Kind) -> bool
-    ensures { result ≡ may_change kind.now }
+    ensures { result ≡ may_be_redrawn kind.now }
 {
     matches!(
         kind,

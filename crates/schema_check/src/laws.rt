@@ -3,7 +3,8 @@
 ghost use Rattle.std.specs.Prelude.{◌≡◌, ℕ, ◌<◌, ◌↔◌, Some, slice_get};
 ghost use Rattle.schema_plan.specs.declared.broken.Broken.{Broken};
 ghost use Rattle.schema_plan.specs.declared.rules.Rule.{Rule};
-ghost use Rattle.schema_plan.specs.Dictionaries.{Project};
+ghost use Rattle.schema_plan.specs.Dictionaries.{AreWordLists, Project};
+ghost use Rattle.schema_plan.specs.Limits.{IsInLimits};
 ghost use Rattle.schema_plan.specs.Rules.{first_broken, IsAccepted, IsFirstBreak, Keeps, rules};
 
 /// A schema is accepted exactly where it keeps each rule.
@@ -18,4 +19,9 @@ pub fn first_broken_is_the_first_rule_at_its_first_site()
     ensures { (project : Project) (broken : Broken) → first_broken project ≡ Some broken →
         (i : ℕ) × (slice_get rules i ≡ Some broken.rule) × IsFirstBreak broken.rule project broken.site
         × ((k : ℕ) (other : Rule) → k < i → slice_get rules k ≡ Some other → Keeps other project) }
+{}
+
+/// An accepted schema with its word lists is within limits, which is what the laws of its data ask of it.
+pub fn accepted_schemas_are_in_limits()
+    ensures { (project : Project) → AreWordLists project.dictionaries → IsAccepted project → IsInLimits project }
 {}

@@ -10,9 +10,9 @@ ghost use Rattle.schema_plan.specs.References.{window_start};
 ghost use Rattle.schema_plan.specs.Rules.{has_parent_rows, has_parents, is_between, is_reference, is_spread, is_target, is_window, is_within_life, kind_at, references_before, table_in};
 
 use crate::candidate::Candidate;
-use crate::rules::{MAX_ITEMS, MAX_UNITS};
+use crate::rules::MAX_UNITS;
 use schema_model::{Column, Kind, Schema, Table, Text, Window};
-use schema_plan::{cohort_size, count, lineage_at, place_of_table};
+use schema_plan::{MAX_ITEMS, cohort_size, count, lineage_at, place_of_table};
 
 /// The most references of a table.
 const MAX_REFERENCES: usize = 8;

@@ -18,13 +18,10 @@ use crate::names::is_name;
 use crate::phase_rules::is_row_count;
 use crate::reference_rules::{has_parents, is_spread, is_target, is_window};
 use schema_model::{Column, Kind, Life, Schema, Table, Text};
-use schema_plan::{Broken, Rule, Site, TableFacts};
+use schema_plan::{Broken, MAX_ITEMS, Rule, Site, TableFacts};
 
 /// The greatest last unit.
 pub(crate) const MAX_UNITS: i64 = 10_000;
-
-/// The most tables of a schema, and the most columns of a table.
-pub(crate) const MAX_ITEMS: usize = 64;
 
 /// The greatest number that the keys of a table may begin from.
 const MAX_BASE: i64 = 1 << 62;

@@ -3,7 +3,7 @@ use Rattle.std.specs.Prelude.{ℕ, ◌+◌, ◌*◌, ◌-◌, max, List, sum_by,
 use Rattle.std.specs.List.{fold}
 use Rattle.std.specs.Str.{chars}
 use Rattle.dictionaries.specs.WordList.{WordList}
-use Rattle.row_text.specs.Fields.{piece_text}
+use Rattle.row_text.specs.Fields.{escaped_text}
 use Rattle.schema_plan.specs.declared.field_bounds.FieldBounds.{FieldBounds}
 use Rattle.schema_plan.specs.Layout.{LeafLayout, int_leaf, fixed_leaf, date_leaf, pick_leaf, skew_leaf, dict_leaf, words_leaf, chars_leaf, PartLayout, literal_part, cited_part, KindLayout, key_kind, born_kind, changed_kind, leaf_kind, template_kind, case_kind, reference_kind, lookup_kind, ColumnLayout, TableLayout, table_at, column_at}
 use Rattle.schema_plan.specs.Lineage.{one_if}
@@ -14,7 +14,7 @@ greatest_by number xs = fold (λ most x. max most (number x)) 0 xs
 
 -- the size of a text as it is written
 abbrev pub written_size : ℕ → List ℕ → ℕ
-written_size delimiter bytes = length (piece_text delimiter bytes)
+written_size delimiter bytes = length (escaped_text delimiter bytes)
 
 -- the size of the greatest entry of a word list as it is written
 abbrev pub entry_size : ℕ → WordList → ℕ

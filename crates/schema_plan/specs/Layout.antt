@@ -119,9 +119,9 @@ abbrev pub columns_of : List Table → ℕ → List Column
 columns_of tables place = slice_index_or (map (λ table. table.columns) tables) place []
 
 -- the place of the table that a kind names as its parent; the place past the last one where it names none
-abbrev pub parent_of : List Table → Kind → ℕ
-parent_of tables (kind.Ref table window spread on_delete) = place_of_table tables table
-parent_of tables _ = length tables
+abbrev pub place_of_parent : List Table → Kind → ℕ
+place_of_parent tables (kind.Ref table window spread on_delete) = place_of_table tables table
+place_of_parent tables _ = length tables
 
 -- the kinds of some columns
 abbrev pub kinds_of : List Column → List Kind
@@ -130,7 +130,7 @@ kinds_of columns = map (λ column. column.kind) columns
 -- the place of the table that the column with a name refers to
 abbrev pub parent_via : List Table → List Column → List ℕ → ℕ
 parent_via tables columns via =
-    parent_of tables (slice_index_or (kinds_of columns) (place_of_column columns via) kind.Born)
+    place_of_parent tables (slice_index_or (kinds_of columns) (place_of_column columns via) kind.Born)
 
 -- ---- the layout of a schema
 

@@ -149,14 +149,17 @@ CitesStill columns (template_kind parts) = All (IsStillPart columns) parts
 CitesStill columns (case_kind on branches) = moves (column_at columns on) ≡ false
 CitesStill columns _ = ⊤
 
--- a lookup by an earlier reference of its table, with whose parent the row is deleted, of a column of the parent's table that doesn't
--- move and is no lookup
+-- a column that may be looked up: it doesn't move and is no lookup
+pub record IsStillColumn (table : TableLayout) (column : ℕ) : Type 0 where
+  pub within : column < length table.columns
+  pub still : moves (column_at table.columns column) ≡ false
+  pub no_lookup : is_lookup_kind (column_at table.columns column).kind ≡ false
+
+-- a lookup by an earlier reference of its table, with whose parent the row is deleted, of such a column of the parent's table
 pub record IsLookup (tables : List TableLayout) (columns : List ColumnLayout) (place via parent column : ℕ) : Type 0 where
   pub earlier : via < place
   pub reference : IsCascadeTo parent (column_at columns via).kind
-  pub within : column < length (table_at tables parent).columns
-  pub still : moves (column_at (table_at tables parent).columns column) ≡ false
-  pub no_lookup : is_lookup_kind (column_at (table_at tables parent).columns column).kind ≡ false
+  pub looked_up : IsStillColumn (table_at tables parent) column
 
 -- the column at a place, where it is a lookup
 abbrev pub IsLookupInLimits : List TableLayout → List ColumnLayout → ℕ → KindLayout → Type 0

@@ -2,7 +2,7 @@
 use Rattle.std.specs.Prelude.{ℕ, ◌+◌, ◌-◌, ◌^◌, Bool, List, encode_utf8, length, map, Option, sum}
 use Rattle.std.specs.Str.{chars}
 use Rattle.weight_tables.specs.Harmonic.{harmonic_weights}
-use Rattle.row_text.specs.Fields.{piece_text}
+use Rattle.row_text.specs.Fields.{escaped_text}
 use Rattle.schema_plan.specs.declared.ready.ReadyColumn.{ReadyColumn}
 use Rattle.schema_plan.specs.declared.ready.ReadyKind.{ReadyKind}
 use Rattle.schema_plan.specs.declared.ready.ReadyKind.TheVariants as kind
@@ -20,17 +20,17 @@ abbrev pub ready_leaf : ℕ → LeafLayout → ReadyLeaf
 ready_leaf delimiter (int_leaf lo hi step) = leaf.Int lo hi step (choices lo hi step)
 ready_leaf delimiter (fixed_leaf lo hi decimals) = leaf.Fixed lo hi (choices lo hi 1) decimals (10 ^ decimals)
 ready_leaf delimiter (date_leaf lo hi) = leaf.Date lo hi (choices lo hi 1)
-ready_leaf delimiter (pick_leaf entries weights) = leaf.Pick (map (piece_text delimiter) entries) weights (sum weights)
+ready_leaf delimiter (pick_leaf entries weights) = leaf.Pick (map (escaped_text delimiter) entries) weights (sum weights)
 ready_leaf delimiter (skew_leaf lo size power) =
     leaf.Skew lo (harmonic_weights size power) (sum (harmonic_weights size power))
 ready_leaf delimiter (dict_leaf words) = leaf.Dict (written_words delimiter words)
 ready_leaf delimiter (words_leaf words lo hi) = leaf.Words lo (hi - lo + 1) (written_words delimiter words)
 ready_leaf delimiter (chars_leaf alphabet lo hi) =
-    leaf.Chars lo (hi - lo + 1) (map (λ c. piece_text delimiter (encode_utf8 c)) (chars alphabet)) (length (chars alphabet))
+    leaf.Chars lo (hi - lo + 1) (map (λ c. escaped_text delimiter (encode_utf8 c)) (chars alphabet)) (length (chars alphabet))
 
 -- a part of a template: a text as it is written, or the place of the column that it cites
 abbrev pub ready_part : ℕ → PartLayout → ReadyPart
-ready_part delimiter (literal_part bytes) = part.Literal (piece_text delimiter bytes)
+ready_part delimiter (literal_part bytes) = part.Literal (escaped_text delimiter bytes)
 ready_part delimiter (cited_part column) = part.Cited column
 
 -- a reference: the weights of its spread with their number and their sum

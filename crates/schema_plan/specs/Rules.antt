@@ -212,8 +212,8 @@ is_case columns place (kind.Case on branches) =
 is_case columns place _ = true
 
 -- whether the column at a place is drawn anew where a row changes
-abbrev pub changes_at : List Column → ℕ → Bool
-changes_at columns place = slice_index_or (map (λ (column : Column). column.changes) columns) place false
+abbrev pub is_redrawn_at : List Column → ℕ → Bool
+is_redrawn_at columns place = slice_index_or (map (λ (column : Column). column.changes) columns) place false
 
 -- a kind whose fields move though nothing is drawn anew: the unit of a row's last change, and a reference that becomes null
 abbrev pub is_moving_kind : Kind → Bool
@@ -223,7 +223,7 @@ is_moving_kind _ = false
 
 -- whether the column at a place moves: it is drawn anew where a row changes, or is of such a kind
 abbrev pub moves_at : List Column → ℕ → Bool
-moves_at columns place = changes_at columns place || is_moving_kind (kind_at columns place)
+moves_at columns place = is_redrawn_at columns place || is_moving_kind (kind_at columns place)
 
 -- a part of a template that cites no column that moves
 abbrev pub is_still_part : List Column → Part → Bool
@@ -238,18 +238,18 @@ is_still_kind columns _ = true
 
 -- the column at a place cites no column that moves, or changes itself
 abbrev pub cites_still : List Column → ℕ → Bool
-cites_still columns place = changes_at columns place || is_still_kind columns (kind_at columns place)
+cites_still columns place = is_redrawn_at columns place || is_still_kind columns (kind_at columns place)
 
 -- a kind whose fields may be drawn anew: no key, no unit, and none that other rows tell
-abbrev pub may_change : Kind → Bool
-may_change (kind.Leaf leaf) = true
-may_change (kind.Template parts) = true
-may_change (kind.Case on branches) = true
-may_change _ = false
+abbrev pub may_be_redrawn : Kind → Bool
+may_be_redrawn (kind.Leaf leaf) = true
+may_be_redrawn (kind.Template parts) = true
+may_be_redrawn (kind.Case on branches) = true
+may_be_redrawn _ = false
 
 -- a column that changes is of such a kind
 abbrev pub is_change : Kind → Bool → Bool
-is_change kind changes = not changes || may_change kind
+is_change kind changes = not changes || may_be_redrawn kind
 
 -- how many of a thousand fields of a kind are null: at most 999, and of keys and references none
 abbrev pub is_null_share : Kind → ℤ → Bool
@@ -399,37 +399,37 @@ holds LineSize project (OfTable table) = nat_le 64 table || nat_le (max_line (la
 -- V25: at most 999 of a thousand fields are null, and none of a key or a reference; keys, units, references and lookups don't change
 holds ChangesAndNulls project (OfColumn table column) =
     is_null_share (kind_at (columns_at project.schema table) column) (null_at (columns_at project.schema table) column)
-    && is_change (kind_at (columns_at project.schema table) column) (changes_at (columns_at project.schema table) column)
+    && is_change (kind_at (columns_at project.schema table) column) (is_redrawn_at (columns_at project.schema table) column)
 holds _ project site = true
 
 -- the number of a rule in messages, as 1 for V1
-abbrev pub number_of : Rule → ℕ
-number_of Dictionaries = 13
-number_of CitedNames = 13
-number_of SeedAndUnits = 1
-number_of TableCount = 2
-number_of TableNames = 3
-number_of Columns = 4
-number_of KeyColumn = 5
-number_of RowCount = 6
-number_of LifeRange = 7
-number_of UpdatePeriod = 8
-number_of NumberRange = 9
-number_of DateRange = 10
-number_of PickEntries = 11
-number_of SkewRange = 12
-number_of LengthRange = 14
-number_of TemplateParts = 15
-number_of CaseBranches = 16
-number_of StillCitations = 17
-number_of ReferenceTargets = 18
-number_of ReferenceWindows = 19
-number_of ParentRows = 20
-number_of SpreadWeights = 21
-number_of LookupColumns = 22
-number_of RowCost = 23
-number_of LineSize = 24
-number_of ChangesAndNulls = 25
+abbrev pub rule_number : Rule → ℕ
+rule_number Dictionaries = 13
+rule_number CitedNames = 13
+rule_number SeedAndUnits = 1
+rule_number TableCount = 2
+rule_number TableNames = 3
+rule_number Columns = 4
+rule_number KeyColumn = 5
+rule_number RowCount = 6
+rule_number LifeRange = 7
+rule_number UpdatePeriod = 8
+rule_number NumberRange = 9
+rule_number DateRange = 10
+rule_number PickEntries = 11
+rule_number SkewRange = 12
+rule_number LengthRange = 14
+rule_number TemplateParts = 15
+rule_number CaseBranches = 16
+rule_number StillCitations = 17
+rule_number ReferenceTargets = 18
+rule_number ReferenceWindows = 19
+rule_number ParentRows = 20
+rule_number SpreadWeights = 21
+rule_number LookupColumns = 22
+rule_number RowCost = 23
+rule_number LineSize = 24
+rule_number ChangesAndNulls = 25
 
 -- the rules in the order in which they are tried: V13, V1 to V12, V14 to V25. Of V13 the part that a
 -- schema alone tells is no rule beside the whole

@@ -54,8 +54,8 @@ orders = record {
 }
 
 -- lines live as long as their order
-abbrev pub lines : Table
-lines = record {
+abbrev pub order_lines : Table
+order_lines = record {
   name = codes "lines";
   rows = pos 1;
   insert = at_each_unit 1;
@@ -65,7 +65,7 @@ lines = record {
 }
 
 abbrev pub sales : Project
-sales = project_of (record { seed = pos 7; units = pos 5; delimiter = Tab; tables = customer ∷ orders ∷ lines ∷ [] }) []
+sales = project_of (record { seed = pos 7; units = pos 5; delimiter = Tab; tables = customer ∷ orders ∷ order_lines ∷ [] }) []
 
 -- remarks stay when their customer goes; a label cites the customer too
 abbrev pub remark : Table

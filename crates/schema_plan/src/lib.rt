@@ -37,6 +37,6 @@ pub use places::{columns_of, parent_via, place_of_column, place_of_table};
 pub use plan::Plan;
 pub use ready::{ReadyColumn, ReadyKind, ReadyLeaf, ReadyLookup, ReadyPart, ReadyReference};
 pub use ready_words::ReadyWords;
-pub use rules::Rule;
+pub use rules::{MAX_ITEMS, Rule};
 pub use site::Site;
 pub use word_lists::Dictionaries;

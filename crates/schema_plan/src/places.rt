@@ -2,7 +2,7 @@
 
 ghost use Rattle.std.specs.Prelude.{◌≡◌, ◌≤◌, length};
 ghost use Rattle.std.specs.List.{position};
-ghost use Rattle.schema_plan.specs.Layout.{columns_of, keys_of, keys_of_kind, parent_of, parent_via, place_of_column, place_of_table};
+ghost use Rattle.schema_plan.specs.Layout.{columns_of, keys_of, keys_of_kind, place_of_parent, parent_via, place_of_column, place_of_table};
 ghost use Rattle.schema_plan.specs.Names.{same_text};
 
 use crate::counts::count;
@@ -41,7 +41,7 @@ fn find_column(columns: &[Column], name: &Text) -> Option<usize>
 
 /// The place of the table that a kind names as its parent; the place past the last one where it names none.
 fn parent_of(tables: &[Table], kind: &Kind) -> usize
-    ensures place { result ≡ parent_of tables.now kind.now }
+    ensures place { result ≡ place_of_parent tables.now kind.now }
     ensures within { result ≤ length tables.now }
 {
     match kind {

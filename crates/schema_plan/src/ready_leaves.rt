@@ -2,7 +2,7 @@
 
 ghost use Rattle.std.specs.Prelude.{◌≡◌, ◌≤◌, ◌+◌, ◌-◌, ◌^◌, IfOk, encode_utf8, length, map, sum};
 ghost use Rattle.std.specs.Str.{chars};
-ghost use Rattle.row_text.specs.Fields.{piece_text};
+ghost use Rattle.row_text.specs.Fields.{escaped_text};
 ghost use Rattle.weight_tables.specs.Harmonic.{harmonic_weights};
 ghost use Rattle.schema_plan.specs.Choices.{choices};
 ghost use Rattle.schema_plan.specs.Counts.{count};
@@ -105,7 +105,7 @@ fn ready_pick(
     weights: &[i64],
 ) -> Result<ReadyLeaf, Memory>
     requires { IsWeighted entries.now (map count weights.now) }
-    ensures { IfOk result (λ ready. ready ≡ ReadyLeaf.Pick (map (piece_text delimiter) entries.now)
+    ensures { IfOk result (λ ready. ready ≡ ReadyLeaf.Pick (map (escaped_text delimiter) entries.now)
         (map count weights.now) (sum (map count weights.now))) }
 {
     let entries = written_entries(alloc, delimiter, entries)?;
@@ -120,7 +120,7 @@ fn ready_pick(
 
 /// The entries as they are written.
 fn written_entries(alloc: Global, delimiter: u8, entries: &[Text]) -> Result<WrittenTexts, Memory>
-    ensures { IfOk result (λ written. written ≡ map (piece_text delimiter) entries.now) }
+    ensures { IfOk result (λ written. written ≡ map (escaped_text delimiter) entries.now) }
 {
     let mut written = WrittenTexts::new(alloc);
     for entry in entries {
@@ -171,7 +171,7 @@ fn ready_chars(
     requires alphabet { IsAlphabet alphabet.now }
     requires lengths { IsLengthRange (count lo) (count hi) }
     ensures { IfOk result (λ ready. ready ≡ ReadyLeaf.Chars (count lo) (count hi - count lo + 1)
-        (map (λ c. piece_text delimiter (encode_utf8 c)) (chars alphabet.now)) (length (chars alphabet.now))) }
+        (map (λ c. escaped_text delimiter (encode_utf8 c)) (chars alphabet.now)) (length (chars alphabet.now))) }
 {
     let characters = written_characters(alloc, delimiter, alphabet)?;
     let number = FixedDivisor::new(characters.len() as u64);
@@ -185,7 +185,7 @@ fn ready_chars(
 
 /// The characters as they are written.
 fn written_characters(alloc: Global, delimiter: u8, alphabet: &str) -> Result<WrittenTexts, Memory>
-    ensures { IfOk result (λ written. written ≡ map (λ c. piece_text delimiter (encode_utf8 c)) (chars alphabet.now)) }
+    ensures { IfOk result (λ written. written ≡ map (λ c. escaped_text delimiter (encode_utf8 c)) (chars alphabet.now)) }
 {
     let mut written = WrittenTexts::new(alloc);
     let mut bytes = [0; 4];

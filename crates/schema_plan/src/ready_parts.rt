@@ -1,7 +1,7 @@
 //! The parts of templates, made ready for rows.
 
 ghost use Rattle.std.specs.Prelude.{◌≡◌, IfOk, map};
-ghost use Rattle.row_text.specs.Fields.{piece_text};
+ghost use Rattle.row_text.specs.Fields.{escaped_text};
 ghost use Rattle.schema_plan.specs.Layout.{part_layout};
 ghost use Rattle.schema_plan.specs.Ready.{ready_part};
 
@@ -48,7 +48,7 @@ fn ready_part(
 
 /// A text as it is written.
 fn written_text(alloc: Global, delimiter: u8, text: &[u8]) -> Result<Sequence<u8>, Memory>
-    ensures { IfOk result (λ written. written ≡ piece_text delimiter text.now) }
+    ensures { IfOk result (λ written. written ≡ escaped_text delimiter text.now) }
 {
     let mut texts = WrittenTexts::new(alloc);
     texts.push(text, delimiter)?;

@@ -1,7 +1,7 @@
 //! Dictionaries, made ready for rows.
 
 ghost use Rattle.std.specs.Prelude.{◌≡◌, IfOk, map};
-ghost use Rattle.row_text.specs.Fields.{piece_text};
+ghost use Rattle.row_text.specs.Fields.{escaped_text};
 ghost use Rattle.schema_plan.specs.Dictionaries.{Dictionary as Named};
 ghost use Rattle.schema_plan.specs.ReadyWords.{written_words};
 
@@ -97,7 +97,7 @@ impl ReadyWords {
 
 /// The entries of a word list as they are written.
 fn written_entries(alloc: Global, delimiter: u8, words: &Dictionary) -> Result<WrittenTexts, Memory>
-    ensures { IfOk result (λ written. written ≡ map (piece_text delimiter) words.now.entries) }
+    ensures { IfOk result (λ written. written ≡ map (escaped_text delimiter) words.now.entries) }
 {
     let mut written = WrittenTexts::new(alloc);
     for i in 0..words.len() {

@@ -1,7 +1,10 @@
 //! The names of the rules of a schema.
 
 ghost use Rattle.std.specs.Prelude.{◌≡◌};
-ghost use Rattle.schema_plan.specs.Rules.{number_of};
+ghost use Rattle.schema_plan.specs.Rules.{rule_number};
+
+/// The most tables of a schema, and the most columns of a table.
+pub const MAX_ITEMS: usize = 64;
 
 /// A rule of a schema, with its number in messages.
 #[derive(Clone, Copy, Debug, PartialEq, Eq)]
@@ -63,7 +66,7 @@ pub enum Rule {
 impl Rule {
     /// The number in messages, 1 for V1.
     pub fn number(self) -> u32
-        ensures { result ≡ number_of self }
+        ensures { result ≡ rule_number self }
     {
         match self {
             Rule::Dictionaries | Rule::CitedNames => 13,

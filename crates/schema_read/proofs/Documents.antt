@@ -12,7 +12,7 @@ use Rattle.std.proofs.lemmas.List.Folds.{list_all-map}
 use Rattle.toml.specs.Data.{Data, Items, Members, no_members, table, as_array, as_table}
 use Rattle.toml.specs.View.{view, items_of, items_view, members_view}
 use Rattle.toml.specs.declared.value.Value.{Value}
-use Rattle.schema_read.specs.Document.{document, elements, keys_of, members_of, table_of, tables_of}
+use Rattle.schema_read.specs.Document.{document, elements, member_names, members_of, members_of_value, members_of_values}
 use Rattle.schema_read.specs.Types.{all_read, as_list_of}
 
 pub elements-items_of : (ds : List Data) → elements (items_of ds) ≡ ds
@@ -20,9 +20,9 @@ elements-items_of [] = refl
 elements-items_of (d ∷ ds) = ap (λ xs. d ∷ xs) (elements-items_of ds)
 
 -- a test of all keys of a table, on the entries of the map that it is
-pub list_all-keys_of : (p : List ℕ → Bool) (es : List (String Global × Value)) → list_all p (keys_of (members_view es)) ≡ list_all (λ k. p (string_bytes k)) (map_keys es)
-list_all-keys_of p [] = refl
-list_all-keys_of p (e ∷ es) = rw (list_all-keys_of p es)
+pub list_all-member_names : (p : List ℕ → Bool) (es : List (String Global × Value)) → list_all p (member_names (members_view es)) ≡ list_all (λ k. p (string_bytes k)) (map_keys es)
+list_all-member_names p [] = refl
+list_all-member_names p (e ∷ es) = rw (list_all-member_names p es)
 
 -- the elements of an array that was found
 pub elements-view : (vs : List Value) (d : Data) → Some (items_view vs) ≡ as_array d → Some (map view vs) ≡ option_map elements (as_array d)
@@ -53,14 +53,14 @@ table_there : (d : Data) → is_some (as_table d) ≡ true → as_table d ≡ So
 table_there (table ms) there = refl
 table_there _ there = absurd cc
 
-tables_read : (vs : List Value) → list_all (λ v. is_some (as_table (view v))) vs ≡ true → Some (tables_of vs) ≡ all_read as_table (map view vs)
+tables_read : (vs : List Value) → list_all (λ v. is_some (as_table (view v))) vs ≡ true → Some (members_of_values vs) ≡ all_read as_table (map view vs)
 tables_read [] all = refl
 tables_read (v ∷ vs) all =
     let (first, others) = and_parts (is_some (as_table (view v))) (list_all (λ v. is_some (as_table (view v))) vs) all in
     rw (table_there (view v) first, ← tables_read vs others) refl
 
 -- the tables of an array that was found, if its elements are all tables
-pub tables-view : (vs : List Value) (d : Data) → Some (map view vs) ≡ option_map elements (as_array d) → list_all (λ v. is_some (as_table (view v))) vs ≡ true → Some (tables_of vs) ≡ as_list_of as_table d
+pub tables-view : (vs : List Value) (d : Data) → Some (map view vs) ≡ option_map elements (as_array d) → list_all (λ v. is_some (as_table (view v))) vs ≡ true → Some (members_of_values vs) ≡ as_list_of as_table d
 tables-view vs d found all = tables_read vs all ∙ sym (as_list_of-found as_table vs d found)
 
 none_there : {A : Type 0} (o : Option A) → is_some o ≡ false → None ≡ o
@@ -76,15 +76,15 @@ members_of-is (table ns) ms found = sym (same_Some ms ns found)
 members_of-is _ ms found = absurd cc
 
 -- what a value holds that was found to be a table
-pub table_of-is : (v : Value) (ms : Members) → Some ms ≡ as_table (view v) → table_of v ≡ ms
-table_of-is v ms found = members_of-is (view v) ms found
+pub members_of_value-is : (v : Value) (ms : Members) → Some ms ≡ as_table (view v) → members_of_value v ≡ ms
+members_of_value-is v ms found = members_of-is (view v) ms found
 
 no_members-there : (d : Data) → None ≡ as_table d → members_of d ≡ no_members
 no_members-there (table ns) found = absurd cc
 no_members-there _ found = refl
 
-pub table_of-none : (v : Value) → None ≡ as_table (view v) → table_of v ≡ no_members
-table_of-none v found = no_members-there (view v) found
+pub members_of_value-none : (v : Value) → None ≡ as_table (view v) → members_of_value v ≡ no_members
+members_of_value-none v found = no_members-there (view v) found
 
 pub document-text : (bytes : List ℕ) → IsUtf8 bytes → document bytes ≡ parse_document bytes
 document-text bytes valid = rw (is_utf8-from_IsUtf8 bytes valid)

@@ -10,10 +10,10 @@ use Rattle.schema_read.specs.Document.{elements}
 use Rattle.schema_read.specs.Keys.{key_name}
 use Rattle.schema_read.specs.Types.{all_read, as_list_of}
 use Rattle.schema_read.specs.Values.{value_or, tables}
-use Rattle.schema_read.specs.Wanted.{key_of, expected_of, wrong_at, is_right_in, first_of}
+use Rattle.schema_read.specs.Wanted.{wanted_key, expected_of, wrong_at, is_right_in, first_of}
 
 -- the first wanted key that is wrong is told of the first that a test finds
-pub first_of-find : (p : Place) (ws : List Wanted) (ms : Members) → first_of p ws ms ≡ option_map (λ w. wrong_at p (key_of w) (expected_of w)) (find (λ w. not (is_right_in ms w)) ws)
+pub first_of-find : (p : Place) (ws : List Wanted) (ms : Members) → first_of p ws ms ≡ option_map (λ w. wrong_at p (wanted_key w) (expected_of w)) (find (λ w. not (is_right_in ms w)) ws)
 first_of-find p [] ms = refl
 first_of-find p (w ∷ ws) ms =
     elim (cases_Bool (is_right_in ms w)) [

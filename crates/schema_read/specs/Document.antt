@@ -17,13 +17,13 @@ elements no_items = []
 elements (item d ds) = d ∷ elements ds
 
 -- the keys of a table
-abbrev pub keys_of : Members → List (List ℕ)
-keys_of no_members = []
-keys_of (member k d ms) = k ∷ keys_of ms
+abbrev pub member_names : Members → List (List ℕ)
+member_names no_members = []
+member_names (member k d ms) = k ∷ member_names ms
 
 -- the two texts have the same bytes
-abbrev pub same_text : List ℕ → List ℕ → Bool
-same_text = pointwise ◌==◌
+abbrev pub same_bytes : List ℕ → List ℕ → Bool
+same_bytes = pointwise ◌==◌
 
 -- what a table holds; nothing, where the value is no table
 abbrev pub members_of : Data → Members
@@ -31,8 +31,8 @@ members_of (table ms) = ms
 members_of _ = no_members
 
 -- the members of a value of the reader
-abbrev pub table_of : Value → Members
-table_of v = members_of (view v)
+abbrev pub members_of_value : Value → Members
+members_of_value v = members_of (view v)
 
-abbrev pub tables_of : List Value → List Members
-tables_of vs = map table_of vs
+abbrev pub members_of_values : List Value → List Members
+members_of_values vs = map members_of_value vs

@@ -1,7 +1,7 @@
 -- The keys of a schema's text, as they are written.
 use Rattle.std.specs.Prelude.{ℕ, List, Bool, codes}
 use Rattle.std.specs.List.{list_any}
-use Rattle.schema_read.specs.Document.{same_text}
+use Rattle.schema_read.specs.Document.{same_bytes}
 use Rattle.schema_read.specs.declared.schema_key.SchemaKey.{SchemaKey}
 use Rattle.schema_read.specs.declared.schema_key.SchemaKey.TheVariants.{Seed, Units, Delimiter, Table, Name, Rows, Insert, Life, Update, Column, Kind, Changes, Null, Base, Scramble, Lo, Hi, Step, Decimals, Entries, Weights, Size, Power, File, Alphabet, Parts, On, Branches, Window, Spread, OnDelete, Via, Other}
 
@@ -42,4 +42,4 @@ key_name Other = codes ""
 
 -- a key of a table is one of these
 abbrev pub is_among : List SchemaKey → List ℕ → Bool
-is_among keys name = list_any (λ k. same_text (key_name k) name) keys
+is_among keys name = list_any (λ k. same_bytes (key_name k) name) keys

@@ -6,7 +6,7 @@ use Rattle.schema_read.specs.declared.kind_name.LeafName.{LeafName}
 use Rattle.schema_read.specs.declared.kind_name.LeafName.TheVariants.{Int, Fixed, Date, Pick, Skew, Dict, Words, Chars}
 use Rattle.schema_read.specs.declared.kind_name.KindName.{KindName}
 use Rattle.schema_read.specs.declared.kind_name.KindName.TheVariants.{Key, Born, Changed, Template, Case, Ref, Lookup, Leaf}
-use Rattle.schema_read.specs.Document.{same_text}
+use Rattle.schema_read.specs.Document.{same_bytes}
 
 -- the name of a leaf kind, as it is written
 abbrev pub leaf_text : LeafName → List ℕ
@@ -24,7 +24,7 @@ leaves = Int ∷ Fixed ∷ Date ∷ Pick ∷ Skew ∷ Dict ∷ Words ∷ Chars �
 
 -- the leaf kind of this name
 abbrev pub leaf_named : List ℕ → Option LeafName
-leaf_named name = find (λ k. same_text name (leaf_text k)) leaves
+leaf_named name = find (λ k. same_bytes name (leaf_text k)) leaves
 
 -- the name of a kind, as it is written
 abbrev pub kind_text : KindName → List ℕ
@@ -42,4 +42,4 @@ kinds_but_leaves = Key ∷ Born ∷ Changed ∷ Template ∷ Case ∷ Ref ∷ Lo
 
 -- the kind of this name
 abbrev pub kind_named : List ℕ → Option KindName
-kind_named name = option_or (find (λ k. same_text name (kind_text k)) kinds_but_leaves) (option_map Leaf (leaf_named name))
+kind_named name = option_or (find (λ k. same_bytes name (kind_text k)) kinds_but_leaves) (option_map Leaf (leaf_named name))

@@ -22,7 +22,7 @@ use Rattle.schema_read.specs.declared.kind_name.KindName.TheVariants.{Key, Born,
 use Rattle.schema_read.specs.declared.kind_name.LeafName.{LeafName}
 use Rattle.schema_read.specs.declared.kind_name.LeafName.TheVariants.{Int, Fixed, Date, Pick, Skew, Dict, Words, Chars}
 use Rattle.schema_read.specs.Types.{as_delimiter, as_life, as_phases, one_phase, as_kind, as_leaf, as_day, as_list_of, as_part, as_window, as_deletion}
-use Rattle.schema_read.specs.Values.{value, value_or, whole, whole_or, text, texts, flag_or, tables}
+use Rattle.schema_read.specs.Values.{value_under, value_or, whole, whole_or, text, text_list, flag_or, tables}
 use Rattle.schema_read.specs.declared.wanted.Wanted.{Wanted}
 use Rattle.schema_read.specs.declared.wanted.Wanted.TheVariants.{Required, Optional}
 use Rattle.schema_read.specs.Wanted.{first_wrong, each_from}
@@ -121,26 +121,26 @@ first_wrong_key ms = option_or (first_wrong top top_keys ms) (each_from table_wr
 -- ---- the schema that the keys give
 
 abbrev pub pick : Members → Leaf
-pick ms = let entries = texts key.Entries ms in leaf.Pick entries (value_or (as_list_of as_integer) (map (λ _. pos 1) entries) key.Weights ms)
+pick ms = let entries = text_list key.Entries ms in leaf.Pick entries (value_or (as_list_of as_integer) (map (λ _. pos 1) entries) key.Weights ms)
 
-abbrev pub leaf_value : LeafName → Members → Leaf
-leaf_value Int ms = leaf.Int (whole key.Lo ms) (whole key.Hi ms) (whole_or (pos 1) key.Step ms)
-leaf_value Fixed ms = leaf.Fixed (whole key.Lo ms) (whole key.Hi ms) (whole key.Decimals ms)
-leaf_value Date ms = leaf.Date (value_or as_day (pos 0) key.Lo ms) (value_or as_day (pos 0) key.Hi ms)
-leaf_value Pick ms = pick ms
-leaf_value Skew ms = leaf.Skew (whole key.Lo ms) (whole key.Size ms) (whole key.Power ms)
-leaf_value Dict ms = leaf.Dict (text key.File ms)
-leaf_value Words ms = leaf.Words (text key.File ms) (whole key.Lo ms) (whole key.Hi ms)
-leaf_value Chars ms = leaf.Chars (text key.Alphabet ms) (whole key.Lo ms) (whole key.Hi ms)
+abbrev pub leaf_given : LeafName → Members → Leaf
+leaf_given Int ms = leaf.Int (whole key.Lo ms) (whole key.Hi ms) (whole_or (pos 1) key.Step ms)
+leaf_given Fixed ms = leaf.Fixed (whole key.Lo ms) (whole key.Hi ms) (whole key.Decimals ms)
+leaf_given Date ms = leaf.Date (value_or as_day (pos 0) key.Lo ms) (value_or as_day (pos 0) key.Hi ms)
+leaf_given Pick ms = pick ms
+leaf_given Skew ms = leaf.Skew (whole key.Lo ms) (whole key.Size ms) (whole key.Power ms)
+leaf_given Dict ms = leaf.Dict (text key.File ms)
+leaf_given Words ms = leaf.Words (text key.File ms) (whole key.Lo ms) (whole key.Hi ms)
+leaf_given Chars ms = leaf.Chars (text key.Alphabet ms) (whole key.Lo ms) (whole key.Hi ms)
 
 abbrev pub branch : Members → Leaf
-branch ms = leaf_value (leaf_of ms) ms
+branch ms = leaf_given (leaf_of ms) ms
 
 abbrev pub kind_value : KindName → Members → Kind
 kind_value Key ms = kind.Key (whole key.Base ms) (flag_or false key.Scramble ms)
 kind_value Born ms = kind.Born
 kind_value Changed ms = kind.Changed
-kind_value (LeafOf l) ms = kind.Leaf (leaf_value l ms)
+kind_value (LeafOf l) ms = kind.Leaf (leaf_given l ms)
 kind_value Template ms = kind.Template (value_or (as_list_of as_part) [] key.Parts ms)
 kind_value Case ms = kind.Case (text key.On ms) (map branch (tables key.Branches ms))
 kind_value Ref ms = kind.Ref (text key.Table ms) (value_or as_window All key.Window ms) (value_or (as_list_of as_integer) (pos 1 ∷ []) key.Spread ms) (value_or as_deletion Cascade key.OnDelete ms)
@@ -155,8 +155,8 @@ table ms =
       name = text key.Name ms;
       rows = whole key.Rows ms;
       insert = value_or as_phases (one_phase (pos 0)) key.Insert ms;
-      life = value as_life key.Life ms;
-      update = value as_integer key.Update ms;
+      life = value_under as_life key.Life ms;
+      update = value_under as_integer key.Update ms;
       columns = map column (tables key.Column ms);
     }
 

@@ -18,7 +18,7 @@ use Rattle.schema_read.specs.declared.fault.Expected.TheVariants as type
 use Rattle.schema_read.specs.declared.kind_name.KindName.{KindName}
 use Rattle.schema_read.specs.declared.kind_name.LeafName.{LeafName}
 use Rattle.schema_read.specs.Dates.{day_named}
-use Rattle.schema_read.specs.Document.{elements, keys_of, same_text}
+use Rattle.schema_read.specs.Document.{elements, member_names, same_bytes}
 use Rattle.schema_read.specs.Keys.{key_name, is_among}
 use Rattle.schema_read.specs.declared.schema_key.SchemaKey.TheVariants.{Column}
 use Rattle.schema_read.specs.Kinds.{kind_named, leaf_named}
@@ -33,7 +33,7 @@ abbrev pub as_list_of : {A : Type 0} → (Data → Option A) → Data → Option
 as_list_of read d = option_and_then (λ ds. all_read read (elements ds)) (as_array d)
 
 abbrev pub delimiter_named : List ℕ → Option Delimiter
-delimiter_named name = if same_text name (codes "tab") then Some Tab else (if same_text name (codes "bar") then Some Bar else None)
+delimiter_named name = if same_bytes name (codes "tab") then Some Tab else (if same_bytes name (codes "bar") then Some Bar else None)
 
 abbrev pub as_delimiter : Data → Option Delimiter
 as_delimiter d = option_and_then delimiter_named (as_str d)
@@ -72,19 +72,19 @@ as_day d = option_and_then day_named (as_str d)
 
 -- the name of the column that a table with the one key `column` cites
 abbrev pub cited : Members → Option (List ℕ)
-cited ms = if list_all (is_among (Column ∷ [])) (keys_of ms) then option_and_then as_str (get_member (key_name Column) ms) else None
+cited ms = if list_all (is_among (Column ∷ [])) (member_names ms) then option_and_then as_str (get_member (key_name Column) ms) else None
 
 abbrev pub as_part : Data → Option Part
 as_part d = option_or (option_map Literal (as_str d)) (option_map Cited (option_and_then cited (as_table d)))
 
 abbrev pub window_named : List ℕ → Option Window
-window_named name = if same_text name (codes "all") then Some All else None
+window_named name = if same_bytes name (codes "all") then Some All else None
 
 abbrev pub as_window : Data → Option Window
 as_window d = option_or (option_map Units (as_integer d)) (option_and_then window_named (as_str d))
 
 abbrev pub deletion_named : List ℕ → Option OnDelete
-deletion_named name = if same_text name (codes "cascade") then Some Cascade else (if same_text name (codes "null") then Some Null else None)
+deletion_named name = if same_bytes name (codes "cascade") then Some Cascade else (if same_bytes name (codes "null") then Some Null else None)
 
 abbrev pub as_deletion : Data → Option OnDelete
 as_deletion d = option_and_then deletion_named (as_str d)

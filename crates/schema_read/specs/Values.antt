@@ -6,11 +6,11 @@ use Rattle.schema_read.specs.Keys.{key_name}
 use Rattle.schema_read.specs.Types.{as_list_of}
 
 -- the value under a key, where there is one of the type
-abbrev pub value : {A : Type 0} → (Data → Option A) → SchemaKey → Members → Option A
-value read k ms = option_and_then read (get_member (key_name k) ms)
+abbrev pub value_under : {A : Type 0} → (Data → Option A) → SchemaKey → Members → Option A
+value_under read k ms = option_and_then read (get_member (key_name k) ms)
 
 abbrev pub value_or : {A : Type 0} → (Data → Option A) → A → SchemaKey → Members → A
-value_or read default k ms = unwrap_or (value read k ms) default
+value_or read default k ms = unwrap_or (value_under read k ms) default
 
 abbrev pub whole_or : ℤ → SchemaKey → Members → ℤ
 whole_or = value_or as_integer
@@ -27,5 +27,5 @@ flag_or = value_or as_bool
 abbrev pub tables : SchemaKey → Members → List Members
 tables = value_or (as_list_of as_table) []
 
-abbrev pub texts : SchemaKey → Members → List (List ℕ)
-texts = value_or (as_list_of as_str) []
+abbrev pub text_list : SchemaKey → Members → List (List ℕ)
+text_list = value_or (as_list_of as_str) []

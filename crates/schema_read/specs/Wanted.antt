@@ -11,13 +11,13 @@ use Rattle.schema_read.specs.declared.fault.Place.{Place}
 use Rattle.schema_read.specs.declared.fault.Wrong.{Wrong}
 use Rattle.schema_read.specs.declared.wanted.Wanted.{Wanted}
 use Rattle.schema_read.specs.declared.wanted.Wanted.TheVariants.{Required, Optional}
-use Rattle.schema_read.specs.Document.{keys_of, same_text}
+use Rattle.schema_read.specs.Document.{member_names, same_bytes}
 use Rattle.schema_read.specs.Keys.{key_name}
 use Rattle.schema_read.specs.Types.{fits}
 
-abbrev pub key_of : Wanted → SchemaKey
-key_of (Required k e) = k
-key_of (Optional k e) = k
+abbrev pub wanted_key : Wanted → SchemaKey
+wanted_key (Required k e) = k
+wanted_key (Optional k e) = k
 
 abbrev pub expected_of : Wanted → Expected
 expected_of (Required k e) = e
@@ -38,11 +38,11 @@ is_right w (Some d) = fits (expected_of w) d
 
 -- whether a wanted key of a table is right
 abbrev pub is_right_in : Members → Wanted → Bool
-is_right_in ms w = is_right w (get_member (key_name (key_of w)) ms)
+is_right_in ms w = is_right w (get_member (key_name (wanted_key w)) ms)
 
 -- the wanted key, where it is wrong: required and missing, or of another type
 abbrev pub wrong_key : Place → Wanted → Members → Option Wrong
-wrong_key p w ms = if is_right_in ms w then None else Some (wrong_at p (key_of w) (expected_of w))
+wrong_key p w ms = if is_right_in ms w then None else Some (wrong_at p (wanted_key w) (expected_of w))
 
 -- the first wanted key that is wrong
 abbrev pub first_of : Place → List Wanted → Members → Option Wrong
@@ -51,11 +51,11 @@ first_of p (w ∷ ws) ms = option_or (wrong_key p w ms) (first_of p ws ms)
 
 -- a key of a table is one of those that are wanted
 abbrev pub is_wanted : List Wanted → List ℕ → Bool
-is_wanted ws name = list_any (λ w. same_text (key_name (key_of w)) name) ws
+is_wanted ws name = list_any (λ w. same_bytes (key_name (wanted_key w)) name) ws
 
 -- a further key, where the table has one beside these
 abbrev pub further_key : Place → List Wanted → Members → Option Wrong
-further_key p ws ms = if list_all (is_wanted ws) (keys_of ms) then None else Some (wrong_at p Other NoSuchKey)
+further_key p ws ms = if list_all (is_wanted ws) (member_names ms) then None else Some (wrong_at p Other NoSuchKey)
 
 -- the first wrong key of a table that is to have these keys and no others
 abbrev pub first_wrong : Place → List Wanted → Members → Option Wrong

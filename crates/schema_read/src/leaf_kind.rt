@@ -2,7 +2,7 @@
 
 ghost use Rattle.std.specs.Prelude.{◌≡◌, map, pos, IfOk};
 ghost use Rattle.toml.specs.View.{table_view};
-ghost use Rattle.schema_read.specs.Shape.{leaf_value, pick};
+ghost use Rattle.schema_read.specs.Shape.{leaf_given, pick};
 ghost use Rattle.schema_read.specs.Values.{value_or};
 
 use crate::kind_name::LeafName;
@@ -37,7 +37,7 @@ fn read_pick(alloc: Global, members: &Table) -> Result<Leaf, Memory>
 
 /// The leaf kind of this name that the keys give.
 pub fn read_leaf(alloc: Global, members: &Table, kind: LeafName) -> Result<Leaf, Memory>
-    ensures { IfOk result (λ leaf. leaf ≡ leaf_value kind (table_view members.now)) }
+    ensures { IfOk result (λ leaf. leaf ≡ leaf_given kind (table_view members.now)) }
 {
     match kind {
         LeafName::Int => Ok(Leaf::Int {

@@ -4,7 +4,7 @@ ghost use Rattle.std.specs.Prelude.{◌≡◌, [], map, Option, IfOk};
 ghost use Rattle.toml.specs.Data.{Data, as_integer, as_str};
 ghost use Rattle.toml.specs.View.{view, table_view};
 ghost use Rattle.schema_read.specs.Types.{all_read, as_list_of, as_part, as_phase, one_phase, as_phases};
-ghost use Rattle.schema_read.specs.Values.{value, value_or};
+ghost use Rattle.schema_read.specs.Values.{value_under, value_or};
 
 use crate::members::member;
 use crate::schema_key::SchemaKey;
@@ -100,7 +100,7 @@ pub fn list_if_any<T: Element>(
     table: &Table,
     key: SchemaKey,
 ) -> Result<Option<Sequence<T>>, Memory>
-    ensures { IfOk result (λ found. found ≡ value (as_list_of T.read) key (table_view table.now)) }
+    ensures { IfOk result (λ found. found ≡ value_under (as_list_of T.read) key (table_view table.now)) }
 {
     match member(table, key) {
         Some(value) => sequence_of_value(alloc, value),
@@ -143,7 +143,7 @@ fn phases_of_value(alloc: Global, value: &Value) -> Result<Option<Phases>, Memor
 
 /// The phases under a key.
 pub fn phases_if_any(alloc: Global, table: &Table, key: SchemaKey) -> Result<Option<Phases>, Memory>
-    ensures { IfOk result (λ found. found ≡ value as_phases key (table_view table.now)) }
+    ensures { IfOk result (λ found. found ≡ value_under as_phases key (table_view table.now)) }
 {
     match member(table, key) {
         Some(value) => phases_of_value(alloc, value),

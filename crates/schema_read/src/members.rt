@@ -5,7 +5,7 @@ ghost use Rattle.std.specs.List.{list_all};
 ghost use Rattle.std.specs.BTreeMap.{keys as map_keys};
 ghost use Rattle.toml.specs.Data.{get_member};
 ghost use Rattle.toml.specs.View.{view, table_view};
-ghost use Rattle.schema_read.specs.Document.{keys_of};
+ghost use Rattle.schema_read.specs.Document.{member_names};
 ghost use Rattle.schema_read.specs.Keys.{key_name};
 ghost use Rattle.schema_read.specs.Wanted.{is_wanted};
 
@@ -40,7 +40,7 @@ fn has_known_keys(table: &Table, common: &[Wanted], own: &[Wanted]) -> bool
 
 /// Whether a table has no keys beside these: the common ones, and those of its own kind.
 pub fn has_only(table: &Table, common: &[Wanted], own: &[Wanted]) -> bool
-    ensures { result ≡ list_all (is_wanted (common.now ++ own.now)) (keys_of (table_view table.now)) }
+    ensures { result ≡ list_all (is_wanted (common.now ++ own.now)) (member_names (table_view table.now)) }
 {
     has_known_keys(table, common, own)
 }

@@ -3,10 +3,10 @@
 ghost use Rattle.std.specs.Prelude.{◌≡◌, IfOk};
 ghost use Rattle.toml.specs.Data.{as_bool, as_integer};
 ghost use Rattle.toml.specs.View.{table_view};
-ghost use Rattle.schema_read.specs.Document.{tables_of};
+ghost use Rattle.schema_read.specs.Document.{members_of_values};
 ghost use Rattle.schema_read.specs.Shape.{kind_of, leaf_of};
 ghost use Rattle.schema_read.specs.Types.{as_delimiter, as_life, as_day, as_window, as_deletion};
-ghost use Rattle.schema_read.specs.Values.{value, whole, text, tables};
+ghost use Rattle.schema_read.specs.Values.{value_under, whole, text, tables};
 
 use crate::kind_name::{KindName, LeafName};
 use crate::members::member;
@@ -21,7 +21,7 @@ use toml::{Table, Value};
 
 /// The whole number under a key.
 pub fn whole_if_any(table: &Table, key: SchemaKey) -> Option<i64>
-    ensures { result ≡ value as_integer key (table_view table.now) }
+    ensures { result ≡ value_under as_integer key (table_view table.now) }
 {
     member(table, key)?.as_integer()
 }
@@ -35,42 +35,42 @@ pub fn whole_at(table: &Table, key: SchemaKey) -> i64
 
 /// The flag under a key.
 pub fn flag_if_any(table: &Table, key: SchemaKey) -> Option<bool>
-    ensures { result ≡ value as_bool key (table_view table.now) }
+    ensures { result ≡ value_under as_bool key (table_view table.now) }
 {
     member(table, key)?.as_bool()
 }
 
 /// The delimiter under a key.
 pub fn delimiter_if_any(table: &Table, key: SchemaKey) -> Option<Delimiter>
-    ensures { result ≡ value as_delimiter key (table_view table.now) }
+    ensures { result ≡ value_under as_delimiter key (table_view table.now) }
 {
     delimiter_of(member(table, key)?)
 }
 
 /// The two whole numbers under a key.
 pub fn life_if_any(table: &Table, key: SchemaKey) -> Option<Life>
-    ensures { result ≡ value as_life key (table_view table.now) }
+    ensures { result ≡ value_under as_life key (table_view table.now) }
 {
     life_of_value(member(table, key)?)
 }
 
 /// The day number of the date under a key.
 pub fn day_if_any(table: &Table, key: SchemaKey) -> Option<i32>
-    ensures { result ≡ value as_day key (table_view table.now) }
+    ensures { result ≡ value_under as_day key (table_view table.now) }
 {
     day_of(member(table, key)?)
 }
 
 /// The window under a key.
 pub fn window_if_any(table: &Table, key: SchemaKey) -> Option<Window>
-    ensures { result ≡ value as_window key (table_view table.now) }
+    ensures { result ≡ value_under as_window key (table_view table.now) }
 {
     window_of(member(table, key)?)
 }
 
 /// What a deletion does, as it stands under a key.
 pub fn deletion_if_any(table: &Table, key: SchemaKey) -> Option<OnDelete>
-    ensures { result ≡ value as_deletion key (table_view table.now) }
+    ensures { result ≡ value_under as_deletion key (table_view table.now) }
 {
     deletion_of(member(table, key)?)
 }
@@ -110,7 +110,7 @@ pub fn text_at(alloc: Global, table: &Table, key: SchemaKey) -> Result<Text, Mem
 
 /// The tables of the list under a key, and none where there is no such list.
 pub fn tables_at(table: &Table, key: SchemaKey) -> &[Value]
-    ensures { tables_of result.now ≡ tables key (table_view table.now) }
+    ensures { members_of_values result.now ≡ tables key (table_view table.now) }
 {
     match member(table, key) {
         Some(value) => match table_elements(value) {

@@ -5,7 +5,7 @@ ghost use Rattle.std.specs.List.{list_all};
 ghost use Rattle.std.specs.Option.{option_copied};
 ghost use Rattle.toml.specs.Data.{Data, as_array, as_integer, as_str, as_table};
 ghost use Rattle.toml.specs.View.{view, table_view};
-ghost use Rattle.schema_read.specs.Document.{elements, tables_of};
+ghost use Rattle.schema_read.specs.Document.{elements, members_of_values};
 ghost use Rattle.schema_read.specs.Types.{as_list_of, delimiter_named, as_delimiter, pair_of, as_pair, as_life, as_phase, as_kind, as_leaf, as_day, cited, window_named, as_window, deletion_named, as_deletion};
 
 use crate::date::day_of_text;
@@ -178,7 +178,7 @@ fn are_tables(items: &[Value]) -> bool
 
 /// The elements of an array that are all tables.
 pub fn table_elements(value: &Value) -> Option<&[Value]>
-    ensures { option_map (λ items. tables_of items.now) result ≡ as_list_of as_table (view value.now) }
+    ensures { option_map (λ items. members_of_values items.now) result ≡ as_list_of as_table (view value.now) }
 {
     match array_elements(value) {
         Some(items) => { if are_tables(items) { Some(items) } else { None } }

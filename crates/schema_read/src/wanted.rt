@@ -17,11 +17,11 @@ pub enum Wanted {
 }
 
 impl Wanted {
-    ghost use Rattle.schema_read.specs.Wanted.{key_of, expected_of, may_be_missing};
+    ghost use Rattle.schema_read.specs.Wanted.{wanted_key, expected_of, may_be_missing};
 
     /// The key.
     pub fn key(self) -> SchemaKey
-        ensures { result ≡ key_of self }
+        ensures { result ≡ wanted_key self }
     {
         match self {
             Wanted::Required(key, _) | Wanted::Optional(key, _) => key,

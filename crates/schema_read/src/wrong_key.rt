@@ -3,7 +3,7 @@
 ghost use Rattle.std.specs.Prelude.{◌≡◌, ◌++◌, find, not};
 ghost use Rattle.std.specs.Option.{option_copied};
 ghost use Rattle.toml.specs.View.{table_view};
-ghost use Rattle.schema_read.specs.Document.{table_of, tables_of};
+ghost use Rattle.schema_read.specs.Document.{members_of_value, members_of_values};
 ghost use Rattle.schema_read.specs.Shape.{column_place, table_place, branch_wrong, branches_wrong, column_wrong, table_wrong, first_wrong_key};
 ghost use Rattle.schema_read.specs.Wanted.{is_right_in, first_of, further_key, first_wrong, each_from};
 
@@ -91,7 +91,7 @@ fn wrong_in_branch_members(place: Place, members: &Table) -> Option<Wrong>
 
 /// The first wrong key of the branch that stands at a place. A value that is no table has no keys.
 fn wrong_in_branch(place: Place, item: &Value) -> Option<Wrong>
-    ensures { result ≡ branch_wrong place.table place.column place.branch (table_of item.now) }
+    ensures { result ≡ branch_wrong place.table place.column place.branch (members_of_value item.now) }
 {
     match item.as_table() {
         Some(members) => wrong_in_branch_members(place, members),
@@ -105,7 +105,7 @@ fn wrong_in_branch(place: Place, item: &Value) -> Option<Wrong>
 
 /// The first wrong key of the branches of a case.
 fn wrong_in_branches(place: Place, items: &[Value]) -> Option<Wrong>
-    ensures { result ≡ each_from (branch_wrong place.table place.column) 1 (tables_of items.now) }
+    ensures { result ≡ each_from (branch_wrong place.table place.column) 1 (members_of_values items.now) }
 {
     for (i, item) in items.iter().enumerate() {
         let at = Place {
@@ -145,7 +145,7 @@ fn wrong_in_column_members(place: Place, members: &Table) -> Option<Wrong>
 /// The first wrong key of the column that stands at a place. A value that is no table has no keys.
 fn wrong_in_column(place: Place, item: &Value) -> Option<Wrong>
     requires { place ≡ column_place place.table place.column }
-    ensures { result ≡ column_wrong place.table place.column (table_of item.now) }
+    ensures { result ≡ column_wrong place.table place.column (members_of_value item.now) }
 {
     match item.as_table() {
         Some(members) => wrong_in_column_members(place, members),
@@ -159,7 +159,7 @@ fn wrong_in_column(place: Place, item: &Value) -> Option<Wrong>
 
 /// The first wrong key of the columns of a table.
 fn wrong_in_columns(place: Place, items: &[Value]) -> Option<Wrong>
-    ensures { result ≡ each_from (column_wrong place.table) 1 (tables_of items.now) }
+    ensures { result ≡ each_from (column_wrong place.table) 1 (members_of_values items.now) }
 {
     for (i, item) in items.iter().enumerate() {
         let at = Place {
@@ -188,7 +188,7 @@ fn wrong_in_table_members(place: Place, members: &Table) -> Option<Wrong>
 /// The first wrong key of the table that stands at a place. A value that is no table has no keys.
 fn wrong_in_table(place: Place, item: &Value) -> Option<Wrong>
     requires { place ≡ table_place place.table }
-    ensures { result ≡ table_wrong place.table (table_of item.now) }
+    ensures { result ≡ table_wrong place.table (members_of_value item.now) }
 {
     match item.as_table() {
         Some(members) => wrong_in_table_members(place, members),
@@ -202,7 +202,7 @@ fn wrong_in_table(place: Place, item: &Value) -> Option<Wrong>
 
 /// The first wrong key of the tables of a schema.
 fn wrong_in_tables(items: &[Value]) -> Option<Wrong>
-    ensures { result ≡ each_from table_wrong 1 (tables_of items.now) }
+    ensures { result ≡ each_from table_wrong 1 (members_of_values items.now) }
 {
     for (i, item) in items.iter().enumerate() {
         let at = Place {

@@ -1,8 +1,8 @@
 use Rattle.std.proofs.Common.{map}
-use Rattle.schema_read.specs.Document.{table_of}
+use Rattle.schema_read.specs.Document.{members_of_value}
 use Rattle.schema_read.specs.Shape.{table_wrong}
 use Rattle.schema_read.proofs.Places.{AreRightTo}
 use Rattle.schema_read.proofs.wrong_key.wrong_in_tables.Given as goal
 
 abbrev pub invariant-loop-i : goal.invariant-loop-i
-invariant-loop-i l = AreRightTo table_wrong (map table_of l.items) l.i
+invariant-loop-i l = AreRightTo table_wrong (map members_of_value l.items) l.i
