@@ -2,7 +2,7 @@
 use Rattle.std.proofs.Common.{◌≡◌, ◌≢◌, ℕ, ◌≤◌, ◌*◌, List, [], ◌∷◌, ◌++◌, Option, None, Some, length, codes, refl, ap, sym, subst, ◌∙◌, inl, inr, arith, length-append, append_assoc}
 use Rattle.std.specs.List.{Contains}
 use Rattle.std.proofs.lemmas.List.Elements.{Contains-append_cases}
-use Rattle.row_text.specs.Fields.{IsDelimiter, EndsField, escaped, piece_text, field_text}
+use Rattle.row_text.specs.Fields.{IsDelimiter, EndsField, escaped, escaped_text, field_text}
 use Rattle.row_text.proofs.EscapeLemmas.{itself, escape, form, byte_of}
 
 length-escaped-le : (delimiter byte : ℕ) → length (escaped delimiter byte) ≤ 2
@@ -12,21 +12,21 @@ length-escaped-le delimiter byte =
       | escape letter written _ _ _ _ _ ↦ omega (arith, ap length written)
     ]
 
-pub length-piece_text-le : (delimiter : ℕ) (bytes : List ℕ) → length (piece_text delimiter bytes) ≤ 2 * length bytes
-length-piece_text-le delimiter [] = omega arith
-length-piece_text-le delimiter (byte ∷ bytes) =
+pub length-escaped_text-le : (delimiter : ℕ) (bytes : List ℕ) → length (escaped_text delimiter bytes) ≤ 2 * length bytes
+length-escaped_text-le delimiter [] = omega arith
+length-escaped_text-le delimiter (byte ∷ bytes) =
     omega (
       arith,
-      length-append (escaped delimiter byte) (piece_text delimiter bytes),
+      length-append (escaped delimiter byte) (escaped_text delimiter bytes),
       length-escaped-le delimiter byte,
-      length-piece_text-le delimiter bytes,
+      length-escaped_text-le delimiter bytes,
     )
 
 -- a byte that is in no escape, and doesn't stand for itself, is in no text
-lacks : (delimiter byte : ℕ) → ((x : ℕ) → ¬ Contains (escaped delimiter x) byte) → (bytes : List ℕ) → ¬ Contains (piece_text delimiter bytes) byte
+lacks : (delimiter byte : ℕ) → ((x : ℕ) → ¬ Contains (escaped delimiter x) byte) → (bytes : List ℕ) → ¬ Contains (escaped_text delimiter bytes) byte
 lacks delimiter byte none [] found = omega (arith, found.1)
 lacks delimiter byte none (x ∷ bytes) found =
-    elim (Contains-append_cases (escaped delimiter x) (piece_text delimiter bytes) byte found) [
+    elim (Contains-append_cases (escaped delimiter x) (escaped_text delimiter bytes) byte found) [
       | inl here ↦ none x here
       | inr later ↦ lacks delimiter byte none bytes later
     ]
@@ -55,7 +55,7 @@ field_text-tab delimiter None found = grind (arith, found)
 field_text-tab delimiter (Some bytes) found = lacks delimiter 9 (escaped-tab delimiter) bytes found
 
 -- what is written for a byte tells the byte, and where what is written for the next begins
-escaped-same : (delimiter x y : ℕ) (xs ys : List ℕ) → escaped delimiter x ++ xs ≡ escaped delimiter y ++ ys → (x ≡ y) × (xs ≡ ys)
+pub escaped-same : (delimiter x y : ℕ) (xs ys : List ℕ) → escaped delimiter x ++ xs ≡ escaped delimiter y ++ ys → (x ≡ y) × (xs ≡ ys)
 escaped-same delimiter x y xs ys same =
     elim (form delimiter x) [
       | itself written_x _ _ no_backslash_x _ _ ↦ elim (form delimiter y) [
@@ -81,9 +81,9 @@ escaped-same delimiter x y xs ys same =
     ]
 
 -- a byte that ends a field begins nothing that is written for a byte
-record IsEnd (delimiter end : ℕ) : Type 0 where
-  no_backslash : end ≢ 92
-  begins_none : (x : ℕ) (xs rest : List ℕ) → escaped delimiter x ++ xs ≢ end ∷ rest
+pub record IsEnd (delimiter end : ℕ) : Type 0 where
+  pub no_backslash : end ≢ 92
+  pub begins_none : (x : ℕ) (xs rest : List ℕ) → escaped delimiter x ++ xs ≢ end ∷ rest
 
 -- one that can't stand for itself
 apart : (delimiter end : ℕ) → end ≢ 92 → ((x : ℕ) → x ≢ 9 → x ≢ 10 → (delimiter ≡ 124 → x ≢ 124) → x ≢ end) → IsEnd delimiter end
@@ -109,38 +109,38 @@ delimiter_ends : (delimiter : ℕ) → IsDelimiter delimiter → IsEnd delimiter
 delimiter_ends delimiter (inl tab) = apart delimiter delimiter (omega arith) (λ x no_tab _ _ is. no_tab (is ∙ tab))
 delimiter_ends delimiter (inr bar) = apart delimiter delimiter (omega arith) (λ x _ _ no_bar is. no_bar bar (is ∙ bar))
 
-ends-apart : (delimiter end : ℕ) → IsDelimiter delimiter → EndsField delimiter end → IsEnd delimiter end
+pub ends-apart : (delimiter end : ℕ) → IsDelimiter delimiter → EndsField delimiter end → IsEnd delimiter end
 ends-apart delimiter end delimits (inl is) = subst (λ (e : ℕ). IsEnd delimiter e) (sym is) (delimiter_ends delimiter delimits)
 ends-apart delimiter end delimits (inr is) = subst (λ (e : ℕ). IsEnd delimiter e) (sym is) (line_feed_ends delimiter)
 
 -- two texts, each with a byte that ends the field behind
-texts-same : (delimiter end other_end : ℕ) → IsEnd delimiter end → IsEnd delimiter other_end → (xs ys rest other_rest : List ℕ) → piece_text delimiter xs ++ end ∷ rest ≡ piece_text delimiter ys ++ other_end ∷ other_rest → (xs ≡ ys) × (end ≡ other_end) × (rest ≡ other_rest)
+texts-same : (delimiter end other_end : ℕ) → IsEnd delimiter end → IsEnd delimiter other_end → (xs ys rest other_rest : List ℕ) → escaped_text delimiter xs ++ end ∷ rest ≡ escaped_text delimiter ys ++ other_end ∷ other_rest → (xs ≡ ys) × (end ≡ other_end) × (rest ≡ other_rest)
 texts-same delimiter end other_end ends other_ends [] [] rest other_rest same = (refl, cc, cc)
 texts-same delimiter end other_end ends other_ends [] (y ∷ ys) rest other_rest same =
-    absurd (ends.begins_none y (piece_text delimiter ys ++ other_end ∷ other_rest) rest
-    (sym (same ∙ append_assoc (escaped delimiter y) (piece_text delimiter ys) (other_end ∷ other_rest))))
+    absurd (ends.begins_none y (escaped_text delimiter ys ++ other_end ∷ other_rest) rest
+    (sym (same ∙ append_assoc (escaped delimiter y) (escaped_text delimiter ys) (other_end ∷ other_rest))))
 texts-same delimiter end other_end ends other_ends (x ∷ xs) [] rest other_rest same =
-    absurd (other_ends.begins_none x (piece_text delimiter xs ++ end ∷ rest) other_rest
-    (sym (append_assoc (escaped delimiter x) (piece_text delimiter xs) (end ∷ rest)) ∙ same))
+    absurd (other_ends.begins_none x (escaped_text delimiter xs ++ end ∷ rest) other_rest
+    (sym (append_assoc (escaped delimiter x) (escaped_text delimiter xs) (end ∷ rest)) ∙ same))
 texts-same delimiter end other_end ends other_ends (x ∷ xs) (y ∷ ys) rest other_rest same =
-    let first : (x ≡ y) × (piece_text delimiter xs ++ end ∷ rest ≡ piece_text delimiter ys ++ other_end ∷ other_rest) =
-    escaped-same delimiter x y (piece_text delimiter xs ++ end ∷ rest) (piece_text delimiter ys ++ other_end ∷ other_rest)
-    (sym (append_assoc (escaped delimiter x) (piece_text delimiter xs) (end ∷ rest))
+    let first : (x ≡ y) × (escaped_text delimiter xs ++ end ∷ rest ≡ escaped_text delimiter ys ++ other_end ∷ other_rest) =
+    escaped-same delimiter x y (escaped_text delimiter xs ++ end ∷ rest) (escaped_text delimiter ys ++ other_end ∷ other_rest)
+    (sym (append_assoc (escaped delimiter x) (escaped_text delimiter xs) (end ∷ rest))
     ∙ same
-    ∙ append_assoc (escaped delimiter y) (piece_text delimiter ys) (other_end ∷ other_rest)) in
+    ∙ append_assoc (escaped delimiter y) (escaped_text delimiter ys) (other_end ∷ other_rest)) in
     let later : (xs ≡ ys) × (end ≡ other_end) × (rest ≡ other_rest) = texts-same delimiter end other_end ends other_ends xs ys rest other_rest first.1 in
     let bytes : x ∷ xs ≡ y ∷ ys = cc in
     (bytes, later.1, later.2)
 
 -- a null field and a text, each with a byte that ends the field behind
-null-apart : (delimiter end : ℕ) → IsEnd delimiter end → (bytes rest other_rest : List ℕ) → piece_text delimiter bytes ++ end ∷ rest ≢ 92 ∷ 78 ∷ other_rest
+pub null-apart : (delimiter end : ℕ) → IsEnd delimiter end → (bytes rest other_rest : List ℕ) → escaped_text delimiter bytes ++ end ∷ rest ≢ 92 ∷ 78 ∷ other_rest
 null-apart delimiter end ends [] rest other_rest same =
     let is : end ≡ 92 = cc in
     ends.no_backslash is
 null-apart delimiter end ends (x ∷ xs) rest other_rest same =
-    let more : List ℕ = piece_text delimiter xs ++ end ∷ rest in
+    let more : List ℕ = escaped_text delimiter xs ++ end ∷ rest in
     let whole : escaped delimiter x ++ more ≡ 92 ∷ 78 ∷ other_rest =
-    sym (append_assoc (escaped delimiter x) (piece_text delimiter xs) (end ∷ rest)) ∙ same in
+    sym (append_assoc (escaped delimiter x) (escaped_text delimiter xs) (end ∷ rest)) ∙ same in
     elim (form delimiter x) [
       | itself written _ _ no_backslash _ _ ↦
           let heads : x ∷ more ≡ 92 ∷ 78 ∷ other_rest = sym (ap (λ (t : List ℕ). t ++ more) written) ∙ whole in
@@ -153,12 +153,12 @@ null-apart delimiter end ends (x ∷ xs) rest other_rest same =
     ]
 
 -- the same of texts with nothing behind
-pub piece_text-same : (delimiter : ℕ) (xs ys : List ℕ) → piece_text delimiter xs ≡ piece_text delimiter ys → xs ≡ ys
-piece_text-same delimiter xs ys same =
+pub escaped_text-same : (delimiter : ℕ) (xs ys : List ℕ) → escaped_text delimiter xs ≡ escaped_text delimiter ys → xs ≡ ys
+escaped_text-same delimiter xs ys same =
     (texts-same delimiter 10 10 (line_feed_ends delimiter) (line_feed_ends delimiter) xs ys [] [] (ap (λ (t : List ℕ). t ++ 10 ∷ []) same)).0
 
-pub piece_text-null : (delimiter : ℕ) (bytes : List ℕ) → piece_text delimiter bytes ≢ codes "\\N"
-piece_text-null delimiter bytes same =
+pub escaped_text-null : (delimiter : ℕ) (bytes : List ℕ) → escaped_text delimiter bytes ≢ codes "\\N"
+escaped_text-null delimiter bytes same =
     null-apart delimiter 10 (line_feed_ends delimiter) bytes [] (10 ∷ []) (ap (λ (t : List ℕ). t ++ 10 ∷ []) same)
 
 -- two fields, each with a byte that ends the field behind

@@ -22,10 +22,10 @@ escaped delimiter byte =
     (if byte == 124 && delimiter == 124 then codes "\\|" else byte ∷ [])))))))
 
 -- a text as it is written
-abbrev pub piece_text : ℕ → List ℕ → List ℕ
-piece_text delimiter bytes = flat_map (escaped delimiter) bytes
+abbrev pub escaped_text : ℕ → List ℕ → List ℕ
+escaped_text delimiter bytes = flat_map (escaped delimiter) bytes
 
 -- a field as it is written: a null field is \N
 abbrev pub field_text : ℕ → Option (List ℕ) → List ℕ
 field_text delimiter None = codes "\\N"
-field_text delimiter (Some bytes) = piece_text delimiter bytes
+field_text delimiter (Some bytes) = escaped_text delimiter bytes

@@ -8,12 +8,12 @@ start_of ends zero = 0
 start_of ends (suc i) = slice_index ends i
 
 -- the text at a place
-abbrev pub text_at : List ℕ → List ℕ → ℕ → List ℕ
-text_at bytes ends i = slice_range bytes (start_of ends i) (slice_index ends i)
+abbrev pub written_text_at : List ℕ → List ℕ → ℕ → List ℕ
+written_text_at bytes ends i = slice_range bytes (start_of ends i) (slice_index ends i)
 
 -- the texts of a buffer, in order
 unfoldable pub texts_in : List ℕ → List ℕ → List (List ℕ)
-texts_in bytes ends = map (text_at bytes ends) (range_with_len 0 (length ends))
+texts_in bytes ends = map (written_text_at bytes ends) (range_with_len 0 (length ends))
 
 -- no text ends before it begins or behind the buffer, and the last one ends where the buffer does
 pub record AreEnds (bytes ends : List ℕ) : Type 0 where

@@ -2,7 +2,7 @@
 
 ghost use Rattle.std.specs.Prelude.{◌≡◌, ◌<◌, ◌≤◌, ◌+◌, [], ◌∷◌, length, IfNone, IfSome};
 ghost use Rattle.std.specs.Bool.{OnFalse, OnTrue};
-ghost use Rattle.row_text.specs.Fields.{escaped, piece_text};
+ghost use Rattle.row_text.specs.Fields.{escaped, escaped_text};
 
 /// The byte that is written behind a backslash for this byte; None where the byte stands for itself.
 #[inline]
@@ -35,8 +35,8 @@ fn is_escaped(byte: u8, delimiter: u8) -> bool
 
 /// Whether a byte doesn't stand for itself. Each is looked at, with no branch, so that a processor takes many at once.
 pub(crate) fn has_escape(bytes: &[u8], delimiter: u8) -> bool
-    ensures none { OnFalse result (piece_text delimiter bytes.now ≡ bytes.now) }
-    ensures some { OnTrue result (length bytes.now < length (piece_text delimiter bytes.now)) }
+    ensures none { OnFalse result (escaped_text delimiter bytes.now ≡ bytes.now) }
+    ensures some { OnTrue result (length bytes.now < length (escaped_text delimiter bytes.now)) }
 {
     let mut found: u8 = 0;
     for byte in bytes {
@@ -47,7 +47,7 @@ pub(crate) fn has_escape(bytes: &[u8], delimiter: u8) -> bool
 
 /// How many of the bytes don't stand for themselves.
 pub(crate) fn escape_count(bytes: &[u8], delimiter: u8) -> usize
-    ensures count { length bytes.now + result ≡ length (piece_text delimiter bytes.now) }
+    ensures count { length bytes.now + result ≡ length (escaped_text delimiter bytes.now) }
     ensures within { result ≤ length bytes.now }
 {
     let mut count = 0;

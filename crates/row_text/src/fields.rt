@@ -1,7 +1,7 @@
 //! A field as it is written into a page.
 
 ghost use Rattle.std.specs.Prelude.{◌≡◌, ◌≤◌, ◌+◌, ◌++◌, length, None, codes, option_copied};
-ghost use Rattle.row_text.specs.Fields.{IsDelimiter, field_text, piece_text};
+ghost use Rattle.row_text.specs.Fields.{IsDelimiter, field_text, escaped_text};
 
 use crate::escapes::{escape_count, has_escape, letter_of};
 use line_pages::PageBuf;
@@ -9,8 +9,8 @@ use line_pages::PageBuf;
 /// Appends a text, or a piece of one, as it is written. As many bytes as that takes have to be free.
 pub fn put_piece(buf: &mut PageBuf, bytes: &[u8], delimiter: u8)
     requires delimiter { IsDelimiter delimiter }
-    requires room { length buf.old.text + length (piece_text delimiter bytes.now) ≤ buf.old.room }
-    ensures { buf.new ≡ record buf.old { text = buf.old.text ++ piece_text delimiter bytes.now } }
+    requires room { length buf.old.text + length (escaped_text delimiter bytes.now) ≤ buf.old.room }
+    ensures { buf.new ≡ record buf.old { text = buf.old.text ++ escaped_text delimiter bytes.now } }
 {
     if has_escape(bytes, delimiter) {
         put_runs(buf, bytes, delimiter);
@@ -21,8 +21,8 @@ pub fn put_piece(buf: &mut PageBuf, bytes: &[u8], delimiter: u8)
 
 /// The same: each run of bytes that stand for themselves is put at once.
 fn put_runs(buf: &mut PageBuf, bytes: &[u8], delimiter: u8)
-    requires { length buf.old.text + length (piece_text delimiter bytes.now) ≤ buf.old.room }
-    ensures { buf.new ≡ record buf.old { text = buf.old.text ++ piece_text delimiter bytes.now } }
+    requires { length buf.old.text + length (escaped_text delimiter bytes.now) ≤ buf.old.room }
+    ensures { buf.new ≡ record buf.old { text = buf.old.text ++ escaped_text delimiter bytes.now } }
 {
     let mut start = 0;
     for (index, byte) in bytes.iter().enumerate() {

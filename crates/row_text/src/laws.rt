@@ -1,22 +1,23 @@
 //! The laws of fields as they are written, each the contract of a function that does nothing.
 
 ghost use Rattle.std.specs.Prelude.{◌≡◌, ◌≢◌, ℕ, ◌<◌, ◌≤◌, ◌*◌, ◌^◌, ◌++◌, List, ◌∷◌, Option, Contains, codes, decimal, length};
-ghost use Rattle.row_text.specs.Fields.{EndsField, IsDelimiter, field_text, piece_text};
+ghost use Rattle.row_text.specs.Fields.{EndsField, IsDelimiter, field_text, escaped_text};
+ghost use Rattle.row_text.specs.Lines.{IsLineBody};
 
 /// A text is written piece by piece.
 pub fn text_is_written_piece_by_piece()
     ensures { (delimiter : ℕ) (xs ys : List ℕ) →
-        piece_text delimiter (xs ++ ys) ≡ piece_text delimiter xs ++ piece_text delimiter ys }
+        escaped_text delimiter (xs ++ ys) ≡ escaped_text delimiter xs ++ escaped_text delimiter ys }
 {}
 
 /// A text is written with at most two bytes for each of its own.
 pub fn text_is_at_most_doubled()
-    ensures { (delimiter : ℕ) (bytes : List ℕ) → length (piece_text delimiter bytes) ≤ 2 * length bytes }
+    ensures { (delimiter : ℕ) (bytes : List ℕ) → length (escaped_text delimiter bytes) ≤ 2 * length bytes }
 {}
 
 /// A number of 64 bits is written as its digits.
 pub fn number_is_written_as_its_digits()
-    ensures { (delimiter number : ℕ) → number < 2 ^ 64 → piece_text delimiter (decimal number) ≡ decimal number }
+    ensures { (delimiter number : ℕ) → number < 2 ^ 64 → escaped_text delimiter (decimal number) ≡ decimal number }
 {}
 
 /// A field is written with no line feed and no tab, whatever it holds.
@@ -28,8 +29,8 @@ pub fn field_is_within_its_line()
 /// No two texts are written alike, and none as a null field is.
 pub fn text_can_be_read_back()
     ensures text { (delimiter : ℕ) (xs ys : List ℕ) →
-        piece_text delimiter xs ≡ piece_text delimiter ys → xs ≡ ys }
-    ensures null { (delimiter : ℕ) (bytes : List ℕ) → piece_text delimiter bytes ≢ codes "\\N" }
+        escaped_text delimiter xs ≡ escaped_text delimiter ys → xs ≡ ys }
+    ensures null { (delimiter : ℕ) (bytes : List ℕ) → escaped_text delimiter bytes ≢ codes "\\N" }
 {}
 
 /// A line that goes on with a field can be read in one way: its bytes tell where the field ends, what it holds, and
@@ -39,4 +40,16 @@ pub fn field_can_be_read_back()
         IsDelimiter delimiter → EndsField delimiter end → EndsField delimiter other_end →
         field_text delimiter field ++ end ∷ rest ≡ field_text delimiter other ++ other_end ∷ other_rest →
         (field ≡ other) × (end ≡ other_end) × (rest ≡ other_rest) }
+{}
+
+/// A line body can be read in one way: no two lists of fields are written alike.
+pub fn line_can_be_read_back()
+    ensures { (delimiter : ℕ) (fields others : List (Option (List ℕ))) (bytes : List ℕ) →
+        IsDelimiter delimiter → IsLineBody delimiter fields bytes → IsLineBody delimiter others bytes → fields ≡ others }
+{}
+
+/// A line body holds no line feed, so the first one behind it ends its line.
+pub fn line_body_holds_no_line_feed()
+    ensures { (delimiter : ℕ) (fields : List (Option (List ℕ))) (bytes : List ℕ) →
+        IsDelimiter delimiter → IsLineBody delimiter fields bytes → ¬ Contains bytes 10 }
 {}

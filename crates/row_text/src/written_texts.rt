@@ -1,8 +1,8 @@
 //! Texts as they are written, kept in one buffer with the place where each ends, not one allocation each.
 
 ghost use Rattle.std.specs.Prelude.{◌≡◌, ◌<◌, ◌==◌, [], ◌∷◌, ◌++◌, length, slice_get, take, vec_len, Some, OnOk, OnErr};
-ghost use Rattle.row_text.specs.Fields.{piece_text};
-ghost use Rattle.row_text.specs.WrittenTexts.{AreEnds, start_of, text_at};
+ghost use Rattle.row_text.specs.Fields.{escaped_text};
+ghost use Rattle.row_text.specs.WrittenTexts.{AreEnds, start_of, written_text_at};
 
 use crate::Memory;
 use crate::escapes::{has_escape, letter_of};
@@ -41,7 +41,7 @@ impl WrittenTexts {
     /// Puts a text behind the others, as it is written between fields with this delimiter. At `Memory` the texts stay as they
     /// were.
     pub fn push(&mut self, text: &[u8], delimiter: u8) -> Result<(), Memory>
-        ensures appended { OnOk result (self.new ≡ self.old ++ piece_text delimiter text.now ∷ []) }
+        ensures appended { OnOk result (self.new ≡ self.old ++ escaped_text delimiter text.now ∷ []) }
         ensures unchanged { OnErr result (self.new ≡ self.old) }
     {
         let start = self.bytes.len();
@@ -83,7 +83,7 @@ impl WrittenTexts {
 fn text_at<'a>(bytes: &'a [u8], ends: &[usize], i: usize) -> &'a [u8]
     requires ends { AreEnds bytes.now ends.now }
     requires place { i < length ends.now }
-    ensures { result.now ≡ text_at bytes.now ends.now i }
+    ensures { result.now ≡ written_text_at bytes.now ends.now i }
 {
     &bytes[start_of(ends, i)..ends[i]]
 }
@@ -99,7 +99,7 @@ fn start_of(ends: &[usize], i: usize) -> usize
 
 /// Appends a text as it is written. Where memory is wanting, the bytes that were there still come first.
 fn put_written(bytes: &mut Vec<u8>, text: &[u8], delimiter: u8) -> Result<(), AllocError>
-    ensures appended { OnOk result (bytes.new.items ≡ bytes.old.items ++ piece_text delimiter text.now) }
+    ensures appended { OnOk result (bytes.new.items ≡ bytes.old.items ++ escaped_text delimiter text.now) }
     ensures kept { OnErr result (take (vec_len bytes.old) bytes.new.items ≡ bytes.old.items) }
 {
     if has_escape(text, delimiter) {
@@ -111,7 +111,7 @@ fn put_written(bytes: &mut Vec<u8>, text: &[u8], delimiter: u8) -> Result<(), Al
 
 /// The same, byte by byte.
 fn put_escaped(bytes: &mut Vec<u8>, text: &[u8], delimiter: u8) -> Result<(), AllocError>
-    ensures appended { OnOk result (bytes.new.items ≡ bytes.old.items ++ piece_text delimiter text.now) }
+    ensures appended { OnOk result (bytes.new.items ≡ bytes.old.items ++ escaped_text delimiter text.now) }
     ensures kept { OnErr result (take (vec_len bytes.old) bytes.new.items ≡ bytes.old.items) }
 {
     for byte in text {

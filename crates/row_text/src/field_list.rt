@@ -1,0 +1,90 @@
+//! The fields of a line, kept in one buffer.
+
+ghost use Rattle.std.specs.Prelude.{◌≡◌, ◌<◌, ◌==◌, [], ◌∷◌, ◌++◌, length, slice_get, option_copied, None, Some, OnOk};
+
+use crate::Memory;
+use std::alloc::Global;
+use std::marker::Model;
+
+/// Where a field's text stands in the buffer.
+#[derive(Clone, Copy, Debug)]
+struct Span {
+    start: usize,
+    end: usize,
+}
+
+/// Fields, each null or the bytes of a text, one behind the other in one buffer. A contract sees their list.
+#[derive(Debug, Drop)]
+pub struct Fields {
+    bytes: Vec<u8>,
+    spans: Vec<Option<Span>>,
+}
+
+impl Model for Fields {
+    ghost use Rattle.std.specs.Prelude.{All, List, Option, ℕ};
+    ghost use Rattle.row_text.specs.FieldList.{fields_in, IsSpanWithin};
+
+    ghost Value = { List (Option (List ℕ)) };
+
+    ghost view = { λ f. fields_in f.bytes.items f.spans.items };
+
+    ghost invariant = { λ f. All (IsSpanWithin f.bytes.items) f.spans.items };
+}
+
+impl Fields {
+    /// No fields, which take no memory.
+    pub(crate) fn new(alloc: Global) -> Fields
+        ensures { result ≡ [] }
+    {
+        Fields {
+            bytes: Vec::new(alloc),
+            spans: Vec::new(alloc),
+        }
+    }
+
+    /// Puts a null field behind the others.
+    pub(crate) fn push_null(&mut self) -> Result<(), Memory>
+        ensures { OnOk result (self.new ≡ self.old ++ None ∷ []) }
+    {
+        self.spans.push(None)?;
+        Ok(())
+    }
+
+    /// Puts a field behind the others that is a text.
+    pub(crate) fn push_text(&mut self, text: &[u8]) -> Result<(), Memory>
+        ensures { OnOk result (self.new ≡ self.old ++ Some text.now ∷ []) }
+    {
+        let start = self.bytes.len();
+        self.bytes.extend_from_slice(text)?;
+        self.spans.push(Some(Span {
+            start,
+            end: self.bytes.len(),
+        }))?;
+        Ok(())
+    }
+
+    /// The number of fields.
+    pub fn len(&self) -> usize
+        ensures { result ≡ length self.now }
+    {
+        self.spans.len()
+    }
+
+    /// Whether there is no field.
+    pub fn is_empty(&self) -> bool
+        ensures { result ≡ (length self.now == 0) }
+    {
+        self.spans.is_empty()
+    }
+
+    /// The field at index `i`, which counts from 0: the bytes of its text, and None exactly where it is null.
+    pub fn get(&self, i: usize) -> Option<&[u8]>
+        requires { i < length self.now }
+        ensures { slice_get self.now i ≡ Some (option_copied result) }
+    {
+        match self.spans[i] {
+            None => None,
+            Some(span) => Some(&self.bytes[span.start..span.end]),
+        }
+    }
+}

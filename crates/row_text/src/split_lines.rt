@@ -1,0 +1,183 @@
+//! A line body read back: its fields, or where it goes wrong.
+
+ghost use Rattle.std.specs.Prelude.{◌≡◌, ◌≢◌, ℕ, [], ◌∷◌, ◌++◌, IfErr, IfNone, IfOk, IfSome};
+ghost use Rattle.std.specs.Bool.{OnFalse, OnTrue};
+ghost use Rattle.row_text.specs.Fields.{IsDelimiter, escaped};
+ghost use Rattle.row_text.specs.Lines.{BeginsLineBody, IsLineBody};
+ghost use Rattle.row_text.specs.declared.split_lines.Place.TheVariants.{Backslash, Null, Text};
+ghost use Rattle.row_text.specs.SplitLines.{IsSplitFault, read_so_far};
+
+use crate::Memory;
+use crate::escapes::letter_of;
+use crate::field_list::Fields;
+use std::alloc::Global;
+
+/// Why a line gives no fields.
+#[derive(Clone, Copy, Debug, PartialEq, Eq)]
+pub enum LineFault {
+    /// The bytes are no line body, and this many of them are the longest prefix that some line body begins with.
+    BadAt { at: usize },
+    /// Memory ran out.
+    Memory,
+}
+
+impl From<Memory> for LineFault {
+    ghost use Rattle.row_text.specs.declared.split_lines.LineFault.TheVariants.{Memory};
+
+    ghost from_gives = { λ _ fault. fault ≡ Memory };
+
+    fn from(_memory: Memory) -> LineFault {
+        LineFault::Memory
+    }
+}
+
+/// What stands before the next byte of a line.
+#[derive(Clone, Copy)]
+enum Place {
+    /// The text of the field, as far as it is read.
+    Text,
+    /// That text, and a backslash.
+    Backslash,
+    /// A null field.
+    Null,
+}
+
+/// A line as far as it is read: the fields that ended, and the one behind them.
+#[derive(Drop)]
+struct Reader {
+    fields: Fields,
+    text: Vec<u8>,
+    place: Place,
+}
+
+/// The fields of a line body, written with this delimiter. `BadAt` exactly where the bytes are no line body, unless memory
+/// ran out before that was found.
+pub fn split_line(alloc: Global, line: &[u8], delimiter: u8) -> Result<Fields, LineFault>
+    requires { IsDelimiter delimiter }
+    ensures read { IfOk result (λ fields. IsLineBody delimiter fields line.now) }
+    ensures bad { IfErr result (IsSplitFault delimiter line.now) }
+{
+    let mut reader = Reader {
+        fields: Fields::new(alloc),
+        text: Vec::new(alloc),
+        place: Place::Text,
+    };
+    for (at, byte) in line.iter().enumerate() {
+        if !read_byte(&mut reader, *byte, delimiter)? {
+            return Err(LineFault::BadAt { at });
+        }
+    }
+    finish(reader, line, delimiter)
+}
+
+/// Reads one byte more. False exactly where no line body goes on with it.
+fn read_byte(reader: &mut Reader, byte: u8, delimiter: u8) -> Result<bool, Memory>
+    requires { IsDelimiter delimiter }
+    ensures read { IfOk result (λ taken. OnTrue taken (read_so_far delimiter reader.new ≡ read_so_far delimiter reader.old ++ byte ∷ [])) }
+    ensures bad { IfOk result (λ taken. OnFalse taken (¬ BeginsLineBody delimiter (read_so_far delimiter reader.old ++ byte ∷ []))) }
+{
+    match reader.place {
+        Place::Text => read_in_text(reader, byte, delimiter),
+        Place::Backslash => read_letter(reader, byte, delimiter),
+        Place::Null => read_behind_null(reader, byte, delimiter),
+    }
+}
+
+/// The same behind a text.
+fn read_in_text(reader: &mut Reader, byte: u8, delimiter: u8) -> Result<bool, Memory>
+    requires delimiter { IsDelimiter delimiter }
+    requires place { reader.old.place ≡ Text }
+    ensures read { IfOk result (λ taken. OnTrue taken (read_so_far delimiter reader.new ≡ read_so_far delimiter reader.old ++ byte ∷ [])) }
+    ensures bad { IfOk result (λ taken. OnFalse taken (¬ BeginsLineBody delimiter (read_so_far delimiter reader.old ++ byte ∷ []))) }
+{
+    if byte == delimiter {
+        reader.fields.push_text(&reader.text)?;
+        reader.text.clear();
+    } else if byte == b'\\' {
+        reader.place = Place::Backslash;
+    } else if letter_of(byte, delimiter).is_some() {
+        return Ok(false);
+    } else {
+        reader.text.push(byte)?;
+    }
+    Ok(true)
+}
+
+/// The same behind a backslash.
+fn read_letter(reader: &mut Reader, letter: u8, delimiter: u8) -> Result<bool, Memory>
+    requires delimiter { IsDelimiter delimiter }
+    requires place { reader.old.place ≡ Backslash }
+    ensures read { IfOk result (λ taken. OnTrue taken (read_so_far delimiter reader.new ≡ read_so_far delimiter reader.old ++ letter ∷ [])) }
+    ensures bad { IfOk result (λ taken. OnFalse taken (¬ BeginsLineBody delimiter (read_so_far delimiter reader.old ++ letter ∷ []))) }
+{
+    if letter == b'N' && reader.text.is_empty() {
+        reader.place = Place::Null;
+        return Ok(true);
+    }
+    match byte_of(letter, delimiter) {
+        None => Ok(false),
+        Some(byte) => {
+            reader.text.push(byte)?;
+            reader.place = Place::Text;
+            Ok(true)
+        }
+    }
+}
+
+/// The same behind a null field.
+fn read_behind_null(reader: &mut Reader, byte: u8, delimiter: u8) -> Result<bool, Memory>
+    requires delimiter { IsDelimiter delimiter }
+    requires place { reader.old.place ≡ Null }
+    ensures read { IfOk result (λ taken. OnTrue taken (read_so_far delimiter reader.new ≡ read_so_far delimiter reader.old ++ byte ∷ [])) }
+    ensures bad { IfOk result (λ taken. OnFalse taken (¬ BeginsLineBody delimiter (read_so_far delimiter reader.old ++ byte ∷ []))) }
+{
+    if byte != delimiter {
+        return Ok(false);
+    }
+    reader.fields.push_null()?;
+    reader.text.clear();
+    reader.place = Place::Text;
+    Ok(true)
+}
+
+/// The byte that is written as a backslash and this letter; None where there is none.
+fn byte_of(letter: u8, delimiter: u8) -> Option<u8>
+    ensures some { IfSome result (λ byte. escaped delimiter byte ≡ 92 ∷ letter ∷ []) }
+    ensures none { IfNone result ((byte : ℕ) → escaped delimiter byte ≢ 92 ∷ letter ∷ []) }
+{
+    let byte = candidate(letter);
+    match letter_of(byte, delimiter) {
+        Some(its) if its == letter => Some(byte),
+        _ => None,
+    }
+}
+
+/// The only byte that may be written as a backslash and this letter.
+fn candidate(letter: u8) -> u8
+    ensures { (delimiter byte : ℕ) → escaped delimiter byte ≡ 92 ∷ letter ∷ [] → byte ≡ result }
+{
+    match letter {
+        b'b' => 8,
+        b't' => 9,
+        b'n' => 10,
+        b'v' => 11,
+        b'f' => 12,
+        b'r' => 13,
+        itself => itself,
+    }
+}
+
+/// The fields of a line that is read whole.
+fn finish(mut reader: Reader, line: &[u8], delimiter: u8) -> Result<Fields, LineFault>
+    requires delimiter { IsDelimiter delimiter }
+    requires whole { read_so_far delimiter reader ≡ line.now }
+    ensures read { IfOk result (λ fields. IsLineBody delimiter fields line.now) }
+    ensures bad { IfErr result (IsSplitFault delimiter line.now) }
+{
+    match reader.place {
+        Place::Text => reader.fields.push_text(&reader.text)?,
+        Place::Null => reader.fields.push_null()?,
+        Place::Backslash => return Err(LineFault::BadAt { at: line.len() }),
+    }
+    Ok(reader.fields)
+}
