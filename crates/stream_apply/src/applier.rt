@@ -1,0 +1,148 @@
+//! A table, and streams that are applied to it.
+
+ghost use Rattle.std.specs.Prelude.{◌≡◌, [], ◌∷◌, ◌++◌, IfErr, IfOk, OnOk, fold};
+ghost use Rattle.row_text.specs.Fields.{IsDelimiter};
+ghost use Rattle.stream_apply.specs.KeyedLines.{lines_text, put};
+ghost use Rattle.stream_apply.specs.Streams.{IsApplied, IsFaultOf, IsLoaded};
+ghost use Rattle.stream_apply.specs.declared.kind.Kind.TheVariants.{Deletes, Inserts, Snapshot, Updates};
+
+use crate::fault::ApplyFault;
+use crate::key_table::KeyTable;
+use crate::kind::Kind;
+use crate::stream::read_stream;
+use row_text::Memory;
+use std::alloc::{AllocError, Global};
+use std::marker::Model;
+
+/// A table, to which streams are applied one after the other. Its lines stay where they were read, and in the table's order.
+#[derive(Drop)]
+pub struct Applier<'a> {
+    alloc: Global,
+    delimiter: u8,
+    table: KeyTable<'a>,
+}
+
+impl<'a> Model for Applier<'a> {
+    ghost use Rattle.row_text.specs.Fields.{IsDelimiter};
+    ghost use Rattle.stream_apply.specs.Streams.{Table};
+
+    ghost Value = { Table };
+
+    ghost view = { λ a. record { delimiter = a.delimiter; lines = a.table } };
+
+    ghost invariant = { λ a. IsDelimiter a.delimiter };
+}
+
+impl<'a> Applier<'a> {
+    /// A table as its text holds it, with the delimiter, a tab (9) or a bar (124), that stands between two fields of it and of
+    /// the streams. Refused at the first line of the text that is at fault: a `BadLine` or a `DoubleKey`.
+    pub fn load(alloc: Global, snapshot: &'a [u8], delimiter: u8) -> Result<Applier<'a>, ApplyFault>
+        requires { IsDelimiter delimiter }
+        ensures loaded { IfOk result (IsLoaded snapshot.now delimiter) }
+        ensures fault { IfErr result (IsFaultOf delimiter Snapshot [] snapshot.now) }
+    {
+        let none = KeyTable::new(alloc);
+        let table = read_stream(alloc, Kind::Snapshot, &none, snapshot, delimiter)?;
+        Ok(Applier {
+            alloc,
+            delimiter,
+            table,
+        })
+    }
+
+    /// The table without the lines of which the bytes hold the keys, each alone in a line. Refused at the first line of the
+    /// bytes that is at fault.
+    pub fn delete(self, bytes: &[u8]) -> Result<Applier<'a>, ApplyFault>
+        ensures applied { IfOk result (IsApplied Deletes bytes.now self.entry) }
+        ensures fault { IfErr result (IsFaultOf self.entry.delimiter Deletes self.entry.lines bytes.now) }
+    {
+        let Applier {
+            alloc,
+            delimiter,
+            mut table,
+        } = self;
+        let keys = read_stream(alloc, Kind::Deletes, &table, bytes, delimiter)?;
+        table.drop_all(&keys);
+        Ok(Applier {
+            alloc,
+            delimiter,
+            table,
+        })
+    }
+
+    /// The table with the lines of the bytes in the places of those with their keys. Refused at the first line of the bytes
+    /// that is at fault.
+    pub fn update(self, bytes: &'a [u8]) -> Result<Applier<'a>, ApplyFault>
+        ensures applied { IfOk result (IsApplied Updates bytes.now self.entry) }
+        ensures fault { IfErr result (IsFaultOf self.entry.delimiter Updates self.entry.lines bytes.now) }
+    {
+        let Applier {
+            alloc,
+            delimiter,
+            mut table,
+        } = self;
+        let lines = read_stream(alloc, Kind::Updates, &table, bytes, delimiter)?;
+        put_all(&mut table, &lines)?;
+        Ok(Applier {
+            alloc,
+            delimiter,
+            table,
+        })
+    }
+
+    /// The table with the lines of the bytes behind its own. Refused at the first line of the bytes that is at fault.
+    pub fn insert(self, bytes: &'a [u8]) -> Result<Applier<'a>, ApplyFault>
+        ensures applied { IfOk result (IsApplied Inserts bytes.now self.entry) }
+        ensures fault { IfErr result (IsFaultOf self.entry.delimiter Inserts self.entry.lines bytes.now) }
+    {
+        let Applier {
+            alloc,
+            delimiter,
+            mut table,
+        } = self;
+        let lines = read_stream(alloc, Kind::Inserts, &table, bytes, delimiter)?;
+        put_all(&mut table, &lines)?;
+        Ok(Applier {
+            alloc,
+            delimiter,
+            table,
+        })
+    }
+
+    /// The text of the table: its lines in order, each with its line feed.
+    pub fn text(&self) -> Result<Vec<u8>, Memory>
+        ensures { IfOk result (λ text. text.items ≡ lines_text self.now.lines) }
+    {
+        Ok(text_of(self.alloc, &self.table)?)
+    }
+}
+
+/// The lines of a table in order, each with its line feed.
+fn text_of(alloc: Global, table: &KeyTable) -> Result<Vec<u8>, AllocError>
+    ensures { IfOk result (λ text. text.items ≡ lines_text table.now) }
+{
+    let mut text = Vec::new(alloc);
+    for index in 0..table.len() {
+        put_line(&mut text, table.text_at(index))?;
+    }
+    Ok(text)
+}
+
+/// Puts each line of others into a table, in the place of the one with its key or behind the others.
+fn put_all<'a>(table: &mut KeyTable<'a>, lines: &KeyTable<'a>) -> Result<(), Memory>
+    ensures { OnOk result (table.new ≡ fold put table.old lines.now) }
+{
+    for index in 0..lines.len() {
+        table.put(lines.key_at(index), lines.text_at(index))?;
+    }
+    Ok(())
+}
+
+/// Appends a line with its line feed.
+fn put_line(text: &mut Vec<u8>, line: &[u8]) -> Result<(), AllocError>
+    ensures { OnOk result (text.new.items ≡ text.old.items ++ (line.now ++ 10 ∷ [])) }
+{
+    text.extend_from_slice(line)?;
+    text.push(b'\n')?;
+    Ok(())
+}

@@ -1,0 +1,29 @@
+//! What bytes hold.
+
+ghost use Rattle.std.specs.Prelude.{◌≡◌};
+ghost use Rattle.stream_apply.specs.Streams as streams;
+
+/// What bytes hold: a table's own lines, or those of a stream for it.
+#[derive(Clone, Copy)]
+pub(crate) enum Kind {
+    Snapshot,
+    Deletes,
+    Updates,
+    Inserts,
+}
+
+impl Kind {
+    /// Whether each line is a key alone.
+    pub(crate) fn holds_keys_alone(self) -> bool
+        ensures { result ≡ streams.holds_keys_alone self }
+    {
+        matches!(self, Kind::Deletes)
+    }
+
+    /// Whether the table has to hold the key of each line; else it may hold none.
+    pub(crate) fn wants_held(self) -> bool
+        ensures { result ≡ streams.wants_held self }
+    {
+        matches!(self, Kind::Deletes | Kind::Updates)
+    }
+}

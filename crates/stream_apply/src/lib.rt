@@ -1,0 +1,15 @@
+//! A table's text, and what streams make of it: lines dropped, replaced in place and appended, each known by its key.
+//!
+//! A line is a line body of fields with a line feed behind, and its key is its first field. Lines are kept as parts of the
+//! bytes that they were read from.
+#![tactic(auto)]
+
+mod applier;
+mod fault;
+mod key_table;
+mod kind;
+pub mod laws;
+mod stream;
+
+pub use applier::Applier;
+pub use fault::ApplyFault;

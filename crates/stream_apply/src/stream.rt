@@ -1,0 +1,135 @@
+//! The lines of a stream, read in order up to the first fault.
+
+ghost use Rattle.std.specs.Prelude.{◌≡◌, ◌≤◌, ◌<◌, ℕ, ◌+◌, List, [], ◌∷◌, ◌++◌, false, length, take, Contains, IfErr, IfOk, MatchOption, OnOk, Option, Some};
+ghost use Rattle.row_text.specs.Fields.{IsDelimiter, escaped_text};
+ghost use Rattle.stream_apply.specs.KeyedLines.{has_key, keyed};
+ghost use Rattle.stream_apply.specs.Streams.{IsFaultOf, IsFields, IsKeyFault, IsKeyedLine, IsStream, StartsNone, wants_held};
+
+use crate::fault::ApplyFault;
+use crate::key_table::KeyTable;
+use crate::kind::Kind;
+use row_text::{Fields, LineFault, Memory, field_size, next_line, split_line};
+use std::alloc::Global;
+
+/// A line at the start of bytes, and what is behind its line feed.
+#[derive(Clone, Copy)]
+struct ReadLine<'a> {
+    key: &'a [u8],
+    text: &'a [u8],
+    rest: &'a [u8],
+}
+
+/// The lines of a stream for a table, by their keys.
+pub(crate) fn read_stream<'a>(
+    alloc: Global,
+    kind: Kind,
+    table: &KeyTable,
+    bytes: &'a [u8],
+    delimiter: u8,
+) -> Result<KeyTable<'a>, ApplyFault>
+    requires { IsDelimiter delimiter }
+    ensures read { IfOk result (λ lines. IsStream delimiter kind table.now bytes.now lines) }
+    ensures fault { IfErr result (IsFaultOf delimiter kind table.now bytes.now) }
+{
+    let mut lines = KeyTable::new(alloc);
+    let mut rest = bytes;
+    while !rest.is_empty() {
+        let number = lines.len() as u64 + 1;
+        match read_line(alloc, kind, rest, delimiter)? {
+            None => return Err(ApplyFault::BadLine { line: number }),
+            Some(line) => {
+                check_key(kind, table, &lines, line.key, number)?;
+                lines.put(line.key, line.text)?;
+                rest = line.rest;
+            }
+        }
+    }
+    Ok(lines)
+}
+
+/// Checks the key of a line against the lines before it and the table.
+fn check_key(
+    kind: Kind,
+    table: &KeyTable,
+    before: &KeyTable,
+    key: &[u8],
+    number: u64,
+) -> Result<(), ApplyFault>
+    ensures free { OnOk result (has_key before.now key.now ≡ false) }
+    ensures held { OnOk result (has_key table.now key.now ≡ wants_held kind) }
+    ensures fault { IfErr result (IsKeyFault kind table.now before.now key.now number) }
+{
+    if before.has(key) {
+        return Err(ApplyFault::DoubleKey { line: number });
+    }
+    match (kind.wants_held(), table.has(key)) {
+        (true, false) => Err(ApplyFault::NoSuchKey { line: number }),
+        (false, true) => Err(ApplyFault::KeyExists { line: number }),
+        _ => Ok(()),
+    }
+}
+
+/// The line that bytes start with; None where they start with none of this kind.
+fn read_line<'a>(
+    alloc: Global,
+    kind: Kind,
+    bytes: &'a [u8],
+    delimiter: u8,
+) -> Result<Option<ReadLine<'a>>, Memory>
+    requires { IsDelimiter delimiter }
+    ensures { IfOk result (λ read. MatchOption read
+        (StartsNone delimiter kind bytes.now)
+        (λ line. IsKeyedLine delimiter kind (keyed line.key.now line.text.now) × (bytes.now ≡ line.text.now ++ 10 ∷ line.rest.now))) }
+{
+    let Some((text, rest)) = cut_line(bytes) else {
+        return Ok(None);
+    };
+    match key_size(alloc, kind, text, delimiter)? {
+        None => Ok(None),
+        Some(size) => Ok(Some(ReadLine {
+            key: &text[..size],
+            text,
+            rest,
+        })),
+    }
+}
+
+/// What stands before the first line feed, and what behind it; None where there is none.
+fn cut_line(bytes: &[u8]) -> Option<(&[u8], &[u8])>
+    ensures { MatchOption result
+        (¬ Contains bytes.now 10)
+        (λ parts. (bytes.now ≡ parts.0.now ++ 10 ∷ parts.1.now) × ¬ Contains parts.0.now 10) }
+{
+    let line = next_line(bytes, 0)?;
+    Some((&bytes[..line.end], &bytes[line.end + 1..]))
+}
+
+/// How many bytes of a line are its key; None where it is no line of this kind.
+fn key_size(alloc: Global, kind: Kind, text: &[u8], delimiter: u8) -> Result<Option<usize>, Memory>
+    requires { IsDelimiter delimiter }
+    ensures { IfOk result (λ size. MatchOption size
+        ((key : List ℕ) → ¬ IsKeyedLine delimiter kind (keyed key text.now))
+        (λ s. (s ≤ length text.now) × IsKeyedLine delimiter kind (keyed (take s text.now) text.now))) }
+{
+    match split_line(alloc, text, delimiter) {
+        Ok(fields) => Ok(first_size(kind, &fields, delimiter)),
+        Err(LineFault::BadAt { .. }) => Ok(None),
+        Err(LineFault::Memory) => Err(Memory),
+    }
+}
+
+/// How many bytes the first field is written as; None where the fields are those of no line of this kind.
+fn first_size(kind: Kind, fields: &Fields, delimiter: u8) -> Option<usize>
+    requires { 0 < length fields.now }
+    ensures { MatchOption result
+        ((first : List ℕ) (others : List (Option (List ℕ))) → ¬ IsFields kind fields.now first others)
+        (λ size. (first : List ℕ) × (others : List (Option (List ℕ))) × IsFields kind fields.now first others × (size ≡ length (escaped_text delimiter first))) }
+{
+    if kind.holds_keys_alone() && fields.len() > 1 {
+        return None;
+    }
+    match fields.get(0) {
+        None => None,
+        Some(first) => Some(field_size(Some(first), delimiter)),
+    }
+}
