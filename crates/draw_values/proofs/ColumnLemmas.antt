@@ -6,7 +6,7 @@ use Rattle.std.proofs.lemmas.List.{get_or-map, length-map}
 use Rattle.std.proofs.lemmas.List.Elements.{All-head, All-map, All-tail}
 use Rattle.weight_tables.proofs.PrefixSumLemmas.{sum-cons}
 use Rattle.weight_tables.proofs.SelectionLemmas.{Selects-selected}
-use Rattle.row_text.specs.Fields.{piece_text}
+use Rattle.row_text.specs.Fields.{escaped_text}
 use Rattle.schema_plan.specs.declared.ready.ReadyColumn.{ReadyColumn}
 use Rattle.schema_plan.specs.declared.ready.ReadyLeaf.{ReadyLeaf}
 use Rattle.schema_plan.specs.FieldBounds.{bounds_of, leaf_size}
@@ -16,8 +16,8 @@ use Rattle.schema_plan.specs.Ready.{ready_column, ready_columns, ready_kind, rea
 use Rattle.draw_values.specs.declared.values.RowAt.{RowAt}
 use Rattle.draw_values.specs.ReadyValues.{IsReady, IsReadyKind, chooser_of, ready_branch, ready_entry, ready_field, ready_held_entry, ready_kind_size, ready_size, ready_text, ready_value}
 use Rattle.draw_values.specs.Values.{Draws, RowDraws, branch_at, chosen_group, entry_of, held_entry, is_null, is_own, leaf_value, own_field, own_value, unless_null}
-use Rattle.draw_values.specs.WrittenUnits.{units_at}
-use Rattle.draw_values.proofs.PlainLemmas.{piece_text-plain, plain-decimal}
+use Rattle.draw_values.proofs.RowUnits.{units_at}
+use Rattle.draw_values.proofs.PlainLemmas.{escaped_text-plain, plain-decimal}
 use Rattle.draw_values.proofs.ReadyLemmas.{leaf_is_ready, leaf_size-ready, leaf_value-written}
 
 pub length-ready_columns : (layout : Layout) (table : ℕ) → length (ready_columns layout table) ≡ length (table_at layout.tables table).columns
@@ -37,7 +37,7 @@ ready_column-at delimiter columns kept place found kept_is within at =
 -- ---- branches
 
 branch_written : (delimiter : ℕ) (branches : List LeafLayout) (draw : Draws) (entry : Option ℕ) → All IsLeafInLimits branches → IfSome entry (λ place. place < length branches) →
-    option_map (piece_text delimiter) (option_and_then (λ place. leaf_value (branch_at branches place) draw) entry)
+    option_map (escaped_text delimiter) (option_and_then (λ place. leaf_value (branch_at branches place) draw) entry)
     ≡ option_map (λ place. ready_text (ready_branch (map (ready_leaf delimiter) branches) place) draw) entry
 branch_written delimiter branches draw None limits within = refl
 branch_written delimiter branches draw (Some place) limits within =
@@ -173,10 +173,10 @@ ready_value_at delimiter columns at draws place kind =
 
 own_value-written : (delimiter : ℕ) (columns : List ColumnLayout) (at : RowAt) (draws : RowDraws) (place : ℕ) (kind : KindLayout) → IsOwn delimiter columns place kind →
     IsAllInLimits columns → place < length columns →
-    option_map (piece_text delimiter) (own_value columns at draws place kind) ≡ ready_value_at delimiter columns at draws place kind
+    option_map (escaped_text delimiter) (own_value columns at draws place kind) ≡ ready_value_at delimiter columns at draws place kind
 own_value-written delimiter columns at draws place key_kind of all within = absurd (let own = of.own in cc)
-own_value-written delimiter columns at draws place born_kind of all within = ap Some (piece_text-plain delimiter (decimal at.born) (plain-decimal at.born))
-own_value-written delimiter columns at draws place changed_kind of all within = ap Some (piece_text-plain delimiter (decimal at.changed) (plain-decimal at.changed))
+own_value-written delimiter columns at draws place born_kind of all within = ap Some (escaped_text-plain delimiter (decimal at.born) (plain-decimal at.born))
+own_value-written delimiter columns at draws place changed_kind of all within = ap Some (escaped_text-plain delimiter (decimal at.changed) (plain-decimal at.changed))
 own_value-written delimiter columns at draws place (leaf_kind leaf) of all within = leaf_value-written delimiter leaf (draws place) of.limits
 own_value-written delimiter columns at draws place (template_kind parts) of all within = absurd (let own = of.own in cc)
 own_value-written delimiter columns at draws place (case_kind on branches) of all within =
@@ -193,10 +193,10 @@ option_map-if f false held = refl
 
 pub own_field-written : (delimiter : ℕ) (columns : List ColumnLayout) (at : RowAt) (draws : RowDraws) (place chooser : ℕ) → IsOwn delimiter columns place (column_at columns place).kind →
     IsAllInLimits columns → place < length columns → chooser ≡ chooser_of place (ready_kind delimiter (column_at columns place).kind) →
-    option_map (piece_text delimiter) (own_field columns at draws place)
+    option_map (escaped_text delimiter) (own_field columns at draws place)
     ≡ ready_field (units_at at) (ready_column delimiter (column_at columns chooser)) (draws chooser) (ready_column delimiter (column_at columns place)) (draws place)
 own_field-written delimiter columns at draws place chooser of all within chosen =
     let column : ColumnLayout = column_at columns place in
-    option_map-if (piece_text delimiter) (is_null column.null (draws place)) (own_value columns at draws place column.kind)
+    option_map-if (escaped_text delimiter) (is_null column.null (draws place)) (own_value columns at draws place column.kind)
     ∙ ap (unless_null column.null (draws place)) (own_value-written delimiter columns at draws place column.kind of all within)
     ∙ ap (λ (by : ℕ). ready_field (units_at at) (ready_column delimiter (column_at columns by)) (draws by) (ready_column delimiter column) (draws place)) (sym chosen)

@@ -1,7 +1,7 @@
 -- What a row holds in a column of units or of drawn values, as it is written, by what a plan keeps of the columns.
 use Rattle.std.proofs.Common.{◌≡◌, ◌<◌, ◌≤◌, ℕ, true, max, List, [], length, get_or, option_map, Option, None, Some, ap, sym, ◌∙◌, subst, arith}
 use Rattle.std.specs.Prelude.{unwrap_or}
-use Rattle.row_text.specs.Fields.{field_text, piece_text}
+use Rattle.row_text.specs.Fields.{field_text, escaped_text}
 use Rattle.schema_plan.specs.declared.ready.ReadyColumn.{ReadyColumn}
 use Rattle.schema_plan.specs.declared.ready.ReadyKind.{ReadyKind}
 use Rattle.schema_plan.specs.Layout.{ColumnLayout, Layout, column_at, table_at}
@@ -10,20 +10,21 @@ use Rattle.schema_plan.specs.Ready.{ready_column, ready_columns, ready_kind}
 use Rattle.draw_values.specs.declared.values.RowAt.{RowAt}
 use Rattle.draw_values.specs.ReadyValues.{IsReadyKind, chooser_of, ready_field, ready_kind_size}
 use Rattle.draw_values.specs.Values.{Draws, draws_at, is_own, put_of, size_at, value_at, written}
-use Rattle.draw_values.specs.WrittenUnits.{WrittenUnits, units_at}
+use Rattle.draw_values.specs.WrittenUnits.{WrittenUnits}
+use Rattle.draw_values.proofs.RowUnits.{units_at}
 use Rattle.draw_values.proofs.ColumnLemmas.{IsAllInLimits, IsOwn, bounds_of-ready, chooser_of-within, kind_is_ready, length-ready_columns, own_field-written, ready_column-at}
 
 -- ---- a value that is known as it is written
 
-pub put_of-written : (delimiter : ℕ) (value held : Option (List ℕ)) → option_map (piece_text delimiter) value ≡ held → put_of held ≡ put_of value
+pub put_of-written : (delimiter : ℕ) (value held : Option (List ℕ)) → option_map (escaped_text delimiter) value ≡ held → put_of held ≡ put_of value
 put_of-written delimiter None held is = ap put_of (sym is)
 put_of-written delimiter (Some text) held is = ap put_of (sym is)
 
-pub unwrap_or-written : (delimiter : ℕ) (value held : Option (List ℕ)) → option_map (piece_text delimiter) value ≡ held → unwrap_or held [] ≡ written delimiter value
+pub unwrap_or-written : (delimiter : ℕ) (value held : Option (List ℕ)) → option_map (escaped_text delimiter) value ≡ held → unwrap_or held [] ≡ written delimiter value
 unwrap_or-written delimiter None held is = ap (λ (text : Option (List ℕ)). unwrap_or text []) (sym is)
 unwrap_or-written delimiter (Some text) held is = ap (λ (text : Option (List ℕ)). unwrap_or text []) (sym is)
 
-pub length-field_text : (delimiter size : ℕ) (value held : Option (List ℕ)) → option_map (piece_text delimiter) value ≡ held → length (unwrap_or held []) ≤ size → length (field_text delimiter value) ≤ max 2 size
+pub length-field_text : (delimiter size : ℕ) (value held : Option (List ℕ)) → option_map (escaped_text delimiter) value ≡ held → length (unwrap_or held []) ≤ size → length (field_text delimiter value) ≤ max 2 size
 length-field_text delimiter size None held is fits = omega arith
 length-field_text delimiter size (Some text) held is fits = omega (arith, ap (λ (text : Option (List ℕ)). length (unwrap_or text [])) is, fits)
 
@@ -80,7 +81,7 @@ size_at-kept layout table place by column chooser kept =
 
 pub value_at-kept : (layout : Layout) (table place by : ℕ) (column chooser : ReadyColumn) → IsKeptField layout table place by column chooser →
     (at : RowAt) (units : WrittenUnits) (draws chooser_draws : Draws) → units ≡ units_at at → draws ≡ draws_at layout table at place → chooser_draws ≡ draws_at layout table at by →
-    option_map (piece_text layout.delimiter) (value_at layout table place at) ≡ ready_field units chooser chooser_draws column draws
+    option_map (escaped_text layout.delimiter) (value_at layout table place at) ≡ ready_field units chooser chooser_draws column draws
 value_at-kept layout table place by column chooser kept at units draws chooser_draws units_are draws_are chooser_draws_are =
     let columns : List ColumnLayout = (table_at layout.tables table).columns in
     own_field-written layout.delimiter columns at (draws_at layout table at) place by kept.own kept.limits kept.within kept.by_is

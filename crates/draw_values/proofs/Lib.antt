@@ -1,4 +1,5 @@
 pub mod DigitLemmas
+pub mod RowUnits
 pub mod WalkLemmas
 pub mod DateLemmas
 pub mod SizeLemmas

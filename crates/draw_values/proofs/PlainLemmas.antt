@@ -7,7 +7,7 @@ use Rattle.std.specs.List.{flat_map}
 use Rattle.std.proofs.lemmas.Bool.{and_left, lt-ltb, ne_eqb}
 use Rattle.std.proofs.lemmas.List.Concat.{flat_map-cons}
 use Rattle.std.proofs.lemmas.List.Elements.{All-append, All-cons, All-head, All-nil, All-tail}
-use Rattle.row_text.specs.Fields.{escaped, piece_text}
+use Rattle.row_text.specs.Fields.{escaped, escaped_text}
 use Rattle.draw_values.specs.Dates.{date_digits, date_text}
 use Rattle.line_pages.specs.Digits.{last_digits}
 use Rattle.draw_values.specs.Digits.{pointed, signed_pointed}
@@ -31,12 +31,12 @@ escaped-plain delimiter byte plain =
     )
 
 -- a text of such bytes is written as it is
-pub piece_text-plain : (delimiter : ℕ) (bytes : List ℕ) → All IsPlain bytes → piece_text delimiter bytes ≡ bytes
-piece_text-plain delimiter [] plain = refl
-piece_text-plain delimiter (byte ∷ bytes) plain =
+pub escaped_text-plain : (delimiter : ℕ) (bytes : List ℕ) → All IsPlain bytes → escaped_text delimiter bytes ≡ bytes
+escaped_text-plain delimiter [] plain = refl
+escaped_text-plain delimiter (byte ∷ bytes) plain =
     flat_map-cons (escaped delimiter) byte bytes
     ∙ ap (λ (own : List ℕ). own ++ flat_map (escaped delimiter) bytes) (escaped-plain delimiter byte (All-head IsPlain byte bytes plain))
-    ∙ ap (λ (rest : List ℕ). byte ∷ rest) (piece_text-plain delimiter bytes (All-tail IsPlain byte bytes plain))
+    ∙ ap (λ (rest : List ℕ). byte ∷ rest) (escaped_text-plain delimiter bytes (All-tail IsPlain byte bytes plain))
 
 plain_digit : (n : ℕ) → IsPlain (48 + n % 10)
 plain_digit n = (omega arith, omega arith)

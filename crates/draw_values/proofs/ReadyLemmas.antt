@@ -7,7 +7,7 @@ use Rattle.std.proofs.lemmas.List.Folds.{fold-map}
 use Rattle.std.proofs.Math.ListN.{get_or-map}
 use Rattle.weight_tables.specs.Harmonic.{harmonic_weights}
 use Rattle.weight_tables.proofs.HarmonicLemmas.{length-harmonic_weights}
-use Rattle.row_text.specs.Fields.{piece_text}
+use Rattle.row_text.specs.Fields.{escaped_text}
 use Rattle.schema_plan.specs.FieldBounds.{entry_size, greatest_by, joined_size, leaf_size, written_size}
 use Rattle.schema_plan.specs.Layout.{LeafLayout, int_leaf, fixed_leaf, date_leaf, pick_leaf, skew_leaf, dict_leaf, words_leaf, chars_leaf}
 use Rattle.schema_plan.specs.Limits.{IsLeafInLimits}
@@ -16,39 +16,39 @@ use Rattle.draw_values.specs.Dates.{date_text}
 use Rattle.draw_values.specs.Digits.{signed_pointed}
 use Rattle.draw_values.specs.ReadyValues.{IsReady, ready_size, ready_text}
 use Rattle.draw_values.specs.Values.{Draws, chosen, chosen_group, leaf_value}
-use Rattle.draw_values.proofs.CharacterLemmas.{piece_text-drawn_characters, piece_text-drawn_words}
-use Rattle.draw_values.proofs.PlainLemmas.{piece_text-plain, plain-date_text, plain-signed_decimal, plain-signed_pointed}
+use Rattle.draw_values.proofs.CharacterLemmas.{escaped_text-drawn_characters, escaped_text-drawn_words}
+use Rattle.draw_values.proofs.PlainLemmas.{escaped_text-plain, plain-date_text, plain-signed_decimal, plain-signed_pointed}
 
 -- the drawn value
 pub leaf_value-written : (delimiter : ℕ) (layout : LeafLayout) (draw : Draws) → IsLeafInLimits layout →
-    option_map (piece_text delimiter) (leaf_value layout draw) ≡ Some (ready_text (ready_leaf delimiter layout) draw)
+    option_map (escaped_text delimiter) (leaf_value layout draw) ≡ Some (ready_text (ready_leaf delimiter layout) draw)
 leaf_value-written delimiter (int_leaf lo hi step) draw limits =
     let number : ℤ = chosen lo hi step (draw 1) in
-    ap Some (piece_text-plain delimiter (signed_decimal number) (plain-signed_decimal number))
+    ap Some (escaped_text-plain delimiter (signed_decimal number) (plain-signed_decimal number))
 leaf_value-written delimiter (fixed_leaf lo hi decimals) draw limits =
     let number : ℤ = chosen lo hi 1 (draw 1) in
-    ap Some (piece_text-plain delimiter (signed_pointed decimals number) (plain-signed_pointed decimals number))
+    ap Some (escaped_text-plain delimiter (signed_pointed decimals number) (plain-signed_pointed decimals number))
 leaf_value-written delimiter (date_leaf lo hi) draw limits =
     let day : ℤ = chosen lo hi 1 (draw 1) in
-    ap Some (piece_text-plain delimiter (date_text day) (plain-date_text day))
+    ap Some (escaped_text-plain delimiter (date_text day) (plain-date_text day))
 leaf_value-written delimiter (pick_leaf entries weights) draw limits =
-    ap Some (sym (get_or-map (piece_text delimiter) entries (chosen_group weights (draw 1)) []))
+    ap Some (sym (get_or-map (escaped_text delimiter) entries (chosen_group weights (draw 1)) []))
 leaf_value-written delimiter (skew_leaf lo size power) draw limits =
     let number : ℤ = lo +ℤ pos (chosen_group (harmonic_weights size power) (draw 1)) in
-    ap Some (piece_text-plain delimiter (signed_decimal number) (plain-signed_decimal number))
+    ap Some (escaped_text-plain delimiter (signed_decimal number) (plain-signed_decimal number))
 leaf_value-written delimiter (dict_leaf words) draw limits =
-    ap Some (sym (get_or-map (piece_text delimiter) words.entries (chosen_group words.weights (draw 1)) []))
+    ap Some (sym (get_or-map (escaped_text delimiter) words.entries (chosen_group words.weights (draw 1)) []))
 leaf_value-written delimiter (words_leaf words lo hi) draw limits =
-    ap Some (piece_text-drawn_words delimiter words draw (lo + draw 1 % (hi - lo + 1)))
+    ap Some (escaped_text-drawn_words delimiter words draw (lo + draw 1 % (hi - lo + 1)))
 leaf_value-written delimiter (chars_leaf alphabet lo hi) draw limits =
-    ap Some (piece_text-drawn_characters delimiter (chars alphabet) draw (lo + draw 1 % (hi - lo + 1)) limits.0.some_character)
+    ap Some (escaped_text-drawn_characters delimiter (chars alphabet) draw (lo + draw 1 % (hi - lo + 1)) limits.0.some_character)
 
 -- its limits
 pub leaf_is_ready : (delimiter : ℕ) (layout : LeafLayout) → IsLeafInLimits layout → IsReady (ready_leaf delimiter layout)
 leaf_is_ready delimiter (int_leaf lo hi step) limits = (limits.0, limits.1, refl)
 leaf_is_ready delimiter (fixed_leaf lo hi decimals) limits = (limits.0, refl, limits.1, refl)
 leaf_is_ready delimiter (date_leaf lo hi) limits = (limits, refl)
-leaf_is_ready delimiter (pick_leaf entries weights) limits = (limits.one_each ∙ sym (length-map entries (piece_text delimiter)), refl)
+leaf_is_ready delimiter (pick_leaf entries weights) limits = (limits.one_each ∙ sym (length-map entries (escaped_text delimiter)), refl)
 leaf_is_ready delimiter (skew_leaf lo size power) limits =
     let many = length-harmonic_weights size power in (
       omega (arith, many, limits.size_limit),
@@ -59,7 +59,7 @@ leaf_is_ready delimiter (dict_leaf words) limits = tt
 leaf_is_ready delimiter (words_leaf words lo hi) limits = omega (arith, limits.1.ordered, limits.1.length_limit)
 leaf_is_ready delimiter (chars_leaf alphabet lo hi) limits = (
   omega (arith, limits.1.ordered, limits.1.length_limit),
-  sym (length-map (chars alphabet) (λ c. piece_text delimiter (encode_utf8 c))),
+  sym (length-map (chars alphabet) (λ c. escaped_text delimiter (encode_utf8 c))),
 )
 
 -- and its greatest size
@@ -68,17 +68,17 @@ leaf_size-ready delimiter (int_leaf lo hi step) limits = refl
 leaf_size-ready delimiter (fixed_leaf lo hi decimals) limits = refl
 leaf_size-ready delimiter (date_leaf lo hi) limits = refl
 leaf_size-ready delimiter (pick_leaf entries weights) limits =
-    sym (fold-map (λ (most : ℕ) (text : List ℕ). max most (length text)) (piece_text delimiter) 0 entries)
+    sym (fold-map (λ (most : ℕ) (text : List ℕ). max most (length text)) (escaped_text delimiter) 0 entries)
 leaf_size-ready delimiter (skew_leaf lo size power) limits = refl
 leaf_size-ready delimiter (dict_leaf words) limits =
-    sym (fold-map (λ (most : ℕ) (text : List ℕ). max most (length text)) (piece_text delimiter) 0 words.entries)
+    sym (fold-map (λ (most : ℕ) (text : List ℕ). max most (length text)) (escaped_text delimiter) 0 words.entries)
 leaf_size-ready delimiter (words_leaf words lo hi) limits =
     let most : hi ≡ lo + (hi - lo + 1) - 1 = omega (arith, limits.1.ordered) in
     ap (λ (number : ℕ). joined_size number (entry_size delimiter words)) most
     ∙ ap (joined_size (lo + (hi - lo + 1) - 1))
-    (sym (fold-map (λ (most : ℕ) (text : List ℕ). max most (length text)) (piece_text delimiter) 0 words.entries))
+    (sym (fold-map (λ (most : ℕ) (text : List ℕ). max most (length text)) (escaped_text delimiter) 0 words.entries))
 leaf_size-ready delimiter (chars_leaf alphabet lo hi) limits =
     let most : hi ≡ lo + (hi - lo + 1) - 1 = omega (arith, limits.1.ordered) in
     ap (λ (number : ℕ). number * greatest_by (λ c. written_size delimiter (encode_utf8 c)) (chars alphabet)) most
     ∙ ap (λ (greatest : ℕ). (lo + (hi - lo + 1) - 1) * greatest)
-    (sym (fold-map (λ (most : ℕ) (text : List ℕ). max most (length text)) (λ c. piece_text delimiter (encode_utf8 c)) 0 (chars alphabet)))
+    (sym (fold-map (λ (most : ℕ) (text : List ℕ). max most (length text)) (λ c. escaped_text delimiter (encode_utf8 c)) 0 (chars alphabet)))

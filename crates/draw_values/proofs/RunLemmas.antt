@@ -9,7 +9,7 @@ use Rattle.philox_seeds.specs.SeedTree.{column_seed, draw, table_seed}
 use Rattle.line_pages.specs.declared.piece.Piece.{Piece}
 use Rattle.line_pages.specs.Pieces.{piece_text}
 use Rattle.line_pages.proofs.LowBytes.{length-low_bytes}
-use Rattle.row_text.specs.Fields.{field_text, piece_text as written_text}
+use Rattle.row_text.specs.Fields.{field_text, escaped_text as written_text}
 use Rattle.schema_plan.specs.declared.ready.ReadyColumn.{ReadyColumn}
 use Rattle.schema_plan.specs.declared.ready.ReadyKind.{ReadyKind}
 use Rattle.schema_plan.specs.declared.ready.ReadyKind.TheVariants as kind
@@ -22,9 +22,9 @@ use Rattle.schema_plan.specs.Ready.{ready_columns, ready_kind}
 use Rattle.draw_values.specs.declared.runs.RunRows.{RunRows}
 use Rattle.draw_values.specs.Dates.{date_text}
 use Rattle.draw_values.specs.ReadyValues.{chooser_of, ready_held_entry, ready_kind_size, ready_size, ready_text, ready_value}
-use Rattle.draw_values.specs.Runs.{IsReadyDrawn, IsRunColumn, RunColumnOf, is_null_in, is_short, is_short_leaf, leaf_texts, or_null, ready_at, run_row, run_seed, run_text, short_value, text_by, with_behind}
+use Rattle.draw_values.specs.Runs.{IsReadyDrawn, IsRunColumn, RunColumnOf, is_null_in, is_short, is_short_leaf, leaf_texts, or_null, ready_at, run_row, run_seed, run_field, short_value, text_by, with_behind}
 use Rattle.draw_values.specs.Values.{Draws, chosen, chosen_group, draws_at, is_null, is_own, size_at, unless_null, value_at}
-use Rattle.draw_values.specs.WrittenUnits.{units_at}
+use Rattle.draw_values.proofs.RowUnits.{units_at}
 use Rattle.draw_values.proofs.ColumnLemmas.{length-decimal-unit, ready_column-at}
 use Rattle.draw_values.proofs.DateLemmas.{length-date_digits}
 use Rattle.draw_values.proofs.FieldLemmas.{IsKeptField, kept_field, length-field_text, size_at-kept, value_at-kept}
@@ -114,12 +114,12 @@ kept_short plan run kept column units of kept_is limits at is short =
     kept_field (layout_of plan) run.table run.column run.column units kept column column kept_is limits of.column_within own at (short_chooser run.column column.kind short) at
 
 -- the texts that a run is filled with
-pub run_text-filled : (plan : Project) (run : RunColumnOf) (column : ReadyColumn) (rows : RunRows) (i : ℕ) (before after : List ℕ) → IsRunColumn plan run →
+pub run_field-filled : (plan : Project) (run : RunColumnOf) (column : ReadyColumn) (rows : RunRows) (i : ℕ) (before after : List ℕ) → IsRunColumn plan run →
     IsKeptField (layout_of plan) run.table run.column run.column column column → column ≡ ready_at plan run.table run.column → is_short column.kind ≡ true →
     before ≡ with_behind run.behind (short_value run.seed column.changes column.kind rows i) →
     after ≡ (if is_null column.null (draw (run_seed run.seed column.changes rows i)) then with_behind run.behind (codes "\\N") else before) →
-    after ≡ run_text plan run rows i
-run_text-filled plan run column rows i before after of kept is short before_is after_is =
+    after ≡ run_field plan run rows i
+run_field-filled plan run column rows i before after of kept is short before_is after_is =
     let draws : Draws = draw (run_seed run.seed column.changes rows i) in
     let drawn = run_draws plan run column rows i of is in
     let entry : Option ℕ = ready_held_entry column draws in

@@ -20,8 +20,8 @@ pub record ValuesOf : Type 0 where
   pub changed : ℕ
 
 -- the layout of the table
-abbrev pub layout_for : ValuesOf → TableLayout
-layout_for values = table_at (layout_of values.plan).tables values.table
+abbrev pub table_for : ValuesOf → TableLayout
+table_for values = table_at (layout_of values.plan).tables values.table
 
 -- the row with an ordinal
 abbrev pub row_for : ValuesOf → ℕ → RowAt
@@ -34,12 +34,12 @@ value_for values column ordinal = value_at (layout_of values.plan) values.table 
 -- whether its field in the column at a place is drawn to be null
 abbrev pub is_null_for : ValuesOf → ℕ → ℕ → Bool
 is_null_for values column ordinal =
-    is_null (column_at (layout_for values).columns column).null
+    is_null (column_at (table_for values).columns column).null
     (draws_at (layout_of values.plan) values.table (row_for values ordinal) column)
 
 -- what a field of the column at a place takes at most, in bytes
-abbrev pub size_for : ValuesOf → ℕ → ℕ
-size_for values column = size_at (layout_of values.plan) values.table column
+abbrev pub value_size_for : ValuesOf → ℕ → ℕ
+value_size_for values column = size_at (layout_of values.plan) values.table column
 
 -- what the seeds of the columns are taken from: the draws at the two units, or the prepared columns of the table
 abbrev pub AreSeedsOf : ValuesOf → Seeds → Type 0
@@ -50,7 +50,7 @@ AreSeedsOf values (seeds.Columns columns) = AreColumnsOf values.plan values.tabl
 -- what is kept is of the table's columns, at units of the plan
 pub record AreValuesOf (values : ValuesOf) (ready : List ReadyColumn) (taken : Seeds) : Type 0 where
   pub columns : ready ≡ ready_columns (layout_of values.plan) values.table
-  pub limits : IsTableInLimits (layout_of values.plan).units (layout_for values)
+  pub limits : IsTableInLimits (layout_of values.plan).units (table_for values)
   pub born_limit : values.born ≤ 10000
   pub changed_limit : values.changed ≤ 10000
   pub seeds_are : AreSeedsOf values taken

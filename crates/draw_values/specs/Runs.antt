@@ -139,8 +139,8 @@ IsReadyDrawn (kind.Drawn drawn) = IsReady drawn
 IsReadyDrawn _ = ⊤
 
 -- what is written for the row at a place of a run, with the byte behind it
-abbrev pub run_text : Project → RunColumnOf → RunRows → ℕ → List ℕ
-run_text plan run rows i =
+abbrev pub run_field : Project → RunColumnOf → RunRows → ℕ → List ℕ
+run_field plan run rows i =
     with_behind run.behind (field_text (layout_of plan).delimiter (value_at (layout_of plan) run.table run.column (run_row rows i)))
 
 -- whether a row's field is drawn to be null

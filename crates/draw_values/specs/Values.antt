@@ -8,7 +8,7 @@ use Rattle.dictionaries.specs.WordList.{WordList}
 use Rattle.philox_seeds.specs.SeedTree.{field_draw}
 use Rattle.weight_tables.specs.Harmonic.{harmonic_weights}
 use Rattle.weight_tables.specs.Weights.{selected}
-use Rattle.row_text.specs.Fields.{piece_text}
+use Rattle.row_text.specs.Fields.{escaped_text}
 use Rattle.schema_plan.specs.Choices.{choices}
 use Rattle.schema_plan.specs.FieldBounds.{bounds_of}
 use Rattle.schema_plan.specs.Layout.{LeafLayout, int_leaf, fixed_leaf, date_leaf, pick_leaf, skew_leaf, dict_leaf, words_leaf, chars_leaf, KindLayout, key_kind, born_kind, changed_kind, leaf_kind, template_kind, case_kind, reference_kind, lookup_kind, ColumnLayout, Layout, table_at, column_at}
@@ -136,4 +136,4 @@ put_of (Some text) = Text
 -- what is written for a value by those who write a null one otherwise
 abbrev pub written : ℕ → Option (List ℕ) → List ℕ
 written delimiter None = []
-written delimiter (Some text) = piece_text delimiter text
+written delimiter (Some text) = escaped_text delimiter text

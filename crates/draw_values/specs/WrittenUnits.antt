@@ -1,16 +1,11 @@
 -- The units of a row, as they are written.
 use Rattle.std.specs.Prelude.{◌≤◌, List, ℕ, decimal}
 use Rattle.draw_values.specs.declared.fields.Units.{Units}
-use Rattle.draw_values.specs.declared.values.RowAt.{RowAt}
 
 -- the unit of birth and that of the last change, as they are written
 pub record WrittenUnits : Type 0 where
   pub born : List ℕ
   pub changed : List ℕ
-
--- those of a row
-abbrev pub units_at : RowAt → WrittenUnits
-units_at at = record { born = decimal at.born; changed = decimal at.changed }
 
 -- those of two units
 abbrev pub written_units : Units → WrittenUnits

@@ -5,7 +5,7 @@ ghost use Rattle.std.specs.Prelude.{◌≡◌, ◌<◌, ◌≤◌, ℕ, ◌+◌,
 ghost use Rattle.philox_seeds.specs.SeedTree.{unit_seed};
 ghost use Rattle.row_text.specs.Fields.{field_text};
 ghost use Rattle.schema_plan.specs.Layout.{column_at, layout_of};
-ghost use Rattle.draw_values.specs.CohortValues.{is_null_for, layout_for, row_for, size_for, value_for};
+ghost use Rattle.draw_values.specs.CohortValues.{is_null_for, table_for, row_for, value_size_for, value_for};
 ghost use Rattle.draw_values.specs.ReadyValues.{row_draws};
 ghost use Rattle.draw_values.specs.Runs.{AreColumnsOf, RunColumnOf};
 ghost use Rattle.draw_values.specs.UnitDraws.{unit_draws};
@@ -107,7 +107,7 @@ impl<'a> CohortValues<'a> {
     /// The seed that the fields of the column at a place are drawn from.
     #[inline(always)]
     fn seed(&self, column: usize) -> u64
-        requires { column < length (layout_for self.now).columns }
+        requires { column < length (table_for self.now).columns }
         ensures { (ordinal : ℕ) → row_draws result ordinal ≡ draws_at (layout_of self.now.plan) self.now.table (row_for self.now ordinal) column }
     {
         let columns = self.columns;
@@ -130,7 +130,7 @@ impl<'a> CohortValues<'a> {
     /// null for another reason is not told here: a case whose pick column's field is null.
     #[inline(always)]
     pub fn is_null(&self, column: usize, ordinal: u64) -> bool
-        requires { column < length (layout_for self.now).columns }
+        requires { column < length (table_for self.now).columns }
         ensures { result ≡ is_null_for self.now column ordinal }
     {
         let columns = self.columns;
@@ -141,12 +141,12 @@ impl<'a> CohortValues<'a> {
     /// written; nothing where it is null. The greatest size of the column's fields has to be free.
     #[inline(always)]
     pub fn put(&self, column: usize, ordinal: u64, buf: &mut PageBuf) -> Put
-        requires column { column < length (layout_for self.now).columns }
-        requires own { is_own (column_at (layout_for self.now).columns column).kind ≡ true }
-        requires room { length buf.old.text + size_for self.now column ≤ buf.old.room }
+        requires column { column < length (table_for self.now).columns }
+        requires own { is_own (column_at (table_for self.now).columns column).kind ≡ true }
+        requires room { length buf.old.text + value_size_for self.now column ≤ buf.old.room }
         ensures put { result ≡ put_of (value_for self.now column ordinal) }
         ensures text { buf.new ≡ record buf.old { text = buf.old.text ++ written (layout_of self.now.plan).delimiter (value_for self.now column ordinal) } }
-        ensures size { length (field_text (layout_of self.now.plan).delimiter (value_for self.now column ordinal)) ≤ size_for self.now column }
+        ensures size { length (field_text (layout_of self.now.plan).delimiter (value_for self.now column ordinal)) ≤ value_size_for self.now column }
     {
         let columns = self.columns;
         let own = &columns[column];

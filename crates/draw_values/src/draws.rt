@@ -7,12 +7,9 @@ ghost use Rattle.draw_values.specs.UnitDraws.{draws_of_units, unit_draws};
 
 use line_pages::Memory;
 use philox_seeds::{column_seed, table_seed, unit_seed};
-use schema_plan::Plan;
+use schema_plan::{MAX_ITEMS, Plan};
 use std::alloc::Global;
 use std::marker::Model;
-
-/// The most columns that a table has.
-const COLUMN_LIMIT: usize = 64;
 
 /// What the fields of a table are drawn from at a unit, which is one of births or of changes. A contract sees the table's seed, the
 /// number of its columns and the unit.
@@ -22,7 +19,7 @@ pub struct UnitDraws {
     columns: usize,
     unit: u64,
     /// The seed of each column at the unit, and behind these what no call reads.
-    seeds: [u64; COLUMN_LIMIT],
+    seeds: [u64; MAX_ITEMS],
 }
 
 impl Model for UnitDraws {
@@ -44,7 +41,7 @@ impl UnitDraws {
     {
         let columns = plan.columns(table).len();
         let table_seed = table_seed(plan.seed(), table);
-        let mut seeds = [0; COLUMN_LIMIT];
+        let mut seeds = [0; MAX_ITEMS];
         for column in 0..columns {
             seeds[column] = unit_seed(column_seed(table_seed, column as u32), unit);
         }

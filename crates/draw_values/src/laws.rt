@@ -7,7 +7,7 @@ ghost use Rattle.std.specs.Fmt.{signed_decimal};
 ghost use Rattle.std.specs.List.{range_with_len};
 ghost use Rattle.dictionaries.specs.WordList.{WordList};
 ghost use Rattle.jiff_core.specs.Calendar.{IsCivilDate, days_from_civil};
-ghost use Rattle.row_text.specs.Fields.{piece_text};
+ghost use Rattle.row_text.specs.Fields.{escaped_text};
 ghost use Rattle.schema_plan.specs.Choices.{choices};
 ghost use Rattle.schema_plan.specs.Layout.{chars_leaf, date_leaf, dict_leaf, fixed_leaf, int_leaf, pick_leaf, skew_leaf, words_leaf};
 ghost use Rattle.schema_plan.specs.ReadyWords.{written_words};
@@ -32,24 +32,24 @@ pub fn dates_are_those_of_the_calendar()
 /// Numbers and dates hold nothing that is escaped.
 pub fn numbers_and_dates_are_written_as_they_are()
     ensures whole { (delimiter : ℕ) (number : ℤ) →
-        piece_text delimiter (signed_decimal number) ≡ signed_decimal number }
+        escaped_text delimiter (signed_decimal number) ≡ signed_decimal number }
     ensures fixed { (delimiter decimals : ℕ) (number : ℤ) →
-        piece_text delimiter (signed_pointed decimals number) ≡ signed_pointed decimals number }
+        escaped_text delimiter (signed_pointed decimals number) ≡ signed_pointed decimals number }
     ensures date { (delimiter : ℕ) (day : ℤ) →
-        piece_text delimiter (date_text day) ≡ date_text day }
+        escaped_text delimiter (date_text day) ≡ date_text day }
 {}
 
 /// A text of characters is written character by character.
 pub fn characters_are_written_one_by_one()
     ensures { (delimiter : ℕ) (characters : List ℕ) (draw : Draws) (count : ℕ) →
-        piece_text delimiter (drawn_characters characters draw count)
-        ≡ flat_map (λ k. piece_text delimiter (encode_utf8 (slice_index characters (draw (2 + k) % length characters)))) (range_with_len 0 count) }
+        escaped_text delimiter (drawn_characters characters draw count)
+        ≡ flat_map (λ k. escaped_text delimiter (encode_utf8 (slice_index characters (draw (2 + k) % length characters)))) (range_with_len 0 count) }
 {}
 
 /// A text of words is written word by word, with a space between two.
 pub fn words_are_written_one_by_one()
     ensures { (delimiter : ℕ) (words : WordList) (draw : Draws) (count : ℕ) →
-        piece_text delimiter (drawn_words words draw count) ≡ drawn_words (written_words delimiter words) draw count }
+        escaped_text delimiter (drawn_words words draw count) ≡ drawn_words (written_words delimiter words) draw count }
 {}
 
 /// Values worked out by hand, where draw n is 2 * n + 1, so that the one that is taken is 3; for the skew, where it is n * 10^9.

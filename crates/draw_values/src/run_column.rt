@@ -5,7 +5,7 @@ ghost use Rattle.philox_seeds.specs.SeedTree.{draw as draw_of};
 ghost use Rattle.line_pages.specs.Pieces.{piece_text};
 ghost use Rattle.row_text.specs.Fields.{field_text};
 ghost use Rattle.schema_plan.specs.Layout.{layout_of, table_at};
-ghost use Rattle.draw_values.specs.Runs.{AreOfLength, AreRunRows, IsReadyDrawn, IsRunColumn, is_null_in, is_short, is_short_leaf, kept_texts, leaf_texts, null_text, run_column, run_row, run_seed, run_text, short_value, text_by, with_behind};
+ghost use Rattle.draw_values.specs.Runs.{AreOfLength, AreRunRows, IsReadyDrawn, IsRunColumn, is_null_in, is_short, is_short_leaf, kept_texts, leaf_texts, null_text, run_column, run_row, run_seed, run_field, short_value, text_by, with_behind};
 ghost use Rattle.draw_values.specs.ReadyValues.{IsReady};
 ghost use Rattle.draw_values.specs.Values.{is_null, size_at, value_at};
 
@@ -105,7 +105,7 @@ impl RunColumn {
         requires column { IsRunColumn plan.now self.now }
         requires short { self.now.short ≡ true }
         requires rows { AreRunRows (layout_of plan.now).units (length pieces.old) rows }
-        ensures text { (i : ℕ) → i < length pieces.old → slice_index_or (map piece_text pieces.new) i [] ≡ run_text plan.now self.now rows.entry i }
+        ensures text { (i : ℕ) → i < length pieces.old → slice_index_or (map piece_text pieces.new) i [] ≡ run_field plan.now self.now rows.entry i }
         ensures size { (i : ℕ) → i < length pieces.old → length (field_text (layout_of plan.now).delimiter (value_at (layout_of plan.now) self.now.table self.now.column (run_row rows.entry i))) ≤ size_at (layout_of plan.now) self.now.table self.now.column }
     {
         let columns = plan.columns(self.table);

@@ -8,11 +8,11 @@ use Rattle.std.proofs.lemmas.List.{get_or_append_left}
 use Rattle.std.proofs.lemmas.List.Sums.{sum_by_push}
 use Rattle.std.proofs.lemmas.Option.{get_or_from_slice_get}
 use Rattle.std.proofs.lemmas.List.FromFn.{get_or-map-range_with_len, length-map-range_with_len, map-range_with_len_more}
-use Rattle.life_intervals.specs.JobOrders.{IsKept}
+use Rattle.life_intervals.specs.JobOrders.{IsKeptByUnit}
 
 -- what there is of the units before one is kept
-pub IsKept-all : {X : Type 0} (of_unit : ℕ → X) (kept : List X) (n : ℕ) → kept ≡ map of_unit (range_with_len 0 n) → IsKept of_unit kept
-IsKept-all of_unit kept n is = is ∙ ap (λ m. map of_unit (range_with_len 0 m)) (sym (ap length is ∙ length-map-range_with_len of_unit 0 n))
+pub IsKeptByUnit-all : {X : Type 0} (of_unit : ℕ → X) (kept : List X) (n : ℕ) → kept ≡ map of_unit (range_with_len 0 n) → IsKeptByUnit of_unit kept
+IsKeptByUnit-all of_unit kept n is = is ∙ ap (λ m. map of_unit (range_with_len 0 m)) (sym (ap length is ∙ length-map-range_with_len of_unit 0 n))
 
 -- one unit more
 pub kept-more : {X : Type 0} (of_unit : ℕ → X) (kept more : List X) (unit : ℕ) → kept ≡ map of_unit (range_with_len 0 unit) → more ≡ kept ++ of_unit unit ∷ [] →
@@ -20,16 +20,16 @@ pub kept-more : {X : Type 0} (of_unit : ℕ → X) (kept more : List X) (unit : 
 kept-more of_unit kept more unit is pushed = pushed ∙ ap (λ xs. xs ++ of_unit unit ∷ []) is ∙ sym (map-range_with_len_more of_unit 0 unit unit (omega arith))
 
 -- what is kept of a unit
-pub kept-at : {X : Type 0} (of_unit : ℕ → X) (kept : List X) (unit : ℕ) (d : X) → IsKept of_unit kept → unit < length kept → get_or kept unit d ≡ of_unit unit
+pub kept-at : {X : Type 0} (of_unit : ℕ → X) (kept : List X) (unit : ℕ) (d : X) → IsKeptByUnit of_unit kept → unit < length kept → get_or kept unit d ≡ of_unit unit
 kept-at of_unit kept unit d is within =
     ap (λ xs. get_or xs unit d) is ∙ get_or-map-range_with_len of_unit 0 (length kept) unit unit d within (omega arith)
 
-pub kept-found : {X : Type 0} (of_unit : ℕ → X) (kept : List X) (unit : ℕ) (x : X) → IsKept of_unit kept → unit < length kept → slice_get kept unit ≡ Some x → x ≡ of_unit unit
+pub kept-found : {X : Type 0} (of_unit : ℕ → X) (kept : List X) (unit : ℕ) (x : X) → IsKeptByUnit of_unit kept → unit < length kept → slice_get kept unit ≡ Some x → x ≡ of_unit unit
 kept-found of_unit kept unit x is within found = sym (get_or_from_slice_get kept unit x x found) ∙ kept-at of_unit kept unit x is within
 
 -- nothing is kept
-pub IsKept-none : {X : Type 0} (of_unit : ℕ → X) (kept : List X) → kept ≡ [] → IsKept of_unit kept
-IsKept-none of_unit kept none = IsKept-all of_unit kept 0 none
+pub IsKeptByUnit-none : {X : Type 0} (of_unit : ℕ → X) (kept : List X) → kept ≡ [] → IsKeptByUnit of_unit kept
+IsKeptByUnit-none of_unit kept none = IsKeptByUnit-all of_unit kept 0 none
 
 -- what holds of each item at its place, and of one more behind them
 pub each-more : {X : Type 0} (P : ℕ → X → Type 0) (xs more : List X) (x : X) (n : ℕ) → length xs ≡ n → more ≡ xs ++ x ∷ [] → ((k : ℕ) (d : X) → k < length xs → P k (get_or xs k d)) → P n x →

@@ -9,13 +9,13 @@ use Rattle.life_intervals.specs.CohortOrders.{key_order, life_order, parent_orde
 use Rattle.life_intervals.specs.CohortParents.{IsReferenceOf, window_by}
 
 -- what is kept unit by unit, from 0 on, is what there is of each
-abbrev pub IsKept : {X : Type 0} → (ℕ → X) → List X → Type 0
-IsKept of_unit kept = kept ≡ map of_unit (range_with_len 0 (length kept))
+abbrev pub IsKeptByUnit : {X : Type 0} → (ℕ → X) → List X → Type 0
+IsKeptByUnit of_unit kept = kept ≡ map of_unit (range_with_len 0 (length kept))
 
 -- what is kept for the column at a place are the orders by its reference, and the windows of this
 pub record AreParentOrders (plan : Project) (table column : ℕ) (kept : ParentOrders) : Type 0 where
-  pub orders : IsKept (parent_order plan table column) kept.orders.orders
-  pub windows : (reference : ReadyReference) → IsReferenceOf plan table column reference → IsKept (window_by plan reference) kept.windows.items
+  pub orders : IsKeptByUnit (parent_order plan table column) kept.orders.orders
+  pub windows : (reference : ReadyReference) → IsReferenceOf plan table column reference → IsKeptByUnit (window_by plan reference) kept.windows.items
 
 -- what is kept for each column
 abbrev pub AreAllParentOrders : Project → ℕ → List ParentOrders → Type 0
@@ -24,9 +24,9 @@ AreAllParentOrders plan table parents =
 
 -- what is kept of the table at a place are its orders
 pub record AreTableOrders (plan : Project) (table : ℕ) (kept : TableOrders) : Type 0 where
-  pub keys : IsKept (key_order plan table) kept.keys.orders
-  pub lives : IsKept (life_order plan table) kept.lives.orders
-  pub updates : IsKept (update_order plan table) kept.updates.orders
+  pub keys : IsKeptByUnit (key_order plan table) kept.keys.orders
+  pub lives : IsKeptByUnit (life_order plan table) kept.lives.orders
+  pub updates : IsKeptByUnit (update_order plan table) kept.updates.orders
   pub parents : AreAllParentOrders plan table kept.parents.items
 
 -- what is kept for a job are the orders of the plan's tables

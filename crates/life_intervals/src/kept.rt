@@ -4,7 +4,7 @@ ghost use Rattle.std.specs.Prelude.{◌≡◌, ◌+◌, ◌<◌, ◌≤◌, ◌+
 ghost use Rattle.life_intervals.specs.CohortOrders.{order_for};
 ghost use Rattle.life_intervals.specs.CohortParents.{IsReferenceOf, window_by};
 ghost use Rattle.life_intervals.specs.Generator.{last_unit};
-ghost use Rattle.life_intervals.specs.JobOrders.{AreAllParentOrders, AreParentOrders, AreTableOrders, IsKept, entries_of_parent, entries_of_table};
+ghost use Rattle.life_intervals.specs.JobOrders.{AreAllParentOrders, AreParentOrders, AreTableOrders, IsKeptByUnit, entries_of_parent, entries_of_table};
 ghost use Rattle.schema_plan.specs.Dictionaries.{Project};
 
 use crate::asked::{Asked, are_places_asked};
@@ -103,7 +103,7 @@ fn kept_orders(
 ) -> Result<KeptOrders, Memory>
     requires table { table < length plan.now.schema.tables }
     requires unit { last ≤ last_unit plan.now }
-    ensures kept { IfOk result (λ kept. IsKept (order_for plan.now table purpose) kept.orders) }
+    ensures kept { IfOk result (λ kept. IsKeptByUnit (order_for plan.now table purpose) kept.orders) }
     ensures count { IfOk result (λ kept. length kept.orders ≤ last + 1) }
     ensures entries { IfOk result (λ kept. kept.entries + room.new.entries ≡ room.old.entries) }
 {
@@ -129,7 +129,7 @@ fn windows_of(
 ) -> Result<Vec<Window>, Memory>
     requires parent { reference.now.parent < length plan.now.schema.tables }
     requires unit { count ≤ last_unit plan.now + 1 }
-    ensures { IfOk result (λ windows. IsKept (window_by plan.now reference.now) windows.items) }
+    ensures { IfOk result (λ windows. IsKeptByUnit (window_by plan.now reference.now) windows.items) }
 {
     let _limits = plan.schema(); // there are at most 10,000 units
     let mut windows = Vec::new(alloc);
@@ -251,7 +251,7 @@ impl TableOrders {
     /// Those of a purpose, if any are kept.
     #[inline]
     fn of_purpose(&self, purpose: Purpose) -> Option<&KeptOrders>
-        ensures { IfSome result (λ kept. (plan : Project) (table : _) → AreTableOrders plan table self.now → IsKept (order_for plan table purpose) kept.now.orders) }
+        ensures { IfSome result (λ kept. (plan : Project) (table : _) → AreTableOrders plan table self.now → IsKeptByUnit (order_for plan table purpose) kept.now.orders) }
     {
         match purpose {
             Purpose::Keys => Some(&self.keys),

@@ -1,6 +1,6 @@
 //! The parents of rows, until when rows have them, and when the first of those dies that take a row along.
 
-ghost use Rattle.std.specs.Prelude.{◌≡◌, ◌+◌, ◌<◌, ◌≤◌, IfSome, Some, is_none, is_some, length, true};
+ghost use Rattle.std.specs.Prelude.{◌≡◌, ℕ, ◌+◌, ◌<◌, ◌≤◌, IfSome, Some, false, is_none, is_some, length, true};
 ghost use Rattle.std.specs.List.{list_any};
 ghost use Rattle.cohort_sizes.specs.Births.{born_count};
 ghost use Rattle.schema_plan.specs.Layout.{layout_of};
@@ -12,6 +12,7 @@ ghost use Rattle.life_intervals.specs.CohortParents.{IsReferenceOf, asked_for_de
 ghost use Rattle.life_intervals.specs.Found.{IsFound, cohort_of_row};
 ghost use Rattle.life_intervals.specs.Generator.{generator_of, last_unit, rows_in_all, table_of};
 ghost use Rattle.life_intervals.specs.Intervals.{death, held_parent, held_until, is_after, is_live, parent_of};
+ghost use Rattle.life_intervals.specs.Simulation.{holds_row, rows_at};
 
 use crate::found::{FoundRow, find};
 use crate::orders::Purpose;
@@ -382,8 +383,8 @@ fn is_nulling(column: &ReadyColumn) -> bool
     }
 }
 
-/// The ordinal of the parent that the row of ordinal `j` is born with by the reference in the column at a place. It takes one
-/// step.
+/// The ordinal of the parent that the row of ordinal `j` is born with by the reference in the column at a place. Where the reference takes
+/// its rows along, the parent is held at each unit at which the row is. It takes one step.
 pub fn parent<L: Ledger>(plan: &Plan, table: u32, j: u64, column: u32, steps: &mut Steps<L>) -> u64
     requires table { table < length plan.now.schema.tables }
     requires row { j < rows_in_all plan.now table }
@@ -392,8 +393,12 @@ pub fn parent<L: Ledger>(plan: &Plan, table: u32, j: u64, column: u32, steps: &m
         result ≡ parent_of (generator_of plan.now) table (last_unit plan.now) j reference }
     ensures within { (reference : Reference) → reference_at (table_of plan.now table) column ≡ Some reference →
         result < rows_in_all plan.now reference.parent }
+    ensures held { (reference : Reference) → reference_at (table_of plan.now table) column ≡ Some reference → reference.nulls ≡ false →
+        (t : ℕ) → t ≤ last_unit plan.now → holds_row (rows_at (generator_of plan.now) table t) j ≡ true →
+        holds_row (rows_at (generator_of plan.now) reference.parent t) result ≡ true }
     ensures one_step { steps.new ≡ steps.old + 1 }
 {
+    let _sound = plan.schema(); // so it is there as long as the row is
     Rows::of(plan).parent(table, j, column, steps)
 }
 

@@ -2,7 +2,7 @@
 use Rattle.std.proofs.Common.{◌≡◌, ◌<◌, ◌≤◌, ◌^◌, ℕ, zero, suc, ◌+◌, Bool, false, true, List, [], length, codes, decimal, Option, Some, None, get_or, if◌then◌else◌, refl, ap, sym, subst, ◌∙◌, arith}
 use Rattle.std.proofs.lemmas.List.{get_or-map, length-map}
 use Rattle.row_text.specs.Fields.{field_text}
-use Rattle.row_text.proofs.DigitLemmas.{piece_text-decimal}
+use Rattle.row_text.proofs.DigitLemmas.{escaped_text-decimal}
 use Rattle.schema_plan.specs.declared.ready.ReadyColumn.{ReadyColumn}
 use Rattle.schema_plan.specs.declared.ready.ReadyKind.TheVariants.{Key, Reference, Template}
 use Rattle.schema_plan.specs.declared.ready.ReadyPart.{ReadyPart}
@@ -128,7 +128,7 @@ pub text-key : (lines : LinesOf) (place index changed key : ℕ) → (column_at 
     text_in_table lines index changed place ≡ decimal key
 text-key lines place index changed key is never within below key_is small =
     ap (field_text (layout_of lines.plan).delimiter) (held-key lines place index changed key is never within below key_is)
-    ∙ piece_text-decimal (layout_of lines.plan).delimiter key small
+    ∙ escaped_text-decimal (layout_of lines.plan).delimiter key small
 
 -- what is made of a row's units is made of the cohort's birth and of the unit of the change
 pub of_units : {A : Type 0} (lines : LinesOf) (index changed : ℕ) (f : ℕ → ℕ → A) → lines.born ≤ lines.unit → index < cohort_size (layout_for lines).births lines.born →

@@ -9,7 +9,7 @@ use Rattle.schema_plan.specs.declared.ready.ReadyLookup.{ReadyLookup}
 use Rattle.schema_plan.specs.declared.ready.ReadyReference.{ReadyReference}
 use Rattle.schema_plan.specs.FieldBounds.{bounds_at, bounds_in_table, bounds_of}
 use Rattle.schema_plan.specs.Layout.{KindLayout, TableLayout, born_kind, case_kind, changed_kind, column_at, key_kind, layout_of, leaf_kind, lookup_kind, reference_kind, table_at, template_kind}
-use Rattle.schema_plan.specs.Limits.{IsCascadeTo, IsInLimits, IsLookup, IsLookupInLimits, IsTableInLimits, is_lookup_kind, is_moving_kind}
+use Rattle.schema_plan.specs.Limits.{IsCascadeTo, IsInLimits, IsLookup, IsLookupInLimits, IsStillColumn, IsTableInLimits, is_lookup_kind, is_moving_kind}
 use Rattle.schema_plan.specs.Lineage.{lineages}
 use Rattle.schema_plan.specs.Ready.{ready_kind, ready_reference}
 use Rattle.schema_plan.specs.References.{Reference, reference_at}
@@ -29,13 +29,14 @@ use Rattle.life_intervals.proofs.LiveLemmas.{holds_row-live}
 use Rattle.life_intervals.proofs.ReferenceLemmas.{at_column, reference_at-within}
 use Rattle.row_lines.specs.CohortLines.{LinesOf, asked_by, asked_for, change_for, is_live_for, layout_for, ordinal_of, parent_for, row_changed, size_for, text_in_cohort, text_in_table, values_at}
 use Rattle.row_lines.specs.Lines.{draws_of, field, field_in_table, held_row, looked_up, value}
-use Rattle.row_lines.specs.Lookups.{IsLookupOf, IsStillColumn, text_held}
+use Rattle.row_lines.specs.Lookups.{IsLookupOf, text_held}
 use Rattle.row_lines.proofs.CohortLineLemmas.{asked_by-le}
 use Rattle.row_lines.proofs.FieldLemmas.{field-in_table}
 use Rattle.row_lines.proofs.HeldRowLemmas.{held_row-live}
 use Rattle.row_lines.proofs.NullCostLemmas.{null_cost-still}
 use Rattle.row_lines.proofs.PartLemmas.{null-drawn}
-use Rattle.row_lines.proofs.ReferenceFieldLemmas.{held_parent-cascades, index_here, parent_of_row-by, parents-held_parent, reference_here}
+use Rattle.life_intervals.proofs.HeldParentLemmas.{held_parent-cascades}
+use Rattle.row_lines.proofs.ReferenceFieldLemmas.{index_here, parent_of_row-by, parents-held_parent, reference_here}
 use Rattle.row_lines.proofs.StillLemmas.{still_field, still_parts}
 
 -- ---- what fields take
@@ -106,7 +107,7 @@ module _ (lines : LinesOf) (limits : IsInLimits lines.plan) (table : lines.table
       (limits.lookups lines.table column table of.within)
 
   pub looks_up_still : IsStillColumn (table_of lines.plan lookup.parent) lookup.column
-  looks_up_still = record { within = is_lookup.within; still = is_lookup.still; no_lookup = is_lookup.no_lookup }
+  looks_up_still = is_lookup.looked_up
 
   -- what it takes
   pub size-lookup : size_for lines column ≡ (bounds_at (layout_of lines.plan).delimiter (layout_of lines.plan).tables (table_of lines.plan lookup.parent) lookup.column).size

@@ -5,8 +5,8 @@ use Rattle.std.proofs.lemmas.Grind.{flat_map-append}
 use Rattle.std.proofs.lemmas.List.{flat_map_more, take_more}
 use Rattle.std.proofs.lemmas.List.Elements.{All-map}
 use Rattle.std.proofs.lemmas.List.Folds.{flat_map-map, fold-map}
-use Rattle.row_text.specs.Fields.{escaped, field_text, piece_text}
-use Rattle.row_text.proofs.DigitLemmas.{piece_text-decimal}
+use Rattle.row_text.specs.Fields.{escaped, field_text, escaped_text}
+use Rattle.row_text.proofs.DigitLemmas.{escaped_text-decimal}
 use Rattle.schema_plan.specs.declared.ready.ReadyKind.TheVariants.{Key, Reference, Template}
 use Rattle.schema_plan.specs.declared.ready.ReadyPart.{ReadyPart}
 use Rattle.schema_plan.specs.declared.ready.ReadyReference.{ReadyReference}
@@ -21,7 +21,7 @@ use Rattle.life_intervals.specs.Generator.{Generator, generator_of}
 use Rattle.life_intervals.specs.Rows.{Row}
 use Rattle.row_lines.specs.CohortLines.{LinesOf, asked_by, asked_by_part, asked_for, layout_for, ordinal_of, row_changed, size_for, text_in_table, values_at}
 use Rattle.row_lines.specs.Lines.{draws_of, part_text}
-use Rattle.row_lines.specs.Parts.{IsCitable, IsPartOf, cited_for, cited_size, cited_text, part_asked, part_size, written_part}
+use Rattle.row_lines.specs.Parts.{IsCitable, IsPartOfTemplate, cited_for, cited_size, cited_text, part_asked, part_size, written_part}
 use Rattle.row_lines.proofs.CohortFieldLemmas.{held-own, held_in_table, of_units}
 use Rattle.row_lines.proofs.FieldLemmas.{in_table-cited, in_table-template}
 
@@ -66,7 +66,7 @@ pub cited_text-number : (lines : LinesOf) (index changed column number : ℕ) �
     cited_text lines index changed column ≡ decimal number
 cited_text-number lines index changed column number citable held small =
     ap (written (layout_of lines.plan).delimiter) (cited_for-held lines index changed column citable ∙ held)
-    ∙ piece_text-decimal (layout_of lines.plan).delimiter number small
+    ∙ escaped_text-decimal (layout_of lines.plan).delimiter number small
 
 pub cited_for-own : (lines : LinesOf) (values : ValuesOf) (place index changed ordinal : ℕ) → IsCitable lines place → values ≡ values_at lines changed →
     ordinal ≡ ordinal_of lines index → is_own (column_at (layout_for lines).columns place).kind ≡ true → lines.born ≤ lines.unit →
@@ -82,30 +82,30 @@ length-written delimiter (Some text) = omega arith
 -- ---- parts
 
 -- a template is escaped part by part
-pub piece_text-parts : (generator : Generator) (place : ℕ) (row : Row) (parts : List PartLayout) →
-    piece_text generator.delimiter (flat_map (part_text generator place row) parts)
-    ≡ flat_map (λ part. piece_text generator.delimiter (part_text generator place row part)) parts
-piece_text-parts generator place row [] = refl
-piece_text-parts generator place row (part ∷ parts) =
+pub escaped_text-parts : (generator : Generator) (place : ℕ) (row : Row) (parts : List PartLayout) →
+    escaped_text generator.delimiter (flat_map (part_text generator place row) parts)
+    ≡ flat_map (λ part. escaped_text generator.delimiter (part_text generator place row part)) parts
+escaped_text-parts generator place row [] = refl
+escaped_text-parts generator place row (part ∷ parts) =
     flat_map-append (escaped generator.delimiter) (part_text generator place row part) (flat_map (part_text generator place row) parts)
-    ∙ ap (λ (rest : List ℕ). piece_text generator.delimiter (part_text generator place row part) ++ rest) (piece_text-parts generator place row parts)
+    ∙ ap (λ (rest : List ℕ). escaped_text generator.delimiter (part_text generator place row part) ++ rest) (escaped_text-parts generator place row parts)
 
-written-unwrap_or : (delimiter : ℕ) (value : Option (List ℕ)) → written delimiter value ≡ piece_text delimiter (unwrap_or value [])
+written-unwrap_or : (delimiter : ℕ) (value : Option (List ℕ)) → written delimiter value ≡ escaped_text delimiter (unwrap_or value [])
 written-unwrap_or delimiter None = refl
 written-unwrap_or delimiter (Some text) = refl
 
 -- a part is written as it is kept
 part-written : (lines : LinesOf) (index changed : ℕ) (part : PartLayout) →
     written_part lines index changed (ready_part (layout_of lines.plan).delimiter part)
-    ≡ piece_text (layout_of lines.plan).delimiter (part_text (generator_of lines.plan) lines.table (row_changed lines index changed) part)
+    ≡ escaped_text (layout_of lines.plan).delimiter (part_text (generator_of lines.plan) lines.table (row_changed lines index changed) part)
 part-written lines index changed (literal_part bytes) = refl
 part-written lines index changed (cited_part column) = written-unwrap_or (layout_of lines.plan).delimiter (cited_for lines index changed column)
 
 parts-written : (lines : LinesOf) (index changed : ℕ) (parts : List PartLayout) →
-    piece_text (layout_of lines.plan).delimiter (flat_map (part_text (generator_of lines.plan) lines.table (row_changed lines index changed)) parts)
+    escaped_text (layout_of lines.plan).delimiter (flat_map (part_text (generator_of lines.plan) lines.table (row_changed lines index changed)) parts)
     ≡ flat_map (written_part lines index changed) (map (ready_part (layout_of lines.plan).delimiter) parts)
 parts-written lines index changed parts =
-    piece_text-parts (generator_of lines.plan) lines.table (row_changed lines index changed) parts
+    escaped_text-parts (generator_of lines.plan) lines.table (row_changed lines index changed) parts
     ∙ ap (λ (write : PartLayout → List ℕ). flat_map write parts) (sym (fun_ext (part-written lines index changed)))
     ∙ sym (flat_map-map (written_part lines index changed) (ready_part (layout_of lines.plan).delimiter) parts)
 
@@ -125,7 +125,7 @@ parts-size lines parts =
 
 -- and cites what may be cited
 part-citable : (lines : LinesOf) (place : ℕ) → place < length (layout_for lines).columns → (part : PartLayout) → IsPart (layout_for lines).columns place part →
-    IsPartOf lines (ready_part (layout_of lines.plan).delimiter part)
+    IsPartOfTemplate lines (ready_part (layout_of lines.plan).delimiter part)
 part-citable lines place within (literal_part bytes) is = tt
 part-citable lines place within (cited_part column) is = record { within = omega (arith, is.0); cited = is.1 }
 
@@ -158,11 +158,11 @@ template_of lines column ready is =
     record { parts = found.0; is = found.1; ready_are = found.2 }
 
 pub parts_citable : (lines : LinesOf) (column : ℕ) (ready : List ReadyPart) → IsTemplateOf lines column ready → column < length (layout_for lines).columns →
-    IsKindInLimits (layout_for lines).columns column (column_at (layout_for lines).columns column).kind → All (IsPartOf lines) ready
+    IsKindInLimits (layout_for lines).columns column (column_at (layout_for lines).columns column).kind → All (IsPartOfTemplate lines) ready
 parts_citable lines column ready template within limits =
     let are : AreParts (layout_for lines).columns column template.parts = subst (λ (kind : KindLayout). IsKindInLimits (layout_for lines).columns column kind) template.is limits in
-    subst (λ (parts : List ReadyPart). All (IsPartOf lines) parts) (sym template.ready_are)
-    (All-map (IsPartOf lines) (ready_part (layout_of lines.plan).delimiter) template.parts
+    subst (λ (parts : List ReadyPart). All (IsPartOfTemplate lines) parts) (sym template.ready_are)
+    (All-map (IsPartOfTemplate lines) (ready_part (layout_of lines.plan).delimiter) template.parts
     (λ i d below. part-citable lines column within (get_or template.parts i d) (are.each i d below)))
 
 -- what it takes
@@ -209,6 +209,6 @@ text-template lines values column index changed ordinal ready null template valu
     ∙ ap (λ (bytes : List ℕ). if null then codes "\\N" else bytes)
     (parts-written lines index changed template.parts ∙ ap (λ (parts : List ReadyPart). flat_map (written_part lines index changed) parts) (sym template.ready_are))
   where
-    field_text-if : (d : ℕ) (null : Bool) (text : List ℕ) → field_text d (if null then None else Some text) ≡ (if null then codes "\\N" else piece_text d text)
+    field_text-if : (d : ℕ) (null : Bool) (text : List ℕ) → field_text d (if null then None else Some text) ≡ (if null then codes "\\N" else escaped_text d text)
     field_text-if d true text = refl
     field_text-if d false text = refl

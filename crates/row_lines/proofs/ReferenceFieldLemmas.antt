@@ -4,8 +4,8 @@ use Rattle.std.specs.Prelude.{find, if◌then◌else◌}
 use Rattle.std.specs.List.{cons_option}
 use Rattle.std.specs.Option.{option_and_then, option_map}
 use Rattle.std.proofs.lemmas.List.Elements.{All-from_recursion}
-use Rattle.row_text.specs.Fields.{field_text, piece_text}
-use Rattle.row_text.proofs.DigitLemmas.{piece_text-decimal}
+use Rattle.row_text.specs.Fields.{field_text, escaped_text}
+use Rattle.row_text.proofs.DigitLemmas.{escaped_text-decimal}
 use Rattle.cohort_sizes.specs.Births.{Births, birth, born_count, cohort_size, first_ordinal, index_at}
 use Rattle.schema_plan.specs.declared.ready.ReadyReference.{ReadyReference}
 use Rattle.schema_plan.specs.Dictionaries.{Project}
@@ -16,7 +16,7 @@ use Rattle.schema_plan.specs.Lineage.{death_cost, lineages, null_cost_of, one_if
 use Rattle.schema_plan.specs.References.{Reference, reference_at, reference_of, references_of}
 use Rattle.life_intervals.specs.CohortParents.{IsReferenceOf, held_cost, loss_in, parent_cost, reference_by}
 use Rattle.life_intervals.specs.Generator.{Generator, generator_of, last_unit, table_of}
-use Rattle.life_intervals.specs.Intervals.{Known, held_parent, held_until, is_after, known_tables, loss_by, loss_of, parent_by, parent_death_by, parent_of, row_at}
+use Rattle.life_intervals.specs.Intervals.{Known, held_parent, held_until, is_after, known_tables, loss_by, loss_of, parent_by, parent_of, row_at}
 use Rattle.life_intervals.specs.Keys.{key_of}
 use Rattle.life_intervals.specs.Rows.{Row}
 use Rattle.life_intervals.specs.Sound.{AreSound}
@@ -94,15 +94,6 @@ pub parents-held_parent : (generator : Generator) (place unit ordinal : ℕ) →
     (row_at generator place unit ordinal).parents ≡ map (held_parent generator place unit ordinal) (references_of (table_at generator.tables place))
 parents-held_parent generator place unit ordinal =
     map-zip (λ (at : ℕ × Option ℕ). held_until at.1 unit at.0) (parent_of generator place unit ordinal) (loss_of generator place unit ordinal) (references_of (table_at generator.tables place))
-
--- and one with whose parent it is deleted it can't have lost
-pub held_parent-cascades : (generator : Generator) (place unit ordinal : ℕ) (reference : Reference) → reference.nulls ≡ false →
-    held_parent generator place unit ordinal reference ≡ Some (parent_of generator place unit ordinal reference)
-held_parent-cascades generator place unit ordinal reference cascades =
-    let births : Births = (table_at generator.tables place).births in
-    let death : Option ℕ =
-    parent_death_by generator.order (take place (known_tables generator)) (birth births unit ordinal) (index_at births unit ordinal) reference in
-    ap (λ (nulls : Bool). held_until (if nulls then death else None) unit (parent_of generator place unit ordinal reference)) cascades
 
 -- ---- its field
 
@@ -256,6 +247,6 @@ text-reference lines limits own below early within column index changed ready of
 
 -- what is written for a key that the row still has, and for none
 pub written-key : (lines : LinesOf) (index key : ℕ) (reference : Reference) → Some key ≡ held_key_for lines index reference → key < 2 ^ 64 →
-    (reference_value lines index reference ≡ Some (decimal key)) × (piece_text (layout_of lines.plan).delimiter (decimal key) ≡ decimal key)
+    (reference_value lines index reference ≡ Some (decimal key)) × (escaped_text (layout_of lines.plan).delimiter (decimal key) ≡ decimal key)
 written-key lines index key reference is small =
-    (sym (ap (option_map decimal) is), piece_text-decimal (layout_of lines.plan).delimiter key small)
+    (sym (ap (option_map decimal) is), escaped_text-decimal (layout_of lines.plan).delimiter key small)

@@ -7,8 +7,8 @@ use Rattle.std.proofs.lemmas.List.FromFn.{length-range_with_len}
 use Rattle.std.proofs.lemmas.List.Sums.{sum_by-append, sum_by_more, sum_by_more_le}
 use Rattle.line_pages.specs.Pages.{Page}
 use Rattle.row_text.specs.Fields.{field_text}
-use Rattle.row_text.proofs.DigitLemmas.{piece_text-decimal}
-use Rattle.cohort_sizes.specs.Births.{Births, LiesIn, birth, born_count, first_ordinal}
+use Rattle.row_text.proofs.DigitLemmas.{escaped_text-decimal}
+use Rattle.cohort_sizes.specs.Births.{LiesIn, birth, born_count}
 use Rattle.cohort_sizes.proofs.CohortLemmas.{birth-only, cohort-within}
 use Rattle.schema_plan.specs.declared.ready.ReadyReference.{ReadyReference}
 use Rattle.schema_plan.specs.Dictionaries.{Project}
@@ -24,7 +24,7 @@ use Rattle.draw_values.specs.Runs.{AreRunRows, is_short}
 use Rattle.draw_values.specs.Values.{is_own, value_at}
 use Rattle.life_intervals.specs.CohortParents.{IsReferenceOf, asked_for_change, reference_by}
 use Rattle.life_intervals.specs.Generator.{Generator, generator_of, last_unit, rows_in_all, table_of}
-use Rattle.life_intervals.specs.Intervals.{change_unit, death, held_parent, held_until, is_live, known_tables, loss_of, parent_by, parent_of, row_at}
+use Rattle.life_intervals.specs.Intervals.{change_unit, death, held_parent, held_until, is_live, loss_of, parent_of, row_at}
 use Rattle.life_intervals.specs.Keys.{key_of}
 use Rattle.life_intervals.specs.Rows.{Row}
 use Rattle.life_intervals.specs.Runs.{IsRun}
@@ -43,8 +43,9 @@ use Rattle.row_lines.specs.TableLines.{has_short_keys, is_short_at}
 use Rattle.row_lines.proofs.CohortLineLemmas.{asked_for_line-is, asked_in, max_line-columns, room_in, steps-line_cost}
 use Rattle.row_lines.proofs.FieldLemmas.{field-in_table, field-key, in_table-own}
 use Rattle.row_lines.proofs.KeptLemmas.{kept_by-each, kept_by-filter, length-kept_by}
-use Rattle.row_lines.proofs.LineLemmas.{birth-by, key_of-by}
-use Rattle.row_lines.proofs.ReferenceFieldLemmas.{field-reference, held_parent-cascades, kind_is}
+use Rattle.row_lines.proofs.LineLemmas.{key_of-by}
+use Rattle.life_intervals.proofs.HeldParentLemmas.{held_parent-cascades, parent_of-by}
+use Rattle.row_lines.proofs.ReferenceFieldLemmas.{field-reference, kind_is}
 use Rattle.row_lines.proofs.RunTextLemmas.{line_for-fields}
 
 -- ---- the rows of a run
@@ -106,7 +107,7 @@ pub text_at-key : (lines : RunLinesOf) (ordinal column key : ℕ) → (column_at
     lines.unit ≤ last_unit lines.plan → ordinal < born_for lines → key ≡ key_of (generator_of lines.plan) lines.table (last_unit lines.plan) ordinal → key < 2 ^ 64 →
     decimal key ≡ text_at lines ordinal column
 text_at-key lines ordinal column key is never within born key_is small =
-    sym (piece_text-decimal (layout_of lines.plan).delimiter key small)
+    sym (escaped_text-decimal (layout_of lines.plan).delimiter key small)
     ∙ ap (λ (k : ℕ). field_text (layout_of lines.plan).delimiter (Some (decimal k))) (key_is ∙ key_of-by (generator_of lines.plan) (last_unit lines.plan) lines.unit lines.table ordinal within born)
     ∙ ap (field_text (layout_of lines.plan).delimiter) (sym (field-key (generator_of lines.plan) lines.unit lines.table ordinal column is never))
 
@@ -120,13 +121,6 @@ key-short plan table ordinal short within =
     )
 
 -- ---- references
-
--- a row's parent is the same by any unit by which the row is born
-pub parent_of-by : (generator : Generator) (place last unit ordinal : ℕ) (reference : Reference) → unit ≤ last → ordinal < born_count (table_at generator.tables place).births unit →
-    parent_of generator place last ordinal reference ≡ parent_of generator place unit ordinal reference
-parent_of-by generator place last unit ordinal reference within born =
-    let births : Births = (table_at generator.tables place).births in
-    ap (λ (b : ℕ). parent_by generator.order (take place (known_tables generator)) b (ordinal - first_ordinal births b) reference) (birth-by births last unit ordinal within born)
 
 -- it has it while the parent lives, where the reference becomes null
 held_while_live : (units : ℕ) (generator : Generator) → AreSound units generator.tables → (place : ℕ) → place < length generator.tables → (unit ordinal : ℕ) → unit ≤ units → ordinal < born_count (table_at generator.tables place).births unit →
@@ -164,7 +158,7 @@ key_or_null d key at key_at parent held parent_is key_is small =
     by_held held ∙ ap (λ (o : Option ℕ). field_text d (option_map (λ p. decimal (key_at p)) o)) (sym parent_is)
   where
     by_held : (test : Bool) → (if test then decimal key else codes "\\N") ≡ field_text d (option_map (λ p. decimal (key_at p)) (if test then Some at else None))
-    by_held true = sym (piece_text-decimal d key small) ∙ ap (λ (n : ℕ). field_text d (Some (decimal n))) key_is
+    by_held true = sym (escaped_text-decimal d key small) ∙ ap (λ (n : ℕ). field_text d (Some (decimal n))) key_is
     by_held false = refl
 
 pub text_at-reference : (lines : RunLinesOf) → IsInLimits lines.plan → IsTableInLimits (last_unit lines.plan) (layout_for lines) → lines.table < length lines.plan.schema.tables → lines.unit ≤ last_unit lines.plan →

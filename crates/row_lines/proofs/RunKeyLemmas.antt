@@ -8,7 +8,7 @@ use Rattle.line_pages.specs.declared.piece.Piece.{Piece}
 use Rattle.line_pages.specs.Pieces.{piece_text}
 use Rattle.line_pages.specs.Rows.{piece_text_at, row_of_pieces, rows_of_pieces}
 use Rattle.row_text.specs.Fields.{field_text}
-use Rattle.row_text.proofs.DigitLemmas.{piece_text-decimal}
+use Rattle.row_text.proofs.DigitLemmas.{escaped_text-decimal}
 use Rattle.schema_plan.specs.Dictionaries.{Project}
 use Rattle.schema_plan.specs.Limits.{IsTableInLimits}
 use Rattle.life_intervals.specs.Generator.{generator_of, last_unit, rows_in_all, table_of}
@@ -27,7 +27,7 @@ key_text key = decimal key ++ codes "\n"
 key_line : (plan : Project) (table ordinal key : ℕ) → key ≡ key_of (generator_of plan) table (last_unit plan) ordinal → key < 2 ^ 64 → key_text key ≡ key_line_of (generator_of plan) (last_unit plan) table ordinal
 key_line plan table ordinal key is small =
     ap (λ (text : List ℕ). text ++ codes "\n")
-    (sym (piece_text-decimal (generator_of plan).delimiter key small) ∙ ap (λ (k : ℕ). field_text (generator_of plan).delimiter (Some (decimal k))) is)
+    (sym (escaped_text-decimal (generator_of plan).delimiter key small) ∙ ap (λ (k : ℕ). field_text (generator_of plan).delimiter (Some (decimal k))) is)
 
 pub keys-lines : (plan : Project) (table : ℕ) (ordinals keys : List ℕ) → length keys ≡ length ordinals →
     ((i : ℕ) → i < length ordinals → get_or keys i 0 ≡ key_of (generator_of plan) table (last_unit plan) (get_or ordinals i 0)) → ((i : ℕ) → i < length ordinals → get_or keys i 0 < 2 ^ 63) →

@@ -12,7 +12,7 @@ use Rattle.schema_plan.specs.declared.ready.ReadyLookup.{ReadyLookup}
 use Rattle.schema_plan.specs.declared.ready.ReadyReference.{ReadyReference}
 use Rattle.schema_plan.specs.Dictionaries.{Project}
 use Rattle.schema_plan.specs.Layout.{column_at, layout_of, no_table}
-use Rattle.schema_plan.specs.Limits.{IsInLimits, IsTableInLimits}
+use Rattle.schema_plan.specs.Limits.{IsInLimits, IsStillColumn, IsTableInLimits}
 use Rattle.schema_plan.specs.Ready.{ready_columns}
 use Rattle.draw_values.specs.declared.runs.RunRows.{RunRows}
 use Rattle.draw_values.specs.Runs.{RunColumnOf, is_null_in, null_text, run_column, run_row}
@@ -25,14 +25,15 @@ use Rattle.life_intervals.proofs.AcceptedLemmas.{place-below, row_at-changed}
 use Rattle.life_intervals.proofs.CohortParentLemmas.{parent_below}
 use Rattle.row_lines.specs.CohortLines.{LinesOf}
 use Rattle.row_lines.specs.Lines.{draws_of}
-use Rattle.row_lines.specs.Lookups.{IsLookupOf, IsStillColumn, text_held}
+use Rattle.row_lines.specs.Lookups.{IsLookupOf, text_held}
 use Rattle.row_lines.specs.RunFields.{AreMade, AreRowsOf, asked_for, column_lines, size_for}
 use Rattle.row_lines.specs.Runs.{RunLinesOf, born_for, layout_for, text_at}
 use Rattle.row_lines.specs.TableLines.{behind_of, column_of, is_short_at, is_short_kind, shown_by, shown_of, table_lines}
 use Rattle.row_lines.proofs.CohortFieldLemmas.{ready_at}
 use Rattle.row_lines.proofs.FieldLemmas.{in_table-own}
 use Rattle.row_lines.proofs.LookupLemmas.{asked-lookup, bounds_of-in_table, is_lookup, looks_up_still, reference_cascades, reference_ready, reference_to, room-lookup, size-lookup, text-looked_up}
-use Rattle.row_lines.proofs.RunFieldLemmas.{own_from_short, parent_of-by, run-birth, run-born}
+use Rattle.life_intervals.proofs.HeldParentLemmas.{parent_of-by}
+use Rattle.row_lines.proofs.RunFieldLemmas.{own_from_short, run-birth, run-born}
 use Rattle.row_lines.proofs.StillLemmas.{still_field}
 
 -- ---- a lookup
@@ -81,7 +82,7 @@ pub lookup-column : (lines : LinesOf) → IsInLimits lines.plan → lines.table 
 lookup-column lines limits table column lookup of =
     let looks = is_lookup lines limits table column lookup of in
     let own : IsTableInLimits (last_unit lines.plan) (table_of lines.plan lookup.parent) = limits.tables lookup.parent no_table (place-below lines.plan lookup.parent (lookup-parent lines limits table column lookup of)) in
-    omega (arith, looks.within, own.column_limit)
+    omega (arith, looks.looked_up.within, own.column_limit)
 
 -- ---- what is kept of a lookup
 

@@ -17,7 +17,7 @@ use Rattle.schema_plan.specs.Layout.{column_at, key_kind, layout_of}
 use Rattle.schema_plan.specs.Limits.{IsInLimits, IsTableInLimits}
 use Rattle.schema_plan.specs.TableFacts.{max_line}
 use Rattle.draw_values.specs.declared.runs.RunRows.{RunRows}
-use Rattle.draw_values.specs.Runs.{AreColumnsOf, IsRunColumn, RunColumnOf, run_row, run_text}
+use Rattle.draw_values.specs.Runs.{AreColumnsOf, IsRunColumn, RunColumnOf, run_row, run_field}
 use Rattle.draw_values.specs.Values.{size_at, value_at}
 use Rattle.life_intervals.specs.CohortParents.{IsReferenceOf, reference_by}
 use Rattle.life_intervals.specs.Generator.{generator_of, last_unit, table_of}
@@ -71,7 +71,7 @@ short-drawn plan table column (kind.Lookup lookup) short no_key no_reference no_
 
 pub made-drawn : (lines : RunLinesOf) (rows : RunRows) (column : ℕ) (run : RunColumnOf) (pieces : List Piece) → lines.table < length lines.plan.schema.tables → AreRowsOf lines rows →
     run ≡ column_of lines.plan lines.table column → run.short ≡ true →
-    ((i : ℕ) → i < length rows.ordinals.now → piece_text_at pieces i ≡ run_text lines.plan run rows i) →
+    ((i : ℕ) → i < length rows.ordinals.now → piece_text_at pieces i ≡ run_field lines.plan run rows i) →
     ((i : ℕ) → i < length rows.ordinals.now → length (field_text (layout_of lines.plan).delimiter (value_at (layout_of lines.plan) run.table run.column (run_row rows i))) ≤ size_at (layout_of lines.plan) run.table run.column) →
     AreMade lines rows.ordinals.now pieces 0 column
 made-drawn lines rows column run pieces below are is short text size =
@@ -83,7 +83,7 @@ made-drawn lines rows column run pieces below are is short text size =
     record {
       text = λ i inside.
           let begun : 0 + i ≡ i = omega arith in
-          ap (piece_text_at pieces) begun ∙ text i inside ∙ ap (λ (of : RunColumnOf). run_text lines.plan of rows i) is
+          ap (piece_text_at pieces) begun ∙ text i inside ∙ ap (λ (of : RunColumnOf). run_field lines.plan of rows i) is
           ∙ ap (λ (t : List ℕ). t ++ behind_of lines.plan lines.table column ∷ []) (written i inside);
       size = λ i inside.
           subst (λ (t : List ℕ). length t ≤ size_for lines column) (written i inside)

@@ -1,11 +1,10 @@
 -- What lookups show of parents.
-use Rattle.std.specs.Prelude.{◌≡◌, ◌<◌, ℕ, List, false, length}
+use Rattle.std.specs.Prelude.{◌≡◌, ◌<◌, ℕ, List, length}
 use Rattle.row_text.specs.Fields.{field_text}
 use Rattle.schema_plan.specs.declared.ready.ReadyKind.TheVariants as kind
 use Rattle.schema_plan.specs.declared.ready.ReadyLookup.{ReadyLookup}
 use Rattle.schema_plan.specs.Dictionaries.{Project}
-use Rattle.schema_plan.specs.Layout.{TableLayout, column_at, layout_of}
-use Rattle.schema_plan.specs.Limits.{is_lookup_kind, moves}
+use Rattle.schema_plan.specs.Layout.{column_at, layout_of}
 use Rattle.schema_plan.specs.Ready.{ready_kind}
 use Rattle.life_intervals.specs.Generator.{generator_of}
 use Rattle.life_intervals.specs.Intervals.{row_at}
@@ -17,13 +16,7 @@ pub record IsLookupOf (lines : LinesOf) (column : ℕ) (lookup : ReadyLookup) : 
   pub within : column < length (layout_for lines).columns
   pub is : ready_kind (layout_of lines.plan).delimiter (column_at (layout_for lines).columns column).kind ≡ kind.Lookup lookup
 
--- a column that may be looked up: it doesn't move and is no lookup
-pub record IsStillColumn (table : TableLayout) (column : ℕ) : Type 0 where
-  pub within : column < length table.columns
-  pub still : moves (column_at table.columns column) ≡ false
-  pub no_lookup : is_lookup_kind (column_at table.columns column).kind ≡ false
-
--- what the row of an ordinal that is born by a unit holds then in such a column, as it is written
+-- what the row of an ordinal that is born by a unit holds then in a column that may be looked up, as it is written
 abbrev pub text_held : Project → ℕ → ℕ → ℕ → ℕ → List ℕ
 text_held plan table unit ordinal column =
     field_text (layout_of plan).delimiter

@@ -48,6 +48,6 @@ abbrev pub part_asked : Bool → LinesOf → ReadyPart → ℕ
 part_asked known lines (part.Literal bytes) = 0
 part_asked known lines (part.Cited column) = cited_asked known lines column
 
-abbrev pub IsPartOf : LinesOf → ReadyPart → Type 0
-IsPartOf lines (part.Literal bytes) = ⊤
-IsPartOf lines (part.Cited column) = IsCitable lines column
+abbrev pub IsPartOfTemplate : LinesOf → ReadyPart → Type 0
+IsPartOfTemplate lines (part.Literal bytes) = ⊤
+IsPartOfTemplate lines (part.Cited column) = IsCitable lines column

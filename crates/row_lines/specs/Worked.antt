@@ -5,17 +5,17 @@ use Rattle.life_intervals.specs.Generator.{Order, Draw, in_place, Generator}
 use Rattle.life_intervals.specs.Rows.{Row}
 
 -- a column that neither changes nor is null
-abbrev pub plain : KindLayout → ColumnLayout
-plain kind = record { kind = kind; changes = false; null = 0 }
+abbrev pub plain_column : KindLayout → ColumnLayout
+plain_column kind = record { kind = kind; changes = false; null = 0 }
 
 -- a table of keys from a base and birth units, as many columns of these as are given
-abbrev pub table : ℕ → ℕ → ℕ → Bool → List ColumnLayout → TableLayout
-table rows insert base scramble births = record {
+abbrev pub keyed_table : ℕ → ℕ → ℕ → Bool → List ColumnLayout → TableLayout
+keyed_table rows insert base scramble births = record {
   births = record { rows = rows; rates = record { from = 1; rows = insert } ∷ [] };
   life = None;
   update = None;
   key = record { base = base; scramble = scramble };
-  columns = plain key_kind ∷ births;
+  columns = plain_column key_kind ∷ births;
 }
 
 -- nothing is drawn
@@ -25,7 +25,7 @@ no_draw table column unit ordinal number = 0
 -- one table, with a row at each unit: its key, counted from 1, and its birth unit; tabs between
 abbrev pub one : Generator
 one = record {
-  tables = table 1 1 1 false (plain born_kind ∷ []) ∷ [];
+  tables = keyed_table 1 1 1 false (plain_column born_kind ∷ []) ∷ [];
   order = in_place;
   draw = no_draw;
   delimiter = 9;
@@ -39,7 +39,7 @@ swapped table purpose unit index = 1 - index
 -- at unit 0 alone, with keys in place; bars between
 abbrev pub pairs : Generator
 pairs = record {
-  tables = table 0 2 10 true (plain born_kind ∷ plain born_kind ∷ []) ∷ table 2 0 0 false [] ∷ [];
+  tables = keyed_table 0 2 10 true (plain_column born_kind ∷ plain_column born_kind ∷ []) ∷ keyed_table 2 0 0 false [] ∷ [];
   order = swapped;
   draw = no_draw;
   delimiter = 124;
@@ -53,11 +53,11 @@ nulled kind = record { kind = kind; changes = false; null = 1 }
 -- null, one of a tab and a backslash, one of two keys, and one that is null itself; tabs between
 abbrev pub labels : Generator
 labels = record {
-  tables = table 1 1 1 false (nulled born_kind
-      ∷ plain (template_kind (literal_part (codes "r") ∷ cited_part 0 ∷ literal_part (codes "!") ∷ []))
-      ∷ plain (template_kind (literal_part (codes "[") ∷ cited_part 1 ∷ literal_part (codes "]") ∷ []))
-      ∷ plain (template_kind (literal_part (codes "a\tb\\") ∷ []))
-      ∷ plain (template_kind (cited_part 0 ∷ cited_part 0 ∷ []))
+  tables = keyed_table 1 1 1 false (nulled born_kind
+      ∷ plain_column (template_kind (literal_part (codes "r") ∷ cited_part 0 ∷ literal_part (codes "!") ∷ []))
+      ∷ plain_column (template_kind (literal_part (codes "[") ∷ cited_part 1 ∷ literal_part (codes "]") ∷ []))
+      ∷ plain_column (template_kind (literal_part (codes "a\tb\\") ∷ []))
+      ∷ plain_column (template_kind (cited_part 0 ∷ cited_part 0 ∷ []))
       ∷ nulled (template_kind (cited_part 0 ∷ [])) ∷ []) ∷ [];
   order = in_place;
   draw = no_draw;
@@ -68,8 +68,8 @@ labels = record {
 -- counted from 1, the city that is born with it, and of that the birth, the template and the key, which is null; tabs between
 abbrev pub land : Generator
 land = record {
-  tables = table 1 1 5 false (plain (template_kind (literal_part (codes "c") ∷ cited_part 0 ∷ [])) ∷ plain born_kind ∷ [])
-      ∷ table 1 1 1 false (plain (reference_kind 0 (Some 0) (1 ∷ []) false) ∷ plain (lookup_kind 1 0 2) ∷ plain (lookup_kind 1 0 1)
+  tables = keyed_table 1 1 5 false (plain_column (template_kind (literal_part (codes "c") ∷ cited_part 0 ∷ [])) ∷ plain_column born_kind ∷ [])
+      ∷ keyed_table 1 1 1 false (plain_column (reference_kind 0 (Some 0) (1 ∷ []) false) ∷ plain_column (lookup_kind 1 0 2) ∷ plain_column (lookup_kind 1 0 1)
       ∷ nulled (lookup_kind 1 0 0) ∷ []) ∷ [];
   order = in_place;
   draw = no_draw;
@@ -80,9 +80,9 @@ land = record {
 -- the owner; tabs between
 abbrev pub owned : Generator
 owned = record {
-  tables = record (table 1 1 1 false []) { life = Some (record { least = 2; most = 2 }) }
-      ∷ table 1 1 1 false (plain (reference_kind 0 (Some 0) (1 ∷ []) true) ∷ plain changed_kind
-      ∷ plain (template_kind (literal_part (codes "of ") ∷ cited_part 1 ∷ [])) ∷ []) ∷ [];
+  tables = record (keyed_table 1 1 1 false []) { life = Some (record { least = 2; most = 2 }) }
+      ∷ keyed_table 1 1 1 false (plain_column (reference_kind 0 (Some 0) (1 ∷ []) true) ∷ plain_column changed_kind
+      ∷ plain_column (template_kind (literal_part (codes "of ") ∷ cited_part 1 ∷ [])) ∷ []) ∷ [];
   order = in_place;
   draw = no_draw;
   delimiter = 9;

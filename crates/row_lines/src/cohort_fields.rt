@@ -13,7 +13,7 @@ ghost use Rattle.life_intervals.specs.CohortParents.{IsReferenceOf, held_cost, r
 ghost use Rattle.life_intervals.specs.Found.{IsFound};
 ghost use Rattle.life_intervals.specs.Generator.{last_unit, table_of};
 ghost use Rattle.row_lines.specs.CohortLines.{asked_for, held_key_for, key_for, layout_for, ordinal_of, parent_for, reference_value, size_for, text_in_table, values_at};
-ghost use Rattle.row_lines.specs.Parts.{IsCitable, IsPartOf, cited_asked, cited_size, cited_text, part_asked, part_size, written_part};
+ghost use Rattle.row_lines.specs.Parts.{IsCitable, IsPartOfTemplate, cited_asked, cited_size, cited_text, part_asked, part_size, written_part};
 
 use draw_values::{CohortValues, Put};
 use life_intervals::{FoundRow, Rows, cohort};
@@ -279,7 +279,7 @@ impl<'a> CohortFields<'a> {
         buf: &mut PageBuf,
         steps: &mut Steps<L>,
     )
-        requires parts { All (IsPartOf self.now) parts.now }
+        requires parts { All (IsPartOfTemplate self.now) parts.now }
         requires row { index < cohort_size (layout_for self.now).births self.now.born }
         requires values { values.now ≡ values_at self.now values.now.changed }
         requires key { IfSome key (λ k. k ≡ key_for self.now index) }
@@ -304,7 +304,7 @@ impl<'a> CohortFields<'a> {
         buf: &mut PageBuf,
         steps: &mut Steps<L>,
     )
-        requires part { IsPartOf self.now part.now }
+        requires part { IsPartOfTemplate self.now part.now }
         requires row { index < cohort_size (layout_for self.now).births self.now.born }
         requires values { values.now ≡ values_at self.now values.now.changed }
         requires key { IfSome key (λ k. k ≡ key_for self.now index) }

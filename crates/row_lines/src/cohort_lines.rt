@@ -7,6 +7,7 @@ ghost use Rattle.line_pages.specs.Rows.{piece_text_at};
 ghost use Rattle.cohort_sizes.specs.Births.{birth, born_count, cohort_size};
 ghost use Rattle.schema_plan.specs.FieldBounds.{bounds_at};
 ghost use Rattle.schema_plan.specs.Layout.{layout_of};
+ghost use Rattle.schema_plan.specs.Limits.{IsStillColumn};
 ghost use Rattle.schema_plan.specs.Lineage.{one_if};
 ghost use Rattle.schema_plan.specs.TableFacts.{line_cost, max_line};
 ghost use Rattle.draw_values.specs.UnitDraws.{unit_draws};
@@ -14,9 +15,9 @@ ghost use Rattle.life_intervals.specs.CohortParents.{asked_for_change};
 ghost use Rattle.life_intervals.specs.Generator.{last_unit, table_of};
 ghost use Rattle.row_lines.specs.CohortLines.{asked_for, asked_for_line, asked_where, change_for, is_live_for, key_for, layout_for, line_in_cohort, size_for, text_in_cohort, values_at};
 ghost use Rattle.row_lines.specs.TableLines.{behind_of};
-ghost use Rattle.row_lines.specs.Lookups.{IsLookupOf, IsStillColumn, text_held};
+ghost use Rattle.row_lines.specs.Lookups.{IsLookupOf, text_held};
 
-use crate::bytes::{byte_behind, delimiter_byte};
+use crate::bytes::byte_behind;
 use crate::cohort_fields::CohortFields;
 use draw_values::{CohortValues, UnitDraws};
 use life_intervals::{Rows, birth, cohort};
@@ -58,6 +59,7 @@ impl<'a> CohortLines<'a> {
         ensures { result ≡ record { plan = rows.now; table = table; born = born; unit = unit } }
     {
         let plan = rows.plan();
+        let _sound = plan.schema(); // and the lookups among its columns are
         CohortLines {
             rows,
             place: table,
@@ -65,7 +67,7 @@ impl<'a> CohortLines<'a> {
             unit,
             fields: CohortFields::new(rows, table, born, unit),
             columns: plan.columns(table),
-            delimiter: delimiter_byte(plan.schema().delimiter),
+            delimiter: plan.delimiter(),
         }
     }
 

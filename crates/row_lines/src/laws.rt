@@ -7,7 +7,7 @@
 
 ghost use Rattle.std.specs.Prelude.{◌≡◌, ℕ, ◌+◌, ◌<◌, ◌≤◌, ◌++◌, [], List, None, Some, codes, decimal, flat_map, if◌then◌else◌, false, length, true, unwrap_or};
 ghost use Rattle.std.specs.Option.{option_and_then, option_map};
-ghost use Rattle.row_text.specs.Fields.{field_text, piece_text};
+ghost use Rattle.row_text.specs.Fields.{field_text, escaped_text};
 ghost use Rattle.cohort_sizes.specs.Births.{born_count, cohort_size, first_ordinal};
 ghost use Rattle.schema_plan.specs.Layout.{LeafLayout, PartLayout, born_kind, changed_kind, cited_part, column_at, key_kind, leaf_kind, literal_part, lookup_kind, table_at, template_kind};
 ghost use Rattle.schema_plan.specs.Limits.{is_cited, is_lookup_kind};
@@ -134,8 +134,8 @@ pub fn fields_of_a_row()
 /// A template is escaped once: what is written for it is what is written for its parts, one after the other.
 pub fn templates_are_written_part_by_part()
     ensures { (generator : Generator) (place : ℕ) (row : Row) (parts : List PartLayout) →
-        piece_text generator.delimiter (flat_map (part_text generator place row) parts)
-        ≡ flat_map (λ part. piece_text generator.delimiter (part_text generator place row part)) parts }
+        escaped_text generator.delimiter (flat_map (part_text generator place row) parts)
+        ≡ flat_map (λ part. escaped_text generator.delimiter (part_text generator place row part)) parts }
 {}
 
 /// The key line of a row is the key's field, as it is written, and a line feed, at any unit by which the row is born.

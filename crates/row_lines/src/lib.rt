@@ -26,6 +26,6 @@ pub use cohort_lines::CohortLines;
 pub use reports::row_report;
 pub use rows::{live, put_key, put_line};
 pub use run_buf::RunBuf;
-pub use run_keys::put_keys;
+pub use run_keys::{KEY_LINE, put_keys};
 pub use runs::RunLines;
 pub use table_lines::TableLines;

@@ -8,6 +8,7 @@ ghost use Rattle.schema_plan.specs.TableFacts.{cost, line_cost, max_line};
 ghost use Rattle.life_intervals.specs.Generator.{generator_of, last_unit, rows_in_all, table_of};
 ghost use Rattle.life_intervals.specs.Intervals.{is_after, is_live, row_at};
 ghost use Rattle.life_intervals.specs.Keys.{key_of};
+ghost use Rattle.row_lines.specs.declared.run_keys.TheConstants.{KEY_LINE};
 ghost use Rattle.row_lines.specs.Reports.{gone_at, gone_text, held_text, report_on, row_report, state_text};
 
 use crate::cohort_lines::CohortLines;
@@ -102,9 +103,9 @@ fn is_held(born: u64, gone: Option<u64>, t: u64) -> bool
 
 /// Appends a line of a label and a number.
 fn put_number_line(buf: &mut PageBuf, label: &[u8], number: u64)
-    requires { length buf.old.text + (length label.now + 21) ≤ buf.old.room }
+    requires { length buf.old.text + (length label.now + KEY_LINE) ≤ buf.old.room }
     ensures text { buf.new ≡ record buf.old { text = buf.old.text ++ (label.now ++ decimal number ++ codes "\n") } }
-    ensures size { length (label.now ++ decimal number ++ codes "\n") ≤ length label.now + 21 }
+    ensures size { length (label.now ++ decimal number ++ codes "\n") ≤ length label.now + KEY_LINE }
 {
     buf.put(label);
     buf.put_number(number);

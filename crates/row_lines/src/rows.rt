@@ -8,6 +8,7 @@ ghost use Rattle.schema_plan.specs.TableFacts.{line_cost, max_line};
 ghost use Rattle.life_intervals.specs.Generator.{generator_of, last_unit, rows_in_all, table_of};
 ghost use Rattle.life_intervals.specs.Intervals.{is_live};
 ghost use Rattle.life_intervals.specs.Simulation.{holds_row, rows_at};
+ghost use Rattle.row_lines.specs.declared.run_keys.TheConstants.{KEY_LINE};
 ghost use Rattle.row_lines.specs.Lines.{key_line_of, line_of};
 
 use crate::cohort_lines::CohortLines;
@@ -62,14 +63,14 @@ pub fn put_line<L: Ledger>(
     CohortLines::new(&rows, table, born, t).put_line(index, buf, steps);
 }
 
-/// Appends the key line of the row of ordinal `j`: its key and a line feed, for which 21 bytes have to be free. It takes
+/// Appends the key line of the row of ordinal `j`: its key and a line feed, for which `KEY_LINE` bytes have to be free. It takes
 /// one step where the keys are scrambled, else none.
 pub fn put_key<L: Ledger>(plan: &Plan, table: u32, j: u64, buf: &mut PageBuf, steps: &mut Steps<L>)
     requires table { table < length plan.now.schema.tables }
     requires row { j < rows_in_all plan.now table }
-    requires room { length buf.old.text + 21 ≤ buf.old.room }
+    requires room { length buf.old.text + KEY_LINE ≤ buf.old.room }
     ensures line { buf.new ≡ record buf.old { text = buf.old.text ++ key_line_of (generator_of plan.now) (last_unit plan.now) table j } }
-    ensures size { length (key_line_of (generator_of plan.now) (last_unit plan.now) table j) ≤ 21 }
+    ensures size { length (key_line_of (generator_of plan.now) (last_unit plan.now) table j) ≤ KEY_LINE }
     ensures steps { steps.new ≡ steps.old + one_if (table_of plan.now table).key.scramble }
 {
     buf.put_number(key(plan, table, j, steps));

@@ -13,7 +13,10 @@ use line_pages::{Digits, PageBuf, Piece};
 use std::sync::ledger::Ledger;
 use step_count::Steps;
 
-/// Appends the key lines of the rows of these ordinals, of the units 0 to the last. For each 21 bytes have to be free. Each takes one
+/// The size of the longest key line: a number of 20 digits and a line feed.
+pub const KEY_LINE: usize = 21;
+
+/// Appends the key lines of the rows of these ordinals, of the units 0 to the last. For each `KEY_LINE` bytes have to be free. Each takes one
 /// step where the keys are scrambled, else none.
 pub fn put_keys<L: Ledger>(
     rows: &Rows<'_>,
@@ -26,9 +29,9 @@ pub fn put_keys<L: Ledger>(
 )
     requires table { table < length rows.now.schema.tables }
     requires rows { (i : ℕ) → i < length ordinals.now → get_or ordinals.now i 0 < rows_in_all rows.now table }
-    requires room { length page.old.text + length ordinals.now * 21 ≤ page.old.room }
+    requires room { length page.old.text + length ordinals.now * KEY_LINE ≤ page.old.room }
     ensures text { page.new ≡ record page.old { text = page.old.text ++ keys_text rows.now table ordinals.now } }
-    ensures size { length (keys_text rows.now table ordinals.now) ≤ length ordinals.now * 21 }
+    ensures size { length (keys_text rows.now table ordinals.now) ≤ length ordinals.now * KEY_LINE }
     ensures steps { steps.new ≡ steps.old + length ordinals.now * one_if (table_of rows.now table).key.scramble }
 {
     let mut done = 0;
@@ -53,9 +56,9 @@ fn put_few_keys<L: Ledger>(
     requires table { table < length rows.now.schema.tables }
     requires few { length ordinals.now ≤ MOST_ROWS }
     requires rows { (i : ℕ) → i < length ordinals.now → get_or ordinals.now i 0 < rows_in_all rows.now table }
-    requires room { length page.old.text + length ordinals.now * 21 ≤ page.old.room }
+    requires room { length page.old.text + length ordinals.now * KEY_LINE ≤ page.old.room }
     ensures text { page.new ≡ record page.old { text = page.old.text ++ keys_text rows.now table ordinals.now } }
-    ensures size { length (keys_text rows.now table ordinals.now) ≤ length ordinals.now * 21 }
+    ensures size { length (keys_text rows.now table ordinals.now) ≤ length ordinals.now * KEY_LINE }
     ensures steps { steps.new ≡ steps.old + length ordinals.now * one_if (table_of rows.now table).key.scramble }
 {
     let plan = rows.plan();
@@ -79,7 +82,7 @@ fn put_few_keys<L: Ledger>(
 
 /// Appends a line for each key.
 fn put_long_keys(keys: &[u64], page: &mut PageBuf)
-    requires { length page.old.text + length keys.now * 21 ≤ page.old.room }
+    requires { length page.old.text + length keys.now * KEY_LINE ≤ page.old.room }
     ensures { page.new ≡ record page.old { text = page.old.text ++ flat_map (λ key. decimal key ++ codes "\n") keys.now } }
 {
     for key in keys {

@@ -1,5 +1,5 @@
-use Rattle.draw_values.proofs.CharacterLemmas.{piece_text-drawn_words}
+use Rattle.draw_values.proofs.CharacterLemmas.{escaped_text-drawn_words}
 use Rattle.draw_values.proofs.laws.words_are_written_one_by_one.Goals as goal
 
 pub returns : goal.returns
-returns c = piece_text-drawn_words
+returns c = escaped_text-drawn_words

@@ -1,7 +1,7 @@
 use Rattle.std.proofs.Common.{◌∷◌, ◌++◌, [], ap, ◌∙◌}
 use Rattle.life_intervals.specs.declared.window.Window.{Window}
 use Rattle.life_intervals.specs.CohortParents.{window_by}
-use Rattle.life_intervals.proofs.KeptLemmas.{IsKept-all, kept-more}
+use Rattle.life_intervals.proofs.KeptLemmas.{IsKeptByUnit-all, kept-more}
 use Rattle.life_intervals.proofs.kept.windows_of.Goals as goal
 
 pub loop-unit-preserved : goal.loop-unit-preserved
@@ -10,4 +10,4 @@ loop-unit-preserved c =
     (c.in_ok-push.ensures.items ∙ ap (λ (w : Window). c.loop-unit.windows.items ++ w ∷ []) c.of_cohort.ensures)
 
 pub returns : goal.returns
-returns c = IsKept-all (window_by c.args.plan.now c.args.reference.now) c.loop-unit.windows.items c.loop-unit.unit c.loop-unit.invariant
+returns c = IsKeptByUnit-all (window_by c.args.plan.now c.args.reference.now) c.loop-unit.windows.items c.loop-unit.unit c.loop-unit.invariant

@@ -1,7 +1,8 @@
 use Rattle.std.proofs.Common.{refl}
 use Rattle.row_lines.proofs.FieldLemmas.{draws_of-born, draws_of-changed, field-born, field-changed, field-drawn, field-key, field-template, part_text-cited}
 use Rattle.row_lines.proofs.LookupLemmas.{lookup-field}
-use Rattle.row_lines.proofs.ReferenceFieldLemmas.{field-reference, held_parent-cascades}
+use Rattle.life_intervals.proofs.HeldParentLemmas.{held_parent-cascades}
+use Rattle.row_lines.proofs.ReferenceFieldLemmas.{field-reference}
 use Rattle.row_lines.proofs.laws.fields_of_a_row.Goals as goal
 
 pub returns : goal.returns

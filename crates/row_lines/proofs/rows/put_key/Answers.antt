@@ -2,7 +2,7 @@ use Rattle.std.proofs.Common.{◌≡◌, ◌++◌, ◌<◌, ◌^◌, ℕ, List, 
 use Rattle.line_pages.specs.Pages.{Page}
 use Rattle.line_pages.specs.Pieces.{piece_text}
 use Rattle.row_text.specs.Fields.{field_text}
-use Rattle.row_text.proofs.DigitLemmas.{piece_text-decimal}
+use Rattle.row_text.proofs.DigitLemmas.{escaped_text-decimal}
 use Rattle.life_intervals.specs.Generator.{Generator, generator_of, last_unit}
 use Rattle.life_intervals.specs.Keys.{key_of}
 use Rattle.row_lines.proofs.FieldLemmas.{length-decimal-le_20}
@@ -29,7 +29,7 @@ written generator last table j = field_text generator.delimiter (Some (decimal (
 
 written-key : (generator : Generator) (last table j key : ℕ) → key ≡ key_of generator table last j → key < 2 ^ 64 → decimal key ≡ written generator last table j
 written-key generator last table j key is small =
-    sym (piece_text-decimal generator.delimiter key small) ∙ ap (λ (k : ℕ). field_text generator.delimiter (Some (decimal k))) is
+    sym (escaped_text-decimal generator.delimiter key small) ∙ ap (λ (k : ℕ). field_text generator.delimiter (Some (decimal k))) is
 
 pub returns-clause-line : goal.returns-clause-line
 returns-clause-line g c =

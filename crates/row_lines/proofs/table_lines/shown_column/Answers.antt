@@ -25,4 +25,4 @@ new-requires-clause-table c =
 pub new-requires-clause-column : goal.new-requires-clause-column
 new-requires-clause-column c =
     let here = (goal.at.new-requires-clause-column c).In-Lookup in
-    (is_lookup _ c.schema-limits.ensures.limits c.requires.table c.args.column c.in-Lookup.lookup (lookup_is here)).within
+    (is_lookup _ c.schema-limits.ensures.limits c.requires.table c.args.column c.in-Lookup.lookup (lookup_is here)).looked_up.within

@@ -1,9 +1,9 @@
 use Rattle.std.proofs.Common.{◌≡◌, ℕ, ◌++◌, List, decimal, option_map, ap, ◌∙◌, arith}
-use Rattle.row_text.specs.Fields.{piece_text as written_text}
+use Rattle.row_text.specs.Fields.{escaped_text as written_text}
 use Rattle.schema_plan.specs.Layout.{layout_of}
 use Rattle.draw_values.specs.CohortValues.{AreValuesOf, ValuesOf, row_for, value_for}
 use Rattle.draw_values.specs.ReadyValues.{ready_field, ready_kind_size, row_draws}
-use Rattle.draw_values.specs.WrittenUnits.{units_at}
+use Rattle.draw_values.proofs.RowUnits.{units_at}
 use Rattle.draw_values.proofs.CohortLemmas.{AreValuesOf-view}
 use Rattle.draw_values.proofs.FieldLemmas.{IsKeptField, field_is_ready, kept_field, length-field_text, put_of-written, size_at-kept, unwrap_or-written, value_at-kept}
 use Rattle.draw_values.proofs.cohort_values.CohortValues.put.Goals as goal

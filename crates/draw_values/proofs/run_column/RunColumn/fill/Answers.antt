@@ -6,7 +6,7 @@ use Rattle.schema_plan.specs.Limits.{IsTableInLimits}
 use Rattle.schema_plan.specs.Ready.{ready_columns}
 use Rattle.draw_values.specs.Runs.{IsReadyDrawn, RunColumnOf, is_short, ready_at}
 use Rattle.draw_values.proofs.FieldLemmas.{IsKeptField}
-use Rattle.draw_values.proofs.RunLemmas.{drawn_is_ready, kept_short, own_ready, run_text-filled, run_text_size}
+use Rattle.draw_values.proofs.RunLemmas.{drawn_is_ready, kept_short, own_ready, run_field-filled, run_text_size}
 use Rattle.draw_values.proofs.run_column.RunColumn.fill.Goals as goal
 use Rattle.draw_values.proofs.run_column.RunColumn.fill.Goals.{After-index-columns-self}
 
@@ -47,7 +47,7 @@ fill_values-requires-clause-ready c =
 pub returns-clause-text : goal.returns-clause-text
 returns-clause-text c = λ i within.
     let at : After-index-columns-self = (goal.at.returns-clause-text c).After-index-columns-self in
-    run_text-filled c.args.plan.now c.args.self.now c.index-columns-self.result c.args.rows i (get_or (map piece_text c.fill_values.new.pieces) i []) (get_or (map piece_text c.null_ready.new.pieces) i [])
+    run_field-filled c.args.plan.now c.args.self.now c.index-columns-self.result c.args.rows i (get_or (map piece_text c.fill_values.new.pieces) i []) (get_or (map piece_text c.null_ready.new.pieces) i [])
     c.requires.column (kept at) (own_is at) (short at) (c.fill_values.ensures i within) (c.null_ready.ensures i (omega (arith, c.fill_values.auto.pieces)))
 
 pub returns-clause-size : goal.returns-clause-size

@@ -1,10 +1,10 @@
 use Rattle.life_intervals.specs.CohortOrders.{parent_order}
 use Rattle.life_intervals.specs.CohortParents.{window_by}
-use Rattle.life_intervals.proofs.KeptLemmas.{IsKept-none}
+use Rattle.life_intervals.proofs.KeptLemmas.{IsKeptByUnit-none}
 use Rattle.life_intervals.proofs.kept.ParentOrders.none.Goals as goal
 
 pub returns-clause-kept : goal.returns-clause-kept
 returns-clause-kept c = λ plan table column. record {
-  orders = IsKept-none (parent_order plan table column) _ c.new.ensures.none;
-  windows = λ reference of. IsKept-none (window_by plan reference) _ c.new-2.ensures.items;
+  orders = IsKeptByUnit-none (parent_order plan table column) _ c.new.ensures.none;
+  windows = λ reference of. IsKeptByUnit-none (window_by plan reference) _ c.new-2.ensures.items;
 }

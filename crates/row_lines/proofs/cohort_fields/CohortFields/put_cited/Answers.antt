@@ -5,7 +5,7 @@ use Rattle.schema_plan.specs.declared.ready.ReadyKind.TheVariants.{Key, Referenc
 use Rattle.schema_plan.specs.declared.ready.ReadyReference.{ReadyReference}
 use Rattle.schema_plan.specs.Ready.{ready_column}
 use Rattle.life_intervals.specs.CohortParents.{IsReferenceOf, reference_by}
-use Rattle.draw_values.specs.CohortValues.{ValuesOf, layout_for as layout_of_values, size_for, value_for}
+use Rattle.draw_values.specs.CohortValues.{ValuesOf, table_for as layout_of_values, value_size_for, value_for}
 use Rattle.draw_values.specs.Values.{is_own, written}
 use Rattle.row_lines.specs.CohortLines.{AreFieldsOf, LinesOf, key_for, layout_for, ordinal_of, reference_value}
 use Rattle.row_lines.specs.Parts.{cited_for, cited_size, cited_text}
@@ -82,8 +82,8 @@ put-requires-clause-own g c =
 pub put-requires-clause-room : goal.put-requires-clause-room
 put-requires-clause-room g c =
     let here = known g (goal.at.put-requires-clause-room g c).After-index-columns-column in
-    let taken : size_for c.args.values.now c.args.column ≡ cited_size c.args.self.now c.args.column =
-    ap (λ (of : ValuesOf). size_for of c.args.column) c.requires.values ∙ size_for-cited c.args.self.now c.args.column c.requires.column in
+    let taken : value_size_for c.args.values.now c.args.column ≡ cited_size c.args.self.now c.args.column =
+    ap (λ (of : ValuesOf). value_size_for of c.args.column) c.requires.values ∙ size_for-cited c.args.self.now c.args.column c.requires.column in
     omega (arith, taken, c.requires.room)
 
 -- what is put is what the column holds
@@ -112,8 +112,8 @@ pub returns-in_default-clause-size : goal.returns-in_default-clause-size
 returns-in_default-clause-size g c =
     let here = (goal.at.returns-in_default-clause-size g c).After-index-columns-column in
     let value = value_for c.args.values.now c.args.column c.ordinal.result in
-    let taken : size_for c.args.values.now c.args.column ≡ cited_size c.args.self.now c.args.column =
-    ap (λ (of : ValuesOf). size_for of c.args.column) c.requires.values ∙ size_for-cited c.args.self.now c.args.column c.requires.column in
+    let taken : value_size_for c.args.values.now c.args.column ≡ cited_size c.args.self.now c.args.column =
+    ap (λ (of : ValuesOf). value_size_for of c.args.column) c.requires.values ∙ size_for-cited c.args.self.now c.args.column c.requires.column in
     let is = text_is_own g here c.ordinal.result c.ordinal.ensures.ordinal (λ key. c.in_default.not-Key (ap (λ (column : ReadyColumn). column.kind) (sym c.index-columns-column.is) ∙ key)) (λ reference held. c.in_default.not-Reference reference (ap (λ (column : ReadyColumn). column.kind) (sym c.index-columns-column.is) ∙ held)) in
     omega (
       arith,

@@ -3,7 +3,7 @@ use Rattle.std.proofs.lemmas.List.{append-nil}
 use Rattle.line_pages.specs.Pages.{Page}
 use Rattle.row_text.specs.Fields.{field_text}
 use Rattle.schema_plan.specs.Layout.{layout_of}
-use Rattle.draw_values.specs.CohortValues.{ValuesOf, size_for, value_for}
+use Rattle.draw_values.specs.CohortValues.{ValuesOf, value_size_for, value_for}
 use Rattle.draw_values.specs.Values.{written}
 use Rattle.row_lines.specs.CohortLines.{LinesOf, text_in_table, values_at}
 use Rattle.row_lines.proofs.CohortFieldLemmas.{field_text-null, text-own, written-null, written-text}
@@ -32,9 +32,9 @@ returns-in-Text-clause-size c =
     let ordinal : ℕ = c.ordinal.result in
     let value = value_for c.args.values.now c.args.column ordinal in
     let is = text-own lines c.args.values.now c.args.column c.args.index c.args.values.now.changed ordinal c.requires.values c.ordinal.ensures.ordinal c.requires.own c.ordinal.ensures.early c.requires.row in
-    let size : length (field_text (layout_of lines.plan).delimiter value) ≤ size_for (values_at lines c.args.values.now.changed) c.args.column =
-    subst (λ (of : ValuesOf). length (field_text (layout_of of.plan).delimiter value) ≤ size_for of c.args.column) c.requires.values c.put.ensures.size in
-    subst (λ (text : List ℕ). length text ≤ size_for (values_at lines c.args.values.now.changed) c.args.column) (sym is) size
+    let size : length (field_text (layout_of lines.plan).delimiter value) ≤ value_size_for (values_at lines c.args.values.now.changed) c.args.column =
+    subst (λ (of : ValuesOf). length (field_text (layout_of of.plan).delimiter value) ≤ value_size_for of c.args.column) c.requires.values c.put.ensures.size in
+    subst (λ (text : List ℕ). length text ≤ value_size_for (values_at lines c.args.values.now.changed) c.args.column) (sym is) size
 
 -- a null field is written as such
 text_is_null : (c : goal.After-put_null) → text_in_table c.args.self.now c.args.index c.args.values.now.changed c.args.column ≡ codes "\\N"
@@ -62,6 +62,6 @@ returns-in-Null-clause-size c =
     let ordinal : ℕ = c.ordinal.result in
     let value = value_for c.args.values.now c.args.column ordinal in
     let is = text-own lines c.args.values.now c.args.column c.args.index c.args.values.now.changed ordinal c.requires.values c.ordinal.ensures.ordinal c.requires.own c.ordinal.ensures.early c.requires.row in
-    let size : length (field_text (layout_of lines.plan).delimiter value) ≤ size_for (values_at lines c.args.values.now.changed) c.args.column =
-    subst (λ (of : ValuesOf). length (field_text (layout_of of.plan).delimiter value) ≤ size_for of c.args.column) c.requires.values c.put.ensures.size in
-    subst (λ (text : List ℕ). length text ≤ size_for (values_at lines c.args.values.now.changed) c.args.column) (sym is) size
+    let size : length (field_text (layout_of lines.plan).delimiter value) ≤ value_size_for (values_at lines c.args.values.now.changed) c.args.column =
+    subst (λ (of : ValuesOf). length (field_text (layout_of of.plan).delimiter value) ≤ value_size_for of c.args.column) c.requires.values c.put.ensures.size in
+    subst (λ (text : List ℕ). length text ≤ value_size_for (values_at lines c.args.values.now.changed) c.args.column) (sym is) size

@@ -1,7 +1,7 @@
 use Rattle.std.proofs.Common.{◌≡◌, ◌++◌, ℕ, List, Option, Some, ap, arith, sym, ◌∙◌, decimal, length}
 use Rattle.std.specs.Option.{option_map}
 use Rattle.row_text.specs.Fields.{field_text}
-use Rattle.row_text.proofs.DigitLemmas.{piece_text-decimal}
+use Rattle.row_text.proofs.DigitLemmas.{escaped_text-decimal}
 use Rattle.schema_plan.specs.Layout.{layout_of}
 use Rattle.draw_values.specs.Values.{written}
 use Rattle.life_intervals.specs.CohortParents.{reference_by}
@@ -21,7 +21,7 @@ pub returns-in-Some-clause-text : goal.returns-in-Some-clause-text
 returns-in-Some-clause-text g c =
     c.put_number.ensures
     ∙ ap (λ (text : List ℕ). record { text = c.args.buf.now.text ++ text; room = c.args.buf.now.room })
-    (sym (piece_text-decimal (layout_of c.args.self.now.plan).delimiter c.in-Some.key c.in-Some.ensures.limit)
+    (sym (escaped_text-decimal (layout_of c.args.self.now.plan).delimiter c.in-Some.key c.in-Some.ensures.limit)
     ∙ ap (written (layout_of c.args.self.now.plan).delimiter) (value_is g (goal.at.returns-in-Some-clause-text g c).In-Some))
 
 pub returns-in-Some-clause-size : goal.returns-in-Some-clause-size
@@ -29,6 +29,6 @@ returns-in-Some-clause-size g c =
     omega (
       arith,
       length-decimal-le_20 c.in-Some.key c.in-Some.ensures.limit,
-      ap (λ (text : List ℕ). length text) (piece_text-decimal (layout_of c.args.self.now.plan).delimiter c.in-Some.key c.in-Some.ensures.limit),
+      ap (λ (text : List ℕ). length text) (escaped_text-decimal (layout_of c.args.self.now.plan).delimiter c.in-Some.key c.in-Some.ensures.limit),
       ap (λ (value : Option (List ℕ)). length (field_text (layout_of c.args.self.now.plan).delimiter value)) (value_is g (goal.at.returns-in-Some-clause-size g c).In-Some),
     )

@@ -1,6 +1,4 @@
 use Rattle.std.proofs.Common.{ap, subst, ◌∙◌}
-use Rattle.schema_model.specs.declared.table.Schema.{Schema}
-use Rattle.schema_plan.specs.Delimiters.{delimiter_byte}
 use Rattle.schema_plan.specs.Dictionaries.{Project}
 use Rattle.schema_plan.specs.Layout.{layout_of}
 use Rattle.schema_plan.specs.Limits.{IsInLimits, IsTableInLimits}
@@ -12,9 +10,9 @@ pub invariant_of-result : goal.invariant_of-result
 invariant_of-result c = record {
   columns_are = c.columns.ensures.columns ∙ ap (λ (plan : Project). ready_columns (layout_of plan) c.args.table) c.plan-plan.ensures;
   fields_are = c.new.ensures;
-  sound = subst IsInLimits c.plan-plan.ensures c.schema.ensures.limits;
+  sound = subst IsInLimits c.plan-plan.ensures c.schema-sound.ensures.limits;
   limits = subst (λ (plan : Project). IsTableInLimits (last_unit plan) (table_of plan c.args.table)) c.plan-plan.ensures c.columns.ensures.limits;
-  delimiter = c.delimiter_byte.ensures ∙ ap (λ (schema : Schema). delimiter_byte schema.delimiter) c.schema.ensures.value ∙ ap (λ (plan : Project). (layout_of plan).delimiter) c.plan-plan.ensures;
+  delimiter = c.delimiter.ensures ∙ ap (λ (plan : Project). (layout_of plan).delimiter) c.plan-plan.ensures;
   table = c.requires.table;
   born = c.requires.born;
   unit = c.requires.unit;

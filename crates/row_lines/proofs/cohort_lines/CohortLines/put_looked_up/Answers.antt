@@ -3,12 +3,12 @@ use Rattle.cohort_sizes.specs.Births.{LiesIn, birth, born_count, cohort_size, fi
 use Rattle.schema_plan.specs.Dictionaries.{Project}
 use Rattle.schema_plan.specs.FieldBounds.{bounds_at}
 use Rattle.schema_plan.specs.Layout.{layout_of}
-use Rattle.schema_plan.specs.Limits.{IsTableInLimits}
+use Rattle.schema_plan.specs.Limits.{IsStillColumn, IsTableInLimits}
 use Rattle.draw_values.specs.UnitDraws.{DrawsOf}
 use Rattle.life_intervals.specs.Generator.{last_unit, table_of}
 use Rattle.cohort_sizes.proofs.CohortLemmas.{LiesIn-birth, born_count-le}
 use Rattle.row_lines.specs.CohortLines.{LinesOf, asked_for, layout_for, size_for, text_in_table}
-use Rattle.row_lines.specs.Lookups.{IsStillColumn, text_held}
+use Rattle.row_lines.specs.Lookups.{text_held}
 use Rattle.row_lines.proofs.CohortLineLemmas.{AreLinesOf-view}
 use Rattle.row_lines.proofs.LineLemmas.{birth-within}
 use Rattle.row_lines.proofs.LookupLemmas.{asked-still, size-still, text-still}

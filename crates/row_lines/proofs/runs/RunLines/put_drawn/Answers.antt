@@ -3,7 +3,7 @@ use Rattle.line_pages.specs.Rows.{piece_text_at}
 use Rattle.row_text.specs.Fields.{field_text}
 use Rattle.schema_plan.specs.Dictionaries.{Project}
 use Rattle.schema_plan.specs.Layout.{layout_of}
-use Rattle.draw_values.specs.Runs.{AreRunRows, IsRunColumn, RunColumnOf, run_row, run_text}
+use Rattle.draw_values.specs.Runs.{AreRunRows, IsRunColumn, RunColumnOf, run_row, run_field}
 use Rattle.draw_values.specs.Values.{size_at, value_at}
 use Rattle.life_intervals.specs.Generator.{last_unit}
 use Rattle.row_lines.specs.Runs.{RunLinesOf}
@@ -59,6 +59,6 @@ returns c =
     let run : RunColumnOf = c.index-columns-column.result in
     let is = columns-at lines.plan lines.table c.args.column c.columns-columns.result.now run (kept_are here) c.requires.column c.index-columns-column.is in
     made-drawn lines c.args.rows c.args.column run c.fill.new.pieces known.table c.requires.rows is (ap (λ (of : RunColumnOf). of.short) is ∙ c.requires.short)
-    (λ i inside. subst (λ (plan : Project). piece_text_at c.fill.new.pieces i ≡ run_text plan run c.args.rows i) (plan_is here) (c.fill.ensures.text i (omega (arith, inside, c.requires.pieces))))
+    (λ i inside. subst (λ (plan : Project). piece_text_at c.fill.new.pieces i ≡ run_field plan run c.args.rows i) (plan_is here) (c.fill.ensures.text i (omega (arith, inside, c.requires.pieces))))
     (λ i inside. subst (λ (plan : Project). length (field_text (layout_of plan).delimiter (value_at (layout_of plan) run.table run.column (run_row c.args.rows i))) ≤ size_at (layout_of plan) run.table run.column)
     (plan_is here) (c.fill.ensures.size i (omega (arith, inside, c.requires.pieces))))

@@ -3,13 +3,14 @@ use Rattle.line_pages.specs.Rows.{piece_text_at}
 use Rattle.schema_plan.specs.declared.ready.ReadyColumn.{ReadyColumn}
 use Rattle.schema_plan.specs.Dictionaries.{Project}
 use Rattle.schema_plan.specs.Layout.{layout_of}
+use Rattle.schema_plan.specs.Limits.{IsStillColumn}
 use Rattle.schema_plan.specs.Ready.{ready_columns}
 use Rattle.draw_values.specs.Runs.{AreRunRows, IsRunColumn, RunColumnOf, is_null_in, null_text, run_column, run_row}
 use Rattle.draw_values.specs.Values.{size_at}
 use Rattle.life_intervals.specs.CohortParents.{IsReferenceOf}
 use Rattle.life_intervals.specs.Generator.{last_unit, table_of}
 use Rattle.life_intervals.specs.Runs.{IsRun}
-use Rattle.row_lines.specs.Lookups.{IsStillColumn, text_held}
+use Rattle.row_lines.specs.Lookups.{text_held}
 use Rattle.row_lines.specs.RunFields.{AreRunLines, column_lines}
 use Rattle.row_lines.specs.Runs.{RunLinesOf}
 use Rattle.row_lines.specs.TableLines.{TableLinesOf, behind_of, table_lines}

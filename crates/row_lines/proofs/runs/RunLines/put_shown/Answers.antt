@@ -4,7 +4,7 @@ use Rattle.row_text.specs.Fields.{field_text}
 use Rattle.schema_plan.specs.Dictionaries.{Project}
 use Rattle.schema_plan.specs.Layout.{layout_of, no_table}
 use Rattle.draw_values.specs.declared.runs.RunRows.{RunRows}
-use Rattle.draw_values.specs.Runs.{RunColumnOf, run_row, run_text}
+use Rattle.draw_values.specs.Runs.{RunColumnOf, run_row, run_field}
 use Rattle.draw_values.specs.Values.{size_at, value_at}
 use Rattle.life_intervals.proofs.AcceptedLemmas.{place-below}
 use Rattle.row_lines.specs.Lookups.{text_held}
@@ -37,7 +37,7 @@ is_held c i below =
 pub returns-clause-text : goal.returns-clause-text
 returns-clause-text c = λ i below.
     let here = (goal.at.returns-clause-text c).After-fill in
-    subst (λ (plan : Project). piece_text_at c.fill.new.pieces i ≡ run_text plan c.args.shown.now (rows_of here) i) (plan_is here) (c.fill.ensures.text i (omega (arith, below, c.requires.pieces)))
+    subst (λ (plan : Project). piece_text_at c.fill.new.pieces i ≡ run_field plan c.args.shown.now (rows_of here) i) (plan_is here) (c.fill.ensures.text i (omega (arith, below, c.requires.pieces)))
     ∙ ap (λ (text : List ℕ). text ++ c.args.shown.now.behind ∷ []) (is_held here i below)
 
 pub returns-clause-size : goal.returns-clause-size
