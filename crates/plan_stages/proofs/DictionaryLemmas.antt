@@ -15,7 +15,7 @@ use Rattle.pd_outside.specs.Library.{Content, ask, AskedAtMost, AskedPrefixOf}
 use Rattle.pd_outside.specs.declared.faults.ReadFault.{ReadFault}
 use Rattle.pd_outside.specs.declared.faults.ReadFault.TheVariants as reading
 use Rattle.schema_plan.specs.Dictionaries.{Dictionary}
-use Rattle.plan_stages.specs.DictionaryFiles.{fault_at, named, with_dictionaries, with_dictionary, words_in, words_of}
+use Rattle.plan_stages.specs.DictionaryFiles.{fault_at, words_named, with_dictionaries, with_dictionary, words_in, words_of}
 use Rattle.plan_stages.specs.Limits.{dictionary_limit}
 use Rattle.plan_stages.specs.PlanNames.{up_to_fault, AskedNone, AsksNames}
 use Rattle.plan_stages.specs.Stages.{in_stage, on_ok, told_files}
@@ -36,8 +36,8 @@ unfolding words_in
 words_in-is files name bytes is = ap words_of (sym is)
 
 with_dictionary-is : (files : List File) (before : List Dictionary) (name : List ℕ) (words : Result WordList DictionaryCause) →
-    words_in files name ≡ words → with_dictionary files before name ≡ on_ok words (λ w. Ok (before ++ named name w ∷ []))
-with_dictionary-is files before name words is = ap (λ (m : Result WordList DictionaryCause). on_ok m (λ w. Ok (before ++ named name w ∷ []))) is
+    words_in files name ≡ words → with_dictionary files before name ≡ on_ok words (λ w. Ok (before ++ words_named name w ∷ []))
+with_dictionary-is files before name words is = ap (λ (m : Result WordList DictionaryCause). on_ok m (λ w. Ok (before ++ words_named name w ∷ []))) is
 
 -- a file that wasn't read
 pub refused_reading : (content : Option Content) (name : List ℕ) (before : List Dictionary) (fault : ReadFault) →
@@ -64,7 +64,7 @@ refused_grammar (Some c) name bytes text before fault whole within same told = �
 
 -- bytes that are one
 pub read_as_words : (content : Option Content) (name bytes text : List ℕ) (before now : List Dictionary) (words : WordList) →
-    IfSome content (λ c. bytes ≡ bytes_of c.files name) → length bytes ≤ dictionary_limit → text ≡ bytes → dictionary_of text ≡ Ok words → now ≡ before ++ named name words ∷ [] →
+    IfSome content (λ c. bytes ≡ bytes_of c.files name) → length bytes ≤ dictionary_limit → text ≡ bytes → dictionary_of text ≡ Ok words → now ≡ before ++ words_named name words ∷ [] →
     IfSome (told_files content) (λ files. with_dictionary files before name ≡ Ok now)
 read_as_words None name bytes text before now words whole within same read appended = tt
 read_as_words (Some c) name bytes text before now words whole within same read appended =
@@ -148,7 +148,7 @@ none_readable None names = tt
 none_readable (Some files) names = refl
 
 is_ok-of : (words : Result WordList DictionaryCause) (before now : List Dictionary) (name : List ℕ) →
-    ◌≡◌ {A = Result (List Dictionary) DictionaryCause} (on_ok words (λ w. Ok (before ++ named name w ∷ []))) (Ok now) → is_ok words ≡ true
+    ◌≡◌ {A = Result (List Dictionary) DictionaryCause} (on_ok words (λ w. Ok (before ++ words_named name w ∷ []))) (Ok now) → is_ok words ≡ true
 is_ok-of (Ok words) before now name made = refl
 is_ok-of (Err cause) before now name made = absurd (cc)
 

@@ -1,3 +1,4 @@
 pub mod DictionaryLemmas
+pub mod InputLemmas
 pub mod LibraryLemmas
 pub mod PlanLemmas

@@ -22,12 +22,12 @@ unfoldable pub words_in : List File → List ℕ → Result WordList DictionaryC
 words_in files name = words_of (bytes_of files name)
 
 -- words under a name
-abbrev pub named : List ℕ → WordList → Dictionary
-named name words = record { name = name; words = words }
+abbrev pub words_named : List ℕ → WordList → Dictionary
+words_named name words = record { name = name; words = words }
 
 -- some dictionaries with one more behind them, that of a name
 abbrev pub with_dictionary : List File → List Dictionary → List ℕ → Result (List Dictionary) DictionaryCause
-with_dictionary files before name = on_ok (words_in files name) (λ words. Ok (before ++ named name words ∷ []))
+with_dictionary files before name = on_ok (words_in files name) (λ words. Ok (before ++ words_named name words ∷ []))
 
 -- a cause at the dictionary of this number
 abbrev pub fault_at : ℕ → DictionaryCause → DictionaryFault

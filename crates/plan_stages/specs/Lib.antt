@@ -1,4 +1,5 @@
 pub mod DictionaryFiles
+pub mod Inputs
 pub mod Limits
 pub mod PlanNames
 pub mod Plans

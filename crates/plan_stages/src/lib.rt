@@ -2,6 +2,10 @@
 #![tactic(auto)]
 
 mod dictionary_files;
+mod input_files;
+mod inputs;
 mod plan;
 
+pub use input_files::read_in_turn;
+pub use inputs::{InputFault, Inputs};
 pub use plan::plan_of;
