@@ -5,3 +5,6 @@ pub mod RuleLemmas
 pub mod SeatLemmas
 pub mod StepLemmas
 pub mod WriteLemmas
+pub mod WorkLemmas
+pub mod BackLemmas
+pub mod OfferLemmas

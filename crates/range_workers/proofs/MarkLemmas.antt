@@ -93,3 +93,7 @@ texts_from text count mark (next ∷ marks) rising within =
 pub all_texts : (text : ℕ → List ℕ) (count : ℕ) (marks : List Mark) → AreMarksOf count marks → flat_map (λ (file : File). file.bytes) (due_files text count marks) ≡ texts text 0 count
 all_texts text count [] are = absurd (omega (arith, are.some))
 all_texts text count (mark ∷ marks) are = texts_from text count mark marks are.rising are.within ∙ ap (λ first. texts text first count) are.first
+
+-- the first mark's packages begin with package 0
+pub starts_at_0 : (count : ℕ) (marks : List Mark) → AreMarksOf count marks → end_before count (drop 0 marks) ≡ 0
+starts_at_0 count marks are = end_before_mark count 0 marks are.some ∙ are.first

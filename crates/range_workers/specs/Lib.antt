@@ -1,6 +1,10 @@
+pub mod Crew
 pub mod Entry
+pub mod Makers
 pub mod Marks
+pub mod Round
 pub mod Rule
 pub mod Seats
 pub mod Steps
 pub mod Views
+pub mod Workshop

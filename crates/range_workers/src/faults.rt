@@ -26,3 +26,9 @@ impl<T: Drop> From<AllocFailed<T>> for Memory {
         Memory
     }
 }
+
+impl From<line_pages::Memory> for Memory {
+    fn from(_error: line_pages::Memory) -> Memory {
+        Memory
+    }
+}

@@ -2,16 +2,20 @@
 #![tactic(auto)]
 
 mod claims;
+mod crew;
 mod faults;
+mod job;
 pub mod laws;
+mod makers;
 mod marks;
 mod packer;
-mod run;
 mod view;
+mod work;
+mod workshop;
 
 pub use claims::{ClaimSeat, Claims};
 pub use faults::{Memory, RunFault};
+pub use job::run;
 pub use marks::Marks;
 pub use packer::Packer;
-pub use run::run_alone;
 pub use view::View;

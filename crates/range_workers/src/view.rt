@@ -1,6 +1,6 @@
 //! What a seat of a claim table knows, and how it knows more by each call.
 
-ghost use Rattle.std.specs.Prelude.{[], ◌≡◌};
+ghost use Rattle.std.specs.Prelude.{[]};
 ghost use Rattle.range_workers.specs.Rule.{IsKept};
 ghost use Rattle.range_workers.specs.Steps.{TellsAll, TellsNumber};
 ghost use Rattle.range_workers.specs.Views.{joined, new_worker, with_worker};

@@ -2,7 +2,7 @@ use Rattle.std.proofs.Common.{◌+◌, arith, ◌∙◌}
 use Rattle.pd_outside.proofs.Appending.{prefix_after}
 use Rattle.range_workers.specs.Marks.{texts}
 use Rattle.range_workers.proofs.WriteLemmas.{appended_then, texts_around, texts_onto}
-use Rattle.range_workers.proofs.run.write_packages.Goals as goal
+use Rattle.range_workers.proofs.job.write_packages.Goals as goal
 
 pub loop-n-preserved : goal.loop-n-preserved
 loop-n-preserved g c =
@@ -13,7 +13,7 @@ loop-n-preserved g c =
       text = appended_then (texts text c.args.first c.loop-n.n) (text c.loop-n.n) _ _ _ _ (texts_onto text c.args.first c.loop-n.n c.loop-n.invariant.from) c.loop-n.invariant.text c.in-Ok.ensures.text;
       begun = c.in-Ok.ensures.begun;
       no_fault = c.in-Ok.ensures.no_fault ∙ c.loop-n.invariant.no_fault;
-      room = c.in-Ok.ensures.room ∙ c.loop-n.invariant.room;
+      ready = c.in-Ok.ensures.ready;
     }
 
 pub returns-in-Err-clause-prefix : goal.returns-in-Err-clause-prefix

@@ -2,7 +2,7 @@ use Rattle.std.proofs.Common.{◌∙◌}
 use Rattle.pd_outside.proofs.Appending.{file_as_a_whole, file_in_part}
 use Rattle.range_workers.specs.Marks.{texts}
 use Rattle.range_workers.proofs.WriteLemmas.{refused_begin}
-use Rattle.range_workers.proofs.run.write_file.Goals as goal
+use Rattle.range_workers.proofs.job.write_file.Goals as goal
 
 pub returns-in-Err-clause-prefix : goal.returns-in-Err-clause-prefix
 returns-in-Err-clause-prefix g c =

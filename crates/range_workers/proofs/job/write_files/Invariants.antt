@@ -1,8 +1,9 @@
-use Rattle.std.proofs.Common.{◌≡◌, false, take}
+use Rattle.std.proofs.Common.{◌≡◌, drop, false, take}
 use Rattle.std.specs.Option.{option_map}
 use Rattle.pd_outside.specs.Shelf.{finish_files}
-use Rattle.range_workers.specs.Marks.{due_files}
-use Rattle.range_workers.proofs.run.write_files.Given as goal
+use Rattle.range_workers.specs.Makers.{IsReadyToMake}
+use Rattle.range_workers.specs.Marks.{due_files, end_before}
+use Rattle.range_workers.proofs.job.write_files.Given as goal
 
 abbrev pub invariant-loop-i : goal.invariant-loop-i
 invariant-loop-i g l = record {
@@ -11,5 +12,5 @@ invariant-loop-i g l = record {
       ≡ option_map (finish_files (take l.i (due_files (g.P.Packer.text l.packer) (g.P.Packer.count l.packer) l.marks))) (g.S.Shelf.held l.fn.shelf);
   none_begun : g.S.Shelf.is_begun l.shelf ≡ false;
   no_fault : g.S.Shelf.faults l.shelf ≡ g.S.Shelf.faults l.fn.shelf;
-  room : l.page.room ≡ l.fn.page.room;
+  ready : IsReadyToMake (g.P.Packer.text l.packer) (g.P.Packer.count l.packer) (g.P.Packer.room l.packer) (end_before (g.P.Packer.count l.packer) (drop l.i l.marks)) l.makers;
 }

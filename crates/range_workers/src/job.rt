@@ -1,28 +1,31 @@
-//! The packages of a job, made one after the other and written in order.
+//! The packages of a job, made by one worker or by several, and written in order.
 
-ghost use Rattle.std.specs.Prelude.{◌≡◌, ◌⊎◌, ◌<◌, ◌≤◌, ◌∷◌, [], false, IsErrOf, IsTrue, OnErr, OnOk};
+ghost use Rattle.std.specs.Prelude.{◌≡◌, ◌⊎◌, ◌<◌, ◌≤◌, ◌+◌, ◌∷◌, [], false, IsErrOf, IsTrue, OnErr, OnOk};
 ghost use Rattle.std.specs.Option.{option_map};
 ghost use Rattle.pd_outside.specs.Faults.{FailsAtLast, Rose};
 ghost use Rattle.pd_outside.specs.Shelf.{AppendedPrefixOf, HoldsPrefixOf, append_bytes, finish_files};
+ghost use Rattle.range_workers.specs.Makers.{IsReadyToMake};
 ghost use Rattle.range_workers.specs.Marks.{AreMarksOf, due_files, texts};
 
+use crate::makers::Makers;
 use crate::{Marks, Packer, RunFault};
-use line_pages::PageBuf;
 use pd_outside::{Failed, Gate, Shelf, WriteFailed, write_all};
 use std::alloc::Global;
+use std::thread::Threads;
 
 /// Makes the package of a number, once it has entered the gate, and appends its text to the begun file, by one `write_all` where it
 /// isn't empty.
-fn write_package<P: Packer, S: Shelf, G: Gate>(
+fn write_package<R: Threads + Sync, P: Packer + Sync, S: Shelf, G: Gate + Sync>(
+    rt: &R,
     packer: &P,
     n: u64,
-    page: &mut PageBuf,
+    makers: &mut Makers,
     shelf: &mut S,
     gate: &G,
 ) -> Result<(), WriteFailed>
     requires begun { IsTrue (S.is_begun shelf.old) }
     requires number { n < P.count packer.now }
-    requires room { P.room packer.now ≤ page.old.room }
+    requires ready { IsReadyToMake (P.text packer.now) (P.count packer.now) (P.room packer.now) n makers.old }
     ensures text { OnOk result (S.held shelf.new ≡ option_map (append_bytes (P.text packer.now n)) (S.held shelf.old)) }
     ensures prefix { OnErr result (AppendedPrefixOf (P.text packer.now n) (S.held shelf.old) (S.held shelf.new)) }
     ensures cause { OnErr result (Rose (S.faults shelf.old) (S.faults shelf.new)) }
@@ -30,30 +33,29 @@ fn write_package<P: Packer, S: Shelf, G: Gate>(
     ensures at_last { FailsAtLast result (S.faults shelf.old) (S.faults shelf.new) (S.last_failed shelf.new) }
     ensures never_falls { S.faults shelf.old ≤ S.faults shelf.new }
     ensures begun { IsTrue (S.is_begun shelf.new) }
-    ensures room { page.new.room ≡ page.old.room }
+    ensures ready { IsReadyToMake (P.text packer.now) (P.count packer.now) (P.room packer.now) (n + 1) makers.new }
 {
-    gate.enter(n);
-    page.clear();
-    packer.pack(n, page);
-    if page.text().is_empty() {
+    makers.turn(rt, packer, gate, n);
+    if makers.text().is_empty() {
         return Ok(());
     }
-    write_all(shelf, page.text())
+    write_all(shelf, makers.text())
 }
 
 /// Makes the packages from one up to another, and appends their texts to the begun file.
-fn write_packages<P: Packer, S: Shelf, G: Gate>(
+fn write_packages<R: Threads + Sync, P: Packer + Sync, S: Shelf, G: Gate + Sync>(
+    rt: &R,
     packer: &P,
     first: u64,
     end: u64,
-    page: &mut PageBuf,
+    makers: &mut Makers,
     shelf: &mut S,
     gate: &G,
 ) -> Result<(), WriteFailed>
     requires begun { IsTrue (S.is_begun shelf.old) }
     requires ordered { first ≤ end }
     requires within { end ≤ P.count packer.now }
-    requires room { P.room packer.now ≤ page.old.room }
+    requires ready { IsReadyToMake (P.text packer.now) (P.count packer.now) (P.room packer.now) first makers.old }
     ensures text { OnOk result (S.held shelf.new ≡ option_map (append_bytes (texts (P.text packer.now) first end)) (S.held shelf.old)) }
     ensures prefix { OnErr result (AppendedPrefixOf (texts (P.text packer.now) first end) (S.held shelf.old) (S.held shelf.new)) }
     ensures cause { OnErr result (Rose (S.faults shelf.old) (S.faults shelf.new)) }
@@ -61,11 +63,11 @@ fn write_packages<P: Packer, S: Shelf, G: Gate>(
     ensures at_last { FailsAtLast result (S.faults shelf.old) (S.faults shelf.new) (S.last_failed shelf.new) }
     ensures never_falls { S.faults shelf.old ≤ S.faults shelf.new }
     ensures begun { IsTrue (S.is_begun shelf.new) }
-    ensures room { page.new.room ≡ page.old.room }
+    ensures ready { OnOk result (IsReadyToMake (P.text packer.now) (P.count packer.now) (P.room packer.now) end makers.new) }
 {
     let mut n = first;
     while n < end {
-        match write_package(packer, n, page, shelf, gate) {
+        match write_package(rt, packer, n, makers, shelf, gate) {
             Ok(()) => {}
             Err(WriteFailed) => return Err(WriteFailed),
         }
@@ -75,19 +77,20 @@ fn write_packages<P: Packer, S: Shelf, G: Gate>(
 }
 
 /// Writes the file of this name, with the packages from one up to another.
-fn write_file<P: Packer, S: Shelf, G: Gate>(
+fn write_file<R: Threads + Sync, P: Packer + Sync, S: Shelf, G: Gate + Sync>(
+    rt: &R,
     packer: &P,
     name: &str,
     first: u64,
     end: u64,
-    page: &mut PageBuf,
+    makers: &mut Makers,
     shelf: &mut S,
     gate: &G,
 ) -> Result<(), WriteFailed>
     requires none_begun { S.is_begun shelf.old ≡ false }
     requires ordered { first ≤ end }
     requires within { end ≤ P.count packer.now }
-    requires room { P.room packer.now ≤ page.old.room }
+    requires ready { IsReadyToMake (P.text packer.now) (P.count packer.now) (P.room packer.now) first makers.old }
     ensures file { OnOk result (S.held shelf.new ≡ option_map (finish_files (record { name = name.now; bytes = texts (P.text packer.now) first end } ∷ [])) (S.held shelf.old)) }
     ensures prefix { OnErr result (HoldsPrefixOf (record { name = name.now; bytes = texts (P.text packer.now) first end } ∷ []) (S.held shelf.old) (S.held shelf.new)) }
     ensures cause { OnErr result (Rose (S.faults shelf.old) (S.faults shelf.new)) }
@@ -95,13 +98,13 @@ fn write_file<P: Packer, S: Shelf, G: Gate>(
     ensures at_last { FailsAtLast result (S.faults shelf.old) (S.faults shelf.new) (S.last_failed shelf.new) }
     ensures never_falls { S.faults shelf.old ≤ S.faults shelf.new }
     ensures none_begun { OnOk result (S.is_begun shelf.new ≡ false) }
-    ensures room { page.new.room ≡ page.old.room }
+    ensures ready { OnOk result (IsReadyToMake (P.text packer.now) (P.count packer.now) (P.room packer.now) end makers.new) }
 {
     match shelf.begin(name) {
         Ok(()) => {}
         Err(Failed) => return Err(WriteFailed),
     }
-    match write_packages(packer, first, end, page, shelf, gate) {
+    match write_packages(rt, packer, first, end, makers, shelf, gate) {
         Ok(()) => {}
         Err(WriteFailed) => return Err(WriteFailed),
     }
@@ -112,16 +115,17 @@ fn write_file<P: Packer, S: Shelf, G: Gate>(
 }
 
 /// Writes the files of all marks, one after the other.
-fn write_files<P: Packer, S: Shelf, G: Gate>(
+fn write_files<R: Threads + Sync, P: Packer + Sync, S: Shelf, G: Gate + Sync>(
+    rt: &R,
     packer: &P,
     marks: &Marks,
-    page: &mut PageBuf,
+    makers: &mut Makers,
     shelf: &mut S,
     gate: &G,
 ) -> Result<(), WriteFailed>
     requires marks { AreMarksOf (P.count packer.now) marks.now }
     requires none_begun { S.is_begun shelf.old ≡ false }
-    requires room { P.room packer.now ≤ page.old.room }
+    requires ready { IsReadyToMake (P.text packer.now) (P.count packer.now) (P.room packer.now) 0 makers.old }
     ensures files { OnOk result (S.held shelf.new ≡ option_map (finish_files (due_files (P.text packer.now) (P.count packer.now) marks.now)) (S.held shelf.old)) }
     ensures prefix { OnErr result (HoldsPrefixOf (due_files (P.text packer.now) (P.count packer.now) marks.now) (S.held shelf.old) (S.held shelf.new)) }
     ensures cause { OnErr result (Rose (S.faults shelf.old) (S.faults shelf.new)) }
@@ -134,11 +138,12 @@ fn write_files<P: Packer, S: Shelf, G: Gate>(
     for i in 0..marks.len() {
         let end = marks.end(i, count);
         match write_file(
+            rt,
             packer,
             marks.name(i),
             marks.first(i),
             end,
-            page,
+            makers,
             shelf,
             gate,
         ) {
@@ -149,19 +154,26 @@ fn write_files<P: Packer, S: Shelf, G: Gate>(
     Ok(())
 }
 
-/// Makes all packages of a job, one after the other in the calling thread, and writes them: for each mark it begins the file of its
-/// name, appends the texts of its packages in order up to the next mark, and ends the file. Each package enters the gate once, before
-/// it is made, and each text that isn't empty is written by one `write_all`.
+/// Makes all packages of a job by this many workers, and writes them: for each mark it begins the file of its name, appends the texts of
+/// its packages in order up to the next mark, and ends the file. Each package enters the gate once, before it is made, and each text
+/// that isn't empty is written by one `write_all`.
+///
+/// One worker is the caller itself. More of them claim the packages in threads, in rounds of four packages for each worker, and while a
+/// round is written none of them computes.
 ///
 /// `Write` comes only where the shelf's count of faults rose, and the shelf holds a prefix of the due files then. `Memory` comes only
 /// before the first file is begun.
-pub fn run_alone<P: Packer, S: Shelf, G: Gate>(
+pub fn run<R: Threads + Sync, P: Packer + Sync, S: Shelf, G: Gate + Sync>(
+    rt: &R,
     alloc: Global,
     packer: &P,
     marks: &Marks,
+    workers: u32,
     shelf: &mut S,
     gate: &G,
 ) -> Result<(), RunFault>
+    requires some { 1 ≤ workers }
+    requires few { workers ≤ 64 }
     requires marks { AreMarksOf (P.count packer.now) marks.now }
     requires none_begun { S.is_begun shelf.old ≡ false }
     ensures files { OnOk result (S.held shelf.new ≡ option_map (finish_files (due_files (P.text packer.now) (P.count packer.now) marks.now)) (S.held shelf.old)) }
@@ -173,11 +185,11 @@ pub fn run_alone<P: Packer, S: Shelf, G: Gate>(
     ensures never_falls { S.faults shelf.old ≤ S.faults shelf.new }
     ensures none_begun { OnOk result (S.is_begun shelf.new ≡ false) }
 {
-    let mut page = match PageBuf::with_room(alloc, packer.room()) {
-        Ok(page) => page,
+    let mut makers = match Makers::new(alloc, workers, packer.room()) {
+        Ok(makers) => makers,
         Err(_) => return Err(RunFault::Memory),
     };
-    match write_files(packer, marks, &mut page, shelf, gate) {
+    match write_files(rt, packer, marks, &mut makers, shelf, gate) {
         Ok(()) => Ok(()),
         Err(WriteFailed) => Err(RunFault::Write),
     }

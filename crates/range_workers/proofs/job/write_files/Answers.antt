@@ -1,10 +1,11 @@
-use Rattle.std.proofs.Common.{◌≡◌, ◌+◌, ◌<◌, List, [], ◌∷◌, arith, drop, length, subst, ◌∙◌}
+use Rattle.std.proofs.Common.{rules, ◌≡◌, ◌+◌, ◌<◌, ℕ, List, [], ◌∷◌, arith, drop, length, refl, subst, sym, ◌∙◌}
 use Rattle.std.specs.Option.{option_map}
 use Rattle.pd_outside.specs.Files.{File}
 use Rattle.pd_outside.specs.Shelf.{HoldsPrefixOf, finish_files}
-use Rattle.range_workers.proofs.MarkLemmas.{due_file-is, due_files-all, due_files-around, due_files-onto, end_before_told, mark_ordered, mark_within}
+use Rattle.range_workers.specs.Makers.{IsReadyToMake}
+use Rattle.range_workers.proofs.MarkLemmas.{due_file-is, due_files-all, due_files-around, due_files-onto, end_before_mark, end_before_told, mark_ordered, mark_within, starts_at_0}
 use Rattle.range_workers.proofs.WriteLemmas.{finished_then, next_in_part}
-use Rattle.range_workers.proofs.run.write_files.Goals as goal
+use Rattle.range_workers.proofs.job.write_files.Goals as goal
 
 pub write_file-requires-clause-ordered : goal.write_file-requires-clause-ordered
 write_file-requires-clause-ordered g c =
@@ -44,7 +45,7 @@ loop-i-preserved g c =
           (subst (λ (it : File). g.S.Shelf.held c.write_file.new.shelf ≡ option_map (finish_files (it ∷ [])) (g.S.Shelf.held c.loop-i.shelf)) file c.in-Ok.ensures.file);
       none_begun = c.in-Ok.ensures.none_begun;
       no_fault = c.in-Ok.ensures.no_fault ∙ c.loop-i.invariant.no_fault;
-      room = c.in-Ok.ensures.room ∙ c.loop-i.invariant.room;
+      ready = subst (λ (n : ℕ). IsReadyToMake text count (g.P.Packer.room c.args.packer.now) n c.write_file.new.makers) end c.in-Ok.ensures.ready;
     }
 
 pub returns-clause-files : goal.returns-clause-files
@@ -53,3 +54,23 @@ returns-clause-files g c =
     let count = g.P.Packer.count c.args.packer.now in
     subst (λ (files : List File). g.S.Shelf.held c.loop-i.shelf ≡ option_map (finish_files files) (g.S.Shelf.held c.args.shelf.now))
     (due_files-all text count c.loop-i.i c.args.marks.now (omega (arith, c.loop-i-test.false, c.len-i-end.ensures))) c.loop-i.invariant.files
+
+pub loop-i-init : goal.loop-i-init
+loop-i-init g c =
+    let text = g.P.Packer.text c.args.packer.now in
+    let count = g.P.Packer.count c.args.packer.now in
+    record {
+      files = search rules;
+      none_begun = c.requires.none_begun;
+      no_fault = refl;
+      ready =
+          subst (λ (n : ℕ). IsReadyToMake text count (g.P.Packer.room c.args.packer.now) n c.args.makers.now) (sym (starts_at_0 count c.args.marks.now c.requires.marks)) c.requires.ready;
+    }
+
+pub write_file-requires-clause-ready : goal.write_file-requires-clause-ready
+write_file-requires-clause-ready g c = λ lifetimes outlive.
+    let text = g.P.Packer.text c.args.packer.now in
+    let count = g.P.Packer.count c.args.packer.now in
+    let below : c.loop-i.i < length c.args.marks.now = omega (arith, c.loop-i-test.true, c.len-i-end.ensures) in
+    subst (λ (n : ℕ). IsReadyToMake text count (g.P.Packer.room c.args.packer.now) n c.loop-i.makers)
+    (end_before_mark count c.loop-i.i c.args.marks.now below ∙ sym c.first.ensures) c.loop-i.invariant.ready
