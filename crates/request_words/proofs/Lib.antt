@@ -1,4 +1,6 @@
 mod CommandLemmas
+mod FaultLemmas
 mod FormLemmas
+mod RangeLemmas
 mod RequestLemmas
 mod WalkLemmas

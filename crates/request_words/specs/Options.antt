@@ -1,13 +1,15 @@
 -- The options: how each is written, which mode takes it, and what it gives a request.
-use Rattle.std.specs.Prelude.{ℕ, ◌^◌, Bool, ◌&&◌, nat_lt, nat_le, List, [], ◌∷◌, length, Option, Some, None, codes, unwrap_or, if◌then◌else◌}
+use Rattle.std.specs.Prelude.{ℕ, ◌^◌, Bool, false, ◌&&◌, nat_lt, nat_le, List, [], ◌∷◌, length, Option, Some, None, codes, unwrap_or, if◌then◌else◌}
 use Rattle.std.specs.Char.{is_ascii_digit}
 use Rattle.std.specs.List.{list_all}
+use Rattle.std.specs.Option.{option_and_then}
 use Rattle.std.specs.Str.{bytes_eq}
 use Rattle.std.specs.Str.Parse.{digits_value}
 use Rattle.request_words.specs.declared.options.Columns.{Columns}
-use Rattle.request_words.specs.declared.options.Form.TheVariants.{Text, Number, Directory}
+use Rattle.request_words.specs.declared.options.Form.{Form}
+use Rattle.request_words.specs.declared.options.Form.TheVariants.{Text, Number, FromOneTo, Directory}
 use Rattle.request_words.specs.declared.options.Take.{Take}
-use Rattle.request_words.specs.declared.options.Take.TheVariants.{Unwanted, Optional, Needed}
+use Rattle.request_words.specs.declared.options.Take.TheVariants.{Unwanted, Optional, Preset, Needed}
 use Rattle.request_words.specs.declared.usage.Mode.{Mode}
 use Rattle.request_words.specs.declared.usage.Mode.TheVariants.{Check, Snapshot, Unit, Row}
 use Rattle.request_words.specs.declared.usage.OptionName.{OptionName}
@@ -34,6 +36,10 @@ option_line option.Unit = (codes "unit", by_modes Unwanted (Needed Number) (Need
 option_line option.Table = (codes "table", by_modes Unwanted (Optional Text) (Optional Text) (Needed Text))
 option_line option.Key = (codes "key", by_modes Unwanted Unwanted Unwanted (Needed Number))
 option_line option.Out = (codes "out", by_modes Unwanted (Optional Directory) (Optional Directory) Unwanted)
+option_line option.Workers = (codes "workers", by_modes Unwanted (Preset (FromOneTo 64) 4) (Preset (FromOneTo 64) 4) Unwanted)
+option_line option.Package = (codes "package", by_modes Unwanted (Optional (FromOneTo 1000000)) (Optional (FromOneTo 1000000)) Unwanted)
+option_line option.Node = (codes "node", by_modes Unwanted (Preset Number 0) (Preset Number 0) Unwanted)
+option_line option.Nodes = (codes "nodes", by_modes Unwanted (Preset (FromOneTo 1024) 1) (Preset (FromOneTo 1024) 1) Unwanted)
 
 -- the column of a mode
 abbrev pub in_column : Mode → Columns → Take
@@ -52,7 +58,8 @@ word_of name = (option_line name).0
 
 -- the options that are written with two hyphens, in the order in which they are tried
 abbrev pub options : List OptionName
-options = option.Unit ∷ option.Table ∷ option.Key ∷ option.Out ∷ []
+options =
+    option.Unit ∷ option.Table ∷ option.Key ∷ option.Out ∷ option.Workers ∷ option.Package ∷ option.Node ∷ option.Nodes ∷ []
 
 -- and the schema's name before them
 abbrev pub order : List OptionName
@@ -72,18 +79,44 @@ is_number digits =
     && list_all is_ascii_digit digits
     && nat_lt (digits_value 10 digits) (2 ^ 64)
 
--- the number that is given; 0 where there is none
-abbrev pub number_given : Option (List ℕ) → ℕ
-number_given None = 0
-number_given (Some word) = if is_number word then digits_value 10 word else 0
+-- whether a word is a number of this form: any of 64 bits, or one from 1 to a most one
+abbrev pub is_number_of : Form → List ℕ → Bool
+is_number_of Text word = false
+is_number_of Number word = is_number word
+is_number_of (FromOneTo most) word =
+    is_number word && nat_le 1 (digits_value 10 word) && nat_le (digits_value 10 word) most
+is_number_of Directory word = false
+
+-- the number of this form that a word stands for
+abbrev pub number_in : Form → List ℕ → Option ℕ
+number_in form word = if is_number_of form word then Some (digits_value 10 word) else None
+
+-- the number that a mode has of an option, by what it does with it: the one that is given, or the one that stands where none is
+abbrev pub number_given : Take → Option (List ℕ) → Option ℕ
+number_given Unwanted value = None
+number_given (Optional form) value = option_and_then (number_in form) value
+number_given (Preset form number) None = Some number
+number_given (Preset form number) (Some word) = number_in form word
+number_given (Needed form) value = option_and_then (number_in form) value
+
+abbrev pub number_for : Mode → Given → OptionName → Option ℕ
+number_for mode given name = number_given (takes mode name) (given name)
+
+-- the same, with 0 where the mode has none
+abbrev pub number_or_zero : Mode → Given → OptionName → ℕ
+number_or_zero mode given name = unwrap_or (number_for mode given name) 0
 
 -- the request that is given for a mode
 abbrev pub request_of : Mode → Given → Request
 request_of mode given = record {
   mode = mode;
   schema = unwrap_or (given option.Schema) [];
-  unit = number_given (given option.Unit);
+  unit = number_or_zero mode given option.Unit;
   table = given option.Table;
-  key = number_given (given option.Key);
+  key = number_or_zero mode given option.Key;
   out = given option.Out;
+  workers = number_or_zero mode given option.Workers;
+  «package» = number_for mode given option.Package;
+  node = number_or_zero mode given option.Node;
+  nodes = number_or_zero mode given option.Nodes;
 }

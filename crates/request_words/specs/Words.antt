@@ -2,21 +2,26 @@
 use Rattle.std.specs.Prelude.{ℕ, List, [], ◌∷◌, Option, Some, None, Result, Ok, Err, if◌then◌else◌}
 use Rattle.std.specs.Option.{option_and_then, option_or}
 use Rattle.request_words.specs.Form.{given_in, has_form, mode_in}
-use Rattle.request_words.specs.Options.{Given, is_number, mode_named, order, request_of, takes}
+use Rattle.request_words.specs.Options.{Given, is_number_of, mode_named, order, request_of, takes}
 use Rattle.request_words.specs.declared.options.Form.{Form}
-use Rattle.request_words.specs.declared.options.Form.TheVariants.{Text, Number, Directory}
+use Rattle.request_words.specs.declared.options.Form.TheVariants.{Text, Number, FromOneTo, Directory}
 use Rattle.request_words.specs.declared.options.Take.{Take}
-use Rattle.request_words.specs.declared.options.Take.TheVariants.{Unwanted, Optional, Needed}
+use Rattle.request_words.specs.declared.options.Take.TheVariants.{Unwanted, Optional, Preset, Needed}
 use Rattle.request_words.specs.declared.usage.Mode.{Mode}
 use Rattle.request_words.specs.declared.usage.OptionName.{OptionName}
 use Rattle.request_words.specs.declared.usage.Request.{Request}
 use Rattle.request_words.specs.declared.usage.UsageFault.{UsageFault}
 use Rattle.request_words.specs.declared.usage.UsageFault.TheVariants as usage
 
--- what is wrong with a value: a number is to be one, and a directory isn't the empty text
+-- what is wrong with a number of this form
+abbrev pub number_fault : Form → OptionName → List ℕ → Option UsageFault
+number_fault form name value = if is_number_of form value then None else Some (usage.Number name)
+
+-- what is wrong with a value: a number is to be one of its form, and a directory isn't the empty text
 abbrev pub value_fault : Form → OptionName → List ℕ → Option UsageFault
 value_fault Text name value = None
-value_fault Number name value = if is_number value then None else Some (usage.Number name)
+value_fault Number name value = number_fault Number name value
+value_fault (FromOneTo most) name value = number_fault (FromOneTo most) name value
 value_fault Directory name [] = Some (usage.EmptyDirectory name)
 value_fault Directory name (byte ∷ value) = None
 
@@ -26,6 +31,8 @@ option_fault Unwanted name None = None
 option_fault Unwanted name (Some value) = Some (usage.Unwanted name)
 option_fault (Optional form) name None = None
 option_fault (Optional form) name (Some value) = value_fault form name value
+option_fault (Preset form number) name None = None
+option_fault (Preset form number) name (Some value) = value_fault form name value
 option_fault (Needed form) name None = Some (usage.Missing name)
 option_fault (Needed form) name (Some value) = value_fault form name value
 

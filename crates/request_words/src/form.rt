@@ -1,6 +1,6 @@
 //! The form of the words behind the program's name, and what each of them stands for. No memory is taken here.
 
-ghost use Rattle.std.specs.Prelude.{◌<◌, ◌≤◌, ◌+◌, ◌≡◌, ◌^◌, length, map, option_map, string_bytes, None};
+ghost use Rattle.std.specs.Prelude.{◌<◌, ◌+◌, ◌≡◌, ◌^◌, length, map, option_map, string_bytes, None};
 ghost use Rattle.std.specs.List.{list_any};
 ghost use Rattle.std.specs.Option.{option_copied};
 ghost use Rattle.clap.specs.Lexer.{long_of, name_and_value, strip_byte};

@@ -5,17 +5,37 @@ ghost use Rattle.std.specs.Char.{is_ascii_digit};
 ghost use Rattle.std.specs.List.{list_all};
 ghost use Rattle.std.specs.Option.{option_copied};
 ghost use Rattle.std.specs.Str.Parse.{digits_value};
-ghost use Rattle.request_words.specs.Options.{is_number, number_given};
+ghost use Rattle.request_words.specs.Options.{is_number, number_given, number_in};
 
-/// The number that is given; 0 where there is none.
-pub(crate) fn number_given(word: Option<&str>) -> u64
-    ensures { result ≡ number_given (option_copied word.entry) }
+use crate::options::{Form, Take};
+
+/// The number that a mode has of an option, by what it does with it: the one that is given, or the one that stands where
+/// none is.
+pub(crate) fn number_given(take: Take, value: Option<&str>) -> Option<u64>
+    ensures { result ≡ number_given take (option_copied value.entry) }
 {
-    word.and_then(read_number).unwrap_or(0)
+    match (take, value) {
+        (Take::Unwanted, _) | (Take::Optional(_) | Take::Needed(_), None) => None,
+        (Take::Preset(_, number), None) => Some(number),
+        (Take::Optional(form) | Take::Preset(form, _) | Take::Needed(form), Some(word)) => {
+            number_in(form, word)
+        }
+    }
+}
+
+/// The number of a form that a word stands for.
+pub(crate) fn number_in(form: Form, word: &str) -> Option<u64>
+    ensures { result ≡ number_in form word.now }
+{
+    match form {
+        Form::Text | Form::Directory => None,
+        Form::Number => read_number(word),
+        Form::FromOneTo(most) => read_number(word).filter(|number| 1 <= *number && *number <= most),
+    }
 }
 
 /// The number that one to twenty decimal digits stand for, where it has 64 bits.
-pub(crate) fn read_number(word: &str) -> Option<u64>
+fn read_number(word: &str) -> Option<u64>
     ensures { result ≡ (if is_number word.now then Some (digits_value 10 word.now) else None) }
 {
     if word.is_empty() || word.len() > 20 || !are_digits(word.as_bytes()) {

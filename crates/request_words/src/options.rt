@@ -12,6 +12,8 @@ pub(crate) enum Form {
     Text,
     /// A number of one to twenty digits below 2^64.
     Number,
+    /// Such a number from 1 to this one.
+    FromOneTo(u64),
     /// A text that isn't empty.
     Directory,
 }
@@ -23,6 +25,8 @@ pub(crate) enum Take {
     Unwanted,
     /// It may be given it.
     Optional(Form),
+    /// It may be given it, and has this number where it isn't.
+    Preset(Form, u64),
     /// It needs it.
     Needed(Form),
 }
@@ -37,11 +41,15 @@ pub(crate) struct Columns {
 }
 
 /// The options that are written with two hyphens, in the order in which they are tried.
-pub(crate) const OPTIONS: [OptionName; 4] = [
+pub(crate) const OPTIONS: [OptionName; 8] = [
     OptionName::Unit,
     OptionName::Table,
     OptionName::Key,
     OptionName::Out,
+    OptionName::Workers,
+    OptionName::Package,
+    OptionName::Node,
+    OptionName::Nodes,
 ];
 
 /// The mode of this name.
@@ -105,6 +113,10 @@ fn option_line(name: OptionName) -> (&'static str, Columns)
     let number = Take::Needed(Form::Number);
     let may = Take::Optional(Form::Text);
     let folder = Take::Optional(Form::Directory);
+    let workers = Take::Preset(Form::FromOneTo(64), 4);
+    let package = Take::Optional(Form::FromOneTo(1_000_000));
+    let node = Take::Preset(Form::Number, 0);
+    let nodes = Take::Preset(Form::FromOneTo(1_024), 1);
     match name {
         //                             check, snapshot, unit, row
         OptionName::Schema => ("schema", by_modes(any, any, any, any)),
@@ -112,5 +124,9 @@ fn option_line(name: OptionName) -> (&'static str, Columns)
         OptionName::Table => ("table", by_modes(no, may, may, any)),
         OptionName::Key => ("key", by_modes(no, no, no, number)),
         OptionName::Out => ("out", by_modes(no, folder, folder, no)),
+        OptionName::Workers => ("workers", by_modes(no, workers, workers, no)),
+        OptionName::Package => ("package", by_modes(no, package, package, no)),
+        OptionName::Node => ("node", by_modes(no, node, node, no)),
+        OptionName::Nodes => ("nodes", by_modes(no, nodes, nodes, no)),
     }
 }

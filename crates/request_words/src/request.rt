@@ -4,12 +4,12 @@ ghost use Rattle.std.specs.Prelude.{◌≡◌, map, string_bytes, unwrap_or, IfE
 ghost use Rattle.std.specs.Option.{option_and_then, option_copied};
 ghost use Rattle.request_words.specs.Command.{given_by};
 ghost use Rattle.request_words.specs.Form.{given_in, mode_in};
-ghost use Rattle.request_words.specs.Options.{mode_named, order, request_of, takes};
+ghost use Rattle.request_words.specs.Options.{mode_named, number_for, number_or_zero, order, request_of, takes};
 ghost use Rattle.request_words.specs.Words.{first_fault, option_fault, value_fault};
 
 use crate::command::given_by;
 use crate::form::{given_in, mode_in};
-use crate::numbers::{number_given, read_number};
+use crate::numbers::{number_given, number_in};
 use crate::options::{Form, OPTIONS, Take, mode_named, takes};
 use crate::usage::{Mode, OptionName, Request, UsageFault};
 use clap::ArgMatches;
@@ -54,10 +54,12 @@ fn option_fault(take: Take, name: OptionName, value: Option<&str>) -> Option<Usa
     ensures { result ≡ option_fault take name (option_copied value.entry) }
 {
     match (take, value) {
-        (Take::Unwanted | Take::Optional(_), None) => None,
+        (Take::Unwanted | Take::Optional(_) | Take::Preset(_, _), None) => None,
         (Take::Unwanted, Some(_)) => Some(UsageFault::Unwanted(name)),
         (Take::Needed(_), None) => Some(UsageFault::Missing(name)),
-        (Take::Optional(form) | Take::Needed(form), Some(value)) => value_fault(form, name, value),
+        (Take::Optional(form) | Take::Preset(form, _) | Take::Needed(form), Some(value)) => {
+            value_fault(form, name, value)
+        }
     }
 }
 
@@ -66,7 +68,7 @@ fn value_fault(form: Form, name: OptionName, value: &str) -> Option<UsageFault>
 {
     match form {
         Form::Text => None,
-        Form::Number => match read_number(value) {
+        Form::Number | Form::FromOneTo(_) => match number_in(form, value) {
             Some(_) => None,
             None => Some(UsageFault::Number(name)),
         },
@@ -86,19 +88,35 @@ pub(crate) fn request_of(
     ensures made { IfOk result (λ made. made ≡ request_of mode (given_by matches.now)) }
     ensures refused { IfErr result (λ fault. fault ≡ UsageFault.Memory) }
 {
-    let unit = number_given(given_by(matches, OptionName::Unit));
-    let key = number_given(given_by(matches, OptionName::Key));
     let schema = text_of(alloc, given_by(matches, OptionName::Schema).unwrap_or(""))?;
     let table = optional_text_of(alloc, given_by(matches, OptionName::Table))?;
     let out = optional_text_of(alloc, given_by(matches, OptionName::Out))?;
     Ok(Request {
         mode,
         schema,
-        unit,
+        unit: number_or_zero(mode, matches, OptionName::Unit),
         table,
-        key,
+        key: number_or_zero(mode, matches, OptionName::Key),
         out,
+        workers: number_or_zero(mode, matches, OptionName::Workers) as u32,
+        package: number_for(mode, matches, OptionName::Package),
+        node: number_or_zero(mode, matches, OptionName::Node),
+        nodes: number_or_zero(mode, matches, OptionName::Nodes),
     })
+}
+
+/// The number that a mode has of an option.
+fn number_for(mode: Mode, matches: &ArgMatches<'_>, name: OptionName) -> Option<u64>
+    ensures { result ≡ number_for mode (given_by matches.now) name }
+{
+    number_given(takes(mode, name), given_by(matches, name))
+}
+
+/// The same, with 0 where the mode has none.
+fn number_or_zero(mode: Mode, matches: &ArgMatches<'_>, name: OptionName) -> u64
+    ensures { result ≡ number_or_zero mode (given_by matches.now) name }
+{
+    number_for(mode, matches, name).unwrap_or(0)
 }
 
 fn optional_text_of(alloc: Global, word: Option<&str>) -> Result<Option<Text>, UsageFault>

@@ -28,9 +28,17 @@ pub enum OptionName {
     Key,
     /// `--out`: a directory for the files.
     Out,
+    /// `--workers`: how many workers make the lines, 1 to 64.
+    Workers,
+    /// `--package`: how many rows make a package, 1 to 1,000,000.
+    Package,
+    /// `--node`: which of the nodes writes, from 0.
+    Node,
+    /// `--nodes`: how many nodes share the rows, 1 to 1,024.
+    Nodes,
 }
 
-/// What the words ask for. A number that the mode doesn't take is 0.
+/// What the words ask for. A number that the mode doesn't take is 0, and a package is none then.
 #[derive(Debug, PartialEq, Drop)]
 pub struct Request {
     /// What to do.
@@ -45,6 +53,14 @@ pub struct Request {
     pub key: u64,
     /// The directory of the files, where they don't go to the standard output.
     pub out: Option<Text>,
+    /// How many workers make the lines, 1 to 64: 4 where the words don't say.
+    pub workers: u32,
+    /// How many rows make a package, 1 to 1,000,000, where the words say.
+    pub package: Option<u64>,
+    /// Which of the nodes writes, from 0: 0 where the words don't say. It may be past the last one.
+    pub node: u64,
+    /// How many nodes share the rows, 1 to 1,024: 1 where the words don't say.
+    pub nodes: u64,
 }
 
 /// Why words give no request.
@@ -58,7 +74,7 @@ pub enum UsageFault {
     Unwanted(OptionName),
     /// The mode needs what isn't given.
     Missing(OptionName),
-    /// The value is no number of one to twenty digits below 2^64.
+    /// The value is no number of one to twenty digits below 2^64, or not within the option's range.
     Number(OptionName),
     /// The directory is the empty text.
     EmptyDirectory(OptionName),

@@ -1,6 +1,7 @@
 //! The words of a command line.
 
 ghost use Rattle.std.specs.Prelude.{◌≡◌, ◌≢◌, Ok, Err, map, string_bytes, IfOk, IfErr};
+ghost use Rattle.request_words.specs.Ranges.{AreWithinRanges};
 ghost use Rattle.request_words.specs.Words.{request};
 
 use crate::command::matches_of;
@@ -14,13 +15,16 @@ use std::alloc::Global;
 /// Behind the name stand a mode, a schema or none, and options, in any order: each as its name behind two hyphens with its
 /// value as the next word, or as one word of its name, `=` and its value, and none twice. No mode, schema or value begins
 /// with a hyphen, and none behind `=` is empty. `Words` is told first, then `Mode`, then what is wrong with the schema, the
-/// unit, the table, the key and the directory, in this order. A fault of the words is told without memory being taken.
+/// unit, the table, the key, the directory, the workers, the package, the node and the nodes, in this order. A fault of the
+/// words is told without memory being taken. The numbers of a request are within the ranges of the options that its mode takes.
 #[tactic(auto, unfolding(crate::specs::Words::request))]
 pub fn read_words(alloc: Global, words: &[String]) -> Result<Request, UsageFault>
     ensures read { IfOk result (λ made. request (map string_bytes words.now) ≡ Ok made) }
     ensures refused { IfErr result
         (λ fault. fault ≢ UsageFault.Memory → request (map string_bytes words.now) ≡ Err fault) }
     ensures usage { IfErr (request (map string_bytes words.now)) (λ fault. result ≡ Err fault) }
+    ensures ranges { IfOk result AreWithinRanges }
+    ensures no_memory { IfErr (request (map string_bytes words.now)) (λ fault. fault ≢ UsageFault.Memory) }
 {
     let [_, behind @ ..] = words else {
         return Err(UsageFault::Words);

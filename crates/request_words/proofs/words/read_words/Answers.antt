@@ -3,12 +3,17 @@ use Rattle.std.specs.Option.{option_and_then}
 use Rattle.std.proofs.lemmas.Result.{IfOk-weaker}
 use Rattle.request_words.specs.Form.{given_in, has_form, mode_in}
 use Rattle.request_words.specs.Options.{mode_named, order, request_of}
-use Rattle.request_words.specs.Words.{first_fault}
+use Rattle.std.specs.Prelude.{IfOk}
+use Rattle.request_words.specs.Words.{first_fault, request}
+use Rattle.request_words.proofs.FaultLemmas.{request-other}
+use Rattle.request_words.proofs.RangeLemmas.{ranges-of}
 use Rattle.request_words.proofs.RequestLemmas.{behind_first, request_given}
 use Rattle.request_words.proofs.words.read_words.Goals as goal
+use Rattle.request_words.proofs.words.read_words.Goals.{After-request_of}
 
-pub returns-in-Ok-clause-read : goal.returns-in-Ok-clause-read
-returns-in-Ok-clause-read c =
+-- the request that is made is that of the words
+made_is : (c : After-request_of) → IfOk c.request_of.result (λ made. request (map string_bytes c.args.words.now) ≡ Ok made)
+made_is c =
     let words : List (List ℕ) = map string_bytes c.args.words.now in
     let some : 1 ≤ length words = search rules in
     let behind = behind_first string_bytes c.args.words.now in
@@ -19,3 +24,13 @@ returns-in-Ok-clause-read c =
     ap (λ (w : List (List ℕ)). first_fault c.in-Some.mode (given_in w) order) (sym behind) ∙ (sym c.first_fault.ensures ∙ c.in_default-first_fault.is) in
     let is = request_given words c.in-Some.mode some f named right in
     IfOk-weaker c.request_of.result _ _ (λ made same. is ∙ ap Ok (sym (same ∙ ap (request_of c.in-Some.mode) c.in-Ok.ensures.read))) c.request_of.ensures.made
+
+pub returns-in-Ok-clause-read : goal.returns-in-Ok-clause-read
+returns-in-Ok-clause-read c = made_is (goal.at.returns-in-Ok-clause-read c).After-request_of
+
+pub returns-in-Ok-clause-ranges : goal.returns-in-Ok-clause-ranges
+returns-in-Ok-clause-ranges c =
+    IfOk-weaker c.request_of.result _ _ (λ made same. ranges-of (map string_bytes c.args.words.now) made same) (made_is (goal.at.returns-in-Ok-clause-ranges c).After-request_of)
+
+pub returns-in-Some-first_fault-clause-no_memory : goal.returns-in-Some-first_fault-clause-no_memory
+returns-in-Some-first_fault-clause-no_memory c = request-other (map string_bytes c.args.words.now)
