@@ -11,7 +11,7 @@ use Rattle.std.proofs.lemmas.List.Elements.{All-filter, filter_passes}
 use Rattle.std.proofs.lemmas.List.FromFn.{get_or-map-range_with_len, get_or-range_with_len, length-range_with_len}
 use Rattle.std.proofs.lemmas.Slice.Eq.{bytes_eq-Decides}
 use Rattle.row_text.specs.Fields.{field_text}
-use Rattle.row_text.proofs.DigitLemmas.{piece_text-decimal}
+use Rattle.row_text.proofs.DigitLemmas.{escaped_text-decimal}
 use Rattle.cohort_sizes.specs.Births.{birth, born_count}
 use Rattle.schema_plan.specs.Dictionaries.{Project}
 use Rattle.schema_plan.specs.Layout.{layout_of, no_table, table_at}
@@ -33,7 +33,8 @@ use Rattle.life_intervals.proofs.ReferenceLemmas.{at_column, reference_at-within
 use Rattle.life_intervals.proofs.SimulationLemmas.{rows_at-rows_of}
 use Rattle.row_lines.specs.Lines.{field, parent_of_row}
 use Rattle.row_lines.proofs.FieldLemmas.{field-key}
-use Rattle.row_lines.proofs.ReferenceFieldLemmas.{field-reference, held_parent-cascades, parent_of_row-by, parents-held_parent}
+use Rattle.life_intervals.proofs.HeldParentLemmas.{held_parent-cascades}
+use Rattle.row_lines.proofs.ReferenceFieldLemmas.{field-reference, parent_of_row-by, parents-held_parent}
 use Rattle.update_box.proofs.FateLemmas.{not-true}
 use Rattle.update_box.specs.TextLaws.{field_of_line, lines_with_key}
 use Rattle.update_box.proofs.RangeLemmas.{count_by-filter_one, count_by-map}
@@ -88,7 +89,7 @@ module _ (plan : Project) (limits : IsInLimits plan) (unit : ℕ) (within : unit
       let table : IsTableInLimits (last_unit plan) (table_of plan place) = own place below in
       field_of_line-is generator unit place 0 (row_at generator place unit ordinal) (omega (arith, table.some_column))
       ∙ ap (field_text generator.delimiter) (field-key generator unit place ordinal 0 table.key_first table.key_never_null)
-      ∙ piece_text-decimal generator.delimiter (key_of generator place unit ordinal) (key-small place below ordinal born)
+      ∙ escaped_text-decimal generator.delimiter (key_of generator place unit ordinal) (key-small place below ordinal born)
 
   -- no two rows have the same
   key-field_apart : (place : ℕ) → place < length plan.schema.tables → (i j : ℕ) → i < born_by place → j < born_by place → (i ≡ j → ⊥) →
@@ -123,7 +124,7 @@ module _ (plan : Project) (limits : IsInLimits plan) (unit : ℕ) (within : unit
       MatchOption held (names parent held ≡ codes "\\N") (λ ordinal. lines_with_key generator unit parent (names parent held) ≡ 1)
   names-one parent below None born held = refl
   names-one parent below (Some ordinal) born held =
-      ap (lines_with_key generator unit parent) (piece_text-decimal generator.delimiter (key_of generator parent unit ordinal) (key-small parent below ordinal born))
+      ap (lines_with_key generator unit parent) (escaped_text-decimal generator.delimiter (key_of generator parent unit ordinal) (key-small parent below ordinal born))
       ∙ lines_with_key-live parent below ordinal born (sym (holds_row-live (last_unit plan) generator parent unit ordinal sound within born) ∙ held)
 
   -- what holds of a parent holds of it as long as a row has it

@@ -3,3 +3,10 @@ pub mod FateLemmas
 pub mod StepLemmas
 pub mod KeyLineLemmas
 pub mod LastUnitLemmas
+pub mod CutLemmas
+pub mod StreamTextLemmas
+pub mod EntryLemmas
+pub mod TableLemmas
+pub mod ShareLemmas
+pub mod PackLemmas
+pub mod ShareLawLemmas

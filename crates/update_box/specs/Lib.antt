@@ -2,3 +2,8 @@ pub mod UnitLists
 pub mod Fates
 pub mod TableLists
 pub mod TextLaws
+pub mod Cuts
+pub mod Parts
+pub mod Packages
+pub mod Prepared
+pub mod Kept

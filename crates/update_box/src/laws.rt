@@ -3,18 +3,23 @@
 //!
 //! A table is named by its place in the schema, and a row by its ordinal; both count from 0.
 
-ghost use Rattle.std.specs.Prelude.{◌≡◌, ℕ, ℤ, ◌-◌, ◌<◌, ◌≤◌, ◌==◌, ◌&&◌, All, IfSome, IsSome, MatchOption, Some, codes, false, filter, flat_map, length, not, slice_index_or, true};
+ghost use Rattle.std.specs.Prelude.{◌≡◌, ℕ, ℤ, ◌-◌, ◌*◌, ◌<◌, ◌≤◌, ◌==◌, ◌&&◌, All, IfSome, IsSome, MatchOption, Some, codes, false, filter, flat_map, length, not, slice_index_or, true};
 ghost use Rattle.std.specs.List.{range_with_len};
 ghost use Rattle.cohort_sizes.specs.Births.{first_ordinal};
 ghost use Rattle.schema_plan.specs.Dictionaries.{Project};
+ghost use Rattle.schema_plan.specs.Layout.{layout_of};
 ghost use Rattle.schema_plan.specs.Limits.{IsInLimits};
 ghost use Rattle.schema_plan.specs.References.{Reference, cascades_of, reference_at, references_of};
+ghost use Rattle.schema_plan.specs.TableFacts.{reach};
 ghost use Rattle.life_intervals.specs.Generator.{generator_of, last_unit, table_of};
 ghost use Rattle.life_intervals.specs.Intervals.{change_unit, held_parent, is_live, parent_of};
 ghost use Rattle.life_intervals.specs.Rows.{Row};
 ghost use Rattle.life_intervals.specs.Simulation.{holds_row, rows_at, simulation};
 ghost use Rattle.life_intervals.specs.Streams.{deleted, inserted, updated};
 ghost use Rattle.row_lines.specs.Lines.{key_line_of, line, parent_of_row, table_text};
+ghost use Rattle.update_box.specs.Packages.{IsJobOf, package_text, packages_in, packages_of, room_of, share_of, share_text};
+ghost use Rattle.update_box.specs.Parts.{Part, content_text, snapshot_contents, unit_contents};
+ghost use Rattle.update_box.specs.declared.parts.Job.{Job};
 ghost use Rattle.update_box.specs.TextLaws.{field_of_line, lines_with_key, with_last_unit};
 ghost use Rattle.update_box.specs.UnitLists.{ordinals, table_lists};
 
@@ -90,4 +95,31 @@ pub fn a_longer_run_changes_nothing_earlier()
         (deleted (generator_of other) place unit)
         ≡ flat_map (λ (row : Row). key_line_of (generator_of plan) (last_unit plan) place row.ordinal)
         (deleted (generator_of plan) place unit) }
+{}
+
+/// The shares of a part for all nodes, one after the other, are what is told of the table, whole. So is the share of a node that is alone.
+pub fn shares_are_the_whole()
+    ensures joined { (plan : Project) → IsInLimits plan → (job : Job) → job.unit ≤ last_unit plan → 1 ≤ job.nodes →
+        (part : Part) → part.place < length plan.schema.tables →
+        flat_map (λ node. share_text plan job.unit (share_of plan (record job { node = node }) part)) (range_with_len 0 job.nodes)
+        ≡ content_text plan job.unit part.place part.content }
+    ensures alone { (plan : Project) → IsInLimits plan → (job : Job) → job.unit ≤ last_unit plan → job.node ≡ 0 → job.nodes ≡ 1 →
+        (part : Part) → part.place < length plan.schema.tables →
+        share_text plan job.unit (share_of plan job part) ≡ content_text plan job.unit part.place part.content }
+{}
+
+/// The packages of a share, one after the other, are the share, however many entries a package has.
+pub fn packages_are_the_share()
+    ensures { (plan : Project) → IsInLimits plan → (job : Job) → IsJobOf plan job →
+        (part : Part) → part.place < length plan.schema.tables → (size : ℕ) → 1 ≤ size →
+        let share = share_of plan job part in
+        flat_map (package_text plan job.unit size share) (range_with_len 0 (packages_in size share)) ≡ share_text plan job.unit share }
+{}
+
+/// The packages of a job want no more room than so many of the greatest lines as a package has entries.
+pub fn packages_want_little_room()
+    ensures snapshot { (plan : Project) (job : Job) →
+        room_of (packages_of snapshot_contents plan job) ≤ job.package * reach (layout_of plan) }
+    ensures unit { (plan : Project) (job : Job) → IsInLimits plan →
+        room_of (packages_of unit_contents plan job) ≤ job.package * reach (layout_of plan) }
 {}

@@ -9,10 +9,10 @@ ghost use Rattle.update_box.specs.Fates.{fate_of, lists_before, with_row};
 ghost use Rattle.update_box.specs.TableLists.{lists_of};
 ghost use Rattle.update_box.specs.UnitLists.{table_lists};
 
+use crate::Memory;
 use life_intervals::{
     Cohort, FoundRow, Rows, Survival, cohort, may_change, row_of_cohort, survival_at,
 };
-use line_pages::Memory;
 use schema_plan::Plan;
 use std::alloc::Global;
 use std::sync::ledger::Ledger;

@@ -1,0 +1,33 @@
+use Rattle.std.proofs.Common.{◌≤◌, ◌*◌, ◌-◌, ℕ, List, ap, arith, subst, sym, ◌∙◌}
+use Rattle.update_box.specs.Packages.{Packages, most_bytes, room_of, text_numbered}
+use Rattle.update_box.specs.Parts.{range_text}
+use Rattle.update_box.specs.declared.parts.Content.{Content}
+use Rattle.update_box.proofs.PackLemmas.{package-room, package-text, snapshot-found}
+use Rattle.update_box.proofs.snapshot_packer.SnapshotPackerPacker.pack.Goals as goal
+
+pub returns : goal.returns
+returns c =
+    let self = c.self.inside in
+    let share = c.package.result.0.now in
+    let entries = c.package.result.1 in
+    let kept = snapshot-found self.plan.now self.unit c.args.n self.shares share entries c.self.invariant.1 c.package.ensures in
+    c.put_living.ensures
+    ∙ ap (λ (text : List ℕ). record { text = text; room = c.args.page.now.room })
+    (sym (
+    ap (λ (p : Packages). text_numbered p c.args.n) (sym c.self.view_is)
+    ∙ package-text self.plan.now self.tables.now self.unit c.args.n self.shares share entries c.self.invariant.0 c.package.ensures
+    ∙ ap (λ (told : Content). range_text self.plan.now self.unit share.place told entries.first entries.end) kept.content
+    ))
+
+pub put_living-requires-clause-room : goal.put_living-requires-clause-room
+put_living-requires-clause-room c =
+    let self = c.self.inside in
+    let share = c.package.result.0.now in
+    let entries = c.package.result.1 in
+    let kept = snapshot-found self.plan.now self.unit c.args.n self.shares share entries c.self.invariant.1 c.package.ensures in
+    omega (
+      arith,
+      package-room self.plan.now self.tables.now self.unit c.args.n c.args.page.now.room self.shares share entries c.self.invariant.0 c.package.ensures
+          (subst (λ (p : Packages). room_of p ≤ c.args.page.now.room) (sym c.self.view_is) c.requires.room),
+      ap (λ (told : Content). (entries.end - entries.first) * most_bytes self.plan.now share.place told) kept.content,
+    )
