@@ -1,7 +1,7 @@
 -- What words come to, as it is found.
-use Rattle.std.proofs.Common.{◌≡◌, ◌≢◌, ℕ, Bool, true, false, List, [], ◌∷◌, Option, None, Some, Result, Ok, Err, inl, inr, refl, ap, sym, subst, ◌∙◌, arith}
-use Rattle.std.specs.Prelude.{⊤, ◌⊎◌, if◌then◌else◌, IfErr, IfSome, IsErr, OnOk, ◌↔◌}
-use Rattle.std.specs.Option.{option_map, option_and_then, option_or}
+use Rattle.std.proofs.Common.{◌≡◌, ◌≢◌, ℕ, Bool, false, List, [], Option, None, Some, Result, Ok, Err, inl, inr, refl, ap, sym, subst, ◌∙◌, arith}
+use Rattle.std.specs.Prelude.{◌⊎◌, IfErr, IfSome, IsErr, OnOk, ◌↔◌}
+use Rattle.std.specs.Option.{option_map}
 use Rattle.pd_outside.specs.Faults.{Rose, counted}
 use Rattle.pd_outside.specs.Files.{File}
 use Rattle.pd_outside.specs.Library.{Content, left}
@@ -14,13 +14,7 @@ use Rattle.refusals.specs.declared.refusal.JobFault.TheVariants as job
 use Rattle.refusals.specs.declared.refusal.PlanFault.{PlanFault}
 use Rattle.refusals.specs.declared.refusal.Refusal.{Refusal}
 use Rattle.refusals.specs.declared.refusal.Refusal.TheVariants as refusal
-use Rattle.request_words.specs.Form.{given_in, has_form, mode_in}
-use Rattle.request_words.specs.Options.{Given, is_number, mode_named, order, request_of, takes}
-use Rattle.request_words.specs.Words.{first_fault, of_mode, option_fault, request, unless_fault}
-use Rattle.request_words.specs.declared.usage.Mode.{Mode}
-use Rattle.request_words.specs.declared.usage.Mode.TheVariants.{Check, Snapshot, Unit, Row}
-use Rattle.request_words.specs.declared.usage.OptionName.{OptionName}
-use Rattle.request_words.specs.declared.usage.OptionName.TheVariants as option
+use Rattle.request_words.specs.Words.{request}
 use Rattle.request_words.specs.declared.usage.Request.{Request}
 use Rattle.request_words.specs.declared.usage.UsageFault.{UsageFault}
 use Rattle.request_words.specs.declared.usage.UsageFault.TheVariants as usage
@@ -154,106 +148,28 @@ pub asks_of_name : (r : Request) (name : List ℕ) (told : Option (List File)) (
     AsksForPlan name told before now → AsksInTurn (Ok r) told before now
 asks_of_name r name told before now is asks = asks_of_schema r told before now (subst (λ (n : List ℕ). AsksForPlan n told before now) is asks)
 
--- ---- words are never at fault for want of memory
+-- ---- words that are at fault
 
--- a fault that words have
-abbrev IsOfWords : UsageFault → Type 0
-IsOfWords usage.Memory = ⊥
-IsOfWords _ = ⊤
+fault-status : (fault : UsageFault) → fault ≢ usage.Memory → status_of (refusal.Words fault) ≡ 2
+fault-status usage.Memory other = absurd (other refl)
+fault-status usage.Words other = refl
+fault-status usage.Mode other = refl
+fault-status (usage.Unwanted name) other = refl
+fault-status (usage.Missing name) other = refl
+fault-status (usage.Number name) other = refl
+fault-status (usage.EmptyDirectory name) other = refl
 
-option_or-of_words : (first second : Option UsageFault) → IfSome first IsOfWords → IfSome second IsOfWords → IfSome (option_or first second) IsOfWords
-option_or-of_words None second one two = two
-option_or-of_words (Some fault) second one two = one
-
-number-of_words : (name : OptionName) (is : Bool) → IfSome (if is then None else Some (usage.Number name)) IsOfWords
-number-of_words name true = tt
-number-of_words name false = tt
-
--- what a mode does with an option, by an option and a mode that does it
-unwanted-of_words : (name : OptionName) (value : Option (List ℕ)) → IfSome (option_fault (takes Check option.Unit) name value) IsOfWords
-unwanted-of_words name None = tt
-unwanted-of_words name (Some value) = tt
-
-text-of_words : (name : OptionName) (value : Option (List ℕ)) → IfSome (option_fault (takes Check option.Schema) name value) IsOfWords
-text-of_words name None = tt
-text-of_words name (Some value) = tt
-
-optional_text-of_words : (name : OptionName) (value : Option (List ℕ)) → IfSome (option_fault (takes Unit option.Table) name value) IsOfWords
-optional_text-of_words name None = tt
-optional_text-of_words name (Some value) = tt
-
-needed_number-of_words : (name : OptionName) (value : Option (List ℕ)) → IfSome (option_fault (takes Row option.Key) name value) IsOfWords
-needed_number-of_words name None = tt
-needed_number-of_words name (Some value) = number-of_words name (is_number value)
-
-directory-of_words : (name : OptionName) (value : Option (List ℕ)) → IfSome (option_fault (takes Unit option.Out) name value) IsOfWords
-directory-of_words name None = tt
-directory-of_words name (Some []) = tt
-directory-of_words name (Some (byte ∷ rest)) = tt
-
-option_fault-of_words : (mode : Mode) (name : OptionName) (value : Option (List ℕ)) → IfSome (option_fault (takes mode name) name value) IsOfWords
-option_fault-of_words Check option.Schema = text-of_words option.Schema
-option_fault-of_words Snapshot option.Schema = text-of_words option.Schema
-option_fault-of_words Unit option.Schema = text-of_words option.Schema
-option_fault-of_words Row option.Schema = text-of_words option.Schema
-option_fault-of_words Check option.Unit = unwanted-of_words option.Unit
-option_fault-of_words Snapshot option.Unit = needed_number-of_words option.Unit
-option_fault-of_words Unit option.Unit = needed_number-of_words option.Unit
-option_fault-of_words Row option.Unit = needed_number-of_words option.Unit
-option_fault-of_words Check option.Table = unwanted-of_words option.Table
-option_fault-of_words Snapshot option.Table = optional_text-of_words option.Table
-option_fault-of_words Unit option.Table = optional_text-of_words option.Table
-option_fault-of_words Row option.Table = text-of_words option.Table
-option_fault-of_words Check option.Key = unwanted-of_words option.Key
-option_fault-of_words Snapshot option.Key = unwanted-of_words option.Key
-option_fault-of_words Unit option.Key = unwanted-of_words option.Key
-option_fault-of_words Row option.Key = needed_number-of_words option.Key
-option_fault-of_words Check option.Out = unwanted-of_words option.Out
-option_fault-of_words Snapshot option.Out = directory-of_words option.Out
-option_fault-of_words Unit option.Out = directory-of_words option.Out
-option_fault-of_words Row option.Out = unwanted-of_words option.Out
-
-first_fault-of_words : (mode : Mode) (given : Given) (names : List OptionName) → IfSome (first_fault mode given names) IsOfWords
-first_fault-of_words mode given [] = tt
-first_fault-of_words mode given (name ∷ names) =
-    option_or-of_words _ _ (option_fault-of_words mode name (given name)) (first_fault-of_words mode given names)
-
-unless_fault-of_words : (fault : Option UsageFault) (r : Request) → IfSome fault IsOfWords → IfErr (unless_fault fault r) IsOfWords
-unless_fault-of_words None r of = tt
-unless_fault-of_words (Some fault) r of = of
-
-of_mode-of_words : (mode : Option Mode) (given : Given) → IfErr (of_mode mode given) IsOfWords
-of_mode-of_words None given = tt
-of_mode-of_words (Some mode) given = unless_fault-of_words (first_fault mode given order) (request_of mode given) (first_fault-of_words mode given order)
-
-if-of_words : (is : Bool) (q : Result Request UsageFault) → IfErr q IsOfWords → IfErr (if is then q else Err usage.Words) IsOfWords
-if-of_words true q of = of
-if-of_words false q of = tt
-
-request-of_words : (words : List (List ℕ)) → IfErr (request words) IsOfWords
-unfolding request
-request-of_words [] = tt
-request-of_words (program ∷ words) =
-    if-of_words (has_form words) _ (of_mode-of_words (option_and_then mode_named (mode_in words)) (given_in words))
-
-of_words-status : (fault : UsageFault) → IsOfWords fault → status_of (refusal.Words fault) ≡ 2
-of_words-status usage.Memory of = absurd of
-of_words-status usage.Words of = refl
-of_words-status usage.Mode of = refl
-of_words-status (usage.Unwanted name) of = refl
-of_words-status (usage.Missing name) of = refl
-of_words-status (usage.Number name) of = refl
-of_words-status (usage.EmptyDirectory name) of = refl
-
-usage_status : (q : Result Request UsageFault) (r : Refusal) → IfErr q IsOfWords → IfErr q (λ fault. ◌≡◌ {A = Result Job Refusal} (Err r) (Err (refusal.Words fault))) →
-    OnOk q (status_of r ≢ 2) → (status_of r ≡ 2) ↔ IsErr q
-usage_status (Ok q) r of told other = (λ two. absurd (other two), λ err. absurd (cc))
-usage_status (Err fault) r of told other = (λ two. refl, λ err. let same : r ≡ refusal.Words fault = cc in ap status_of same ∙ of_words-status fault of)
+usage_status : (q : Result Request UsageFault) (r : Refusal) → IfErr q (λ fault. fault ≢ usage.Memory) →
+    IfErr q (λ fault. ◌≡◌ {A = Result Job Refusal} (Err r) (Err (refusal.Words fault))) → OnOk q (status_of r ≢ 2) → (status_of r ≡ 2) ↔ IsErr q
+usage_status (Ok q) r no_memory told other = (λ two. absurd (other two), λ err. absurd (cc))
+usage_status (Err fault) r no_memory told other =
+    (λ two. refl, λ err. let same : r ≡ refusal.Words fault = cc in ap status_of same ∙ fault-status fault no_memory)
 
 -- a refusal has status 2 exactly where the words give no request
-pub refused-usage : (words : List (List ℕ)) (r : Refusal) → IfErr (request words) (λ fault. ◌≡◌ {A = Result Job Refusal} (Err r) (Err (refusal.Words fault))) → OnOk (request words) (status_of r ≢ 2) →
+pub refused-usage : (words : List (List ℕ)) (r : Refusal) → IfErr (request words) (λ fault. fault ≢ usage.Memory) →
+    IfErr (request words) (λ fault. ◌≡◌ {A = Result Job Refusal} (Err r) (Err (refusal.Words fault))) → OnOk (request words) (status_of r ≢ 2) →
     (status_of r ≡ 2) ↔ IsErr (request words)
-refused-usage words r told other = usage_status (request words) r (request-of_words words) told other
+refused-usage words r no_memory told other = usage_status (request words) r no_memory told other
 
 -- ---- what the library leaves
 

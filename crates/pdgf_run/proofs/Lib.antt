@@ -1,7 +1,3 @@
-pub mod FillLemmas
-pub mod JobLemmas
-mod RunFillLemmas
-mod TableLemmas
-mod StreamTextLemmas
+pub mod AskedLemmas
 pub mod DecideLemmas
 pub mod ReportLemmas

@@ -1,89 +1,71 @@
 -- The files that a request is due.
-use Rattle.std.specs.Prelude.{ℕ, ◌++◌, List, [], ◌∷◌, length, map, flat_map, Option, Some, None, Result, Ok, Err, codes, decimal, slice_index_or}
-use Rattle.std.specs.List.{range_with_len}
+use Rattle.std.specs.Prelude.{ℕ, ◌*◌, ◌/◌, List, [], ◌∷◌, Option, Some, None, Result, Ok, Err, if◌then◌else◌, min, nat_lt, not, unwrap_or}
 use Rattle.std.specs.Option.{option_map}
 use Rattle.pd_outside.specs.Files.{File}
 use Rattle.schema_model.specs.declared.table.Schema.{Schema}
-use Rattle.schema_model.specs.declared.table.Table.{Table}
 use Rattle.schema_plan.specs.Dictionaries.{Project}
+use Rattle.schema_plan.specs.Layout.{layout_of}
 use Rattle.schema_plan.specs.Planned.{table_named}
-use Rattle.life_intervals.specs.Generator.{generator_of}
-use Rattle.row_lines.specs.Lines.{deleted_text, inserted_text, table_text, updated_text}
-use Rattle.pdgf_run.specs.declared.job.Content.{Content}
-use Rattle.pdgf_run.specs.declared.job.Content.TheVariants as content
+use Rattle.schema_plan.specs.TableFacts.{reach}
+use Rattle.plan_stages.specs.Stages.{on_ok}
 use Rattle.refusals.specs.declared.refusal.JobFault.{JobFault}
-use Rattle.refusals.specs.declared.refusal.JobFault.TheVariants as job
+use Rattle.refusals.specs.declared.refusal.JobFault.TheVariants.{Range}
 use Rattle.request_words.specs.declared.usage.OptionName.TheVariants as option
 use Rattle.request_words.specs.declared.usage.Request.{Request}
+use Rattle.update_box.specs.declared.parts.Content.{Content}
+use Rattle.update_box.specs.declared.parts.Job.{Job}
+use Rattle.update_box.specs.Packages.{share_files, packages_of}
+use Rattle.update_box.specs.Parts.{standard_output}
 
--- the name of the standard output
-abbrev pub standard_output : List ℕ
-standard_output = codes "-"
+-- the table that a request chooses: the one of a name, or none where it names none and so chooses all; nothing where no table has the name
+abbrev pub chosen_table : Schema → Option (List ℕ) → Option (Option ℕ)
+chosen_table schema None = Some None
+chosen_table schema (Some name) = option_map (λ place. Some place) (table_named schema name)
 
--- the name of the table at a place of a schema, counted from 0
-abbrev pub name_at : Schema → ℕ → List ℕ
-name_at schema place = slice_index_or (map (λ (table : Table). table.name) schema.tables) place []
+-- the most bytes that the pages of all workers may have together
+abbrev pub most_page_bytes : ℕ
+most_page_bytes = 67108864
 
--- the places of the tables that are chosen: all in order, or the one of a name, where there is one
-abbrev pub chosen_places : Schema → Option (List ℕ) → Option (List ℕ)
-chosen_places schema None = Some (range_with_len 0 (length schema.tables))
-chosen_places schema (Some name) = option_map (λ place. place ∷ []) (table_named schema name)
+-- how many they have where each worker has eight pages of packages of so many lines, of at most so many bytes each
+abbrev pub page_bytes : ℕ → ℕ → ℕ → ℕ
+page_bytes workers lines bytes = 8 * workers * lines * bytes
 
--- what a file holds of the table at a place
-pub record Part : Type 0 where
-  pub place : ℕ
-  pub content : Content
+-- how many lines a package has where none is given, by the workers and the greatest line: 1,000, or as many as the pages take
+abbrev pub default_package : ℕ → ℕ → ℕ
+default_package workers bytes = min 1000 (most_page_bytes / (8 * workers * bytes))
 
--- what a file holds of a table at a unit
-abbrev pub content_text : Project → ℕ → ℕ → Content → List ℕ
-content_text plan unit place content.Snapshot = table_text (generator_of plan) unit place
-content_text plan unit place content.Deleted = deleted_text plan unit place
-content_text plan unit place content.Updated = updated_text plan unit place
-content_text plan unit place content.Inserted = inserted_text plan unit place
+abbrev pub package_of : Project → Request → ℕ
+package_of plan request = unwrap_or request.package (default_package request.workers (reach (layout_of plan)))
 
--- a part of a table, and some, one after the other
-abbrev pub text_of_part : Project → ℕ → Part → List ℕ
-text_of_part plan unit part = content_text plan unit part.place part.content
+-- what a request asks of the table that is chosen, or of all
+abbrev pub job_for : Project → Request → Option ℕ → Job
+job_for plan request table = record {
+  unit = request.unit;
+  table = table;
+  «package» = package_of plan request;
+  node = request.node;
+  nodes = request.nodes;
+}
 
-unfoldable pub texts_of : Project → ℕ → List Part → List ℕ
-texts_of plan unit parts = flat_map (text_of_part plan unit) parts
+-- the same where it can be done: a table that isn't there is refused first, then a node that is none of the nodes, and then packages
+-- that the pages don't take
+abbrev pub asked_of : Project → Request → Option (Option ℕ) → Result Job JobFault
+asked_of plan request None = Err (Range option.Table)
+asked_of plan request (Some table) =
+    if not (nat_lt request.node request.nodes) then Err (Range option.Node)
+    else (if nat_lt most_page_bytes (page_bytes request.workers (package_of plan request) (reach (layout_of plan))) then Err (Range option.Package)
+    else Ok (job_for plan request table))
 
--- how the name of a file ends that holds nothing else
-abbrev pub ending_of : ℕ → Content → List ℕ
-ending_of unit content.Snapshot = codes ".tbl"
-ending_of unit content.Deleted = codes "." ++ decimal unit ++ codes ".del"
-ending_of unit content.Updated = codes "." ++ decimal unit ++ codes ".upd"
-ending_of unit content.Inserted = codes "." ++ decimal unit ++ codes ".ins"
+abbrev pub asked : Project → Request → Result Job JobFault
+asked plan request = asked_of plan request (chosen_table plan.schema request.table)
 
--- the file in a directory of what it holds of a table
-abbrev pub path_of : List ℕ → List ℕ → List ℕ → List ℕ
-path_of directory name ending = (directory ++ codes "/") ++ name ++ ending
+-- the files of such contents of a job's tables
+abbrev pub table_files : List Content → Project → Option (List ℕ) → Job → List File
+table_files contents plan out job = share_files (packages_of contents plan job) out
 
--- a file of some parts at a unit
-abbrev pub file_with : Project → ℕ → List ℕ → List Part → File
-file_with plan unit name parts = record { name = name; bytes = texts_of plan unit parts }
-
--- the file of one part in a directory
-abbrev pub part_file : Project → ℕ → List ℕ → Part → File
-part_file plan unit directory part =
-    file_with plan unit (path_of directory (name_at plan.schema part.place) (ending_of unit part.content)) (part ∷ [])
-
--- these contents, in order, of the table at a place, and of those at some places
-abbrev pub parts_at : List Content → ℕ → List Part
-parts_at contents place = map (λ content. record { place = place; content = content }) contents
-
-abbrev pub parts_of : List Content → List ℕ → List Part
-parts_of contents places = flat_map (parts_at contents) places
-
--- the files of such contents over tables at a unit: one for each part in a directory, or all on the standard output
-abbrev pub table_files : List Content → Project → ℕ → List ℕ → Option (List ℕ) → List File
-table_files contents plan unit places None = file_with plan unit standard_output (parts_of contents places) ∷ []
-table_files contents plan unit places (Some directory) = map (part_file plan unit directory) (parts_of contents places)
-
--- the same of the tables that a request chooses, where the schema has the one that it names
-abbrev pub files_at : List Content → Request → Project → Option (List ℕ) → Result (List File) JobFault
-files_at contents request plan None = Err (job.Range option.Table)
-files_at contents request plan (Some places) = Ok (table_files contents plan request.unit places request.out)
+-- the same of what a request asks
+abbrev pub files_asked : List Content → Request → Project → Result (List File) JobFault
+files_asked contents request plan = on_ok (asked plan request) (λ job. Ok (table_files contents plan request.out job))
 
 -- a text as the one file, on the standard output
 abbrev pub text_files : List ℕ → List File

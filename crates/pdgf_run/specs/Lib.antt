@@ -1,4 +1,3 @@
-pub mod Appends
 pub mod DueFiles
 pub mod Jobs
 pub mod ReadingList

@@ -5,6 +5,7 @@ ghost use Rattle.plan_stages.specs.Limits.{dictionary_limit, schema_limit};
 ghost use Rattle.plan_stages.specs.PlanNames.{AskedAlone};
 ghost use Rattle.plan_stages.specs.Stages.{ended, limit_told, told_files, Decides, LibraryAfter};
 ghost use Rattle.refusals.specs.Statuses.{job_status, status_of};
+ghost use Rattle.request_words.specs.Ranges.{AreWithinRanges};
 ghost use Rattle.request_words.specs.Words.{request};
 ghost use Rattle.pdgf_run.specs.Jobs.{due_of, CanFill};
 ghost use Rattle.pdgf_run.specs.ReadingList.{AsksInTurn};
@@ -16,7 +17,7 @@ use crate::modes::job_of;
 use pd_outside::Library;
 use plan_stages::plan_of;
 use refusals::{JobFault, Refusal};
-use request_words::{Request, read_words};
+use request_words::{Request, UsageFault, read_words};
 use std::alloc::Global;
 
 /// Decides what the words come to: a job, or why there is none. Nothing but the names of the reading list is started.
@@ -28,6 +29,7 @@ pub(crate) fn decide<L: Library>(
     ensures verdict { WhereTold (map string_bytes words.now) (L.content library.old) (Decides status_of due_of result) }
     ensures can { IfOk result CanFill }
     ensures usage { IfErr (request (map string_bytes words.now)) (λ fault. result ≡ Err (Refusal.Words fault)) }
+    ensures no_memory { IfErr (request (map string_bytes words.now)) (λ fault. fault ≢ UsageFault.Memory) }
     ensures no_usage { OnOk (request (map string_bytes words.now)) (ended status_of result ≢ 2) }
     ensures after { LibraryAfter (ended status_of result) (limit_told limit_of result) (told_files (L.content library.old)) (L.content library.new)
         (L.taken library.new) (L.is_started library.new) (L.faults library.old) (L.faults library.new) }
@@ -48,6 +50,7 @@ fn job_of_request<L: Library>(
     library: &mut L,
     request: &Request,
 ) -> Result<Job, JobFault>
+    requires { AreWithinRanges request.now }
     ensures job { IfSome (told_files (L.content library.old)) (λ files. Decides job_status due_of result (job_over request.now files)) }
     ensures can { IfOk result CanFill }
     ensures after { LibraryAfter (ended job_status result) (limit_told limit_of_job result) (told_files (L.content library.old)) (L.content library.new)

@@ -1,6 +1,7 @@
 //! From the words of a command line to the files that they are due.
 #![tactic(auto)]
 
+mod asked;
 mod command_line;
 mod decide;
 mod fill;
@@ -8,8 +9,8 @@ mod job;
 mod modes;
 mod report;
 mod run;
-mod tables;
 
+pub use asked::default_package;
 pub use command_line::run_program;
 pub use refusals::{DictionaryCause, DictionaryFault, JobFault, PlanFault, Refusal};
 pub use report::Report;

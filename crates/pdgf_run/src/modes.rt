@@ -3,13 +3,14 @@
 ghost use Rattle.std.specs.Prelude.{◌≡◌, ◌⊎◌, IfErr, IfOk, IsOk};
 ghost use Rattle.plan_stages.specs.Stages.{Decides};
 ghost use Rattle.refusals.specs.Statuses.{job_status};
+ghost use Rattle.request_words.specs.Ranges.{AreWithinRanges};
 ghost use Rattle.pdgf_run.specs.Jobs.{due_of, CanFill};
 ghost use Rattle.pdgf_run.specs.Verdict.{in_mode};
 
 mod check;
 mod row;
-mod snapshot;
-mod unit;
+pub(crate) mod snapshot;
+pub(crate) mod unit;
 
 use crate::job::Job;
 use refusals::JobFault;
@@ -22,6 +23,7 @@ use std::sync::ledger::Blank;
 /// The job of a request over a plan. Want of memory is told only where files are due: what a unit, a table and a key may be is tried
 /// before.
 pub(crate) fn job_of(alloc: Global, plan: Plan, request: &Request) -> Result<Job, JobFault>
+    requires { AreWithinRanges request.now }
     ensures job { Decides job_status due_of result (in_mode request.now.mode request.now plan) }
     ensures refused { IfErr result (λ fault. (job_status fault ≡ 7) ⊎ (job_status fault ≡ 8)) }
     ensures in_range { IfErr result (λ fault. job_status fault ≡ 7 → IsOk (in_mode request.now.mode request.now plan)) }

@@ -18,13 +18,15 @@ ghost use Rattle.pdgf_run.specs.Verdict.{WhereTold};
 use crate::decide::decide;
 use crate::fill::fill;
 use crate::report::{done, refused, write_failed};
-use crate::{Refusal, Report};
-use pd_outside::{Gate, Library, Shelf, WriteFailed};
+use crate::{JobFault, Refusal, Report};
+use pd_outside::{Gate, Library, Shelf};
+use range_workers::RunFault;
 use std::alloc::Global;
 use std::thread::Threads;
 
 /// Does all that the program does: reads the words, the program's name first, reads the files that they ask for, and
-/// writes the files that they are due.
+/// writes the files that they are due, by as many workers as they ask for. Each package of lines enters the gate once, before it is
+/// made.
 ///
 /// What words and files come to is the definition `verdict`: due files by a plain simulation that steps from unit to unit,
 /// or a refusal. The statuses are 0 (all is done), 2 (the words give no request), 3 (the schema's text isn't a schema), 4
@@ -32,12 +34,12 @@ use std::thread::Threads;
 /// (an option's value is out of the schema's range) and 10 (the schema's text or a dictionary is too long). Where a library or a
 /// shelf doesn't tell its files, the clauses say only what can be said.
 pub fn pdgf<R: Threads + Sync, L: Library, S: Shelf, G: Gate + Sync>(
-    _rt: &R,
+    rt: &R,
     alloc: Global,
     words: &[String],
     library: &mut L,
     shelf: &mut S,
-    _gate: &G,
+    gate: &G,
 ) -> Report
     requires { S.is_begun shelf.old ≡ false }
 
@@ -88,8 +90,9 @@ pub fn pdgf<R: Threads + Sync, L: Library, S: Shelf, G: Gate + Sync>(
         Ok(job) => job,
         Err(refusal) => return refused(refusal),
     };
-    match fill(shelf, job) {
+    match fill(rt, alloc, &job, shelf, gate) {
         Ok(()) => done(),
-        Err(WriteFailed) => write_failed(),
+        Err(RunFault::Write) => write_failed(),
+        Err(RunFault::Memory) => refused(Refusal::Job(JobFault::Memory)),
     }
 }

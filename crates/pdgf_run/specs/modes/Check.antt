@@ -8,7 +8,8 @@ use Rattle.schema_plan.specs.Lineage.{sure_life}
 use Rattle.schema_plan.specs.TableFacts.{cost, max_line}
 use Rattle.life_intervals.specs.Generator.{rows_in_all}
 use Rattle.refusals.specs.declared.refusal.JobFault.{JobFault}
-use Rattle.pdgf_run.specs.DueFiles.{name_at, text_files}
+use Rattle.update_box.specs.Parts.{name_at}
+use Rattle.pdgf_run.specs.DueFiles.{text_files}
 
 -- how long the rows of a table live for sure, as it is told
 abbrev pub life_text : Option ℕ → List ℕ

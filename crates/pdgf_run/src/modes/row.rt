@@ -12,8 +12,8 @@ ghost use Rattle.row_lines.specs.Reports.{report_on};
 ghost use Rattle.pdgf_run.specs.Jobs.{due_of, CanFill};
 ghost use Rattle.pdgf_run.specs.modes.Row.{row_due};
 
+use crate::asked::{is_past_last, named_table};
 use crate::job::Job;
-use crate::tables::{is_past_last, named_table};
 use life_intervals::row_of_key;
 use line_pages::{Memory, PageBuf};
 use refusals::JobFault;

@@ -1,27 +1,30 @@
 //! Mode unit: what a unit changes in tables.
 
-ghost use Rattle.std.specs.Prelude.{◌≡◌, ◌<◌, ◌≤◌, ◌+◌, ◌++◌, ◌⊎◌, All, IfErr, IfOk, IsOk, OnOk, length, map};
-ghost use Rattle.life_intervals.specs.Generator.{last_unit};
+ghost use Rattle.std.specs.Prelude.{◌≡◌, ◌≤◌, ◌⊎◌, ◌<◌, false, IfErr, IfOk, IsErrOf, IsOk, OnOk};
+ghost use Rattle.std.specs.Option.{option_map};
+ghost use Rattle.pd_outside.specs.Faults.{FailsAtLast, Rose};
+ghost use Rattle.pd_outside.specs.Shelf.{HoldsPrefixOf, finish_files};
 ghost use Rattle.plan_stages.specs.Stages.{Decides};
 ghost use Rattle.refusals.specs.Statuses.{job_status};
-ghost use Rattle.pdgf_run.specs.DueFiles.{parts_at, parts_of, table_files};
-ghost use Rattle.pdgf_run.specs.Jobs.{due_of, files_due, named, places_of, with_its_name, CanFill, CanWrite, IsAmong, IsPartOf};
-ghost use Rattle.pdgf_run.specs.modes.Unit.{unit_contents, unit_due};
+ghost use Rattle.update_box.specs.Parts.{unit_contents};
+ghost use Rattle.update_box.specs.TableLists.{HoldLists};
+ghost use Rattle.pdgf_run.specs.DueFiles.{table_files};
+ghost use Rattle.pdgf_run.specs.Jobs.{due_of, CanAsk, CanFill, CanPack, CanPackUnit};
+ghost use Rattle.pdgf_run.specs.modes.Unit.{unit_due};
 
-use crate::job::{
-    FilesJob, Job, JobPart, JobRows, Places, choose, job_tables, page_for, push_part,
-};
-use crate::tables::is_past_last;
-use life_intervals::Rows;
-use line_pages::Memory;
+use crate::asked::{asked, is_past_last};
+use crate::fill::name_of;
+use crate::job::{Job, TablesJob, UnitJob, tables_job};
+use pd_outside::{Gate, Shelf};
+use range_workers::{RunFault, run};
 use refusals::JobFault;
 use request_words::{OptionName, Request};
-use schema_model::Text as Name;
 use schema_plan::Plan;
 use std::alloc::Global;
 use std::sync::ledger::{Blank, Ledger};
+use std::thread::Threads;
 use step_count::Steps;
-use update_box::{TableRows, table_rows};
+use update_box::{ListPacker, Memory, UnitRows, rows_of_unit};
 
 /// The job of what a unit changes in a plan's tables.
 pub(crate) fn plan_unit<B: Ledger>(
@@ -33,6 +36,7 @@ pub(crate) fn plan_unit<B: Ledger>(
     requires name { blank.name ≡ B.name }
     requires parts { blank.parts ≡ B.parts }
     requires some { 0 < blank.parts }
+    requires ranges { CanAsk request.now }
     ensures job { Decides job_status due_of result (unit_due request.now plan) }
     ensures refused { IfErr result (λ fault. (job_status fault ≡ 7) ⊎ (job_status fault ≡ 8)) }
     ensures in_range { IfErr result (λ fault. job_status fault ≡ 7 → IsOk (unit_due request.now plan)) }
@@ -41,101 +45,61 @@ pub(crate) fn plan_unit<B: Ledger>(
     if request.unit == 0 || is_past_last(&plan, request.unit) {
         return Err(JobFault::Range(OptionName::Unit));
     }
-    let Some(tables) = choose(&plan, &request.table) else {
-        return Err(JobFault::Range(OptionName::Table));
+    let asked = match asked(&plan, request) {
+        Ok(asked) => asked,
+        Err(fault) => return Err(fault),
     };
-    let job = unit_job::<B>(alloc, plan, request.unit, tables, &request.out, blank)?;
-    Ok(Job::Files(job))
+    let of = match tables_job(alloc, plan, asked, request) {
+        Ok(of) => of,
+        Err(_) => return Err(JobFault::Memory),
+    };
+    match found_rows::<B>(alloc, &of, blank) {
+        Ok(rows) => Ok(Job::Unit(UnitJob { of, rows })),
+        Err(_) => Err(JobFault::Memory),
+    }
 }
 
-/// What a unit changes in some tables.
-fn unit_job<B: Ledger>(
-    alloc: Global,
-    plan: Plan,
-    unit: u64,
-    places: Places,
-    out: &Option<Name>,
-    blank: Blank,
-) -> Result<FilesJob, Memory>
+/// The rows of a job's tables that its unit changes, found with the orders that are prepared.
+fn found_rows<B: Ledger>(alloc: Global, job: &TablesJob, blank: Blank) -> Result<UnitRows, Memory>
     requires name { blank.name ≡ B.name }
     requires parts { blank.parts ≡ B.parts }
     requires some { 0 < blank.parts }
-    requires later { 1 ≤ unit }
-    requires unit { unit ≤ last_unit plan }
-    requires within { places.from + places.count ≤ length plan.schema.tables }
-    ensures due { IfOk result (λ job. files_due job ≡ table_files unit_contents plan unit (places_of places) out.now) }
-    ensures can { IfOk result CanWrite }
+    requires can { CanPack job.now }
+    requires later { 1 ≤ job.now.asked.unit }
+    ensures { IfOk result (HoldLists job.now.plan job.now.asked.unit job.now.asked.table) }
 {
-    let _limits = plan.schema(); // there are at most 10,000 units
     let mut steps = Steps::<B>::new(blank);
-    let tables = job_tables(alloc, &plan, unit, places)?;
-    let rows = Rows::with(&plan, &tables.orders);
-    let parts = unit_parts(alloc, &rows, unit, places, out, &mut steps)?;
-    let page = page_for(alloc, &plan)?;
-    Ok(FilesJob {
-        plan,
-        unit,
-        apart: out.is_some(),
-        tables,
-        parts,
-        page,
-    })
+    let rows = job.tables.rows(&job.plan);
+    rows_of_unit(alloc, &rows, job.asked.table, job.asked.unit, &mut steps)
 }
 
-/// The parts of what a unit changes in some tables.
-fn unit_parts<B: Ledger>(
+/// Writes the files of what a unit changes, by the job's workers. All memory is taken before the first file is begun.
+pub(crate) fn write_unit<R: Threads + Sync, S: Shelf, G: Gate + Sync>(
+    rt: &R,
     alloc: Global,
-    rows: &Rows<'_>,
-    unit: u64,
-    places: Places,
-    out: &Option<Name>,
-    steps: &mut Steps<B>,
-) -> Result<Vec<JobPart>, Memory>
-    requires some { 1 ≤ unit }
-    requires unit { unit ≤ last_unit rows.now }
-    requires within { places.from + places.count ≤ length rows.now.schema.tables }
-    ensures named { IfOk result (λ parts. map named parts.items ≡ map (with_its_name rows.now unit out.now) (parts_of unit_contents (places_of places))) }
-    ensures are { IfOk result (λ parts. All (IsPartOf rows.now unit places) parts.items) }
+    job: &UnitJob,
+    shelf: &mut S,
+    gate: &G,
+) -> Result<(), RunFault>
+    requires can { CanPackUnit job.now }
+    requires none_begun { S.is_begun shelf.old ≡ false }
+    ensures files { OnOk result (S.held shelf.new ≡ option_map (finish_files (table_files unit_contents job.now.of.plan job.now.of.out job.now.of.asked)) (S.held shelf.old)) }
+    ensures prefix { IsErrOf result RunFault.Write → HoldsPrefixOf (table_files unit_contents job.now.of.plan job.now.of.out job.now.of.asked) (S.held shelf.old) (S.held shelf.new) }
+    ensures cause { IsErrOf result RunFault.Write → Rose (S.faults shelf.old) (S.faults shelf.new) }
+    ensures memory { IsErrOf result RunFault.Memory → shelf.new ≡ shelf.old }
+    ensures no_fault { OnOk result (S.faults shelf.new ≡ S.faults shelf.old) }
+    ensures at_last { IsErrOf result RunFault.Memory ⊎ FailsAtLast result (S.faults shelf.old) (S.faults shelf.new) (S.last_failed shelf.new) }
+    ensures never_falls { S.faults shelf.old ≤ S.faults shelf.new }
+    ensures none_begun { OnOk result (S.is_begun shelf.new ≡ false) }
 {
-    let _limits = rows.plan().schema(); // there are at most 64 tables
-    let mut parts = Vec::new(alloc);
-    for number in 0..places.count {
-        let place = places.from + number;
-        push_changes(alloc, rows, unit, places, place, out, &mut parts, steps)?;
-    }
-    Ok(parts)
-}
-
-/// Puts what a unit deletes, updates and inserts in a table behind others.
-fn push_changes<B: Ledger>(
-    alloc: Global,
-    rows: &Rows<'_>,
-    unit: u64,
-    places: Places,
-    place: u32,
-    out: &Option<Name>,
-    parts: &mut Vec<JobPart>,
-    steps: &mut Steps<B>,
-) -> Result<(), Memory>
-    requires place { place < length rows.now.schema.tables }
-    requires among { IsAmong places place }
-    requires some { 1 ≤ unit }
-    requires unit { unit ≤ last_unit rows.now }
-    requires are { All (IsPartOf rows.now unit places) parts.old.items }
-    ensures named { OnOk result (map named parts.new.items
-        ≡ map named parts.old.items ++ map (with_its_name rows.now unit out.now) (parts_at unit_contents place)) }
-    ensures are { OnOk result (All (IsPartOf rows.now unit places) parts.new.items) }
-{
-    let plan = rows.plan();
-    let TableRows {
-        deleted,
-        updated,
-        ..
-    } = table_rows(alloc, rows, place, unit, steps)?;
-    let deleted = JobRows::Deleted(deleted);
-    let updated = JobRows::Updated(updated);
-    let inserted = JobRows::Inserted;
-    push_part(alloc, plan, unit, places, place, deleted, out, parts)?;
-    push_part(alloc, plan, unit, places, place, updated, out, parts)?;
-    push_part(alloc, plan, unit, places, place, inserted, out, parts)
+    let of = &job.of;
+    let packer = match ListPacker::new(alloc, &of.plan, &of.tables, &job.rows, &of.asked) {
+        Ok(packer) => packer,
+        Err(_) => return Err(RunFault::Memory),
+    };
+    let marks = match packer.marks(alloc, name_of(&of.out)) {
+        Ok(marks) => marks,
+        Err(_) => return Err(RunFault::Memory),
+    };
+    run(rt, alloc, &packer, &marks, of.workers, shelf, gate)
 }

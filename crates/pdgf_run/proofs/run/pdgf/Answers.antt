@@ -13,7 +13,7 @@ use Rattle.pdgf_run.proofs.run.pdgf.Goals as goal
 pub returns-in-Err-clause-usage : goal.returns-in-Err-clause-usage
 returns-in-Err-clause-usage g c =
     subst (λ (report : Report). (report.status ≡ 2) ↔ IsErr (request (map string_bytes c.args.words.now))) (sym c.refused.ensures)
-    (refused-usage (map string_bytes c.args.words.now) c.in-Err.refusal c.in-Err.ensures.usage c.in-Err.ensures.no_usage)
+    (refused-usage (map string_bytes c.args.words.now) c.in-Err.refusal c.in-Err.ensures.no_memory c.in-Err.ensures.usage c.in-Err.ensures.no_usage)
 
 pub returns-in-Err-clause-too_long : goal.returns-in-Err-clause-too_long
 returns-in-Err-clause-too_long g c =

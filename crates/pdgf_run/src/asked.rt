@@ -1,0 +1,135 @@
+//! What a request asks of a plan's tables, by its options.
+
+ghost use Rattle.std.specs.Prelude.{◌≡◌, ◌<◌, ◌≤◌, IfOk, IfSome, nat_lt};
+ghost use Rattle.std.specs.Option.{option_and_then};
+ghost use Rattle.schema_plan.specs.Layout.{layout_of};
+ghost use Rattle.schema_plan.specs.Planned.{table_named};
+ghost use Rattle.schema_plan.specs.TableFacts.{reach};
+ghost use Rattle.life_intervals.specs.Generator.{last_unit};
+ghost use Rattle.update_box.specs.Packages.{IsChoice, IsJobOf};
+ghost use Rattle.pdgf_run.specs.DueFiles.{asked, chosen_table, default_package, most_page_bytes, package_of, page_bytes};
+ghost use Rattle.pdgf_run.specs.Jobs.{CanAsk};
+
+use refusals::JobFault;
+use request_words::{OptionName, Request};
+use schema_model::Text;
+use schema_plan::Plan;
+use update_box::Job;
+
+/// The most bytes that the pages of all workers may have together.
+const MOST_PAGE_BYTES: u64 = 67_108_864;
+
+/// How many pages a worker has.
+const PAGES: u64 = 8;
+
+/// The most lines of a package where none is given.
+const MOST_LINES: u64 = 1000;
+
+/// How many lines a package has where none is given: 1,000, or as many as the pages of so many workers, 1 to 64, take, where a line has at
+/// most so many bytes, 1 to 131,072. Each worker has eight pages, of a package each, and all together have at most 67,108,864 bytes.
+pub fn default_package(workers: u32, bytes: u64) -> u64
+    requires some_worker { 1 ≤ workers }
+    requires worker_limit { workers ≤ 64 }
+    requires some_byte { 1 ≤ bytes }
+    requires byte_limit { bytes ≤ 131072 }
+    ensures lines { result ≡ default_package workers bytes }
+    ensures some_line { 1 ≤ result }
+    ensures line_limit { result ≤ 1000 }
+{
+    MOST_LINES.min(MOST_PAGE_BYTES / (PAGES * u64::from(workers) * bytes))
+}
+
+/// Whether a unit is past the last one of a plan.
+pub(crate) fn is_past_last(plan: &Plan, unit: u64) -> bool
+    ensures { result ≡ nat_lt (last_unit plan.now) unit }
+{
+    plan.units() < unit
+}
+
+/// The table that is named; None where no table has the name, or none is given.
+pub(crate) fn named_table(plan: &Plan, table: &Option<Text>) -> Option<u32>
+    ensures { result ≡ option_and_then (table_named plan.now.schema) table.now }
+{
+    match table {
+        None => None,
+        Some(name) => plan.table_named(name.as_str()),
+    }
+}
+
+/// The table that is chosen by its name, or none, for all, where no name is given; None where no table has the name.
+fn chosen_table(plan: &Plan, table: &Option<Text>) -> Option<Option<u32>>
+    ensures table { result ≡ chosen_table plan.now.schema table.now }
+    ensures within { IfSome result (IsChoice plan.now) }
+{
+    match table {
+        None => Some(None),
+        Some(name) => match plan.table_named(name.as_str()) {
+            Some(place) => Some(Some(place)),
+            None => None,
+        },
+    }
+}
+
+/// How many lines a package of a request has.
+fn package_of(plan: &Plan, request: &Request) -> u64
+    requires { CanAsk request.now }
+    ensures lines { result ≡ package_of plan.now request.now }
+    ensures some_line { 1 ≤ result }
+    ensures line_limit { result ≤ 1000000 }
+{
+    match request.package {
+        Some(lines) => lines,
+        None => preset_package(plan, request.workers),
+    }
+}
+
+/// The same where the request doesn't say.
+fn preset_package(plan: &Plan, workers: u32) -> u64
+    requires some_worker { 1 ≤ workers }
+    requires worker_limit { workers ≤ 64 }
+    ensures lines { result ≡ default_package workers (reach (layout_of plan.now)) }
+    ensures some_line { 1 ≤ result }
+    ensures line_limit { result ≤ 1000 }
+{
+    let _limits = plan.schema(); // a line has at most 65,536 bytes
+    default_package(workers, plan.reach())
+}
+
+/// How many bytes the pages of the workers have together.
+fn page_bytes(plan: &Plan, workers: u32, lines: u64) -> u64
+    requires worker_limit { workers ≤ 64 }
+    requires line_limit { lines ≤ 1000000 }
+    ensures { result ≡ page_bytes workers lines (reach (layout_of plan.now)) }
+{
+    let _limits = plan.schema(); // a line has at most 65,536 bytes
+    PAGES * u64::from(workers) * lines * plan.reach()
+}
+
+/// What a request asks of a plan's tables at one of its units; or the first of these options that is out of its range: the table, the
+/// node and the package.
+pub(crate) fn asked(plan: &Plan, request: &Request) -> Result<Job, JobFault>
+    requires unit { request.now.unit ≤ last_unit plan.now }
+    requires ranges { CanAsk request.now }
+    ensures asked { result ≡ asked plan.now request.now }
+    ensures job { IfOk result (IsJobOf plan.now) }
+    ensures unit { IfOk result (λ job. job.unit ≡ request.now.unit) }
+    ensures pages { IfOk result (λ job. page_bytes request.now.workers job.package (reach (layout_of plan.now)) ≤ most_page_bytes) }
+{
+    let Some(table) = chosen_table(plan, &request.table) else {
+        return Err(JobFault::Range(OptionName::Table));
+    };
+    if request.nodes <= request.node {
+        return Err(JobFault::Range(OptionName::Node));
+    }
+    let package = package_of(plan, request);
+    if MOST_PAGE_BYTES < page_bytes(plan, request.workers, package) {
+        return Err(JobFault::Range(OptionName::Package));
+    }
+    Ok(Job {
+        unit: request.unit,
+        table,
+        package,
+        node: request.node,
+        nodes: request.nodes,
+    })
+}
