@@ -1,8 +1,10 @@
-//! Tests of whole runs, from words to files over devices in memory that fail, and of these devices.
+//! Tests of whole runs, from words to files over devices in memory that fail, of these devices, and of files read in turn.
 #![tactic(auto)]
 
 #[cfg(test)]
 mod citations;
+#[cfg(test)]
+mod inputs;
 #[cfg(test)]
 mod outside;
 #[cfg(test)]
@@ -17,3 +19,5 @@ mod schemas;
 mod simulations;
 #[cfg(test)]
 mod texts;
+#[cfg(test)]
+mod workers;

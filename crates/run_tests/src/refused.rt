@@ -340,6 +340,170 @@ static KEYS: [Run<'static>; 20] = [
     },
 ];
 
+// Workers, packages and nodes, and modes that don't take them.
+static SHARES: [Run<'static>; 23] = [
+    Run {
+        name: "no workers",
+        words: "pdgf snapshot s.toml --unit 2 --workers 0",
+        status: 2,
+        message: "pdgf: usage: bad number for --workers\n",
+        ..REFUSED
+    },
+    Run {
+        name: "a worker too many",
+        words: "pdgf snapshot s.toml --unit 2 --workers 65",
+        status: 2,
+        message: "pdgf: usage: bad number for --workers\n",
+        ..REFUSED
+    },
+    Run {
+        name: "workers that are no number",
+        words: "pdgf unit s.toml --unit 2 --workers x",
+        status: 2,
+        message: "pdgf: usage: bad number for --workers\n",
+        ..REFUSED
+    },
+    Run {
+        name: "a package of no rows",
+        words: "pdgf snapshot s.toml --unit 2 --package 0",
+        status: 2,
+        message: "pdgf: usage: bad number for --package\n",
+        ..REFUSED
+    },
+    Run {
+        name: "a package of a row too many",
+        words: "pdgf unit s.toml --unit 2 --package 1000001",
+        status: 2,
+        message: "pdgf: usage: bad number for --package\n",
+        ..REFUSED
+    },
+    Run {
+        name: "a node that is no number",
+        words: "pdgf snapshot s.toml --unit 2 --node x",
+        status: 2,
+        message: "pdgf: usage: bad number for --node\n",
+        ..REFUSED
+    },
+    Run {
+        name: "a node past 64 bits",
+        words: "pdgf snapshot s.toml --unit 2 --node 18446744073709551616",
+        status: 2,
+        message: "pdgf: usage: bad number for --node\n",
+        ..REFUSED
+    },
+    Run {
+        name: "a node with a hyphen",
+        words: "pdgf snapshot s.toml --unit 2 --node -1",
+        status: 2,
+        message: "pdgf: usage: bad words\n",
+        ..REFUSED
+    },
+    Run {
+        name: "no nodes",
+        words: "pdgf unit s.toml --unit 2 --nodes=0",
+        status: 2,
+        message: "pdgf: usage: bad number for --nodes\n",
+        ..REFUSED
+    },
+    Run {
+        name: "nodes past the most",
+        words: "pdgf snapshot s.toml --unit 2 --nodes 1025",
+        status: 2,
+        message: "pdgf: usage: bad number for --nodes\n",
+        ..REFUSED
+    },
+    Run {
+        name: "workers twice",
+        words: "pdgf snapshot s.toml --unit 2 --workers 4 --workers=4",
+        status: 2,
+        message: "pdgf: usage: bad words\n",
+        ..REFUSED
+    },
+    Run {
+        name: "workers for a check",
+        words: "pdgf check s.toml --workers 4",
+        status: 2,
+        message: "pdgf: usage: unwanted --workers\n",
+        ..REFUSED
+    },
+    Run {
+        name: "a package for a check before a node",
+        words: "pdgf check s.toml --node 0 --package 1",
+        status: 2,
+        message: "pdgf: usage: unwanted --package\n",
+        ..REFUSED
+    },
+    Run {
+        name: "a node for a check before bad nodes",
+        words: "pdgf check s.toml --nodes 0 --node 0",
+        status: 2,
+        message: "pdgf: usage: unwanted --node\n",
+        ..REFUSED
+    },
+    Run {
+        name: "nodes for a check",
+        words: "pdgf check s.toml --nodes 1",
+        status: 2,
+        message: "pdgf: usage: unwanted --nodes\n",
+        ..REFUSED
+    },
+    Run {
+        name: "workers for a row",
+        words: "pdgf row s.toml --unit 2 --table t --key 1 --workers 4",
+        status: 2,
+        message: "pdgf: usage: unwanted --workers\n",
+        ..REFUSED
+    },
+    Run {
+        name: "nodes for a row",
+        words: "pdgf row s.toml --unit 2 --table t --key 1 --nodes 1",
+        status: 2,
+        message: "pdgf: usage: unwanted --nodes\n",
+        ..REFUSED
+    },
+    Run {
+        name: "an empty folder before no workers",
+        words: "pdgf snapshot s.toml --workers 0 --unit 2 --out ",
+        status: 2,
+        message: "pdgf: usage: empty directory for --out\n",
+        ..REFUSED
+    },
+    Run {
+        name: "no workers before a package of no rows",
+        words: "pdgf snapshot s.toml --package 0 --unit 2 --workers 0",
+        status: 2,
+        message: "pdgf: usage: bad number for --workers\n",
+        ..REFUSED
+    },
+    Run {
+        name: "a package of no rows before a bad node",
+        words: "pdgf unit s.toml --node x --package 0 --unit 2",
+        status: 2,
+        message: "pdgf: usage: bad number for --package\n",
+        ..REFUSED
+    },
+    Run {
+        name: "a bad node before no nodes",
+        words: "pdgf snapshot s.toml --nodes 0 --node x --unit 2",
+        status: 2,
+        message: "pdgf: usage: bad number for --node\n",
+        ..REFUSED
+    },
+    Run {
+        name: "a unit past the last, and the most of each",
+        words: "pdgf snapshot s.toml --workers 64 --package 1000000 --node 18446744073709551615 --nodes 1024 --unit 3",
+        status: 8,
+        message: "pdgf: out of range: --unit\n",
+        ..REFUSED
+    },
+    Run {
+        name: "the least of each",
+        words: "pdgf snapshot s.toml --unit 2 --workers 1 --package 1 --node 0 --nodes 1",
+        finished: &[("-", Text(ONE_AT_2))],
+        ..DONE
+    },
+];
+
 // Units and keys of other schemas.
 static RANGES: [Run<'static>; 4] = [
     Run {
@@ -379,6 +543,11 @@ static RANGES: [Run<'static>; 4] = [
 #[test]
 fn other_words_are_refused(rt: HostRuntime) {
     assert_runs(&rt, rt.alloc(), &WORDS);
+}
+
+#[test]
+fn workers_packages_and_nodes_are_within_their_ranges(rt: HostRuntime) {
+    assert_runs(&rt, rt.alloc(), &SHARES);
 }
 
 #[test]

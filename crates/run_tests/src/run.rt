@@ -93,7 +93,8 @@ pub fn library_of(
     MemLibrary::new(alloc, files, fails)
 }
 
-fn words_of(rt: &impl Abort, alloc: Global, line: &str) -> Vec<String> {
+/// The words of a line with a space between two.
+pub fn words_of(rt: &impl Abort, alloc: Global, line: &str) -> Vec<String> {
     let mut words = Vec::new(alloc);
     if !line.is_empty() {
         for word in line.split(' ') {
