@@ -16,6 +16,7 @@ mod prepared;
 mod scan;
 mod shares;
 mod snapshot_packer;
+mod spare;
 mod units;
 
 pub use list_packer::ListPacker;

@@ -20,6 +20,7 @@ use crate::names::marks_of;
 use crate::parts::{Content, Job, Places};
 use crate::prepared::PreparedTables;
 use crate::shares::{Entries, KeptShare, Shares, cut};
+use crate::spare::SpareBufs;
 use crate::units::UnitRows;
 use life_intervals::{Rows, cohort};
 use line_pages::{Digits, PageBuf};
@@ -42,6 +43,7 @@ pub struct ListPacker<'a> {
     lists: &'a UnitRows,
     unit: u64,
     shares: Shares,
+    spare: SpareBufs,
 }
 
 impl<'a> Model for ListPacker<'a> {
@@ -156,6 +158,7 @@ fn put_deleted<B: Ledger>(
     place: u32,
     listed: &[u64],
     entries: Entries,
+    work: &mut RunBuf,
     page: &mut PageBuf,
     steps: &mut Steps<B>,
 )
@@ -170,8 +173,7 @@ fn put_deleted<B: Ledger>(
 {
     let _sound = rows.plan().schema(); // so each of them is born before
     let listed = &listed[entries.first as usize..entries.end as usize];
-    let mut work = RunBuf::new();
-    put_keys(rows, digits, place, listed, &mut work, page, steps);
+    put_keys(rows, digits, place, listed, work, page, steps);
 }
 
 /// Puts the lines of some of the rows that a unit updates in a table on a page, which is empty.
@@ -180,6 +182,7 @@ fn put_updated<B: Ledger>(
     plan: &Plan,
     listed: &[u64],
     entries: Entries,
+    work: &mut RunBuf,
     page: &mut PageBuf,
     steps: &mut Steps<B>,
 )
@@ -195,8 +198,7 @@ fn put_updated<B: Ledger>(
 {
     let _sound = plan.schema(); // so each of them is born before, and alive
     let listed = &listed[entries.first as usize..entries.end as usize];
-    let mut work = RunBuf::new();
-    lines.put_listed(listed, &mut work, page, steps);
+    lines.put_listed(listed, work, page, steps);
 }
 
 /// Puts the lines of some of the rows that a unit inserts in a table on a page, which is empty.
@@ -206,6 +208,7 @@ fn put_inserted<B: Ledger>(
     unit: u64,
     place: u32,
     entries: Entries,
+    work: &mut RunBuf,
     page: &mut PageBuf,
     steps: &mut Steps<B>,
 )
@@ -220,9 +223,8 @@ fn put_inserted<B: Ledger>(
 {
     let _sound = plan.schema(); // so each of them is alive
     let begin = cohort(plan, place, unit).first;
-    let mut work = RunBuf::new();
     let count = entries.end - entries.first;
-    lines.put_run(begin + entries.first, count, &mut work, page, steps);
+    lines.put_run(begin + entries.first, count, work, page, steps);
 }
 
 /// Puts the lines of the living among some of the rows of a table on a page, which is empty.
@@ -232,6 +234,7 @@ fn put_held<B: Ledger>(
     unit: u64,
     place: u32,
     entries: Entries,
+    work: &mut RunBuf,
     page: &mut PageBuf,
     steps: &mut Steps<B>,
 )
@@ -244,9 +247,8 @@ fn put_held<B: Ledger>(
     ensures { page.new ≡ record page.old { text = range_text plan.now unit place Content.Snapshot entries.first entries.end } }
 {
     let _sound = plan.schema(); // so the simulation is its closed form
-    let mut work = RunBuf::new();
     let count = entries.end - entries.first;
-    lines.put_run(entries.first, count, &mut work, page, steps);
+    lines.put_run(entries.first, count, work, page, steps);
 }
 
 /// Puts what is told of a share's entries on a page, which is empty.
@@ -257,6 +259,7 @@ fn put_entries<B: Ledger>(
     unit: u64,
     share: &KeptShare,
     entries: Entries,
+    work: &mut RunBuf,
     page: &mut PageBuf,
     blank: Blank,
 )
@@ -278,15 +281,25 @@ fn put_entries<B: Ledger>(
     let rows = tables.rows(plan);
     let lines = tables.lines_of(&rows, unit, place);
     match share.content {
-        Content::Snapshot => put_held(&lines, plan, unit, place, entries, page, &mut steps),
+        Content::Snapshot => put_held(&lines, plan, unit, place, entries, work, page, &mut steps),
         Content::Deleted => {
             let (digits, listed) = (tables.digits(), lists.dels(place));
             put_deleted(
-                &rows, digits, unit, place, listed, entries, page, &mut steps,
+                &rows, digits, unit, place, listed, entries, work, page, &mut steps,
             )
         }
-        Content::Updated => put_updated(&lines, plan, lists.upds(place), entries, page, &mut steps),
-        Content::Inserted => put_inserted(&lines, plan, unit, place, entries, page, &mut steps),
+        Content::Updated => put_updated(
+            &lines,
+            plan,
+            lists.upds(place),
+            entries,
+            work,
+            page,
+            &mut steps,
+        ),
+        Content::Inserted => put_inserted(
+            &lines, plan, unit, place, entries, work, page, &mut steps,
+        ),
     }
 }
 
@@ -307,12 +320,14 @@ impl<'a> ListPacker<'a> {
         ensures { IfOk result (λ packer. packer ≡ packages_of unit_contents plan.now job.now) }
     {
         let kept = list_shares(alloc, plan, tables, lists, job)?;
+        let spare = SpareBufs::new(alloc)?;
         Ok(ListPacker {
             plan,
             tables,
             lists,
             unit: job.unit,
             shares: Shares::of(plan, job.package, kept),
+            spare,
         })
     }
 
@@ -324,6 +339,38 @@ impl<'a> ListPacker<'a> {
     {
         let _limits = self.plan.schema(); // so texts of entries join where they meet
         marks_of(alloc, self.plan, self.unit, &self.shares, dir)
+    }
+
+    /// Makes a package, whose loops work on lists of its own.
+    #[inline(never)]
+    fn pack_anew(&self, n: u64, page: &mut PageBuf)
+        requires number { n < count_of self.now }
+        requires empty { page.old.text ≡ [] }
+        requires room { room_of self.now ≤ page.old.room }
+        ensures { page.new ≡ record page.old { text = text_numbered self.now n } }
+    {
+        self.pack_with(n, &mut RunBuf::new(), page);
+    }
+
+    /// Makes a package, whose loops work on these lists.
+    fn pack_with(&self, n: u64, work: &mut RunBuf, page: &mut PageBuf)
+        requires number { n < count_of self.now }
+        requires empty { page.old.text ≡ [] }
+        requires room { room_of self.now ≤ page.old.room }
+        ensures { page.new ≡ record page.old { text = text_numbered self.now n } }
+    {
+        let (share, entries) = self.shares.package(n);
+        put_entries::<Brand>(
+            self.plan,
+            self.tables,
+            self.lists,
+            self.unit,
+            share,
+            entries,
+            work,
+            page,
+            Blank::new(1),
+        );
     }
 }
 
@@ -343,16 +390,9 @@ impl<'a> Packer for ListPacker<'a> {
     }
 
     fn pack(&self, n: u64, page: &mut PageBuf) {
-        let (share, entries) = self.shares.package(n);
-        put_entries::<Brand>(
-            self.plan,
-            self.tables,
-            self.lists,
-            self.unit,
-            share,
-            entries,
-            page,
-            Blank::new(1),
-        );
+        match self.spare.of(n) {
+            Some(mut work) => self.pack_with(n, &mut work, page),
+            None => self.pack_anew(n, page),
+        }
     }
 }

@@ -17,6 +17,7 @@ use crate::names::marks_of;
 use crate::parts::{Content, Job, Places};
 use crate::prepared::PreparedTables;
 use crate::shares::{KeptShare, Shares, cut};
+use crate::spare::SpareBufs;
 use life_intervals::{Rows, born};
 use line_pages::PageBuf;
 use range_workers::{Marks, Packer};
@@ -36,6 +37,7 @@ pub struct SnapshotPacker<'a> {
     tables: &'a PreparedTables,
     unit: u64,
     shares: Shares,
+    spare: SpareBufs,
 }
 
 impl<'a> Model for SnapshotPacker<'a> {
@@ -103,11 +105,13 @@ impl<'a> SnapshotPacker<'a> {
     {
         let rows = tables.rows(plan);
         let kept = snapshot_shares(alloc, &rows, tables, job)?;
+        let spare = SpareBufs::new(alloc)?;
         Ok(SnapshotPacker {
             plan,
             tables,
             unit: job.unit,
             shares: Shares::of(plan, job.package, kept),
+            spare,
         })
     }
 
@@ -119,6 +123,38 @@ impl<'a> SnapshotPacker<'a> {
     {
         let _limits = self.plan.schema(); // so texts of entries join where they meet
         marks_of(alloc, self.plan, self.unit, &self.shares, dir)
+    }
+
+    /// Makes a package, whose loops work on lists of its own.
+    #[inline(never)]
+    fn pack_anew(&self, n: u64, page: &mut PageBuf)
+        requires number { n < count_of self.now }
+        requires empty { page.old.text ≡ [] }
+        requires room { room_of self.now ≤ page.old.room }
+        ensures { page.new ≡ record page.old { text = text_numbered self.now n } }
+    {
+        self.pack_with(n, &mut RunBuf::new(), page);
+    }
+
+    /// Makes a package, whose loops work on these lists.
+    fn pack_with(&self, n: u64, work: &mut RunBuf, page: &mut PageBuf)
+        requires number { n < count_of self.now }
+        requires empty { page.old.text ≡ [] }
+        requires room { room_of self.now ≤ page.old.room }
+        ensures { page.new ≡ record page.old { text = text_numbered self.now n } }
+    {
+        let (share, range) = self.shares.package(n);
+        put_living::<Brand>(
+            self.plan,
+            self.tables,
+            self.unit,
+            share,
+            range.first,
+            range.end,
+            work,
+            page,
+            Blank::new(1),
+        );
     }
 }
 
@@ -145,6 +181,7 @@ fn put_living<B: Ledger>(
     share: &KeptShare,
     first: u64,
     end: u64,
+    work: &mut RunBuf,
     page: &mut PageBuf,
     blank: Blank,
 )
@@ -169,7 +206,7 @@ fn put_living<B: Ledger>(
     let mut steps = Steps::<B>::new(blank);
     let rows = tables.rows(plan);
     let lines = tables.lines_of(&rows, unit, share.place);
-    lines.put_run(begin, end - begin, &mut RunBuf::new(), page, &mut steps);
+    lines.put_run(begin, end - begin, work, page, &mut steps);
 }
 
 impl<'a> Packer for SnapshotPacker<'a> {
@@ -188,16 +225,9 @@ impl<'a> Packer for SnapshotPacker<'a> {
     }
 
     fn pack(&self, n: u64, page: &mut PageBuf) {
-        let (share, range) = self.shares.package(n);
-        put_living::<Brand>(
-            self.plan,
-            self.tables,
-            self.unit,
-            share,
-            range.first,
-            range.end,
-            page,
-            Blank::new(1),
-        );
+        match self.spare.of(n) {
+            Some(mut work) => self.pack_with(n, &mut work, page),
+            None => self.pack_anew(n, page),
+        }
     }
 }

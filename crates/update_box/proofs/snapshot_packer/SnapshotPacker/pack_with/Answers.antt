@@ -3,7 +3,7 @@ use Rattle.update_box.specs.Packages.{Packages, most_bytes, room_of, text_number
 use Rattle.update_box.specs.Parts.{range_text}
 use Rattle.update_box.specs.declared.parts.Content.{Content}
 use Rattle.update_box.proofs.PackLemmas.{package-room, package-text, snapshot-found}
-use Rattle.update_box.proofs.snapshot_packer.SnapshotPackerPacker.pack.Goals as goal
+use Rattle.update_box.proofs.snapshot_packer.SnapshotPacker.pack_with.Goals as goal
 
 pub returns : goal.returns
 returns c =

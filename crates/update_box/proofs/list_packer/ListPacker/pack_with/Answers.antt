@@ -1,7 +1,7 @@
 use Rattle.std.proofs.Common.{◌≤◌, List, ℕ, ap, subst, sym, ◌∙◌}
 use Rattle.update_box.specs.Packages.{Packages, room_of, text_numbered}
 use Rattle.update_box.proofs.PackLemmas.{package-room, package-text}
-use Rattle.update_box.proofs.list_packer.ListPackerPacker.pack.Goals as goal
+use Rattle.update_box.proofs.list_packer.ListPacker.pack_with.Goals as goal
 
 pub returns : goal.returns
 returns c =
