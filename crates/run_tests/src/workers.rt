@@ -29,42 +29,98 @@ const UNIT: [(&str, Held<'static>); 9] = [
     ("out/lines.3.ins", Text("4\t4\n")),
 ];
 
+const WHOLE_SNAPSHOT: Run<'static> = Run {
+    schema: SALES,
+    finished: &SNAPSHOT,
+    ..DONE
+};
+
+static SNAPSHOTS: [Run<'static>; 7] = [
+    Run {
+        name: "one worker, a row at a time",
+        words: "pdgf snapshot s.toml --unit 2 --out out --workers 1 --package 1",
+        ..WHOLE_SNAPSHOT
+    },
+    Run {
+        name: "one worker, two rows at a time",
+        words: "pdgf snapshot s.toml --unit 2 --out out --workers 1 --package 2",
+        ..WHOLE_SNAPSHOT
+    },
+    Run {
+        name: "one worker, all rows at once",
+        words: "pdgf snapshot s.toml --unit 2 --out out --workers 1 --package 1000",
+        ..WHOLE_SNAPSHOT
+    },
+    Run {
+        name: "three workers, a row at a time",
+        words: "pdgf snapshot s.toml --unit 2 --out out --workers 3 --package 1",
+        ..WHOLE_SNAPSHOT
+    },
+    Run {
+        name: "three workers, two rows at a time",
+        words: "pdgf snapshot s.toml --unit 2 --out out --workers 3 --package 2",
+        ..WHOLE_SNAPSHOT
+    },
+    Run {
+        name: "more workers than rows",
+        words: "pdgf snapshot s.toml --unit 2 --out out --workers 64 --package 1",
+        ..WHOLE_SNAPSHOT
+    },
+    Run {
+        name: "more workers than packages",
+        words: "pdgf snapshot s.toml --unit 2 --out out --workers 64 --package 1000",
+        ..WHOLE_SNAPSHOT
+    },
+];
+
+const WHOLE_UNIT: Run<'static> = Run {
+    schema: SALES,
+    finished: &UNIT,
+    ..DONE
+};
+
+static UNITS: [Run<'static>; 7] = [
+    Run {
+        name: "one worker, a row at a time",
+        words: "pdgf unit s.toml --unit 3 --out out --workers 1 --package 1",
+        ..WHOLE_UNIT
+    },
+    Run {
+        name: "one worker, two rows at a time",
+        words: "pdgf unit s.toml --unit 3 --out out --workers 1 --package 2",
+        ..WHOLE_UNIT
+    },
+    Run {
+        name: "one worker, all rows at once",
+        words: "pdgf unit s.toml --unit 3 --out out --workers 1 --package 1000",
+        ..WHOLE_UNIT
+    },
+    Run {
+        name: "three workers, a row at a time",
+        words: "pdgf unit s.toml --unit 3 --out out --workers 3 --package 1",
+        ..WHOLE_UNIT
+    },
+    Run {
+        name: "three workers, two rows at a time",
+        words: "pdgf unit s.toml --unit 3 --out out --workers 3 --package 2",
+        ..WHOLE_UNIT
+    },
+    Run {
+        name: "more workers than rows",
+        words: "pdgf unit s.toml --unit 3 --out out --workers 64 --package 1",
+        ..WHOLE_UNIT
+    },
+    Run {
+        name: "more workers than packages",
+        words: "pdgf unit s.toml --unit 3 --out out --workers 64 --package 1000",
+        ..WHOLE_UNIT
+    },
+];
+
 #[test]
 fn workers_and_packages_give_the_same_bytes(rt: HostRuntime) {
-    for workers in [
-        "--workers 1 --package 1",
-        "--workers 1 --package 2",
-        "--workers 1 --package 1000",
-        "--workers 3 --package 1",
-        "--workers 3 --package 2",
-        "--workers 64 --package 1",
-        "--workers 64 --package 1000",
-    ] {
-        let words = format!(in rt.alloc(); "pdgf snapshot s.toml --unit 2 --out out {workers}");
-        let snapshot = words.expect(&rt, "memory");
-        let words = format!(in rt.alloc(); "pdgf unit s.toml --unit 3 --out out {workers}");
-        let unit = words.expect(&rt, "memory");
-        assert_runs(
-            &rt,
-            rt.alloc(),
-            &[
-                Run {
-                    name: workers,
-                    schema: SALES,
-                    words: snapshot.as_str(),
-                    finished: &SNAPSHOT,
-                    ..DONE
-                },
-                Run {
-                    name: workers,
-                    schema: SALES,
-                    words: unit.as_str(),
-                    finished: &UNIT,
-                    ..DONE
-                },
-            ],
-        );
-    }
+    assert_runs(&rt, rt.alloc(), &SNAPSHOTS);
+    assert_runs(&rt, rt.alloc(), &UNITS);
 }
 
 static SHARES: [Run<'static>; 6] = [
