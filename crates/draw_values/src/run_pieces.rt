@@ -84,19 +84,7 @@ pub(crate) fn fill_leaf(
             digits, *lo, *hi, choices, *decimals, unit, draws, behind, pieces,
         ),
         ReadyLeaf::Date { lo, hi, choices } => {
-            if choices.number() <= DAY_ROOM {
-                choices.remainders(draws);
-                fill_kept(kept, draws, pieces);
-            } else {
-                fill_days(
-                    i64::from(*lo),
-                    i64::from(*hi),
-                    choices,
-                    draws,
-                    behind,
-                    pieces,
-                );
-            }
+            fill_dates(*lo, *hi, choices, kept, draws, behind, pieces);
         }
         ReadyLeaf::Pick { weights, total, .. } => {
             choose_groups(weights, total, draws);
@@ -173,6 +161,30 @@ fn fill_fixed(
     for (i, piece) in pieces.iter_mut().enumerate() {
         let value = chosen(lo, hi, 1, &divisor, draws[i]);
         *piece = fixed_piece(digits, value, decimals, &unit, behind);
+    }
+}
+
+/// Dates; `kept` are the pieces that are kept of them.
+#[inline(always)]
+fn fill_dates(
+    lo: i32,
+    hi: i32,
+    choices: &FixedDivisor,
+    kept: &[Piece],
+    draws: &mut [u64],
+    behind: u8,
+    pieces: &mut [Piece],
+)
+    requires ready { IsReady (ReadyLeaf.Date lo hi choices.now) }
+    requires kept { map piece_text kept.now ≡ leaf_texts behind (ReadyLeaf.Date lo hi choices.now) }
+    requires lengths { length draws.old ≡ length pieces.old }
+    ensures { (i : ℕ) → i < length pieces.old → slice_index_or (map piece_text pieces.new) i [] ≡ with_behind behind (date_text (chosen_of lo hi 1 (slice_index draws.old i))) }
+{
+    if choices.number() <= DAY_ROOM {
+        choices.remainders(draws);
+        fill_kept(kept, draws, pieces);
+    } else {
+        fill_days(i64::from(lo), i64::from(hi), choices, draws, behind, pieces);
     }
 }
 
