@@ -22,7 +22,7 @@ use Rattle.schema_plan.specs.Ready.{ready_columns, ready_kind}
 use Rattle.draw_values.specs.declared.runs.RunRows.{RunRows}
 use Rattle.draw_values.specs.Dates.{date_text}
 use Rattle.draw_values.specs.ReadyValues.{chooser_of, ready_held_entry, ready_kind_size, ready_size, ready_text, ready_value}
-use Rattle.draw_values.specs.Runs.{IsReadyDrawn, IsRunColumn, RunColumnOf, is_null_in, is_short, is_short_leaf, leaf_texts, or_null, ready_at, run_row, run_seed, run_field, short_value, text_by, with_behind}
+use Rattle.draw_values.specs.Runs.{IsReadyDrawn, IsRunColumn, RunColumnOf, is_null_in, is_short, is_short_leaf, leaf_texts, ready_at, run_row, run_seed, run_field, short_value, text_by, with_behind}
 use Rattle.draw_values.specs.Values.{Draws, chosen, chosen_group, draws_at, is_null, is_own, size_at, unless_null, value_at}
 use Rattle.draw_values.proofs.RowUnits.{units_at}
 use Rattle.draw_values.proofs.ColumnLemmas.{length-decimal-unit, ready_column-at}
@@ -92,6 +92,11 @@ pub run_draws : (plan : Project) (run : RunColumnOf) (column : ReadyColumn) (row
 run_draws plan run column rows i of is =
     ap (λ (seed : ℕ). draw (run_seed seed column.changes rows i)) (ap (λ (r : RunColumnOf). r.seed) of.is)
     ∙ ap (λ (found : ReadyColumn). draw (run_seed (column_seed (table_seed (layout_of plan).seed run.table) run.column) found.changes rows i)) is
+
+-- what is written for a field as it is kept, null where it is None
+abbrev or_null : Option (List ℕ) → List ℕ
+or_null None = codes "\\N"
+or_null (Some text) = text
 
 -- a field that is known as it is kept
 field_text-kept : (delimiter : ℕ) (value held : Option (List ℕ)) → option_map (written_text delimiter) value ≡ held → field_text delimiter value ≡ or_null held

@@ -1,5 +1,5 @@
 -- The fields of a column over a run of rows, each with the byte behind it, and what is kept of the column so that they are made fast.
-use Rattle.std.specs.Prelude.{◌≡◌, ◌<◌, ◌≤◌, ℕ, ℤ, pos, ◌^◌, ◌+ℤ◌, ◌&&◌, List, [], ◌∷◌, ◌++◌, Bool, true, false, Option, Some, None, ⊤, if◌then◌else◌, codes, decimal, length, map, nat_lt, slice_index, unsigned_abs}
+use Rattle.std.specs.Prelude.{◌≡◌, ◌<◌, ◌≤◌, ℕ, ℤ, pos, ◌^◌, ◌+ℤ◌, ◌&&◌, List, [], ◌∷◌, ◌++◌, Bool, true, false, ⊤, if◌then◌else◌, codes, decimal, length, map, nat_lt, slice_index, unsigned_abs}
 use Rattle.std.specs.List.{list_all, range_with_len}
 use Rattle.philox_seeds.specs.SeedTree.{column_seed, draw, row_seed, table_seed, unit_seed}
 use Rattle.row_text.specs.Fields.{field_text}
@@ -111,11 +111,6 @@ pub record IsRunColumn (plan : Project) (run : RunColumnOf) : Type 0 where
   pub table_within : run.table < length plan.schema.tables
   pub column_within : run.column < length (table_at (layout_of plan).tables run.table).columns
   pub is : run ≡ run_column plan run.table run.column run.behind
-
--- what is written for a field as it is kept, null where it is None
-abbrev pub or_null : Option (List ℕ) → List ℕ
-or_null None = codes "\\N"
-or_null (Some text) = text
 
 -- the seed of the field of the row at a place of a run, in a column with a seed that is drawn anew where a row changes, or isn't
 abbrev pub run_seed : ℕ → Bool → RunRows → ℕ → ℕ

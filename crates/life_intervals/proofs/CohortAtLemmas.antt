@@ -14,13 +14,14 @@ use Rattle.schema_plan.specs.References.{Reference, references_of}
 use Rattle.schema_plan.specs.Lineage.{lesser_life, longest_life, sure_life}
 use Rattle.life_intervals.specs.declared.lives.Survival.TheVariants.{Sure, Over}
 use Rattle.life_intervals.specs.Changes.{change_by, change_span, due_by, first_due, has_nullings, last_change, last_due, may_change}
-use Rattle.life_intervals.specs.CohortLives.{CohortAt, change_in, cohort_of, death_in, due_in, is_live_in, ordinal_in, own_death_in, size_of, survival_by, survival_of}
+use Rattle.life_intervals.specs.CohortLives.{survival_by}
 use Rattle.life_intervals.specs.CohortOrders.{life_order, update_order}
 use Rattle.life_intervals.specs.CohortParents.{losses_in, parents_death_in}
 use Rattle.life_intervals.specs.Generator.{Generator, generator_of, last_unit, table_of}
 use Rattle.life_intervals.specs.Intervals.{Known, change_unit, is_after, known_of, known_tables, loss_by, own_death, own_death_by, parent_death_by}
 use Rattle.life_intervals.specs.Rows.{life_by}
 use Rattle.life_intervals.specs.Sound.{AreSound}
+use Rattle.life_intervals.proofs.CohortAt.{CohortAt, change_in, cohort_of, death_in, due_in, is_live_in, ordinal_in, own_death_in, size_of, survival_of}
 use Rattle.life_intervals.proofs.AcceptedLemmas.{AreSound-accepted, length-tables}
 use Rattle.life_intervals.proofs.ChangeLemmas.{change-born, change-le, last_change-from, last_change-le}
 use Rattle.cohort_sizes.proofs.CohortLemmas.{birth-first_ordinal, born_count-le, cohort-within}

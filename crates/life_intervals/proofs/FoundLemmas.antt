@@ -12,7 +12,6 @@ use Rattle.schema_plan.specs.Limits.{IsInLimits}
 use Rattle.schema_plan.specs.Lineage.{lesser_life, sure_life}
 use Rattle.life_intervals.specs.declared.found.FoundRow.{FoundRow}
 use Rattle.life_intervals.specs.Changes.{change_span, due_by, last_change}
-use Rattle.life_intervals.specs.CohortLives.{CohortAt, change_in}
 use Rattle.life_intervals.specs.CohortOrders.{life_order}
 use Rattle.life_intervals.specs.CohortParents.{IsReferenceOf, held_in, losses_in, parent_in, parents_death_in, reference_by}
 use Rattle.life_intervals.specs.Found.{IsFound, cohort_of_row}
@@ -20,6 +19,7 @@ use Rattle.life_intervals.specs.Generator.{Generator, generator_of, last_unit, r
 use Rattle.life_intervals.specs.Intervals.{change_unit, death, held_parent, is_after, is_live, own_death, parent_of}
 use Rattle.life_intervals.specs.Keys.{key_in_cohort, key_of}
 use Rattle.life_intervals.specs.Rows.{life_by}
+use Rattle.life_intervals.proofs.CohortAt.{CohortAt, change_in}
 use Rattle.life_intervals.proofs.AcceptedLemmas.{AreSound-accepted, length-tables}
 use Rattle.life_intervals.proofs.CohortAtLemmas.{change_in-from, change_in-le, change_in-recent, death_in-parents, own_death_in-place}
 use Rattle.life_intervals.proofs.CohortParentLemmas.{change_unit-losses, death-parents, held_parent-in}

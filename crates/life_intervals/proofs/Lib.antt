@@ -20,6 +20,7 @@ pub mod KeyLemmas
 pub mod OrderLemmas
 pub mod LongestLifeLemmas
 pub mod CohortParentLemmas
+pub mod CohortAt
 pub mod CohortAtLemmas
 pub mod FoundLemmas
 pub mod ParentsLiveLemmas

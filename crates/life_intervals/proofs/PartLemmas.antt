@@ -18,7 +18,7 @@ use Rattle.life_intervals.specs.declared.lives.Survival.TheVariants.{Over, Sure}
 use Rattle.life_intervals.specs.declared.orders.Purpose.{Purpose}
 use Rattle.life_intervals.specs.declared.orders.Purpose.TheVariants.{Keys, Lives, Parents, Updates}
 use Rattle.life_intervals.specs.Changes.{change_span, has_nullings, last_change, last_due}
-use Rattle.life_intervals.specs.CohortLives.{CohortAt, survival_at}
+use Rattle.life_intervals.specs.CohortLives.{survival_at}
 use Rattle.life_intervals.specs.CohortOrders.{due_for, is_drawn, order_for, order_seed, place_for}
 use Rattle.life_intervals.specs.CohortParents.{IsReferenceOf, is_cascade, losses_in, parent_death_in, parents_death_in, reference_by, window_by}
 use Rattle.life_intervals.specs.Found.{IsFound, cohort_of_row}
@@ -27,6 +27,7 @@ use Rattle.life_intervals.specs.Intervals.{change_unit, first_death, is_after, i
 use Rattle.life_intervals.specs.Keys.{key_of}
 use Rattle.life_intervals.specs.References.{choice}
 use Rattle.life_intervals.specs.Rows.{life_by}
+use Rattle.life_intervals.proofs.CohortAt.{CohortAt}
 use Rattle.life_intervals.proofs.CascadeLemmas.{is_cascading}
 use Rattle.life_intervals.proofs.CohortAtLemmas.{change_in-due, change_in-from, change_in-le, due_in-birth, due_in-none, due_in-some, is_live_in-over, is_live_in-sure, own_death_in-place}
 use Rattle.life_intervals.proofs.CohortParentLemmas.{parent_in-born, parent_in-choice, row_limit}

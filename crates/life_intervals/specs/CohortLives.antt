@@ -1,35 +1,12 @@
--- Which rows of a cohort are alive at a unit, and when they changed last.
-use Rattle.std.specs.Prelude.{ℕ, ◌+◌, Bool, if◌then◌else◌, Option}
+-- Whether the rows of a cohort may be dead at a unit.
+use Rattle.std.specs.Prelude.{ℕ, ◌+◌, Option, if◌then◌else◌}
 use Rattle.std.specs.Option.{option_map}
-use Rattle.cohort_sizes.specs.Births.{cohort_size, first_ordinal}
 use Rattle.schema_plan.specs.Dictionaries.{Project}
 use Rattle.schema_plan.specs.Layout.{layout_of}
 use Rattle.schema_plan.specs.Lineage.{longest_life, sure_life}
 use Rattle.life_intervals.specs.declared.lives.Survival.{Survival}
 use Rattle.life_intervals.specs.declared.lives.Survival.TheVariants.{Sure, Drawn, Over}
-use Rattle.life_intervals.specs.Changes.{due_by}
-use Rattle.life_intervals.specs.CohortKeys.{CohortOf}
-use Rattle.life_intervals.specs.Generator.{generator_of, table_of}
-use Rattle.life_intervals.specs.Intervals.{change_unit, death, is_after, is_live, own_death}
-
--- the cohort that is born at a unit in the table at a place, as it is at another unit
-pub record CohortAt : Type 0 where
-  pub plan : Project
-  pub table : ℕ
-  pub born : ℕ
-  pub unit : ℕ
-
--- the cohort, whatever the other unit
-abbrev pub cohort_of : CohortAt → CohortOf
-cohort_of cohort = record { plan = cohort.plan; table = cohort.table; unit = cohort.born }
-
--- the ordinal of the row with an index in the cohort
-abbrev pub ordinal_in : CohortAt → ℕ → ℕ
-ordinal_in cohort index = first_ordinal (table_of cohort.plan cohort.table).births cohort.born + index
-
--- how many rows it has
-abbrev pub size_of : CohortAt → ℕ
-size_of cohort = cohort_size (table_of cohort.plan cohort.table).births cohort.born
+use Rattle.life_intervals.specs.Intervals.{is_after}
 
 -- what lives say of the rows that are born at a unit, at another, by how long they last at least and at most: before the shortest
 -- ends each row is alive, and none from the end of the longest on
@@ -42,28 +19,3 @@ survival_by sure longest born unit =
 abbrev pub survival_at : Project → ℕ → ℕ → ℕ → Survival
 survival_at plan table born unit =
     survival_by (sure_life (layout_of plan).tables table) (longest_life (layout_of plan).tables table) born unit
-
--- what they say of the cohort
-abbrev pub survival_of : CohortAt → Survival
-survival_of cohort = survival_at cohort.plan cohort.table cohort.born cohort.unit
-
--- the unit at which the own life of the row with an index ends; None where it has no end of its own
-abbrev pub own_death_in : CohortAt → ℕ → Option ℕ
-own_death_in cohort index = own_death (generator_of cohort.plan) cohort.table cohort.unit (ordinal_in cohort index)
-
--- the unit at which it dies; None where it never does
-abbrev pub death_in : CohortAt → ℕ → Option ℕ
-death_in cohort index = death (generator_of cohort.plan) cohort.table cohort.unit (ordinal_in cohort index)
-
--- whether it is alive
-abbrev pub is_live_in : CohortAt → ℕ → Bool
-is_live_in cohort index = is_live (generator_of cohort.plan) cohort.table cohort.unit (ordinal_in cohort index)
-
--- the last unit at which it is due, or its birth
-abbrev pub due_in : CohortAt → ℕ → ℕ
-due_in cohort index =
-    due_by (generator_of cohort.plan).order cohort.table (table_of cohort.plan cohort.table) cohort.born index cohort.unit
-
--- the unit of its last change
-abbrev pub change_in : CohortAt → ℕ → ℕ
-change_in cohort index = change_unit (generator_of cohort.plan) cohort.table cohort.unit (ordinal_in cohort index)

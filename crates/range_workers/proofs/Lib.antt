@@ -1,3 +1,4 @@
+pub mod ComingBack
 pub mod LawLemmas
 pub mod MarkLemmas
 pub mod NumberLemmas

@@ -5,10 +5,10 @@ use Rattle.std.proofs.lemmas.Slice.Eq.{bytes_eq-Decides}
 use Rattle.clap.specs.Walk.{Held, Row, Rule, finished, first_of, has_long, has_row, nothing_held, settled_rows, walk, with_default}
 use Rattle.clap.specs.Simple.{built, is_simple, matches_of}
 use Rattle.clap.specs.Takes.{entered_passes, is_given as is_row_given, takes}
-use Rattle.request_words.specs.Command.{command, row_of_entry}
+use Rattle.request_words.specs.Command.{command}
 use Rattle.request_words.specs.Form.{Entry, entries, has_form, is_one_of, option_words, word_for}
 use Rattle.request_words.proofs.FormLemmas.{Word, entries_distinct, is_given, mode_given, no_option, unlike}
-use Rattle.request_words.proofs.WalkLemmas.{Ends, Finds, at, built_mode, built_option, built_schema, walks_to_the_end}
+use Rattle.request_words.proofs.WalkLemmas.{Ends, Finds, at, built_mode, built_option, built_schema, row_of_entry, walks_to_the_end}
 
 -- ---- the rules of the built command
 

@@ -9,12 +9,22 @@ use Rattle.clap.specs.Walk.{Held, Row, Rule, Waiting, Walk, idle, option, arg_by
 use Rattle.clap.specs.Simple.{Shape, new_rule}
 use Rattle.clap.specs.Takes.{settle_passes, turn_passes, use_passes, walk_passes}
 use Rattle.clap.specs.declared.builder.action.ArgAction.TheVariants.{Set}
+use Rattle.clap.specs.declared.builder.value_parser.Reading.TheVariants.{AsWritten}
 use Rattle.clap.specs.declared.builder.value_parser.ValueParser.TheVariants as parser
 use Rattle.clap.specs.declared.parser.matches.ValueSource.TheVariants.{CommandLine}
-use Rattle.request_words.specs.Command.{row_of_entry}
 use Rattle.request_words.specs.Form.{Entry, entries, goes_on, has_hyphen, is_option_word, place_word}
 use Rattle.request_words.proofs.FormLemmas.{Word, entries-end, entries-named, entries-plain, entries-value, entries-valued, is_distinct, is_given, plain_parts, same, step_of, unlike, value_step}
 use Rattle.request_words.proofs.FormLemmas as form
+
+-- what matches hold of a word by what it stands for
+abbrev pub row_of_entry : Entry → Row
+row_of_entry entry = record {
+  id = entry.0;
+  values = entry.1 ∷ [];
+  count = None;
+  source = Some CommandLine;
+  reading = AsWritten;
+}
 
 -- ---- words
 

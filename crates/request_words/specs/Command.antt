@@ -1,12 +1,10 @@
 -- The command as which `clap` reads the words, and what its matches give.
-use Rattle.std.specs.Prelude.{ℕ, true, List, [], ◌∷◌, map, Some, None, codes}
-use Rattle.clap.specs.Walk.{Row, Rule}
+use Rattle.std.specs.Prelude.{ℕ, true, List, [], ◌∷◌, map, Some, codes}
+use Rattle.clap.specs.Walk.{Rule}
 use Rattle.clap.specs.Words.{App, Shape, first_of, found_of, new_rule, rows_of, with_rule}
 use Rattle.clap.specs.Simple.{new_shape}
-use Rattle.clap.specs.declared.builder.value_parser.Reading.TheVariants.{AsWritten}
 use Rattle.clap.specs.declared.parser.matches.ArgMatches.{ArgMatches}
-use Rattle.clap.specs.declared.parser.matches.ValueSource.TheVariants.{CommandLine}
-use Rattle.request_words.specs.Form.{Entry, option_words}
+use Rattle.request_words.specs.Form.{option_words}
 use Rattle.request_words.specs.Options.{Given, word_of}
 use Rattle.request_words.specs.declared.usage.OptionName.{OptionName}
 use Rattle.request_words.specs.declared.usage.OptionName.TheVariants as option
@@ -38,16 +36,6 @@ shape = record (new_shape (codes "pdgf")) {
 
 abbrev pub command : App
 command = record { top = shape; subs = [] }
-
--- what matches hold of a word by what it stands for
-abbrev pub row_of_entry : Entry → Row
-row_of_entry entry = record {
-  id = entry.0;
-  values = entry.1 ∷ [];
-  count = None;
-  source = Some CommandLine;
-  reading = AsWritten;
-}
 
 -- what is given by matches
 abbrev pub given_by : ArgMatches → Given

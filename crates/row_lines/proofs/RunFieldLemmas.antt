@@ -38,7 +38,7 @@ use Rattle.life_intervals.proofs.ReferenceLemmas.{at_column, reference_at-within
 use Rattle.row_lines.specs.CohortLines.{LinesOf, line_in_cohort, ordinal_of, text_in_cohort}
 use Rattle.row_lines.specs.RunFields.{AreRowsOf, asked_for, asked_long, asked_short, size_for}
 use Rattle.row_lines.specs.Kept.{kept_by}
-use Rattle.row_lines.specs.Runs.{AreLiving, RunLinesOf, behind, born_for, layout_for, line_for, living_from, text_at, text_behind}
+use Rattle.row_lines.specs.Runs.{AreLiving, RunLinesOf, behind, layout_for, line_for, living_from, text_at, text_behind}
 use Rattle.row_lines.specs.TableLines.{has_short_keys, is_short_at}
 use Rattle.row_lines.proofs.CohortLineLemmas.{asked_for_line-is, asked_in, max_line-columns, room_in, steps-line_cost}
 use Rattle.row_lines.proofs.FieldLemmas.{field-in_table, field-key, in_table-own}
@@ -46,7 +46,7 @@ use Rattle.row_lines.proofs.KeptLemmas.{kept_by-each, kept_by-filter, length-kep
 use Rattle.row_lines.proofs.LineLemmas.{key_of-by}
 use Rattle.life_intervals.proofs.HeldParentLemmas.{held_parent-cascades, parent_of-by}
 use Rattle.row_lines.proofs.ReferenceFieldLemmas.{field-reference, kind_is}
-use Rattle.row_lines.proofs.RunTextLemmas.{line_for-fields}
+use Rattle.row_lines.proofs.RunTextLemmas.{born_for, line_for-fields}
 
 -- ---- the rows of a run
 

@@ -27,13 +27,14 @@ use Rattle.row_lines.specs.CohortLines.{LinesOf}
 use Rattle.row_lines.specs.Lines.{draws_of}
 use Rattle.row_lines.specs.Lookups.{IsLookupOf, text_held}
 use Rattle.row_lines.specs.RunFields.{AreMade, AreRowsOf, asked_for, column_lines, size_for}
-use Rattle.row_lines.specs.Runs.{RunLinesOf, born_for, layout_for, text_at}
+use Rattle.row_lines.specs.Runs.{RunLinesOf, layout_for, text_at}
 use Rattle.row_lines.specs.TableLines.{behind_of, column_of, is_short_at, is_short_kind, shown_by, shown_of, table_lines}
 use Rattle.row_lines.proofs.CohortFieldLemmas.{ready_at}
 use Rattle.row_lines.proofs.FieldLemmas.{in_table-own}
 use Rattle.row_lines.proofs.LookupLemmas.{asked-lookup, bounds_of-in_table, is_lookup, looks_up_still, reference_cascades, reference_ready, reference_to, room-lookup, size-lookup, text-looked_up}
 use Rattle.life_intervals.proofs.HeldParentLemmas.{parent_of-by}
 use Rattle.row_lines.proofs.RunFieldLemmas.{own_from_short, run-birth, run-born}
+use Rattle.row_lines.proofs.RunTextLemmas.{born_for}
 use Rattle.row_lines.proofs.StillLemmas.{still_field}
 
 -- ---- a lookup

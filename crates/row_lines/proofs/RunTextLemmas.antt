@@ -6,21 +6,26 @@ use Rattle.std.proofs.Math.Seq.{take-add}
 use Rattle.std.proofs.lemmas.List.{take_more}
 use Rattle.std.proofs.lemmas.List.Concat.{flat_map-append}
 use Rattle.line_pages.specs.Pages.{Page}
-use Rattle.cohort_sizes.specs.Births.{Births, cohort_size, first_ordinal}
+use Rattle.cohort_sizes.specs.Births.{Births, born_count, cohort_size, first_ordinal}
 use Rattle.schema_plan.specs.Layout.{layout_of}
 use Rattle.schema_plan.specs.Limits.{IsInLimits}
-use Rattle.life_intervals.specs.CohortLives.{CohortAt, survival_at}
+use Rattle.life_intervals.specs.CohortLives.{survival_at}
 use Rattle.life_intervals.specs.Generator.{generator_of, last_unit}
 use Rattle.life_intervals.specs.declared.lives.Survival.TheVariants.{Over}
 use Rattle.life_intervals.specs.Intervals.{is_live}
 use Rattle.life_intervals.specs.Sound.{AreSound}
+use Rattle.life_intervals.proofs.CohortAt.{CohortAt}
 use Rattle.life_intervals.proofs.CohortAtLemmas.{is_live_in-over}
 use Rattle.life_intervals.proofs.Ranges.{range_with_len-add}
 use Rattle.row_lines.specs.Lines.{cohort_text, first_lines, line, line_of, table_text}
-use Rattle.row_lines.specs.Runs.{RunLinesOf, born_for, layout_for, line_for, listed_text, run_text, text_at, text_behind}
+use Rattle.row_lines.specs.Runs.{RunLinesOf, layout_for, line_for, listed_text, run_text, text_at, text_behind}
 use Rattle.row_lines.proofs.LineLemmas.{cohort_text-over, table_text-living}
 use Rattle.row_lines.proofs.ListLemmas.{flat_map-filter_append}
 use Rattle.row_lines.proofs.RunListLemmas.{joined_fields}
+
+-- how many rows of the table are born by the unit
+abbrev pub born_for : RunLinesOf → ℕ
+born_for lines = born_count (layout_for lines).births lines.unit
 
 -- no row, and so many more
 pub run_text-none : (lines : RunLinesOf) (first : ℕ) → run_text lines first 0 ≡ []

@@ -17,7 +17,7 @@ use Rattle.life_intervals.specs.Keys.{key_in_cohort, key_of}
 use Rattle.life_intervals.specs.CohortParents.{held_in, parent_in}
 use Rattle.schema_plan.specs.References.{Reference}
 use Rattle.life_intervals.specs.Rows.{Row}
-use Rattle.row_lines.specs.Lines.{field, field_in_table, line_if_live, line_of}
+use Rattle.row_lines.specs.Lines.{field, field_in_table, line_of}
 
 -- the lines at a unit of the rows that are born at one, in the table at a place
 pub record LinesOf : Type 0 where
@@ -58,10 +58,6 @@ reference_value lines index reference = option_map decimal (held_key_for lines i
 abbrev pub line_in_cohort : LinesOf → ℕ → List ℕ
 line_in_cohort lines index =
     line_of (generator_of lines.plan) lines.unit lines.table (ordinal_of lines index)
-
--- its line where it is alive, and nothing where it isn't
-abbrev pub living_line : LinesOf → ℕ → List ℕ
-living_line lines index = line_if_live (generator_of lines.plan) lines.unit lines.table (ordinal_of lines index)
 
 -- what the row with an index in the cohort holds in the column at a place, as it is written
 abbrev pub text_in_cohort : LinesOf → ℕ → ℕ → List ℕ

@@ -2,7 +2,6 @@
 use Rattle.std.specs.Prelude.{◌≡◌, ◌<◌, ℕ, ◌+◌, ◌==◌, true, List, [], ◌∷◌, ◌++◌, filter, flat_map, get_or, if◌then◌else◌, length}
 use Rattle.std.specs.List.{range_with_len}
 use Rattle.row_text.specs.Fields.{field_text}
-use Rattle.cohort_sizes.specs.Births.{born_count}
 use Rattle.schema_plan.specs.Dictionaries.{Project}
 use Rattle.schema_plan.specs.Layout.{TableLayout, layout_of}
 use Rattle.life_intervals.specs.Generator.{generator_of, last_unit, table_of}
@@ -20,10 +19,6 @@ pub record RunLinesOf : Type 0 where
 -- the layout of the table
 abbrev pub layout_for : RunLinesOf → TableLayout
 layout_for lines = table_of lines.plan lines.table
-
--- how many rows of the table are born by the unit
-abbrev pub born_for : RunLinesOf → ℕ
-born_for lines = born_count (layout_for lines).births lines.unit
 
 -- the line of the row of an ordinal
 abbrev pub line_for : RunLinesOf → ℕ → List ℕ

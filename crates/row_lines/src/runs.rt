@@ -6,10 +6,10 @@ ghost use Rattle.cohort_sizes.specs.Births.{born_count};
 ghost use Rattle.schema_plan.specs.Layout.{layout_of};
 ghost use Rattle.schema_plan.specs.TableFacts.{cost, line_cost, max_line};
 ghost use Rattle.life_intervals.specs.CohortLives.{survival_at};
-ghost use Rattle.life_intervals.specs.CohortParents.{asked_for_change, asked_for_death};
+ghost use Rattle.life_intervals.specs.CohortParents.{asked_for_death};
 ghost use Rattle.life_intervals.specs.Generator.{generator_of, last_unit, table_of};
 ghost use Rattle.life_intervals.specs.Intervals.{is_live};
-ghost use Rattle.row_lines.specs.Runs.{AreLiving, born_for, listed_text, living_from, run_text};
+ghost use Rattle.row_lines.specs.Runs.{AreLiving, listed_text, living_from, run_text};
 ghost use Rattle.row_lines.specs.TableLines.{AreTableLines};
 
 use crate::kept::{keep, put_range};

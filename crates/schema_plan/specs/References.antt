@@ -33,10 +33,6 @@ references_of table =
 abbrev pub cascades_of : TableLayout → List Reference
 cascades_of table = filter (λ (reference : Reference). not reference.nulls) (references_of table)
 
--- those that become null when their parents are deleted
-abbrev pub nullings_of : TableLayout → List Reference
-nullings_of table = filter (λ (reference : Reference). reference.nulls) (references_of table)
-
 -- the first unit of a window that ends at a unit
 abbrev pub window_start : Option ℕ → ℕ → ℕ
 window_start None unit = 0

@@ -10,9 +10,10 @@ use Rattle.schema_plan.specs.Limits.{IsInLimits}
 use Rattle.cohort_sizes.specs.declared.cohort.Cohort.{Cohort}
 use Rattle.life_intervals.specs.declared.lives.Survival.TheVariants.{Over, Sure}
 use Rattle.life_intervals.specs.Changes.{may_change}
-use Rattle.life_intervals.specs.CohortLives.{CohortAt, survival_at}
+use Rattle.life_intervals.specs.CohortLives.{survival_at}
 use Rattle.life_intervals.specs.Generator.{generator_of, last_unit, table_of}
 use Rattle.life_intervals.specs.Intervals.{change_unit, death, is_after, is_at, is_live}
+use Rattle.life_intervals.proofs.CohortAt.{CohortAt}
 use Rattle.life_intervals.proofs.CohortAtLemmas.{change_in-none, is_live_in-over, is_live_in-sure}
 use Rattle.cohort_sizes.proofs.CohortLemmas.{cohort-within}
 use Rattle.life_intervals.proofs.DeathLemmas.{is_at-later}

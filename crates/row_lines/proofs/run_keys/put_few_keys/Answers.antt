@@ -8,7 +8,7 @@ use Rattle.row_lines.specs.TableLines.{has_short_keys}
 use Rattle.row_lines.proofs.RunKeyLemmas.{key_text, keys-limit, keys-lines, keys-rows, keys-size}
 use Rattle.row_lines.proofs.RunPieceLemmas.{keys-short}
 use Rattle.row_lines.proofs.run_keys.put_few_keys.Goals as goal
-use Rattle.row_lines.proofs.run_keys.put_few_keys.Goals.{After-put_keys, Then-has_short_keys}
+use Rattle.row_lines.proofs.run_keys.put_few_keys.Goals.{After-put_keys}
 
 -- the keys are below 2^63
 small : (g : _) (c : After-put_keys g) → (i : ℕ) → i < length c.args.ordinals.now → get_or c.put_keys.new.keys i 0 < 2 ^ 63

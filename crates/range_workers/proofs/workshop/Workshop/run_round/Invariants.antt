@@ -1,5 +1,6 @@
 use Rattle.std.proofs.Common.{length}
-use Rattle.range_workers.specs.Workshop.{IsComingBack, IsSameShop}
+use Rattle.range_workers.specs.Workshop.{IsSameShop}
+use Rattle.range_workers.proofs.ComingBack.{IsComingBack}
 use Rattle.range_workers.proofs.workshop.Workshop.run_round.Given as goal
 
 abbrev pub invariant-loop-self : goal.invariant-loop-self
