@@ -1,2 +1,3 @@
 pub mod KeyedLines
 pub mod Streams
+pub mod InTurn

@@ -1,0 +1,45 @@
+-- A table's text and the streams of units, applied one after the other.
+use Rattle.std.specs.Prelude.{◌≡◌, ℕ, zero, suc, List, [], ◌∷◌}
+use Rattle.stream_apply.specs.KeyedLines.{KeyedLine, lines_text}
+use Rattle.stream_apply.specs.Streams.{IsFaultOf, IsStream, made_by}
+use Rattle.stream_apply.specs.declared.fault.ApplyFault.{ApplyFault}
+use Rattle.stream_apply.specs.declared.kind.Kind.{Kind}
+use Rattle.stream_apply.specs.declared.kind.Kind.TheVariants.{Deletes, Inserts, Snapshot, Updates}
+
+-- bytes, and what they hold
+pub record Input : Type 0 where
+  pub kind : Kind
+  pub bytes : List ℕ
+
+-- what is held behind: behind a table's text and behind what a unit inserts, what the next unit deletes, then what it updates and inserts
+abbrev pub next_kind : Kind → Kind
+next_kind Snapshot = Deletes
+next_kind Deletes = Updates
+next_kind Updates = Inserts
+next_kind Inserts = Deletes
+
+-- inputs by what they hold, of which the first holds this
+abbrev pub inputs_from : Kind → List (List ℕ) → List Input
+inputs_from kind [] = []
+inputs_from kind (bytes ∷ rest) = record { kind = kind; bytes = bytes } ∷ inputs_from (next_kind kind) rest
+
+-- a table before and after inputs, each applied in its turn, none of which has a fault
+abbrev pub IsMadeInTurn : ℕ → List Input → List KeyedLine → List KeyedLine → Type 0
+IsMadeInTurn delimiter [] before after = before ≡ after
+IsMadeInTurn delimiter (input ∷ rest) before after =
+    (lines : List KeyedLine) × IsStream delimiter input.kind before input.bytes lines
+    × IsMadeInTurn delimiter rest (made_by input.kind before lines) after
+
+-- the input at a place, counted from 0, is the first with a fault when inputs are applied in turn to a table
+abbrev pub HasFaultAt : ℕ → List Input → List KeyedLine → ℕ → ApplyFault → Type 0
+HasFaultAt delimiter [] before place fault = ⊥
+HasFaultAt delimiter (input ∷ rest) before zero fault = IsFaultOf delimiter input.kind before input.bytes fault
+HasFaultAt delimiter (input ∷ rest) before (suc place) fault =
+    (lines : List KeyedLine) × IsStream delimiter input.kind before input.bytes lines
+    × HasFaultAt delimiter rest (made_by input.kind before lines) place fault
+
+-- the text that a table's text and the streams of units make, in the order in which they are read
+pub record IsAppliedText (delimiter : ℕ) (inputs : List (List ℕ)) (text : List ℕ) : Type 0 where
+  pub lines : List KeyedLine
+  pub made : IsMadeInTurn delimiter (inputs_from Snapshot inputs) [] lines
+  pub is : text ≡ lines_text lines
