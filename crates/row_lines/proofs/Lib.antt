@@ -9,6 +9,9 @@ pub mod CohortFieldLemmas
 pub mod PartLemmas
 mod StillLemmas
 mod LookupLemmas
+mod RestedLemmas
+mod LookedUpLemmas
+pub mod RestedLineLemmas
 mod ReportLemmas
 mod KeptLemmas
 mod PieceLemmas

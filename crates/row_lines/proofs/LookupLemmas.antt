@@ -37,7 +37,7 @@ use Rattle.row_lines.proofs.NullCostLemmas.{null_cost-still}
 use Rattle.row_lines.proofs.PartLemmas.{null-drawn}
 use Rattle.life_intervals.proofs.HeldParentLemmas.{held_parent-cascades}
 use Rattle.row_lines.proofs.ReferenceFieldLemmas.{index_here, parent_of_row-by, parents-held_parent, reference_here}
-use Rattle.row_lines.proofs.StillLemmas.{still_field, still_parts}
+use Rattle.row_lines.proofs.StillLemmas.{still_field-changed, still_parts}
 
 -- ---- what fields take
 
@@ -284,7 +284,7 @@ text-still lines index changed ordinal column limits ordinal_is still =
     let generator : Generator = generator_of lines.plan in
     ap (field_text (layout_of lines.plan).delimiter)
     (ap (λ (j : ℕ). field_in_table generator lines.table (record (row_at generator lines.table lines.unit j) { changed = changed }) column) ordinal_is
-    ∙ still_field generator lines.table (row_at generator lines.table lines.unit ordinal) changed (last_unit lines.plan) limits column still.within still.still)
+    ∙ still_field-changed generator lines.table (row_at generator lines.table lines.unit ordinal) changed (last_unit lines.plan) limits column still.within still.still)
 
 -- what it takes
 pub size-still : (lines : LinesOf) (column : ℕ) → IsStillColumn (layout_for lines) column →

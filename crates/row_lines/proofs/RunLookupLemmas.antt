@@ -35,7 +35,7 @@ use Rattle.row_lines.proofs.LookupLemmas.{asked-lookup, bounds_of-in_table, is_l
 use Rattle.life_intervals.proofs.HeldParentLemmas.{parent_of-by}
 use Rattle.row_lines.proofs.RunFieldLemmas.{own_from_short, run-birth, run-born}
 use Rattle.row_lines.proofs.RunTextLemmas.{born_for}
-use Rattle.row_lines.proofs.StillLemmas.{still_field}
+use Rattle.row_lines.proofs.StillLemmas.{still_field-changed}
 
 -- ---- a lookup
 
@@ -125,7 +125,7 @@ text_held-own plan table unit ordinal column born limits still short born_is =
     let own = own_from_short (layout_of plan).delimiter (column_at (table_of plan table).columns column).kind short in
     ap (λ (b : ℕ). field_text (layout_of plan).delimiter (value_at (layout_of plan) table column (record { ordinal = ordinal; born = b; changed = born }))) (sym born_is)
     ∙ ap (field_text (layout_of plan).delimiter)
-    (sym (in_table-own generator table column (record row { changed = born }) own) ∙ still_field generator table row born (last_unit plan) limits column still.within still.still)
+    (sym (in_table-own generator table column (record row { changed = born }) own) ∙ still_field-changed generator table row born (last_unit plan) limits column still.within still.still)
 
 -- ---- what a row looks up
 
