@@ -5,3 +5,5 @@
 mod line_tests;
 #[cfg(test)]
 mod stream_tests;
+#[cfg(test)]
+mod turn_tests;

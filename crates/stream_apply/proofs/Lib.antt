@@ -1,6 +1,10 @@
+pub mod KeyedLineLemmas
+pub mod NumberedLineLemmas
+pub mod UnitLemmas
 pub mod TableLemmas
 pub mod LineLemmas
 pub mod StreamLemmas
 pub mod MadeLemmas
 pub mod OutcomeLemmas
 pub mod ChainLemmas
+pub mod InTurnLemmas

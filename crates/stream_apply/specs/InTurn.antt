@@ -43,3 +43,7 @@ pub record IsAppliedText (delimiter : ℕ) (inputs : List (List ℕ)) (text : Li
   pub lines : List KeyedLine
   pub made : IsMadeInTurn delimiter (inputs_from Snapshot inputs) [] lines
   pub is : text ≡ lines_text lines
+
+-- the input at a place, counted from 0, is the first of a table's text and the streams of units that has a fault
+abbrev pub IsFaultAt : ℕ → List (List ℕ) → ℕ → ApplyFault → Type 0
+IsFaultAt delimiter inputs place fault = HasFaultAt delimiter (inputs_from Snapshot inputs) [] place fault

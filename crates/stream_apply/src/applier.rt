@@ -118,7 +118,7 @@ impl<'a> Applier<'a> {
 }
 
 /// The lines of a table in order, each with its line feed.
-fn text_of(alloc: Global, table: &KeyTable) -> Result<Vec<u8>, AllocError>
+pub(crate) fn text_of(alloc: Global, table: &KeyTable) -> Result<Vec<u8>, AllocError>
     ensures { IfOk result (λ text. text.items ≡ lines_text table.now) }
 {
     let mut text = Vec::new(alloc);
@@ -129,7 +129,7 @@ fn text_of(alloc: Global, table: &KeyTable) -> Result<Vec<u8>, AllocError>
 }
 
 /// Puts each line of others into a table, in the place of the one with its key or behind the others.
-fn put_all<'a>(table: &mut KeyTable<'a>, lines: &KeyTable<'a>) -> Result<(), Memory>
+pub(crate) fn put_all<'a>(table: &mut KeyTable<'a>, lines: &KeyTable<'a>) -> Result<(), Memory>
     ensures { OnOk result (table.new ≡ fold put table.old lines.now) }
 {
     for index in 0..lines.len() {

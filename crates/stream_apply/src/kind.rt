@@ -1,6 +1,7 @@
 //! What bytes hold.
 
 ghost use Rattle.std.specs.Prelude.{◌≡◌};
+ghost use Rattle.stream_apply.specs.InTurn.{next_kind};
 ghost use Rattle.stream_apply.specs.Streams as streams;
 
 /// What bytes hold: a table's own lines, or those of a stream for it.
@@ -25,5 +26,17 @@ impl Kind {
         ensures { result ≡ streams.wants_held self }
     {
         matches!(self, Kind::Deletes | Kind::Updates)
+    }
+
+    /// What bytes hold that are applied behind those of this kind.
+    pub(crate) fn next(self) -> Kind
+        ensures { result ≡ next_kind self }
+    {
+        match self {
+            Kind::Snapshot => Kind::Deletes,
+            Kind::Deletes => Kind::Updates,
+            Kind::Updates => Kind::Inserts,
+            Kind::Inserts => Kind::Deletes,
+        }
     }
 }

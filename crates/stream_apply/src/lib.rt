@@ -6,6 +6,7 @@
 
 mod applier;
 mod fault;
+mod in_turn;
 mod key_table;
 mod kind;
 pub mod laws;
@@ -13,3 +14,4 @@ mod stream;
 
 pub use applier::Applier;
 pub use fault::ApplyFault;
+pub use in_turn::{TurnFault, apply_in_turn};

@@ -1,0 +1,80 @@
+//! A table's text and the streams of units, applied one after the other.
+
+ghost use Rattle.std.specs.Prelude.{◌≡◌, ◌≢◌, ◌<◌, List, [], length, map, IfErr, IfOk};
+ghost use Rattle.row_text.specs.Fields.{IsDelimiter};
+ghost use Rattle.stream_apply.specs.InTurn.{HasFaultAt, IsAppliedText, inputs_from};
+ghost use Rattle.stream_apply.specs.KeyedLines.{KeyedLine};
+ghost use Rattle.stream_apply.specs.Streams.{IsFaultOf, IsStream, made_by};
+ghost use Rattle.stream_apply.specs.declared.fault.ApplyFault.TheVariants.{Memory};
+ghost use Rattle.stream_apply.specs.declared.kind.Kind.TheVariants.{Snapshot};
+
+use crate::applier::{put_all, text_of};
+use crate::fault::ApplyFault;
+use crate::key_table::KeyTable;
+use crate::kind::Kind;
+use crate::stream::read_stream;
+use std::alloc::Global;
+
+/// What is wrong first when inputs are applied in turn: the place of the input, counted from 0, and the fault of its first line
+/// that is at fault. For want of memory the place says nothing.
+#[derive(Clone, Copy, Debug, PartialEq, Eq)]
+pub struct TurnFault {
+    pub place: usize,
+    pub fault: ApplyFault,
+}
+
+/// The text that a table's text and the streams of units make, with the delimiter, a tab (9) or a bar (124), that stands between
+/// two fields. The first input is the table's text, and behind it stand, unit by unit, what the unit deletes, updates and
+/// inserts; without inputs the table is empty. Refused at the first line that is at fault of the first input that has one, or for
+/// want of memory.
+pub fn apply_in_turn(alloc: Global, inputs: &[Vec<u8>], delimiter: u8) -> Result<Vec<u8>, TurnFault>
+    requires { IsDelimiter delimiter }
+    ensures applied { IfOk result (λ text. IsAppliedText delimiter (map (λ input. input.items) inputs.now) text.items) }
+    ensures fault { IfErr result (λ told. told.fault ≢ Memory →
+        (told.place < length inputs.now)
+        × HasFaultAt delimiter (inputs_from Snapshot (map (λ input. input.items) inputs.now)) [] told.place told.fault) }
+{
+    let mut table = KeyTable::new(alloc);
+    let mut kind = Kind::Snapshot;
+    for (place, input) in inputs.iter().enumerate() {
+        table = match apply_input(alloc, kind, table, input, delimiter) {
+            Ok(made) => made,
+            Err(fault) => return Err(TurnFault { place, fault }),
+        };
+        kind = kind.next();
+    }
+    match text_of(alloc, &table) {
+        Ok(text) => Ok(text),
+        Err(_) => Err(TurnFault {
+            place: inputs.len(),
+            fault: ApplyFault::Memory,
+        }),
+    }
+}
+
+/// What the bytes make of a table. Refused at the first line of the bytes that is at fault.
+fn apply_input<'a>(
+    alloc: Global,
+    kind: Kind,
+    mut table: KeyTable<'a>,
+    bytes: &'a [u8],
+    delimiter: u8,
+) -> Result<KeyTable<'a>, ApplyFault>
+    requires { IsDelimiter delimiter }
+    ensures applied { IfOk result (λ made. (lines : List KeyedLine) × IsStream delimiter kind table.entry bytes.now lines
+        × (made ≡ made_by kind table.entry lines)) }
+    ensures fault { IfErr result (IsFaultOf delimiter kind table.entry bytes.now) }
+{
+    let lines = read_stream(alloc, kind, &table, bytes, delimiter)?;
+    match kind {
+        Kind::Snapshot => Ok(lines),
+        Kind::Deletes => {
+            table.drop_all(&lines);
+            Ok(table)
+        }
+        Kind::Updates | Kind::Inserts => {
+            put_all(&mut table, &lines)?;
+            Ok(table)
+        }
+    }
+}
