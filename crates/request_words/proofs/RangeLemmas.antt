@@ -11,7 +11,7 @@ use Rattle.request_words.specs.Words.{first_fault, of_mode, option_fault, reques
 use Rattle.request_words.specs.declared.options.Form.TheVariants.{FromOneTo}
 use Rattle.request_words.specs.declared.options.Take.TheVariants.{Optional, Preset}
 use Rattle.request_words.specs.declared.usage.Mode.{Mode}
-use Rattle.request_words.specs.declared.usage.Mode.TheVariants.{Check, Snapshot, Unit, Row}
+use Rattle.request_words.specs.declared.usage.Mode.TheVariants.{Check, Snapshot, Unit, Row, Apply}
 use Rattle.request_words.specs.declared.usage.OptionName.{OptionName}
 use Rattle.request_words.specs.declared.usage.OptionName.TheVariants as option
 use Rattle.request_words.specs.declared.usage.Request.{Request}
@@ -78,31 +78,34 @@ at-none mode given (name ∷ names) none zero within = head-none mode given name
 at-none mode given (name ∷ names) none (suc i) within = at-none mode given names (tail-none mode given name names none) i (omega (arith, within))
 
 workers-none : (mode : Mode) (given : Given) → first_fault mode given order ≡ None → option_fault (takes mode option.Workers) option.Workers (given option.Workers) ≡ None
-workers-none mode given none = at-none mode given order none 5 (omega arith)
+workers-none mode given none = at-none mode given order none 8 (omega arith)
 
 package-none : (mode : Mode) (given : Given) → first_fault mode given order ≡ None → option_fault (takes mode option.Package) option.Package (given option.Package) ≡ None
-package-none mode given none = at-none mode given order none 6 (omega arith)
+package-none mode given none = at-none mode given order none 9 (omega arith)
 
 nodes-none : (mode : Mode) (given : Given) → first_fault mode given order ≡ None → option_fault (takes mode option.Nodes) option.Nodes (given option.Nodes) ≡ None
-nodes-none mode given none = at-none mode given order none 8 (omega arith)
+nodes-none mode given none = at-none mode given order none 11 (omega arith)
 
 workers-taken : (mode : Mode) (given : Given) → first_fault mode given order ≡ None → IsTaken (takes mode option.Workers) (number_or_zero mode given option.Workers)
 workers-taken Check given none = tt
 workers-taken Snapshot given none = preset-taken 64 4 option.Workers (given option.Workers) (omega arith) (omega arith) (workers-none Snapshot given none)
 workers-taken Unit given none = preset-taken 64 4 option.Workers (given option.Workers) (omega arith) (omega arith) (workers-none Unit given none)
 workers-taken Row given none = tt
+workers-taken Apply given none = tt
 
 package-taken : (mode : Mode) (given : Given) → first_fault mode given order ≡ None → IfSome (number_for mode given option.Package) (IsTaken (takes mode option.Package))
 package-taken Check given none = tt
 package-taken Snapshot given none = optional-taken 1000000 option.Package (given option.Package) (package-none Snapshot given none)
 package-taken Unit given none = optional-taken 1000000 option.Package (given option.Package) (package-none Unit given none)
 package-taken Row given none = tt
+package-taken Apply given none = tt
 
 nodes-taken : (mode : Mode) (given : Given) → first_fault mode given order ≡ None → IsTaken (takes mode option.Nodes) (number_or_zero mode given option.Nodes)
 nodes-taken Check given none = tt
 nodes-taken Snapshot given none = preset-taken 1024 1 option.Nodes (given option.Nodes) (omega arith) (omega arith) (nodes-none Snapshot given none)
 nodes-taken Unit given none = preset-taken 1024 1 option.Nodes (given option.Nodes) (omega arith) (omega arith) (nodes-none Unit given none)
 nodes-taken Row given none = tt
+nodes-taken Apply given none = tt
 
 request-taken : (mode : Mode) (given : Given) → first_fault mode given order ≡ None → AreWithinRanges (request_of mode given)
 request-taken mode given none = record {

@@ -11,7 +11,7 @@ use Rattle.request_words.specs.declared.options.Form.TheVariants.{Text, Number, 
 use Rattle.request_words.specs.declared.options.Take.{Take}
 use Rattle.request_words.specs.declared.options.Take.TheVariants.{Unwanted, Optional, Preset, Needed}
 use Rattle.request_words.specs.declared.usage.Mode.{Mode}
-use Rattle.request_words.specs.declared.usage.Mode.TheVariants.{Check, Snapshot, Unit, Row}
+use Rattle.request_words.specs.declared.usage.Mode.TheVariants.{Check, Snapshot, Unit, Row, Apply}
 use Rattle.request_words.specs.declared.usage.OptionName.{OptionName}
 use Rattle.request_words.specs.declared.usage.OptionName.TheVariants as option
 use Rattle.request_words.specs.declared.usage.Request.{Request}
@@ -22,24 +22,28 @@ mode_named word =
     if bytes_eq word (codes "check") then Some Check
     else (if bytes_eq word (codes "snapshot") then Some Snapshot
     else (if bytes_eq word (codes "unit") then Some Unit
-    else (if bytes_eq word (codes "row") then Some Row else None)))
+    else (if bytes_eq word (codes "row") then Some Row
+    else (if bytes_eq word (codes "apply") then Some Apply else None))))
 
 -- ---- the table: a line for each option, a column for each mode
 
-abbrev pub by_modes : Take → Take → Take → Take → Columns
-by_modes check snapshot unit row = record { check = check; snapshot = snapshot; unit = unit; row = row }
+abbrev pub by_modes : Take → Take → Take → Take → Take → Columns
+by_modes check snapshot unit row apply = record { check = check; snapshot = snapshot; unit = unit; row = row; apply = apply }
 
--- an option's name, as it stands behind two hyphens, and what the modes check, snapshot, unit and row do with it
+-- an option's name, as it stands behind two hyphens, and what the modes check, snapshot, unit, row and apply do with it
 abbrev pub option_line : OptionName → List ℕ × Columns
-option_line option.Schema = (codes "schema", by_modes (Needed Text) (Needed Text) (Needed Text) (Needed Text))
-option_line option.Unit = (codes "unit", by_modes Unwanted (Needed Number) (Needed Number) (Needed Number))
-option_line option.Table = (codes "table", by_modes Unwanted (Optional Text) (Optional Text) (Needed Text))
-option_line option.Key = (codes "key", by_modes Unwanted Unwanted Unwanted (Needed Number))
-option_line option.Out = (codes "out", by_modes Unwanted (Optional Directory) (Optional Directory) Unwanted)
-option_line option.Workers = (codes "workers", by_modes Unwanted (Preset (FromOneTo 64) 4) (Preset (FromOneTo 64) 4) Unwanted)
-option_line option.Package = (codes "package", by_modes Unwanted (Optional (FromOneTo 1000000)) (Optional (FromOneTo 1000000)) Unwanted)
-option_line option.Node = (codes "node", by_modes Unwanted (Preset Number 0) (Preset Number 0) Unwanted)
-option_line option.Nodes = (codes "nodes", by_modes Unwanted (Preset (FromOneTo 1024) 1) (Preset (FromOneTo 1024) 1) Unwanted)
+option_line option.Schema = (codes "schema", by_modes (Needed Text) (Needed Text) (Needed Text) (Needed Text) (Needed Text))
+option_line option.Unit = (codes "unit", by_modes Unwanted (Needed Number) (Needed Number) (Needed Number) Unwanted)
+option_line option.From = (codes "from", by_modes Unwanted Unwanted Unwanted Unwanted (Needed Number))
+option_line option.To = (codes "to", by_modes Unwanted Unwanted Unwanted Unwanted (Needed Number))
+option_line option.Table = (codes "table", by_modes Unwanted (Optional Text) (Optional Text) (Needed Text) (Optional Text))
+option_line option.Key = (codes "key", by_modes Unwanted Unwanted Unwanted (Needed Number) Unwanted)
+option_line option.In = (codes "in", by_modes Unwanted Unwanted Unwanted Unwanted (Needed Directory))
+option_line option.Out = (codes "out", by_modes Unwanted (Optional Directory) (Optional Directory) Unwanted (Optional Directory))
+option_line option.Workers = (codes "workers", by_modes Unwanted (Preset (FromOneTo 64) 4) (Preset (FromOneTo 64) 4) Unwanted Unwanted)
+option_line option.Package = (codes "package", by_modes Unwanted (Optional (FromOneTo 1000000)) (Optional (FromOneTo 1000000)) Unwanted Unwanted)
+option_line option.Node = (codes "node", by_modes Unwanted (Preset Number 0) (Preset Number 0) Unwanted Unwanted)
+option_line option.Nodes = (codes "nodes", by_modes Unwanted (Preset (FromOneTo 1024) 1) (Preset (FromOneTo 1024) 1) Unwanted Unwanted)
 
 -- the column of a mode
 abbrev pub in_column : Mode → Columns → Take
@@ -47,6 +51,7 @@ in_column Check columns = columns.check
 in_column Snapshot columns = columns.snapshot
 in_column Unit columns = columns.unit
 in_column Row columns = columns.row
+in_column Apply columns = columns.apply
 
 -- what a mode does with an option
 abbrev pub takes : Mode → OptionName → Take
@@ -59,7 +64,8 @@ word_of name = (option_line name).0
 -- the options that are written with two hyphens, in the order in which they are tried
 abbrev pub options : List OptionName
 options =
-    option.Unit ∷ option.Table ∷ option.Key ∷ option.Out ∷ option.Workers ∷ option.Package ∷ option.Node ∷ option.Nodes ∷ []
+    option.Unit ∷ option.From ∷ option.To ∷ option.Table ∷ option.Key ∷ option.In ∷ option.Out
+    ∷ option.Workers ∷ option.Package ∷ option.Node ∷ option.Nodes ∷ []
 
 -- and the schema's name before them
 abbrev pub order : List OptionName
@@ -112,8 +118,11 @@ request_of mode given = record {
   mode = mode;
   schema = unwrap_or (given option.Schema) [];
   unit = number_or_zero mode given option.Unit;
+  from = number_or_zero mode given option.From;
+  to = number_or_zero mode given option.To;
   table = given option.Table;
   key = number_or_zero mode given option.Key;
+  source = unwrap_or (given option.In) [];
   out = given option.Out;
   workers = number_or_zero mode given option.Workers;
   «package» = number_for mode given option.Package;

@@ -38,13 +38,17 @@ pub(crate) struct Columns {
     pub(crate) snapshot: Take,
     pub(crate) unit: Take,
     pub(crate) row: Take,
+    pub(crate) apply: Take,
 }
 
 /// The options that are written with two hyphens, in the order in which they are tried.
-pub(crate) const OPTIONS: [OptionName; 8] = [
+pub(crate) const OPTIONS: [OptionName; 11] = [
     OptionName::Unit,
+    OptionName::From,
+    OptionName::To,
     OptionName::Table,
     OptionName::Key,
+    OptionName::In,
     OptionName::Out,
     OptionName::Workers,
     OptionName::Package,
@@ -61,6 +65,7 @@ pub(crate) fn mode_named(word: &str) -> Option<Mode>
         "snapshot" => Some(Mode::Snapshot),
         "unit" => Some(Mode::Unit),
         "row" => Some(Mode::Row),
+        "apply" => Some(Mode::Apply),
         _ => None,
     }
 }
@@ -75,6 +80,7 @@ pub(crate) fn takes(mode: Mode, name: OptionName) -> Take
         Mode::Snapshot => columns.snapshot,
         Mode::Unit => columns.unit,
         Mode::Row => columns.row,
+        Mode::Apply => columns.apply,
     }
 }
 
@@ -93,14 +99,15 @@ impl OptionName {
 }
 
 /// A line of the table.
-fn by_modes(check: Take, snapshot: Take, unit: Take, row: Take) -> Columns
-    ensures { result ≡ by_modes check snapshot unit row }
+fn by_modes(check: Take, snapshot: Take, unit: Take, row: Take, apply: Take) -> Columns
+    ensures { result ≡ by_modes check snapshot unit row apply }
 {
     Columns {
         check,
         snapshot,
         unit,
         row,
+        apply,
     }
 }
 
@@ -112,21 +119,25 @@ fn option_line(name: OptionName) -> (&'static str, Columns)
     let any = Take::Needed(Form::Text);
     let number = Take::Needed(Form::Number);
     let may = Take::Optional(Form::Text);
+    let source = Take::Needed(Form::Directory);
     let folder = Take::Optional(Form::Directory);
     let workers = Take::Preset(Form::FromOneTo(64), 4);
     let package = Take::Optional(Form::FromOneTo(1_000_000));
     let node = Take::Preset(Form::Number, 0);
     let nodes = Take::Preset(Form::FromOneTo(1_024), 1);
     match name {
-        //                             check, snapshot, unit, row
-        OptionName::Schema => ("schema", by_modes(any, any, any, any)),
-        OptionName::Unit => ("unit", by_modes(no, number, number, number)),
-        OptionName::Table => ("table", by_modes(no, may, may, any)),
-        OptionName::Key => ("key", by_modes(no, no, no, number)),
-        OptionName::Out => ("out", by_modes(no, folder, folder, no)),
-        OptionName::Workers => ("workers", by_modes(no, workers, workers, no)),
-        OptionName::Package => ("package", by_modes(no, package, package, no)),
-        OptionName::Node => ("node", by_modes(no, node, node, no)),
-        OptionName::Nodes => ("nodes", by_modes(no, nodes, nodes, no)),
+        //                             check, snapshot, unit, row, apply
+        OptionName::Schema => ("schema", by_modes(any, any, any, any, any)),
+        OptionName::Unit => ("unit", by_modes(no, number, number, number, no)),
+        OptionName::From => ("from", by_modes(no, no, no, no, number)),
+        OptionName::To => ("to", by_modes(no, no, no, no, number)),
+        OptionName::Table => ("table", by_modes(no, may, may, any, may)),
+        OptionName::Key => ("key", by_modes(no, no, no, number, no)),
+        OptionName::In => ("in", by_modes(no, no, no, no, source)),
+        OptionName::Out => ("out", by_modes(no, folder, folder, no, folder)),
+        OptionName::Workers => ("workers", by_modes(no, workers, workers, no, no)),
+        OptionName::Package => ("package", by_modes(no, package, package, no, no)),
+        OptionName::Node => ("node", by_modes(no, node, node, no, no)),
+        OptionName::Nodes => ("nodes", by_modes(no, nodes, nodes, no, no)),
     }
 }

@@ -90,13 +90,17 @@ pub(crate) fn request_of(
 {
     let schema = text_of(alloc, given_by(matches, OptionName::Schema).unwrap_or(""))?;
     let table = optional_text_of(alloc, given_by(matches, OptionName::Table))?;
+    let source = text_of(alloc, given_by(matches, OptionName::In).unwrap_or(""))?;
     let out = optional_text_of(alloc, given_by(matches, OptionName::Out))?;
     Ok(Request {
         mode,
         schema,
         unit: number_or_zero(mode, matches, OptionName::Unit),
+        from: number_or_zero(mode, matches, OptionName::From),
+        to: number_or_zero(mode, matches, OptionName::To),
         table,
         key: number_or_zero(mode, matches, OptionName::Key),
+        source,
         out,
         workers: number_or_zero(mode, matches, OptionName::Workers) as u32,
         package: number_for(mode, matches, OptionName::Package),

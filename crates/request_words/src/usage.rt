@@ -13,6 +13,8 @@ pub enum Mode {
     Unit,
     /// Tells when a row is born and gone, and how it stands at a unit.
     Row,
+    /// Applies the streams of units to the texts of tables, and writes the later texts.
+    Apply,
 }
 
 /// A place for a word: the schema's name, or the value of an option.
@@ -22,10 +24,16 @@ pub enum OptionName {
     Schema,
     /// `--unit`: a time unit.
     Unit,
+    /// `--from`: the time unit of the tables' texts that are read.
+    From,
+    /// `--to`: the last time unit that is applied.
+    To,
     /// `--table`: the name of a table.
     Table,
     /// `--key`: the key of a row.
     Key,
+    /// `--in`: the directory of the files that are read.
+    In,
     /// `--out`: a directory for the files.
     Out,
     /// `--workers`: how many workers make the lines, 1 to 64.
@@ -38,7 +46,8 @@ pub enum OptionName {
     Nodes,
 }
 
-/// What the words ask for. A number that the mode doesn't take is 0, and a package is none then.
+/// What the words ask for. A number that the mode doesn't take is 0, a package is none then, and the directory of the files that are
+/// read is the empty text.
 #[derive(Debug, PartialEq, Drop)]
 pub struct Request {
     /// What to do.
@@ -47,10 +56,16 @@ pub struct Request {
     pub schema: Text,
     /// The time unit of a snapshot, of changes or of the report on a row.
     pub unit: u64,
+    /// The time unit of the tables' texts that are read.
+    pub from: u64,
+    /// The last time unit that is applied to them. It may be before the first one.
+    pub to: u64,
     /// The one table that is wanted, where not all are.
     pub table: Option<Text>,
     /// The key of the row that is wanted.
     pub key: u64,
+    /// The directory of the files that are read.
+    pub source: Text,
     /// The directory of the files, where they don't go to the standard output.
     pub out: Option<Text>,
     /// How many workers make the lines, 1 to 64: 4 where the words don't say.
