@@ -14,10 +14,14 @@ use Rattle.schema_read.specs.declared.read.ReadSchemaFault.{ReadSchemaFault}
 use Rattle.schema_read.specs.declared.read.ReadSchemaFault.TheVariants as schema
 use Rattle.schema_read.specs.declared.schema_key.SchemaKey.{SchemaKey}
 use Rattle.schema_read.specs.declared.schema_key.SchemaKey.TheVariants.{Units, Window, Other}
+use Rattle.stream_apply.specs.declared.fault.ApplyFault.{ApplyFault}
+use Rattle.stream_apply.specs.declared.fault.ApplyFault.TheVariants as applying
 use Rattle.refusals.specs.declared.refusal.Refusal.{Refusal}
 use Rattle.refusals.specs.declared.refusal.Refusal.TheVariants.{Words, Job}
 use Rattle.refusals.specs.declared.refusal.DictionaryCause.{DictionaryCause}
 use Rattle.refusals.specs.declared.refusal.DictionaryCause.TheVariants as cause
+use Rattle.refusals.specs.declared.refusal.InputCause.{InputCause}
+use Rattle.refusals.specs.declared.refusal.InputCause.TheVariants as input
 use Rattle.refusals.specs.declared.refusal.JobFault.{JobFault}
 use Rattle.refusals.specs.declared.refusal.JobFault.TheVariants as job
 use Rattle.refusals.specs.declared.refusal.PlanFault.{PlanFault}
@@ -142,9 +146,33 @@ plan_fault_text (plan.Dictionary fault) = cause_text fault.number fault.cause
 plan_fault_text (plan.Check (check.Rule number table column)) = rule_text number table column
 plan_fault_text (plan.Check check.Memory) = codes "out of memory"
 
+-- why the file of this name wasn't read
+abbrev pub reading_input_text : List ℕ → ReadFault → List ℕ
+reading_input_text file reading.Failed = codes "read failed"
+reading_input_text file reading.TooLong = codes "too long: " ++ file
+reading_input_text file reading.Memory = codes "out of memory"
+
+-- a line of a file by its number, and what is wrong with it
+abbrev pub line_fault_text : List ℕ → ℕ → List ℕ → List ℕ
+line_fault_text file number words = codes "apply: " ++ file ++ codes " line " ++ decimal number ++ codes ": " ++ words
+
+-- why the bytes of the file of this name aren't applied
+abbrev pub applying_text : List ℕ → ApplyFault → List ℕ
+applying_text file (applying.BadLine line) = line_fault_text file line (codes "bad line")
+applying_text file (applying.DoubleKey line) = line_fault_text file line (codes "double key")
+applying_text file (applying.NoSuchKey line) = line_fault_text file line (codes "no such key")
+applying_text file (applying.KeyExists line) = line_fault_text file line (codes "key exists")
+applying_text file applying.Memory = codes "out of memory"
+
+-- why the file of this name isn't applied
+abbrev pub input_text : List ℕ → InputCause → List ℕ
+input_text file (input.Reading fault) = reading_input_text file fault
+input_text file (input.Applying fault) = applying_text file fault
+
 abbrev pub job_fault_text : JobFault → List ℕ
 job_fault_text (job.Plan fault) = plan_fault_text fault
 job_fault_text (job.Range name) = codes "out of range: " ++ option_text name
+job_fault_text (job.Input fault) = input_text fault.file fault.cause
 job_fault_text job.Memory = codes "out of memory"
 
 -- the words of a refusal
@@ -172,6 +200,9 @@ schema_too_long_text = message_line (codes "too long: schema")
 
 abbrev pub dictionary_too_long_text : ℕ → List ℕ
 dictionary_too_long_text number = message_line (codes "too long: dictionary " ++ decimal number)
+
+abbrev pub input_too_long_text : List ℕ → List ℕ
+input_too_long_text file = message_line (codes "too long: " ++ file)
 
 -- the message of a status that has only one
 abbrev pub fixed_text : ℕ → Option (List ℕ)
@@ -219,3 +250,10 @@ worked_empty_dictionary = refl
 worked_long_dictionary : message_of (Job (job.Plan (plan.Dictionary (record { number = 2; cause = cause.Reading reading.TooLong })))) ≡ codes "pdgf: too long: dictionary 2\n"
 unfolding digits
 worked_long_dictionary = refl
+
+worked_input : message_of (Job (job.Input (record { file = codes "customer.3.ins"; cause = input.Applying (applying.KeyExists 12) }))) ≡ codes "pdgf: apply: customer.3.ins line 12: key exists\n"
+unfolding digits
+worked_input = refl
+
+worked_long_input : message_of (Job (job.Input (record { file = codes "customer.tbl"; cause = input.Reading reading.TooLong }))) ≡ codes "pdgf: too long: customer.tbl\n"
+worked_long_input = refl

@@ -7,10 +7,14 @@ use Rattle.pd_outside.specs.declared.faults.ReadFault.TheVariants as reading
 use Rattle.schema_check.specs.declared.checker.CheckFault.TheVariants as check
 use Rattle.schema_read.specs.declared.read.ReadSchemaFault.{ReadSchemaFault}
 use Rattle.schema_read.specs.declared.read.ReadSchemaFault.TheVariants as schema
+use Rattle.stream_apply.specs.declared.fault.ApplyFault.{ApplyFault}
+use Rattle.stream_apply.specs.declared.fault.ApplyFault.TheVariants as applying
 use Rattle.refusals.specs.declared.refusal.Refusal.{Refusal}
 use Rattle.refusals.specs.declared.refusal.Refusal.TheVariants.{Words, Job}
 use Rattle.refusals.specs.declared.refusal.DictionaryCause.{DictionaryCause}
 use Rattle.refusals.specs.declared.refusal.DictionaryCause.TheVariants as cause
+use Rattle.refusals.specs.declared.refusal.InputCause.{InputCause}
+use Rattle.refusals.specs.declared.refusal.InputCause.TheVariants as input
 use Rattle.refusals.specs.declared.refusal.JobFault.{JobFault}
 use Rattle.refusals.specs.declared.refusal.JobFault.TheVariants as job
 use Rattle.refusals.specs.declared.refusal.PlanFault.{PlanFault}
@@ -45,10 +49,21 @@ plan_status (plan.Dictionary fault) = cause_status fault.cause
 plan_status (plan.Check check.Memory) = 7
 plan_status (plan.Check (check.Rule number table column)) = 4
 
+-- the status of bytes that aren't applied
+abbrev pub applying_status : ApplyFault → ℕ
+applying_status applying.Memory = 7
+applying_status fault = 9
+
+-- the status of a file that isn't applied
+abbrev pub input_cause_status : InputCause → ℕ
+input_cause_status (input.Reading fault) = reading_status fault
+input_cause_status (input.Applying fault) = applying_status fault
+
 -- the status of a request that gives no job
 abbrev pub job_status : JobFault → ℕ
 job_status (job.Plan fault) = plan_status fault
 job_status (job.Range name) = 8
+job_status (job.Input fault) = input_cause_status fault.cause
 job_status job.Memory = 7
 
 -- the status of a refusal
@@ -72,4 +87,4 @@ write_failed_status = 6
 -- whether a number is a status of the program
 abbrev pub is_status : ℕ → Bool
 is_status status =
-    list_any (λ known. status == known) (0 ∷ 2 ∷ 3 ∷ 4 ∷ 5 ∷ 6 ∷ 7 ∷ 8 ∷ 10 ∷ [])
+    list_any (λ known. status == known) (0 ∷ 2 ∷ 3 ∷ 4 ∷ 5 ∷ 6 ∷ 7 ∷ 8 ∷ 9 ∷ 10 ∷ [])

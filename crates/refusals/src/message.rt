@@ -1,15 +1,19 @@
 //! The messages, and the words that they are made of.
 
 ghost use Rattle.std.specs.Prelude.{◌≡◌, ◌≤◌, ◌+◌, ◌++◌, length, codes, decimal};
-ghost use Rattle.refusals.specs.Messages.{broken_text, cause_text, dashed_text, expected_text, grammar_fault_text, grammar_text, job_fault_text, key_text, message_line, option_text, place_text, plan_fault_text, reading_dictionary_text, reading_text, refusal_text, rule_text, schema_fault_text, shape_text, usage_text, wanted_text, write_failed_text};
+ghost use Rattle.refusals.specs.Messages.{applying_text, broken_text, cause_text, dashed_text, expected_text, grammar_fault_text, grammar_text, input_text, job_fault_text, key_text, line_fault_text, message_line, option_text, place_text, plan_fault_text, reading_dictionary_text, reading_input_text, reading_text, refusal_text, rule_text, schema_fault_text, shape_text, usage_text, wanted_text, write_failed_text};
 
-use crate::refusal::{DictionaryCause, DictionaryFault, JobFault, PlanFault, Refusal};
+use crate::FileName;
+use crate::refusal::{
+    DictionaryCause, DictionaryFault, InputCause, InputFault, JobFault, PlanFault, Refusal,
+};
 use dictionaries::DictFault;
 use itoa::Buffer;
 use pd_outside::{Message, ReadFault};
 use request_words::{OptionName, UsageFault};
 use schema_check::CheckFault;
 use schema_read::{Expected, Place, ReadSchemaFault, SchemaKey};
+use stream_apply::ApplyFault;
 
 /// The message of these words: the program's name before them, and a line feed behind.
 pub(crate) fn line(words: &[u8]) -> Message
@@ -51,6 +55,7 @@ fn put_job_fault(message: &mut Message, fault: JobFault)
     match fault {
         JobFault::Plan(fault) => put_plan_fault(message, fault),
         JobFault::Range(name) => put_named(message, b"out of range: ", name),
+        JobFault::Input(fault) => put_input_fault(message, fault),
         JobFault::Memory => message.put(b"out of memory"),
     }
 }
@@ -155,6 +160,62 @@ fn put_grammar(message: &mut Message, fault: DictFault)
         DictFault::Empty => message.put(b": empty"),
         DictFault::Memory => message.put(b": out of memory"),
     }
+}
+
+/// Appends why a file isn't applied.
+fn put_input_fault(message: &mut Message, fault: InputFault)
+    requires { length message.old + 120 ≤ Message.ROOM }
+    ensures text { message.new ≡ message.old ++ input_text fault.file fault.cause }
+    ensures short { length message.new ≤ length message.old + 120 }
+{
+    match fault.cause {
+        InputCause::Reading(cause) => put_reading_input(message, fault.file, cause),
+        InputCause::Applying(cause) => put_applying(message, fault.file, cause),
+    }
+}
+
+/// Appends why the file of this name wasn't read.
+fn put_reading_input(message: &mut Message, file: FileName, fault: ReadFault)
+    requires { length message.old + 80 ≤ Message.ROOM }
+    ensures text { message.new ≡ message.old ++ reading_input_text file fault }
+    ensures short { length message.new ≤ length message.old + 80 }
+{
+    match fault {
+        ReadFault::Failed => message.put(b"read failed"),
+        ReadFault::TooLong => {
+            message.put(b"too long: ");
+            message.put(file.as_bytes());
+        }
+        ReadFault::Memory => message.put(b"out of memory"),
+    }
+}
+
+/// Appends why the bytes of the file of this name aren't applied.
+fn put_applying(message: &mut Message, file: FileName, fault: ApplyFault)
+    requires { length message.old + 120 ≤ Message.ROOM }
+    ensures text { message.new ≡ message.old ++ applying_text file fault }
+    ensures short { length message.new ≤ length message.old + 120 }
+{
+    match fault {
+        ApplyFault::BadLine { line } => put_line_fault(message, file, line, b"bad line"),
+        ApplyFault::DoubleKey { line } => put_line_fault(message, file, line, b"double key"),
+        ApplyFault::NoSuchKey { line } => put_line_fault(message, file, line, b"no such key"),
+        ApplyFault::KeyExists { line } => put_line_fault(message, file, line, b"key exists"),
+        ApplyFault::Memory => message.put(b"out of memory"),
+    }
+}
+
+/// Appends a line of a file by its number, and what is wrong with it.
+fn put_line_fault(message: &mut Message, file: FileName, number: u64, words: &[u8])
+    requires { length message.old + length words.now + 100 ≤ Message.ROOM }
+    ensures text { message.new ≡ message.old ++ line_fault_text file number words.now }
+    ensures short { length message.new ≤ length message.old + length words.now + 100 }
+{
+    message.put(b"apply: ");
+    message.put(file.as_bytes());
+    put_counted(message, b" line ", number);
+    message.put(b": ");
+    message.put(words);
 }
 
 /// Appends what is wrong with the words.

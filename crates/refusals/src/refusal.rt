@@ -2,12 +2,14 @@
 
 ghost use Rattle.std.specs.Prelude.{◌≡◌};
 ghost use Rattle.refusals.specs.Messages.{message_of};
-ghost use Rattle.refusals.specs.Statuses.{reading_status, status_of};
+ghost use Rattle.refusals.specs.Statuses.{applying_status, reading_status, status_of};
 ghost use Rattle.refusals.specs.declared.refusal.DictionaryCause.TheVariants as dictionary_cause;
+ghost use Rattle.refusals.specs.declared.refusal.InputCause.TheVariants as input_cause;
 ghost use Rattle.refusals.specs.declared.refusal.PlanFault.TheVariants as plan_fault;
 ghost use Rattle.refusals.specs.declared.refusal.JobFault.TheVariants as job_fault;
 ghost use Rattle.refusals.specs.declared.refusal.Refusal.TheVariants as refusal;
 
+use crate::FileName;
 use crate::message::{line, put_refusal};
 use dictionaries::DictFault;
 use line_pages::Memory;
@@ -15,6 +17,7 @@ use pd_outside::{Message, ReadFault};
 use request_words::{OptionName, UsageFault};
 use schema_check::CheckFault;
 use schema_read::ReadSchemaFault;
+use stream_apply::ApplyFault;
 
 /// Why a request isn't carried out.
 #[derive(Clone, Copy, Debug, PartialEq, Eq)]
@@ -32,6 +35,8 @@ pub enum JobFault {
     Plan(PlanFault),
     /// What the option names isn't in the schema.
     Range(OptionName),
+    /// A file that is to be applied isn't read, or can't be applied.
+    Input(InputFault),
     /// Memory ran out.
     Memory,
 }
@@ -69,10 +74,28 @@ pub enum DictionaryCause {
     Memory,
 }
 
+/// Which file isn't applied, and why.
+#[derive(Clone, Copy, Debug, PartialEq, Eq)]
+pub struct InputFault {
+    /// The file's name, without its directory.
+    pub file: FileName,
+    /// Why it isn't applied.
+    pub cause: InputCause,
+}
+
+/// Why a file isn't applied.
+#[derive(Clone, Copy, Debug, PartialEq, Eq)]
+pub enum InputCause {
+    /// The file wasn't read.
+    Reading(ReadFault),
+    /// Its bytes are no lines of a table, or don't fit the table that they are applied to.
+    Applying(ApplyFault),
+}
+
 impl Refusal {
     /// The exit status.
-    pub fn status(self) -> u8
-        ensures { result ≡ status_of self }
+    pub fn status(&self) -> u8
+        ensures { result ≡ status_of self.now }
     {
         match self {
             Refusal::Words(UsageFault::Memory) => 7,
@@ -94,12 +117,13 @@ impl Refusal {
 impl JobFault {
     ghost use Rattle.refusals.specs.Statuses.{job_status};
 
-    fn status(self) -> u8
-        ensures { result ≡ job_status self }
+    fn status(&self) -> u8
+        ensures { result ≡ job_status self.now }
     {
         match self {
             JobFault::Plan(fault) => fault.status(),
             JobFault::Range(_) => 8,
+            JobFault::Input(fault) => fault.cause.status(),
             JobFault::Memory => 7,
         }
     }
@@ -136,6 +160,19 @@ impl DictionaryCause {
     }
 }
 
+impl InputCause {
+    ghost use Rattle.refusals.specs.Statuses.{input_cause_status};
+
+    fn status(self) -> u8
+        ensures { result ≡ input_cause_status self }
+    {
+        match self {
+            InputCause::Reading(fault) => reading_status(fault),
+            InputCause::Applying(fault) => applying_status(fault),
+        }
+    }
+}
+
 /// The status of a file that wasn't read.
 fn reading_status(fault: ReadFault) -> u8
     ensures { result ≡ reading_status fault }
@@ -144,6 +181,16 @@ fn reading_status(fault: ReadFault) -> u8
         ReadFault::Failed => 5,
         ReadFault::TooLong => 10,
         ReadFault::Memory => 7,
+    }
+}
+
+/// The status of bytes that aren't applied.
+fn applying_status(fault: ApplyFault) -> u8
+    ensures { result ≡ applying_status fault }
+{
+    match fault {
+        ApplyFault::Memory => 7,
+        _ => 9,
     }
 }
 
@@ -168,6 +215,14 @@ impl From<PlanFault> for JobFault {
 
     fn from(fault: PlanFault) -> JobFault {
         JobFault::Plan(fault)
+    }
+}
+
+impl From<InputFault> for JobFault {
+    ghost from_gives = { λ fault made. made ≡ job_fault.Input fault };
+
+    fn from(fault: InputFault) -> JobFault {
+        JobFault::Input(fault)
     }
 }
 
@@ -232,5 +287,21 @@ impl From<schema_plan::Memory> for DictionaryCause {
 
     fn from(_: schema_plan::Memory) -> DictionaryCause {
         DictionaryCause::Memory
+    }
+}
+
+impl From<ReadFault> for InputCause {
+    ghost from_gives = { λ fault made. made ≡ input_cause.Reading fault };
+
+    fn from(fault: ReadFault) -> InputCause {
+        InputCause::Reading(fault)
+    }
+}
+
+impl From<ApplyFault> for InputCause {
+    ghost from_gives = { λ fault made. made ≡ input_cause.Applying fault };
+
+    fn from(fault: ApplyFault) -> InputCause {
+        InputCause::Applying(fault)
     }
 }
