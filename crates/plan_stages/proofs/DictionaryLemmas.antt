@@ -4,7 +4,7 @@ use Rattle.std.specs.Prelude.{◌⊎◌, IfSome, is_ok, if◌then◌else◌, sli
 use Rattle.std.specs.Option.{option_map}
 use Rattle.std.proofs.Math.Seq.{drop-cons, take-append_seam}
 use Rattle.std.proofs.lemmas.Bool.Decides.{nat_tests}
-use Rattle.std.proofs.lemmas.List.{append-nil, length-append, length-take-le, take-append-drop, take_more}
+use Rattle.std.proofs.lemmas.List.{append-nil, drop_all, length-append, length-take-le, take_all, take-append-drop, take_more}
 use Rattle.std.proofs.lemmas.Option.{get_or_from_slice_get, slice_get_within}
 use Rattle.dictionaries.specs.Grammar.{dictionary_of}
 use Rattle.dictionaries.specs.WordList.{WordList}
@@ -169,6 +169,14 @@ readable_more (Some files) now names before after place name same at sofar made 
     ∙ sym (append_assoc (take place names) (name ∷ []) (up_to_fault files (drop (place + 1) names)))
     ∙ ap (λ (front : List (List ℕ)). front ++ up_to_fault files (drop (place + 1) names)) (sym (take-at names place name at))
 
+-- all names give dictionaries
+pub readable_at_end : (told : Option (List File)) (names : List (List ℕ)) (place : ℕ) → length names ≤ place → IfSome told (AreReadable names place) →
+    IfSome told (λ files. up_to_fault files names ≡ names)
+readable_at_end None names place all sofar = tt
+readable_at_end (Some files) names place all sofar =
+    sofar ∙ ap (λ (rest : List (List ℕ)). take place names ++ up_to_fault files rest) (drop_all place names all)
+    ∙ append-nil (take place names) ∙ take_all place names all
+
 pub asked_also : (first name : List (List ℕ)) (before : Option (List (List ℕ))) →
     option_map (λ (names : List (List ℕ)). names ++ name) (option_map (λ names. names ++ first) before) ≡ option_map (λ names. names ++ (first ++ name)) before
 asked_also first name None = refl
@@ -184,6 +192,12 @@ asked_more names place name before mid now at sofar asked =
 pub none_asked : (before : Option (List (List ℕ))) → before ≡ option_map (λ names. names ++ []) before
 none_asked None = refl
 none_asked (Some names) = ap Some (sym (append-nil names))
+
+-- all were asked
+pub asked_at_end : (names : List (List ℕ)) (place : ℕ) (before now : Option (List (List ℕ))) → length names ≤ place →
+    now ≡ option_map (λ all. all ++ take place names) before → now ≡ option_map (λ all. all ++ names) before
+asked_at_end names place before now all asked =
+    asked ∙ ap (λ (front : List (List ℕ)). option_map (λ (before : List (List ℕ)). before ++ front) before) (take_all place names all)
 
 -- all were asked, and the first of them gave dictionaries
 pub asks_first : (told : Option (List File)) (names : List (List ℕ)) (place : ℕ) (before now : Option (List (List ℕ))) → IfSome told (AreReadable names place) →

@@ -1,5 +1,6 @@
 -- The names that a plan asks of a library, each in its turn.
-use Rattle.std.specs.Prelude.{◌≡◌, ℕ, nat_lt, List, [], ◌∷◌, ◌++◌, length, Option, Some, None, Result, Ok, Err, IfSome, is_ok, if◌then◌else◌}
+use Rattle.std.specs.Prelude.{◌≡◌, ◌≤◌, ℕ, nat_lt, List, [], ◌∷◌, ◌++◌, length, Option, Some, None, Result, Ok, Err, IfSome, is_ok, if◌then◌else◌}
+use Rattle.std.specs.Option.{option_map}
 use Rattle.std.specs.Result.{result_unwrap_or}
 use Rattle.pd_outside.specs.Files.{File, bytes_of}
 use Rattle.pd_outside.specs.Library.{AskedPrefixOf}
@@ -51,6 +52,14 @@ pub record AsksForPlan (name : List ℕ) (files : Option (List File)) (before no
   pub told : IfSome files (λ (f : List File). AskedPrefixOf (plan_names f name) before now)
   pub bytes : List ℕ
   pub untold : AskedPrefixOf (possible_names bytes name) before now
+
+-- A plan was made of a schema's name: its text was read, and all names that it asks for were asked, each in turn.
+pub record PlanRead (schema : Schema) (name : List ℕ) (files : Option (List File)) (before now : Option (List (List ℕ))) : Type 0 where
+  pub bytes : List ℕ
+  pub within : length bytes ≤ schema_limit
+  pub read : schema_of bytes ≡ Ok schema
+  pub told : IfSome files (λ (f : List File). plan_names f name ≡ possible_names bytes name)
+  pub asked : now ≡ option_map (λ names. names ++ possible_names bytes name) before
 
 -- names are told, and none was asked meanwhile
 abbrev pub AskedNone : Option (List (List ℕ)) → Option (List (List ℕ)) → Type 0

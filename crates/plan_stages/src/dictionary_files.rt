@@ -1,10 +1,11 @@
 //! The dictionaries that files hold, read one after the other.
 
-ghost use Rattle.std.specs.Prelude.{◌≡◌, ◌≤◌, ◌⊎◌, ◌+◌, [], Err, IfErr, IfSome, Ok, OnOk, false, length};
+ghost use Rattle.std.specs.Prelude.{◌≡◌, ◌≤◌, ◌⊎◌, ◌+◌, ◌++◌, [], Err, IfErr, IfSome, Ok, OnOk, false, length};
+ghost use Rattle.std.specs.Option.{option_map};
 ghost use Rattle.pd_outside.specs.Library.{AskedAtMost, ask};
 ghost use Rattle.plan_stages.specs.DictionaryFiles.{dictionaries_status, with_dictionaries, with_dictionary};
 ghost use Rattle.plan_stages.specs.Limits.{dictionary_limit};
-ghost use Rattle.plan_stages.specs.PlanNames.{AskedNone, AsksNames};
+ghost use Rattle.plan_stages.specs.PlanNames.{up_to_fault, AskedNone, AsksNames};
 ghost use Rattle.plan_stages.specs.Stages.{ended, told_files, Decides, IsReadOut, LibraryAfter};
 ghost use Rattle.refusals.specs.Statuses.{cause_status, is_free};
 
@@ -32,6 +33,8 @@ pub(crate) fn read_dictionaries<L: Library>(
         (L.taken library.new) (L.is_started library.new) (L.faults library.old) (L.faults library.new) }
     ensures longer { L.taken library.new ≡ dictionary_limit + 1 → ended dictionaries_status result ≡ 10 }
     ensures asked { AsksNames names.now (told_files (L.content library.old)) (L.asked library.old) (L.asked library.new) }
+    ensures asked_all { OnOk result (L.asked library.new ≡ option_map (λ all. all ++ names.now) (L.asked library.old)) }
+    ensures readable { OnOk result (IfSome (told_files (L.content library.old)) (λ files. up_to_fault files names.now ≡ names.now)) }
     ensures unasked { AskedNone (L.asked library.old) (L.asked library.new) → L.taken library.new ≤ L.taken library.old }
 {
     let mut dictionaries = Dictionaries::new(alloc);

@@ -7,12 +7,7 @@ use std::marker::Model;
 /// The bytes of some files, in order. A contract sees the list of them, each as the list of its bytes.
 #[derive(Drop)]
 pub struct Inputs {
-    files: Vec<Input>,
-}
-
-#[derive(Drop)]
-struct Input {
-    bytes: Vec<u8>,
+    files: Vec<Vec<u8>>,
 }
 
 /// Which file isn't read, and why.
@@ -24,27 +19,19 @@ pub struct InputFault {
     pub cause: ReadFault,
 }
 
-impl Model for Input {
-    ghost use Rattle.std.specs.Prelude.{ℕ, List};
-
-    ghost Value = { List ℕ };
-
-    ghost view = { λ i. i.bytes.items };
-}
-
 impl Model for Inputs {
-    ghost use Rattle.std.specs.Prelude.{ℕ, List};
+    ghost use Rattle.std.specs.Prelude.{ℕ, List, map};
 
     ghost Value = { List (List ℕ) };
 
-    ghost view = { λ i. i.files.items };
+    ghost view = { λ i. map (λ file. file.items) i.files.items };
 }
 
 impl Inputs {
-    ghost use Rattle.std.specs.Prelude.{◌≡◌, ◌==◌, ◌<◌, [], ◌∷◌, ◌++◌, length, slice_get, OnOk, OnErr, Some};
+    ghost use Rattle.std.specs.Prelude.{◌≡◌, ◌==◌, ◌<◌, [], ◌∷◌, ◌++◌, length, map, slice_get, OnOk, OnErr, Some};
 
     /// No file, which takes no memory.
-    pub(crate) fn new(alloc: Global) -> Inputs
+    pub fn new(alloc: Global) -> Inputs
         ensures { result ≡ [] }
     {
         Inputs {
@@ -71,15 +58,22 @@ impl Inputs {
         requires { i < length self.now }
         ensures { slice_get self.now i ≡ Some result.now }
     {
-        self.files[i].bytes.as_slice()
+        self.files[i].as_slice()
+    }
+
+    /// All files, in order.
+    pub fn as_slice(&self) -> &[Vec<u8>]
+        ensures { map (λ file. file.items) result.now ≡ self.now }
+    {
+        self.files.as_slice()
     }
 
     /// Puts the bytes of a file behind the others. Where memory is wanting, they stay as they were.
-    pub(crate) fn push(&mut self, bytes: Vec<u8>) -> Result<(), AllocError>
+    pub fn push(&mut self, bytes: Vec<u8>) -> Result<(), AllocError>
         ensures appended { OnOk result (self.new ≡ self.old ++ bytes.items ∷ []) }
         ensures unchanged { OnErr result (self.new ≡ self.old) }
     {
-        self.files.push(Input { bytes })?;
+        self.files.push(bytes)?;
         Ok(())
     }
 }

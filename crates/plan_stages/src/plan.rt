@@ -1,9 +1,10 @@
 //! From a schema's name to its plan.
 
-ghost use Rattle.std.specs.Prelude.{◌≡◌, ◌≢◌, ◌≤◌, ◌⊎◌, ◌+◌, IfSome};
+ghost use Rattle.std.specs.Prelude.{◌≡◌, ◌≢◌, ◌≤◌, ◌⊎◌, ◌+◌, ◌++◌, IfOk, IfSome, OnOk};
+ghost use Rattle.std.specs.Option.{option_map};
 ghost use Rattle.schema_read.specs.Schema.{schema_of};
 ghost use Rattle.plan_stages.specs.Limits.{dictionary_limit, schema_limit};
-ghost use Rattle.plan_stages.specs.PlanNames.{cited_by, cited_by_read, AskedAlone, AskedNone, AsksForPlan, AsksNames};
+ghost use Rattle.plan_stages.specs.PlanNames.{cited_by, cited_by_read, up_to_fault, AskedAlone, AskedNone, AsksForPlan, AsksNames, PlanRead};
 ghost use Rattle.plan_stages.specs.Plans.{limit_at, plan_in, plan_of_text, planned};
 ghost use Rattle.plan_stages.specs.Stages.{ended, limit_told, told_files, Decides, IsReadOut, LibraryAfter};
 ghost use Rattle.refusals.specs.Statuses.{plan_status};
@@ -40,6 +41,10 @@ pub fn plan_of<L: Library>(alloc: Global, library: &mut L, name: &str) -> Result
 
     // No other name is asked than the schema's and those that it cites, in turn, and none behind the first at fault.
     ensures asked { AsksForPlan name.now (told_files (L.content library.old)) (L.asked library.old) (L.asked library.new) }
+
+    // A plan tells which text was read, and that each of those names was asked.
+    ensures read { IfOk result (λ plan.
+        PlanRead plan.schema name.now (told_files (L.content library.old)) (L.asked library.old) (L.asked library.new)) }
 {
     let bytes = read_whole(alloc, library, name, SCHEMA_LIMIT)?;
     plan_of_text(alloc, library, &bytes)
@@ -55,6 +60,10 @@ fn plan_of_text<L: Library>(alloc: Global, library: &mut L, bytes: &[u8]) -> Res
     ensures longer { L.taken library.new ≡ dictionary_limit + 1 → ended plan_status result ≡ 10 }
     ensures schema_read { ended plan_status result ≡ 3 → L.taken library.new ≤ schema_limit }
     ensures asked { AsksNames (cited_by_read (schema_of bytes.now)) (told_files (L.content library.old)) (L.asked library.old) (L.asked library.new) }
+    ensures asked_all { OnOk result (L.asked library.new ≡ option_map (λ all. all ++ cited_by_read (schema_of bytes.now)) (L.asked library.old)) }
+    ensures readable { OnOk result (IfSome (told_files (L.content library.old)) (λ files.
+        up_to_fault files (cited_by_read (schema_of bytes.now)) ≡ cited_by_read (schema_of bytes.now))) }
+    ensures read { IfOk result (λ plan. schema_of bytes.now ≡ Ok plan.schema) }
     ensures unasked { AskedNone (L.asked library.old) (L.asked library.new) → L.taken library.new ≤ L.taken library.old }
 {
     let schema = read_schema(alloc, bytes)?;
@@ -75,6 +84,9 @@ fn plan_of_schema<L: Library>(
     ensures longer { L.taken library.new ≡ dictionary_limit + 1 → ended plan_status result ≡ 10 }
     ensures is_schema { ended plan_status result ≢ 3 }
     ensures asked { AsksNames (cited_by schema) (told_files (L.content library.old)) (L.asked library.old) (L.asked library.new) }
+    ensures asked_all { OnOk result (L.asked library.new ≡ option_map (λ all. all ++ cited_by schema) (L.asked library.old)) }
+    ensures readable { OnOk result (IfSome (told_files (L.content library.old)) (λ files. up_to_fault files (cited_by schema) ≡ cited_by schema)) }
+    ensures of_schema { IfOk result (λ plan. plan.schema ≡ schema) }
     ensures unasked { AskedNone (L.asked library.old) (L.asked library.new) → L.taken library.new ≤ L.taken library.old }
 {
     let names = citations(alloc, &schema)?;

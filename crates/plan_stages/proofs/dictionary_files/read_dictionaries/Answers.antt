@@ -1,7 +1,7 @@
 use Rattle.std.proofs.Common.{arith, ◌≡◌, ◌+◌, ℕ, Some, ap, sym, ◌∙◌, refl, length}
 use Rattle.std.specs.Prelude.{slice_get}
 use Rattle.plan_stages.specs.Limits.{dictionary_limit}
-use Rattle.plan_stages.proofs.DictionaryLemmas.{asked_more, asks_at_most, none_asked, none_read, none_readable, readable_more, read_more, read_to_fault, unasked_at_end, unasked_at_fault}
+use Rattle.plan_stages.proofs.DictionaryLemmas.{asked_at_end, asked_more, asks_at_most, none_asked, none_read, none_readable, readable_at_end, readable_more, read_more, read_to_fault, unasked_at_end, unasked_at_fault}
 use Rattle.plan_stages.proofs.LibraryLemmas.{after_done, after_step, all_read, done_of_itself}
 use Rattle.plan_stages.proofs.dictionary_files.read_dictionaries.Goals as goal
 
@@ -55,6 +55,12 @@ returns-in-Err-clause-unasked g c =
 pub returns-clause-unasked : goal.returns-clause-unasked
 returns-clause-unasked g c =
     unasked_at_end c.args.names.now c.loop-place.place _ _ _ _ (omega arith) c.loop-place.invariant.asked c.loop-place.invariant.still
+
+pub returns-clause-asked_all : goal.returns-clause-asked_all
+returns-clause-asked_all g c = asked_at_end c.args.names.now c.loop-place.place _ _ (omega arith) c.loop-place.invariant.asked
+
+pub returns-clause-readable : goal.returns-clause-readable
+returns-clause-readable g c = readable_at_end _ c.args.names.now c.loop-place.place (omega arith) c.loop-place.invariant.readable
 
 pub returns-in-Err-clause-after : goal.returns-in-Err-clause-after
 returns-in-Err-clause-after g c = after_step _ _ _ _ _ _ _ _ _ _ c.loop-place.invariant.files c.loop-place.invariant.faults c.in-Err.ensures.after

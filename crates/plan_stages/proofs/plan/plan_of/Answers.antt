@@ -2,7 +2,7 @@ use Rattle.std.proofs.Common.{◌≤◌, arith, inl, length, refl}
 use Rattle.std.proofs.lemmas.Result.{err_from_is_err_and}
 use Rattle.plan_stages.specs.Limits.{schema_limit}
 use Rattle.plan_stages.proofs.LibraryLemmas.{after_step, file_unread, no_fault_on_ok}
-use Rattle.plan_stages.proofs.PlanLemmas.{asks_schema_at_most, asks_then, decided_for_name}
+use Rattle.plan_stages.proofs.PlanLemmas.{asks_schema_at_most, asks_then, decided_for_name, plan_read}
 use Rattle.plan_stages.proofs.plan.plan_of.Goals as goal
 
 pub returns-in_err-bytes-clause-asked : goal.returns-in_err-bytes-clause-asked
@@ -19,6 +19,13 @@ returns-clause-asked g c =
     let within : length c.in_ok-bytes.bytes.items ≤ schema_limit = omega (arith, c.in_ok-bytes.ensures.taken, c.in_ok-bytes.ensures.within) in
     asks_then _ _ c.args.name.now c.in_ok-bytes.bytes.items c.deref.result.now _ _ _ c.in_ok-bytes.ensures.files c.in_ok-bytes.ensures.whole within
     c.deref.ensures.value (c.in_ok-bytes.ensures.asked (inl refl)) c.plan_of_text.ensures.asked
+
+pub returns-clause-read : goal.returns-clause-read
+returns-clause-read g c =
+    let within : length c.in_ok-bytes.bytes.items ≤ schema_limit = omega (arith, c.in_ok-bytes.ensures.taken, c.in_ok-bytes.ensures.within) in
+    plan_read _ _ c.args.name.now c.in_ok-bytes.bytes.items c.deref.result.now _ _ _ c.plan_of_text.result c.in_ok-bytes.ensures.files
+    c.in_ok-bytes.ensures.whole within c.deref.ensures.value (c.in_ok-bytes.ensures.asked (inl refl)) c.plan_of_text.ensures.read
+    c.plan_of_text.ensures.asked_all c.plan_of_text.ensures.readable
 
 pub returns-in_err-bytes-clause-after : goal.returns-in_err-bytes-clause-after
 returns-in_err-bytes-clause-after g c =
