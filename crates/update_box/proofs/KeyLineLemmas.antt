@@ -1,10 +1,9 @@
 -- What a line holds in a reference is the key field of one line of the parent's text, or null.
-use Rattle.std.proofs.Common.{◌≡◌, ℕ, ◌^◌, ◌<◌, ◌≤◌, All, Bool, true, false, not, List, [], codes, count_by, decimal, length, map, Option, Some, None, inl, inr, zero-add, refl, ap, arith, subst, sym, ◌∙◌}
+use Rattle.std.proofs.Common.{◌≡◌, ℕ, ◌^◌, ◌<◌, ◌≤◌, All, Bool, true, false, not, List, [], codes, count_by, decimal, length, map, Option, Some, None, zero-add, refl, ap, arith, subst, sym, ◌∙◌}
 use Rattle.std.specs.Prelude.{IfSome, IsSome, MatchOption, if◌then◌else◌, slice_index_or}
 use Rattle.std.specs.Option.{option_map}
 use Rattle.std.specs.List.{range_with_len}
 use Rattle.std.specs.Str.{bytes_eq}
-use Rattle.std.proofs.lemmas.Bool.{cases_Bool}
 use Rattle.std.proofs.lemmas.Fmt.{decimal_injective}
 use Rattle.std.proofs.lemmas.List.{get_or-map, length-map}
 use Rattle.std.proofs.lemmas.List.Elements.{All-filter, filter_passes}
@@ -31,6 +30,7 @@ use Rattle.life_intervals.proofs.LifeLemmas.{parent_of-born}
 use Rattle.life_intervals.proofs.LiveLemmas.{holds_row-live}
 use Rattle.life_intervals.proofs.ReferenceLemmas.{at_column, reference_at-within}
 use Rattle.life_intervals.proofs.SimulationLemmas.{rows_at-rows_of}
+use Rattle.stream_apply.proofs.KeyedLineLemmas.{bytes_eq-apart}
 use Rattle.row_lines.specs.Lines.{field, parent_of_row}
 use Rattle.row_lines.proofs.FieldLemmas.{field-key}
 use Rattle.life_intervals.proofs.HeldParentLemmas.{held_parent-cascades}
@@ -45,13 +45,6 @@ field_of_line-is : (generator : Generator) (unit place column : ℕ) (row : Row)
 field_of_line-is generator unit place column row within =
     get_or-map-range_with_len (λ (at : ℕ). field_text generator.delimiter (field generator unit place row at)) 0 (length (table_at generator.tables place).columns)
     column column [] within (zero-add column)
-
--- texts that differ
-bytes_eq-apart : (xs ys : List ℕ) → (xs ≡ ys → ⊥) → bytes_eq xs ys ≡ false
-bytes_eq-apart xs ys apart = elim (cases_Bool (bytes_eq xs ys)) [
-  | inl same ↦ absurd (apart ((bytes_eq-Decides xs ys).0 same))
-  | inr differ ↦ differ
-]
 
 module _ (plan : Project) (limits : IsInLimits plan) (unit : ℕ) (within : unit ≤ last_unit plan) where
   abbrev generator : Generator
@@ -71,7 +64,7 @@ module _ (plan : Project) (limits : IsInLimits plan) (unit : ℕ) (within : unit
   -- ---- the lines of a table, by their keys
 
   -- a key is a number of 64 bits
-  key-small : (place : ℕ) → place < length plan.schema.tables → (ordinal : ℕ) → ordinal < born_by place → key_of generator place unit ordinal < 2 ^ 64
+  pub key-small : (place : ℕ) → place < length plan.schema.tables → (ordinal : ℕ) → ordinal < born_by place → key_of generator place unit ordinal < 2 ^ 64
   key-small place below ordinal born =
       let table : IsTableInLimits (last_unit plan) (table_of plan place) = own place below in
       omega (

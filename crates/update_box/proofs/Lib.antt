@@ -10,3 +10,5 @@ pub mod TableLemmas
 pub mod ShareLemmas
 pub mod PackLemmas
 pub mod ShareLawLemmas
+pub mod KeyedTextLemmas
+pub mod ApplyLawLemmas

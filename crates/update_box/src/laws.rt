@@ -3,7 +3,7 @@
 //!
 //! A table is named by its place in the schema, and a row by its ordinal; both count from 0.
 
-ghost use Rattle.std.specs.Prelude.{◌≡◌, ℕ, ℤ, ◌-◌, ◌*◌, ◌<◌, ◌≤◌, ◌==◌, ◌&&◌, All, IfSome, IsSome, MatchOption, Some, codes, false, filter, flat_map, length, not, slice_index_or, true};
+ghost use Rattle.std.specs.Prelude.{◌≡◌, ℕ, ℤ, ◌+◌, ◌-◌, ◌*◌, ◌<◌, ◌≤◌, ◌==◌, ◌&&◌, [], ◌∷◌, All, IfSome, IsSome, MatchOption, Some, codes, false, filter, flat_map, length, not, slice_index_or, true};
 ghost use Rattle.std.specs.List.{range_with_len};
 ghost use Rattle.cohort_sizes.specs.Births.{first_ordinal};
 ghost use Rattle.schema_plan.specs.Dictionaries.{Project};
@@ -17,10 +17,11 @@ ghost use Rattle.life_intervals.specs.Rows.{Row};
 ghost use Rattle.life_intervals.specs.Simulation.{holds_row, rows_at, simulation};
 ghost use Rattle.life_intervals.specs.Streams.{deleted, inserted, updated};
 ghost use Rattle.row_lines.specs.Lines.{key_line_of, line, parent_of_row, table_text};
+ghost use Rattle.stream_apply.specs.InTurn.{IsAppliedText};
 ghost use Rattle.update_box.specs.Packages.{IsJobOf, package_text, packages_in, packages_of, room_of, share_of, share_text};
 ghost use Rattle.update_box.specs.Parts.{Part, content_text, snapshot_contents, unit_contents};
 ghost use Rattle.update_box.specs.declared.parts.Job.{Job};
-ghost use Rattle.update_box.specs.TextLaws.{field_of_line, lines_with_key, with_last_unit};
+ghost use Rattle.update_box.specs.TextLaws.{field_of_line, lines_with_key, unit_streams, with_last_unit};
 ghost use Rattle.update_box.specs.UnitLists.{ordinals, table_lists};
 
 /// The step to a unit updates the rows that are born before it, are alive at it and have it as their change unit.
@@ -95,6 +96,21 @@ pub fn a_longer_run_changes_nothing_earlier()
         (deleted (generator_of other) place unit)
         ≡ flat_map (λ (row : Row). key_line_of (generator_of plan) (last_unit plan) place row.ordinal)
         (deleted (generator_of plan) place unit) }
+{}
+
+/// A table's text is the lines of a table. The streams of the next unit, applied to them, make the text at that unit, and so do those of
+/// further units, each in its turn. None is at fault: each row that a unit deletes or updates is in the table, and none that it inserts.
+pub fn streams_give_the_next_text()
+    ensures text { (plan : Project) → IsInLimits plan → (place : ℕ) → place < length plan.schema.tables → (t : ℕ) → t ≤ last_unit plan →
+        IsAppliedText (layout_of plan).delimiter (table_text (generator_of plan) t place ∷ []) (table_text (generator_of plan) t place) }
+    ensures unit { (plan : Project) → IsInLimits plan → (place : ℕ) → place < length plan.schema.tables → (t : ℕ) → 1 ≤ t → t ≤ last_unit plan →
+        IsAppliedText (layout_of plan).delimiter (table_text (generator_of plan) (t - 1) place ∷ unit_streams plan place t)
+        (table_text (generator_of plan) t place) }
+    ensures units { (plan : Project) → IsInLimits plan → (place : ℕ) → place < length plan.schema.tables →
+        (from count : ℕ) → from + count ≤ last_unit plan →
+        IsAppliedText (layout_of plan).delimiter
+        (table_text (generator_of plan) from place ∷ flat_map (unit_streams plan place) (range_with_len (from + 1) count))
+        (table_text (generator_of plan) (from + count) place) }
 {}
 
 /// The shares of a part for all nodes, one after the other, are what is told of the table, whole. So is the share of a node that is alone.

@@ -21,6 +21,7 @@ mod units;
 
 pub use list_packer::ListPacker;
 pub use memory::Memory;
+pub use names::push_file_name;
 pub use parts::{Content, Job};
 pub use prepared::PreparedTables;
 pub use scan::{TableRows, table_rows};

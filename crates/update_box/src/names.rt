@@ -48,6 +48,21 @@ fn push_ending(path: &mut Text, unit: u64, content: Content) -> Result<(), Memor
     push(path, ending)
 }
 
+/// Appends the name of the file that holds nothing but this content of a table at a unit, without a directory.
+pub fn push_file_name(
+    path: &mut Text,
+    plan: &Plan,
+    table: u32,
+    unit: u64,
+    content: Content,
+) -> Result<(), Memory>
+    requires { table < length plan.now.schema.tables }
+    ensures { OnOk result (path.new ≡ path.old ++ (name_at plan.now.schema table ++ ending_of unit content)) }
+{
+    push(path, name_of(plan, table))?;
+    push_ending(path, unit, content)
+}
+
 /// The name of the file of a share in a directory.
 fn share_path(
     alloc: Global,
@@ -62,8 +77,7 @@ fn share_path(
     let mut path = Text::new(alloc);
     push(&mut path, dir)?;
     push(&mut path, "/")?;
-    push(&mut path, name_of(plan, share.place))?;
-    push_ending(&mut path, unit, share.content)?;
+    push_file_name(&mut path, plan, share.place, unit, share.content)?;
     Ok(path)
 }
 
