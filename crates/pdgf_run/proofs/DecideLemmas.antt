@@ -1,13 +1,15 @@
 -- What words come to, as it is found.
-use Rattle.std.proofs.Common.{◌≡◌, ◌≢◌, ℕ, Bool, false, List, [], Option, None, Some, Result, Ok, Err, inl, inr, refl, ap, sym, subst, ◌∙◌, arith}
-use Rattle.std.specs.Prelude.{◌⊎◌, IfErr, IfSome, IsErr, OnOk, ◌↔◌}
+use Rattle.std.proofs.Common.{◌≡◌, ◌≢◌, ◌+◌, ℕ, Bool, false, List, [], ◌++◌, append_assoc, drop, take, Option, None, Some, Result, Ok, Err, inl, inr, refl, ap, sym, subst, ◌∙◌, arith}
+use Rattle.std.specs.Prelude.{◌⊎◌, IfErr, IfOk, IfSome, IsErr, OnOk, ◌↔◌}
 use Rattle.std.specs.Option.{option_map}
+use Rattle.std.proofs.lemmas.List.{take-append-drop}
 use Rattle.pd_outside.specs.Faults.{Rose, counted}
 use Rattle.pd_outside.specs.Files.{File}
-use Rattle.pd_outside.specs.Library.{Content, left}
-use Rattle.plan_stages.specs.PlanNames.{AsksForPlan}
-use Rattle.plan_stages.specs.Plans.{plan_in}
-use Rattle.plan_stages.specs.Stages.{ended, in_stage, on_ok, told_files, Decides, IsReadOut, LibraryAfter}
+use Rattle.pd_outside.specs.Library.{AskedPrefixOf, Content, left}
+use Rattle.plan_stages.specs.PlanNames.{AsksForPlan, PlanRead, plan_names, possible_names}
+use Rattle.plan_stages.specs.Plans.{limit_at, plan_in}
+use Rattle.plan_stages.specs.Stages.{ended, in_stage, told_files, Decides, IsReadOut, LibraryAfter}
+use Rattle.plan_stages.proofs.DictionaryLemmas.{IfSome-same, asked_also, asked_first}
 use Rattle.refusals.specs.Statuses.{is_free, job_status, plan_status, status_of}
 use Rattle.refusals.specs.declared.refusal.JobFault.{JobFault}
 use Rattle.refusals.specs.declared.refusal.JobFault.TheVariants as job
@@ -15,30 +17,37 @@ use Rattle.refusals.specs.declared.refusal.PlanFault.{PlanFault}
 use Rattle.refusals.specs.declared.refusal.Refusal.{Refusal}
 use Rattle.refusals.specs.declared.refusal.Refusal.TheVariants as refusal
 use Rattle.request_words.specs.Words.{request}
+use Rattle.request_words.specs.declared.usage.Mode.TheVariants.{Check, Snapshot, Unit, Row, Apply}
+use Rattle.request_words.specs.declared.usage.Mode.{Mode}
 use Rattle.request_words.specs.declared.usage.Request.{Request}
 use Rattle.request_words.specs.declared.usage.UsageFault.{UsageFault}
 use Rattle.request_words.specs.declared.usage.UsageFault.TheVariants as usage
-use Rattle.schema_plan.specs.Dictionaries.{Project}
+use Rattle.schema_model.specs.declared.table.Schema.{Schema}
+use Rattle.schema_plan.specs.Dictionaries.{Project, project_of}
+use Rattle.schema_plan.specs.Limits.{IsInLimits}
+use Rattle.schema_read.specs.Schema.{schema_of}
 use Rattle.pdgf_run.specs.Jobs.{due_of}
-use Rattle.pdgf_run.specs.ReadingList.{AsksInTurn}
-use Rattle.pdgf_run.specs.Verdict.{in_mode, job_over, of_request, verdict, WhereTold}
+use Rattle.pdgf_run.specs.ReadingList.{AsksInMode, AsksInTurn, names_behind, names_in_mode, possible_behind, possible_in_mode}
+use Rattle.pdgf_run.specs.TopCall.{IsLimitOf, IsLimitRefused, IsLimitTold, LibraryLeft}
+use Rattle.pdgf_run.specs.Verdict.{IsDecided, IsInMode, IsJobOver, IsOfRequest, IsPlanned, IsVerdict}
 use Rattle.pdgf_run.specs.declared.job.Job.{Job}
 
 -- ---- words that give no request
 
-verdict-of_request : (words : List (List ℕ)) (files : List File) (r : Result Request UsageFault) → request words ≡ r → verdict words files ≡ of_request files r
-unfolding verdict
-verdict-of_request words files r is = ap (of_request files) is
+pub of_words : (words : List (List ℕ)) (files : List File) (r : Result Request UsageFault) (verdict : Result (List File) Refusal) → request words ≡ r →
+    IsOfRequest files r verdict → IsVerdict words files verdict
+of_words words files r verdict is of = subst (λ (q : Result Request UsageFault). IsOfRequest files q verdict) (sym is) of
 
 -- a fault that isn't free isn't want of memory
 not_memory : (fault : UsageFault) → is_free (status_of (refusal.Words fault)) ≡ false → fault ≢ usage.Memory
 not_memory fault not_free same = let free = ap (λ (f : UsageFault). is_free (status_of (refusal.Words f))) same in cc
 
 -- words that give no request are refused, where memory doesn't run out
-pub decided_for_words : (words : List (List ℕ)) (content : Option Content) (fault : UsageFault) → (fault ≢ usage.Memory → request words ≡ Err fault) →
-    WhereTold words content (Decides status_of due_of (Err (refusal.Words fault)))
-decided_for_words words None fault told = tt
-decided_for_words words (Some c) fault told = λ not_free. verdict-of_request words c.files (Err fault) (told (not_memory fault not_free))
+pub decided_for_words : (words : List (List ℕ)) (told : Option (List File)) (fault : UsageFault) → (fault ≢ usage.Memory → request words ≡ Err fault) →
+    IfSome told (λ files. IsDecided status_of due_of (IsVerdict words files) (Err (refusal.Words fault)))
+decided_for_words words None fault given = tt
+decided_for_words words (Some files) fault given = λ not_free.
+    of_words words files (Err fault) (Err (refusal.Words fault)) (given (not_memory fault not_free)) refl
 
 -- they are refused with status 2, or memory ran out
 words_status : (fault : UsageFault) → (status_of (refusal.Words fault) ≡ 2) ⊎ (status_of (refusal.Words fault) ≡ 7)
@@ -51,22 +60,20 @@ words_status (usage.Number name) = inl refl
 words_status (usage.EmptyDirectory name) = inl refl
 
 -- nothing was done to the library
-unchanged : (status limit : ℕ) (content : Option Content) (taken : ℕ) (is_started : Bool) (faults : ℕ) → (status ≡ 2) ⊎ (status ≡ 7) →
-    LibraryAfter status limit (told_files content) content taken is_started faults faults
-unchanged status limit content taken is_started faults (inl two) = record {
+unchanged : (status : ℕ) (IsLimit : ℕ → Type 0) (content : Option Content) (taken : ℕ) (is_started : Bool) (faults : ℕ) → (status ≡ 2) ⊎ (status ≡ 7) →
+    LibraryLeft status IsLimit (told_files content) content taken is_started faults faults
+unchanged status IsLimit content taken is_started faults (inl two) = record {
   files = refl;
   read_out = λ zero. absurd (omega (arith, two, zero));
-  within = λ zero. absurd (omega (arith, two, zero));
   too_long = λ ten. absurd (omega (arith, two, ten));
   failed_once = λ five. absurd (omega (arith, two, five));
   stopped = λ five. absurd (omega (arith, two, five));
   no_fault = λ other. refl;
   never_falls = omega arith;
 }
-unchanged status limit content taken is_started faults (inr seven) = record {
+unchanged status IsLimit content taken is_started faults (inr seven) = record {
   files = refl;
   read_out = λ zero. absurd (omega (arith, seven, zero));
-  within = λ zero. absurd (omega (arith, seven, zero));
   too_long = λ ten. absurd (omega (arith, seven, ten));
   failed_once = λ five. absurd (omega (arith, seven, five));
   stopped = λ five. absurd (omega (arith, seven, five));
@@ -74,64 +81,91 @@ unchanged status limit content taken is_started faults (inr seven) = record {
   never_falls = omega arith;
 }
 
-pub after_words : (fault : UsageFault) (limit : ℕ) (content : Option Content) (taken : ℕ) (is_started : Bool) (faults : ℕ) →
-    LibraryAfter (status_of (refusal.Words fault)) limit (told_files content) content taken is_started faults faults
-after_words fault limit content taken is_started faults =
-    unchanged (status_of (refusal.Words fault)) limit content taken is_started faults (words_status fault)
+pub left_by_words : (fault : UsageFault) (IsLimit : ℕ → Type 0) (content : Option Content) (taken : ℕ) (is_started : Bool) (faults : ℕ) →
+    LibraryLeft (status_of (refusal.Words fault)) IsLimit (told_files content) content taken is_started faults faults
+left_by_words fault IsLimit content taken is_started faults =
+    unchanged (status_of (refusal.Words fault)) IsLimit content taken is_started faults (words_status fault)
 
 -- ---- words that give one
 
 -- what is decided of a request is decided of its words
-pub decided_for_request : (words : List (List ℕ)) (content : Option Content) (r : Request) (made : Result Job JobFault) → request words ≡ Ok r →
-    IfSome (told_files content) (λ files. Decides job_status due_of made (job_over r files)) →
-    WhereTold words content (Decides status_of due_of (in_stage refusal.Job made))
+pub decided_for_request : (words : List (List ℕ)) (told : Option (List File)) (r : Request) (made : Result Job JobFault) → request words ≡ Ok r →
+    IfSome told (λ files. IsDecided job_status due_of (IsJobOver r files) made) →
+    IfSome told (λ files. IsDecided status_of due_of (IsVerdict words files) (in_stage refusal.Job made))
 decided_for_request words None r made is decided = tt
-decided_for_request words (Some c) r (Ok job) is decided = verdict-of_request words c.files (Ok r) is ∙ ap (in_stage refusal.Job) decided
-decided_for_request words (Some c) r (Err fault) is decided = λ not_free.
-    verdict-of_request words c.files (Ok r) is ∙ ap (in_stage refusal.Job) (decided not_free)
+decided_for_request words (Some files) r (Ok job) is decided =
+    of_words words files (Ok r) (Ok (due_of job)) is (Ok (due_of job), decided, refl)
+decided_for_request words (Some files) r (Err fault) is decided = λ not_free.
+    of_words words files (Ok r) (Err (refusal.Job fault)) is (Err fault, decided not_free, refl)
+
+pub left_by_request : (made : Result Job JobFault) (before : Option (List File)) (now : Option Content) (taken : ℕ) (is_started : Bool) (faults_before faults_now : ℕ) →
+    LibraryLeft (ended job_status made) (IsLimitTold made) before now taken is_started faults_before faults_now →
+    LibraryLeft (ended status_of (in_stage refusal.Job made)) (IsLimitRefused (in_stage refusal.Job made)) before now taken is_started faults_before faults_now
+left_by_request (Ok job) before now taken is_started faults_before faults_now left = left
+left_by_request (Err fault) before now taken is_started faults_before faults_now left = left
 
 -- ---- a plan, or none
 
 -- what is decided where there is no plan
-no_plan : (made : Result Project PlanFault) (r : Request) (fault : PlanFault) → made ≡ Err fault → on_ok (in_stage job.Plan made) (in_mode r.mode r) ≡ Err (job.Plan fault)
-no_plan made r fault is = ap (λ (m : Result Project PlanFault). on_ok (in_stage job.Plan m) (in_mode r.mode r)) is
-
 pub decided_without_plan : (told : Option (List File)) (r : Request) (name : List ℕ) (fault : PlanFault) → name ≡ r.schema →
     IfSome told (λ files. Decides plan_status (λ plan. plan) (Err fault) (plan_in files name)) →
-    IfSome told (λ files. Decides job_status due_of (Err (job.Plan fault)) (job_over r files))
+    IfSome told (λ files. IsDecided job_status due_of (IsJobOver r files) (Err (job.Plan fault)))
 decided_without_plan None r name fault is decided = tt
 decided_without_plan (Some files) r name fault is decided = λ free.
-    no_plan (plan_in files r.schema) r fault (ap (plan_in files) (sym is) ∙ decided free)
+    subst (λ (made : Result Project PlanFault). IsPlanned r files made (Err (job.Plan fault))) (sym (ap (plan_in files) (sym is) ∙ decided free)) refl
 
 -- what is decided of a plan
-decided_over : (made : Result Project PlanFault) (r : Request) (plan : Project) (answer : Result Job JobFault) → made ≡ Ok plan →
-    Decides job_status due_of answer (in_mode r.mode r plan) → Decides job_status due_of answer (on_ok (in_stage job.Plan made) (in_mode r.mode r))
-decided_over made r plan answer is decided =
-    subst (λ (m : Result Project PlanFault). Decides job_status due_of answer (on_ok (in_stage job.Plan m) (in_mode r.mode r))) (sym is) decided
+pub decided_with_plan : (told mid : Option (List File)) (r : Request) (name : List ℕ) (plan : Project) (answer : Result Job JobFault) → name ≡ r.schema →
+    IfSome told (λ files. Decides plan_status (λ plan. plan) (Ok plan) (plan_in files name)) → mid ≡ told →
+    IfSome mid (λ files. IsDecided job_status due_of (IsInMode r.mode r plan files) answer) →
+    IfSome told (λ files. IsDecided job_status due_of (IsJobOver r files) answer)
+decided_with_plan None mid r name plan answer is planned same decided = tt
+decided_with_plan (Some files) mid r name plan answer is planned same decided =
+    subst (λ (made : Result Project PlanFault). IsDecided job_status due_of (IsPlanned r files made) answer) (sym (ap (plan_in files) (sym is) ∙ planned))
+    (IfSome-same (λ (f : List File). IsDecided job_status due_of (IsInMode r.mode r plan f) answer) mid (Some files) same decided)
 
-pub decided_with_plan : (told : Option (List File)) (r : Request) (name : List ℕ) (plan : Project) (answer : Result Job JobFault) → name ≡ r.schema →
-    IfSome told (λ files. Decides plan_status (λ plan. plan) (Ok plan) (plan_in files name)) → Decides job_status due_of answer (in_mode r.mode r plan) →
-    IfSome told (λ files. Decides job_status due_of answer (job_over r files))
-decided_with_plan None r name plan answer is planned decided = tt
-decided_with_plan (Some files) r name plan answer is planned decided =
-    decided_over (plan_in files r.schema) r plan answer (ap (plan_in files) (sym is) ∙ planned) decided
+-- a plan is in its limits
+pub limits_without_plan : (told : Option (List File)) (r : Request) (name : List ℕ) (fault : PlanFault) → name ≡ r.schema →
+    IfSome told (λ files. Decides plan_status (λ plan. plan) (Err fault) (plan_in files name)) → is_free (plan_status fault) ≡ false →
+    IfSome told (λ files. IfOk (plan_in files r.schema) IsInLimits)
+limits_without_plan None r name fault is decided free = tt
+limits_without_plan (Some files) r name fault is decided free =
+    subst (λ (made : Result Project PlanFault). IfOk made IsInLimits) (sym (ap (plan_in files) (sym is) ∙ decided free)) tt
 
--- a mode answers a job, want of memory, or what is out of range
-mode_status : (answer : Result Job JobFault) → IfErr answer (λ fault. (job_status fault ≡ 7) ⊎ (job_status fault ≡ 8)) →
-    (ended job_status answer ≡ 0) ⊎ ((ended job_status answer ≡ 7) ⊎ (ended job_status answer ≡ 8))
-mode_status (Ok job) refused = inl refl
-mode_status (Err fault) refused = inr refused
+pub limits_with_plan : (told : Option (List File)) (r : Request) (name : List ℕ) (plan : Project) → name ≡ r.schema →
+    IfSome told (λ files. Decides plan_status (λ plan. plan) (Ok plan) (plan_in files name)) → IsInLimits plan → IfSome told (λ files. IfOk (plan_in files r.schema) IsInLimits)
+limits_with_plan None r name plan is planned limits = tt
+limits_with_plan (Some files) r name plan is planned limits =
+    subst (λ (made : Result Project PlanFault). IfOk made IsInLimits) (sym (ap (plan_in files) (sym is) ∙ planned)) limits
 
-pub mode_others : (answer : Result Job JobFault) → IfErr answer (λ fault. (job_status fault ≡ 7) ⊎ (job_status fault ≡ 8)) →
-    (ended job_status answer ≢ 2) × (ended job_status answer ≢ 3) × (ended job_status answer ≢ 5) × (ended job_status answer ≢ 10)
-mode_others answer refused = go (ended job_status answer) (mode_status answer refused)
-  where
-    go : (status : ℕ) → (status ≡ 0) ⊎ ((status ≡ 7) ⊎ (status ≡ 8)) → (status ≢ 2) × (status ≢ 3) × (status ≢ 5) × (status ≢ 10)
-    go status (inl zero) = (λ e. absurd (omega (arith, zero, e)), λ e. absurd (omega (arith, zero, e)), λ e. absurd (omega (arith, zero, e)), λ e. absurd (omega (arith, zero, e)))
-    go status (inr (inl seven)) =
-        (λ e. absurd (omega (arith, seven, e)), λ e. absurd (omega (arith, seven, e)), λ e. absurd (omega (arith, seven, e)), λ e. absurd (omega (arith, seven, e)))
-    go status (inr (inr eight)) =
-        (λ e. absurd (omega (arith, eight, e)), λ e. absurd (omega (arith, eight, e)), λ e. absurd (omega (arith, eight, e)), λ e. absurd (omega (arith, eight, e)))
+-- what is decided where words give a request
+pub limits_of_words : (words : List (List ℕ)) (told : Option (List File)) (r : Request) (status : ℕ) → request words ≡ Ok r →
+    (is_free status ≡ false → IfSome told (λ files. IfOk (plan_in files r.schema) IsInLimits)) →
+    IfOk (request words) (λ asked. is_free status ≡ false → IfSome told (λ files. IfOk (plan_in files asked.schema) IsInLimits))
+limits_of_words words told r status is limits =
+    subst (λ (q : Result Request UsageFault). IfOk q (λ asked. is_free status ≡ false → IfSome told (λ files. IfOk (plan_in files asked.schema) IsInLimits))) (sym is) limits
+
+-- ---- what the library leaves
+
+pub left_without_plan : (fault : PlanFault) (before : Option (List File)) (now : Option Content) (taken : ℕ) (is_started : Bool) (faults_before faults_now : ℕ) →
+    LibraryAfter (plan_status fault) (limit_at fault) before now taken is_started faults_before faults_now →
+    LibraryLeft (plan_status fault) (IsLimitOf (job.Plan fault)) before now taken is_started faults_before faults_now
+left_without_plan fault before now taken is_started faults_before faults_now after = record {
+  files = after.files;
+  read_out = after.read_out;
+  too_long = λ ten. (limit_at fault, refl, after.too_long ten);
+  failed_once = after.failed_once;
+  stopped = after.stopped;
+  no_fault = after.no_fault;
+  never_falls = after.never_falls;
+}
+
+pub left_with_plan : (status : ℕ) (IsLimit : ℕ → Type 0) (limit : ℕ) (before : Option (List File)) (mid now : Option Content) (taken_mid taken : ℕ) (started_mid is_started : Bool) (faults_before faults_mid faults_now : ℕ) →
+    LibraryAfter 0 limit before mid taken_mid started_mid faults_before faults_mid →
+    LibraryLeft status IsLimit (told_files mid) now taken is_started faults_mid faults_now → LibraryLeft status IsLimit before now taken is_started faults_before faults_now
+left_with_plan status IsLimit limit before mid now taken_mid taken started_mid is_started faults_before faults_mid faults_now after left =
+    subst (λ (faults : ℕ). LibraryLeft status IsLimit before now taken is_started faults faults_now) (after.no_fault (λ e. absurd (cc)))
+    (subst (λ (told : Option (List File)). LibraryLeft status IsLimit told now taken is_started faults_mid faults_now) after.files left)
 
 -- ---- the names that are asked
 
@@ -140,13 +174,78 @@ pub asks_of_words : (words : List (List ℕ)) (r : Request) (told : Option (List
     AsksInTurn (Ok r) told before now → AsksInTurn (request words) told before now
 asks_of_words words r told before now is asks = subst (λ (q : Result Request UsageFault). AsksInTurn q told before now) (sym is) asks
 
+-- the first of some names are the first of more
+first_of_more : (list more : List (List ℕ)) (before now : Option (List (List ℕ))) → AskedPrefixOf list before now → AskedPrefixOf (list ++ more) before now
+first_of_more list more before now asks =
+    asked_first (list ++ more) (take asks.count list) (drop asks.count list ++ more) before now asks.asked
+    (ap (λ (l : List (List ℕ)). l ++ more) (sym (take-append-drop asks.count list)) ∙ append_assoc (take asks.count list) (drop asks.count list) more)
+
 -- what its schema's name asks for, a request does
+asks_told : (r : Request) (told : Option (List File)) (before now : Option (List (List ℕ))) → IfSome told (λ (f : List File). AskedPrefixOf (plan_names f r.schema) before now) →
+    IfSome told (λ (f : List File). AskedPrefixOf (plan_names f r.schema ++ names_behind r f (plan_in f r.schema)) before now)
+asks_told r None before now asks = tt
+asks_told r (Some f) before now asks = first_of_more (plan_names f r.schema) (names_behind r f (plan_in f r.schema)) before now asks
+
 asks_of_schema : (r : Request) (told : Option (List File)) (before now : Option (List (List ℕ))) → AsksForPlan r.schema told before now → AsksInTurn (Ok r) told before now
-asks_of_schema r told before now asks = record { told = asks.told; bytes = asks.bytes; untold = asks.untold }
+asks_of_schema r told before now asks = record {
+  told = asks_told r told before now asks.told;
+  bytes = asks.bytes;
+  untold = first_of_more (possible_names asks.bytes r.schema) (possible_behind r (schema_of asks.bytes)) before now asks.untold;
+}
 
 pub asks_of_name : (r : Request) (name : List ℕ) (told : Option (List File)) (before now : Option (List (List ℕ))) → name ≡ r.schema →
     AsksForPlan name told before now → AsksInTurn (Ok r) told before now
 asks_of_name r name told before now is asks = asks_of_schema r told before now (subst (λ (n : List ℕ). AsksForPlan n told before now) is asks)
+
+-- names that were asked, and then the first of others
+asked_then : (first list : List (List ℕ)) (before mid now : Option (List (List ℕ))) → mid ≡ option_map (λ names. names ++ first) before → AskedPrefixOf list mid now →
+    AskedPrefixOf (first ++ list) before now
+asked_then first list before mid now once more =
+    asked_first (first ++ list) (first ++ take more.count list) (drop more.count list) before now
+    (more.asked ∙ ap (option_map (λ (names : List (List ℕ)). names ++ take more.count list)) once ∙ asked_also first (take more.count list) before)
+    (ap (λ (l : List (List ℕ)). first ++ l) (sym (take-append-drop more.count list)) ∙ sym (append_assoc first (take more.count list) (drop more.count list)))
+
+possible_same : (mode : Mode) (r : Request) (plan : Project) → possible_in_mode mode r plan ≡ possible_in_mode mode r (project_of plan.schema [])
+possible_same Check r plan = refl
+possible_same Snapshot r plan = refl
+possible_same Unit r plan = refl
+possible_same Row r plan = refl
+possible_same Apply r plan = refl
+
+asks_then_told : (r : Request) (plan : Project) (told : Option (List File)) (possible : List (List ℕ)) (before mid now : Option (List (List ℕ))) →
+    IfSome told (λ (f : List File). plan_in f r.schema ≡ Ok plan) → IfSome told (λ (f : List File). plan_names f r.schema ≡ possible) →
+    mid ≡ option_map (λ names. names ++ possible) before → IfSome told (λ (f : List File). AskedPrefixOf (names_in_mode r.mode r plan f) mid now) →
+    IfSome told (λ (f : List File). AskedPrefixOf (plan_names f r.schema ++ names_behind r f (plan_in f r.schema)) before now)
+asks_then_told r plan None possible before mid now planned names asked asks = tt
+asks_then_told r plan (Some f) possible before mid now planned names asked asks =
+    subst (λ (made : Result Project PlanFault). AskedPrefixOf (plan_names f r.schema ++ names_behind r f made) before now) (sym planned)
+    (subst (λ (first : List (List ℕ)). AskedPrefixOf (first ++ names_in_mode r.mode r plan f) before now) (sym names)
+    (asked_then possible (names_in_mode r.mode r plan f) before mid now asked asks))
+
+-- what a plan was made of, and then what its mode asks for
+asks_behind : (r : Request) (plan : Project) (told : Option (List File)) (before mid now : Option (List (List ℕ))) → IfSome told (λ (f : List File). plan_in f r.schema ≡ Ok plan) →
+    PlanRead plan.schema r.schema told before mid → AsksInMode r plan told mid now → AsksInTurn (Ok r) told before now
+asks_behind r plan told before mid now planned read asks = record {
+  told = asks_then_told r plan told (possible_names read.bytes r.schema) before mid now planned read.told read.asked asks.told;
+  bytes = read.bytes;
+  untold =
+      subst (λ (behind : List (List ℕ)). AskedPrefixOf (possible_names read.bytes r.schema ++ behind) before now)
+      (possible_same r.mode r plan ∙ ap (possible_behind r) (sym read.read))
+      (asked_then (possible_names read.bytes r.schema) (possible_in_mode r.mode r plan) before mid now read.asked asks.untold);
+}
+
+planned_ok : (told : Option (List File)) (r : Request) (name : List ℕ) (plan : Project) → name ≡ r.schema →
+    IfSome told (λ files. Decides plan_status (λ plan. plan) (Ok plan) (plan_in files name)) → IfSome told (λ (f : List File). plan_in f r.schema ≡ Ok plan)
+planned_ok None r name plan is planned = tt
+planned_ok (Some files) r name plan is planned = ap (plan_in files) (sym is) ∙ planned
+
+pub asks_with_plan : (r : Request) (name : List ℕ) (plan : Project) (told told_mid : Option (List File)) (before mid now : Option (List (List ℕ))) → name ≡ r.schema →
+    IfSome told (λ files. Decides plan_status (λ plan. plan) (Ok plan) (plan_in files name)) → PlanRead plan.schema name told before mid → told_mid ≡ told →
+    AsksInMode r plan told_mid mid now → AsksInTurn (Ok r) told before now
+asks_with_plan r name plan told told_mid before mid now is planned read same asks =
+    asks_behind r plan told before mid now (planned_ok told r name plan is planned)
+    (subst (λ (n : List ℕ). PlanRead plan.schema n told before mid) is read)
+    (subst (λ (t : Option (List File)). AsksInMode r plan t mid now) same asks)
 
 -- ---- words that are at fault
 

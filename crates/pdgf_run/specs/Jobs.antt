@@ -1,5 +1,5 @@
 -- What a job is due.
-use Rattle.std.specs.Prelude.{ℕ, ◌≤◌, IfSome, List, ⊤}
+use Rattle.std.specs.Prelude.{◌≡◌, ℕ, ◌≤◌, IfSome, List, length, ⊤}
 use Rattle.pd_outside.specs.Files.{File}
 use Rattle.request_words.specs.declared.usage.Request.{Request}
 use Rattle.schema_plan.specs.Layout.{layout_of}
@@ -10,9 +10,10 @@ use Rattle.update_box.specs.Prepared.{AreChosen, ArePrepared}
 use Rattle.update_box.specs.TableLists.{HoldLists}
 use Rattle.pdgf_run.specs.DueFiles.{most_page_bytes, page_bytes, table_files, text_files}
 use Rattle.pdgf_run.specs.declared.job.Job.{Job}
-use Rattle.pdgf_run.specs.declared.job.Job.TheVariants.{Text, Page, Snapshot, Unit}
+use Rattle.pdgf_run.specs.declared.job.Job.TheVariants.{Files, Text, Page, Snapshot, Unit}
 use Rattle.pdgf_run.specs.declared.job.TablesJob.{TablesJob}
 use Rattle.pdgf_run.specs.declared.job.UnitJob.{UnitJob}
+use Rattle.pdgf_run.specs.modes.Apply.{named_files}
 
 -- the numbers of a request that asks of tables are within their ranges: the workers, the lines of a package where they are given, and
 -- the nodes
@@ -31,6 +32,7 @@ due_of (Text bytes) = text_files bytes.items
 due_of (Page page) = text_files page.text
 due_of (Snapshot job) = table_files snapshot_contents job.plan job.out job.asked
 due_of (Unit job) = table_files unit_contents job.of.plan job.of.out job.of.asked
+due_of (Files job) = named_files job.names job.texts
 
 -- a job can be cut into packages: what is asked is of the plan, the tables are prepared, and the pages of its workers, 1 to 64, have no
 -- more bytes than they may
@@ -53,3 +55,4 @@ CanFill (Text bytes) = ⊤
 CanFill (Page page) = ⊤
 CanFill (Snapshot job) = CanPack job
 CanFill (Unit job) = CanPackUnit job
+CanFill (Files job) = length job.names ≡ length job.texts

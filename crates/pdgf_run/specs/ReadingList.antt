@@ -1,23 +1,54 @@
 -- The names that are asked of a library, each in its turn.
-use Rattle.std.specs.Prelude.{ℕ, List, [], Option, Result, Ok, Err, IfSome}
+use Rattle.std.specs.Prelude.{ℕ, List, [], ◌++◌, Option, Result, Ok, Err, IfSome}
 use Rattle.pd_outside.specs.Files.{File}
 use Rattle.pd_outside.specs.Library.{AskedPrefixOf}
 use Rattle.plan_stages.specs.PlanNames.{plan_names, possible_names}
+use Rattle.plan_stages.specs.Plans.{plan_in}
+use Rattle.request_words.specs.declared.usage.Mode.TheVariants.{Check, Snapshot, Unit, Row, Apply}
+use Rattle.request_words.specs.declared.usage.Mode.{Mode}
 use Rattle.request_words.specs.declared.usage.Request.{Request}
 use Rattle.request_words.specs.declared.usage.UsageFault.{UsageFault}
+use Rattle.schema_model.specs.declared.table.Schema.{Schema}
+use Rattle.schema_plan.specs.Dictionaries.{Project, project_of}
+use Rattle.schema_read.specs.Schema.{schema_of}
+use Rattle.pdgf_run.specs.modes.Apply.{paths_asked, paths_possible, tables_asked}
 
 -- ---- what words ask for
 
+-- the names that a mode asks for over a plan and files: in mode apply its inputs', up to and with the first with which they are too long
+abbrev pub names_in_mode : Mode → Request → Project → List File → List (List ℕ)
+names_in_mode Check request plan files = []
+names_in_mode Snapshot request plan files = []
+names_in_mode Unit request plan files = []
+names_in_mode Row request plan files = []
+names_in_mode Apply request plan files = paths_asked plan request files (tables_asked plan request)
+
+abbrev pub names_behind : {F : Type 0} → Request → List File → Result Project F → List (List ℕ)
+names_behind request files (Err fault) = []
+names_behind request files (Ok plan) = names_in_mode request.mode request plan files
+
 -- the names that a request asks for over files: the schema's, then those of the dictionaries that it cites, up to and with the
--- first that is at fault
+-- first that is at fault, and then those of its mode
 abbrev pub reading_list : Result Request UsageFault → List File → List (List ℕ)
 reading_list (Err fault) files = []
-reading_list (Ok request) files = plan_names files request.schema
+reading_list (Ok request) files = plan_names files request.schema ++ names_behind request files (plan_in files request.schema)
 
--- the names that it may ask for where its schema has these bytes
+-- the names that a mode may ask for of a schema
+abbrev pub possible_in_mode : Mode → Request → Project → List (List ℕ)
+possible_in_mode Check request plan = []
+possible_in_mode Snapshot request plan = []
+possible_in_mode Unit request plan = []
+possible_in_mode Row request plan = []
+possible_in_mode Apply request plan = paths_possible plan request (tables_asked plan request)
+
+abbrev pub possible_behind : {F : Type 0} → Request → Result Schema F → List (List ℕ)
+possible_behind request (Err fault) = []
+possible_behind request (Ok schema) = possible_in_mode request.mode request (project_of schema [])
+
+-- the names that a request may ask for where its schema has these bytes
 abbrev pub possible_list : Result Request UsageFault → List ℕ → List (List ℕ)
 possible_list (Err fault) bytes = []
-possible_list (Ok request) bytes = possible_names bytes request.schema
+possible_list (Ok request) bytes = possible_names bytes request.schema ++ possible_behind request (schema_of bytes)
 
 -- ---- what was asked
 
@@ -27,3 +58,8 @@ pub record AsksInTurn (request : Result Request UsageFault) (files : Option (Lis
   pub told : IfSome files (λ (f : List File). AskedPrefixOf (reading_list request f) before now)
   pub bytes : List ℕ
   pub untold : AskedPrefixOf (possible_list request bytes) before now
+
+-- the same of a mode over a plan
+pub record AsksInMode (request : Request) (plan : Project) (files : Option (List File)) (before now : Option (List (List ℕ))) : Type 0 where
+  pub told : IfSome files (λ (f : List File). AskedPrefixOf (names_in_mode request.mode request plan f) before now)
+  pub untold : AskedPrefixOf (possible_in_mode request.mode request plan) before now

@@ -1,17 +1,23 @@
 -- What the top call promises of its report and of the shelf.
-use Rattle.std.specs.Prelude.{◌≡◌, ◌⊎◌, ℕ, ◌+◌, List, [], Option, Result, Ok, Err}
+use Rattle.std.specs.Prelude.{◌≡◌, ◌≢◌, ◌≤◌, ◌⊎◌, ℕ, ◌+◌, Bool, false, List, [], IfOk, Option, Result, Ok, Err}
 use Rattle.std.specs.Option.{option_map}
+use Rattle.pd_outside.specs.Faults.{counted}
 use Rattle.pd_outside.specs.Files.{File}
+use Rattle.pd_outside.specs.Library.{Content}
 use Rattle.pd_outside.specs.Shelf.{Held, finish_files}
 use Rattle.plan_stages.specs.Limits.{dictionary_limit, schema_limit}
-use Rattle.plan_stages.specs.Plans.{limit_at}
+use Rattle.plan_stages.specs.Plans.{limit_at, plan_in}
+use Rattle.plan_stages.specs.Stages.{IsReadOut, told_files}
 use Rattle.refusals.specs.Messages as text
 use Rattle.refusals.specs.Statuses as status
 use Rattle.refusals.specs.declared.refusal.JobFault.TheVariants as job
 use Rattle.refusals.specs.declared.refusal.JobFault.{JobFault}
 use Rattle.refusals.specs.declared.refusal.Refusal.{Refusal}
 use Rattle.refusals.specs.declared.refusal.Refusal.TheVariants as refusal
+use Rattle.request_words.specs.declared.usage.Request.{Request}
+use Rattle.schema_plan.specs.Dictionaries.{Project}
 use Rattle.pdgf_run.specs.declared.report.Report.{Report}
+use Rattle.pdgf_run.specs.modes.Apply.{HoldInputs, input_limit, later_files, tables_asked}
 
 -- The report is the verdict's: the due files were finished, in order, and none is begun; or the shelf is as it was.
 abbrev pub Carries : Result (List File) Refusal → Report → Option Held → Option Held → Type 0
@@ -20,17 +26,51 @@ Carries (Ok due) report before now =
 Carries (Err refusal) report before now =
     (report ≡ record { status = status.status_of refusal; message = text.message_of refusal }) × (now ≡ before)
 
--- the limit of the file that a fault tells as too long: the schema's text, or a dictionary
-abbrev pub limit_of_job : JobFault → ℕ
-limit_of_job (job.Plan fault) = limit_at fault
-limit_of_job _ = dictionary_limit
+-- a limit of the file that a fault tells as too long: that of the schema's text or of a dictionary, or, of an input, what those before it
+-- leave of the limit of all
+abbrev pub IsLimitOf : JobFault → ℕ → Type 0
+IsLimitOf (job.Plan fault) limit = limit ≡ limit_at fault
+IsLimitOf (job.Range name) limit = ⊥
+IsLimitOf (job.Input fault) limit = limit ≤ input_limit
+IsLimitOf job.Memory limit = ⊥
 
-abbrev pub limit_of : Refusal → ℕ
-limit_of (refusal.Words fault) = schema_limit
-limit_of (refusal.Job fault) = limit_of_job fault
+abbrev pub IsLimitTold : {A : Type 0} → Result A JobFault → ℕ → Type 0
+IsLimitTold (Ok answer) limit = ⊥
+IsLimitTold (Err fault) limit = IsLimitOf fault limit
+
+abbrev pub IsLimitOfRefusal : Refusal → ℕ → Type 0
+IsLimitOfRefusal (refusal.Words fault) limit = ⊥
+IsLimitOfRefusal (refusal.Job fault) limit = IsLimitOf fault limit
+
+abbrev pub IsLimitRefused : {A : Type 0} → Result A Refusal → ℕ → Type 0
+IsLimitRefused (Ok answer) limit = ⊥
+IsLimitRefused (Err fault) limit = IsLimitOfRefusal fault limit
 
 -- A file was too long: a byte more than its limit was taken of it, and the message names it.
 abbrev pub IsPastLimit : List ℕ → ℕ → Type 0
 IsPastLimit message taken =
     ((message ≡ text.schema_too_long_text) × (taken ≡ schema_limit + 1))
-    ⊎ ((number : ℕ) × ((message ≡ text.dictionary_too_long_text number) × (taken ≡ dictionary_limit + 1)))
+    ⊎ (((number : ℕ) × ((message ≡ text.dictionary_too_long_text number) × (taken ≡ dictionary_limit + 1)))
+    ⊎ ((name : List ℕ) × (limit : ℕ) × (limit ≤ input_limit) × (message ≡ text.input_too_long_text name) × (taken ≡ limit + 1)))
+
+-- What a request that ends with a status leaves of the library: the files that are told, what is now left, how many bytes were taken of
+-- the last file, whether one is started, and the count of faults.
+pub record LibraryLeft (status : ℕ) (IsLimit : ℕ → Type 0) (before : Option (List File)) (now : Option Content) (taken : ℕ) (is_started : Bool) (faults_before faults_now : ℕ) : Type 0 where
+  -- files stay as they are
+  pub files : told_files now ≡ before
+  -- at the end of all that was read nothing is left
+  pub read_out : status ≡ 0 → IsReadOut now
+  -- a file was too long: a byte more than its limit was taken
+  pub too_long : status ≡ 10 → (limit : ℕ) × IsLimit limit × (taken ≡ limit + 1)
+  -- a read failed: once, and no file is started then; and it is told nowhere else
+  pub failed_once : status ≡ 5 → faults_now ≡ counted faults_before
+  pub stopped : status ≡ 5 → is_started ≡ false
+  pub no_fault : status ≢ 5 → faults_now ≡ faults_before
+  pub never_falls : faults_before ≤ faults_now
+
+-- Where files hold what a plain simulation gives as the inputs of a request, all is done, and what the tables hold at the later unit is
+-- finished.
+abbrev pub GivesLater : Request → List File → Report → Option Held → Option Held → Type 0
+GivesLater request files report before now =
+    IfOk (plan_in files request.schema) (λ (plan : Project). IfOk (tables_asked plan request) (λ (table : Option ℕ).
+    HoldInputs plan request table files → Carries (Ok (later_files plan request table)) report before now))

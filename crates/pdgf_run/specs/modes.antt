@@ -1,3 +1,4 @@
+pub mod Apply
 pub mod Check
 pub mod Row
 pub mod Snapshot

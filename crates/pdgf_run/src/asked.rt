@@ -57,7 +57,7 @@ pub(crate) fn named_table(plan: &Plan, table: &Option<Text>) -> Option<u32>
 }
 
 /// The table that is chosen by its name, or none, for all, where no name is given; None where no table has the name.
-fn chosen_table(plan: &Plan, table: &Option<Text>) -> Option<Option<u32>>
+pub(crate) fn chosen_table(plan: &Plan, table: &Option<Text>) -> Option<Option<u32>>
     ensures table { result ≡ chosen_table plan.now.schema table.now }
     ensures within { IfSome result (IsChoice plan.now) }
 {

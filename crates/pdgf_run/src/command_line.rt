@@ -1,6 +1,6 @@
 //! The program's run, from what the system tells of its words to the report.
 
-ghost use Rattle.std.specs.Prelude.{◌≡◌, ◌≢◌, ◌≤◌, ◌+◌, ◌↔◌, [], false, map, string_bytes, IfErr, IfOk, IfSome, IsErr, IsOkAnd, IsTrue, OnErr, OnOk};
+ghost use Rattle.std.specs.Prelude.{◌≡◌, ◌≢◌, ◌≤◌, ◌+◌, ◌⊎◌, ◌↔◌, [], false, map, string_bytes, IfErr, IfOk, IfSome, IsErr, IsOkAnd, IsTrue, OnErr};
 ghost use Rattle.std.specs.IoError.{error_kind};
 ghost use Rattle.std.specs.Option.{option_map};
 ghost use Rattle.pd_outside.specs.Faults.{Rose, counted};
@@ -12,9 +12,11 @@ ghost use Rattle.plan_stages.specs.Stages.{told_files};
 ghost use Rattle.refusals.specs.Messages.{fixed_text, message_of};
 ghost use Rattle.refusals.specs.Statuses.{is_status};
 ghost use Rattle.request_words.specs.Words.{request};
+ghost use Rattle.request_words.specs.declared.usage.Mode.TheVariants.{Apply};
 ghost use Rattle.pdgf_run.specs.ReadingList.{AsksInTurn};
-ghost use Rattle.pdgf_run.specs.TopCall.{Carries, IsPastLimit};
+ghost use Rattle.pdgf_run.specs.TopCall.{Carries, GivesLater, IsPastLimit};
 ghost use Rattle.pdgf_run.specs.Verdict.{WhereTold};
+ghost use Rattle.pdgf_run.specs.modes.Apply.{input_limit};
 
 use crate::report::refused;
 use crate::run::pdgf;
@@ -50,6 +52,11 @@ pub fn run_program<R: Threads + Sync, L: Library, S: Shelf>(
         WhereTold (map string_bytes words.items) (L.content library.old)
         (λ verdict. Carries verdict result (S.held shelf.old) (S.held shelf.new))) }
 
+    // Its third part: where the files that mode apply reads hold what that simulation gives, what it holds later is finished.
+    ensures applied { IfOk words (λ words. result.status ≢ 5 → result.status ≢ 6 → result.status ≢ 7 →
+        IfOk (request (map string_bytes words.items)) (λ asked. asked.mode ≡ Apply →
+        IfSome (told_files (L.content library.old)) (λ files. GivesLater asked files result (S.held shelf.old) (S.held shelf.new)))) }
+
     // Each status has its cause.
     ensures known { IsTrue (is_status result.status) }
     ensures message { IfSome (fixed_text result.status) (λ text. result.message ≡ text) }
@@ -58,8 +65,9 @@ pub fn run_program<R: Threads + Sync, L: Library, S: Shelf>(
     ensures too_long { result.status ≡ 10 → IsPastLimit result.message (L.taken library.new) }
     ensures longer_schema { IfOk words (λ words. IfOk (request (map string_bytes words.items)) (λ request. AskedAlone request.schema (L.asked library.old) (L.asked library.new) →
         L.taken library.new ≡ schema_limit + 1 → result.status ≡ 10)) }
-    ensures longer_dictionary { IfOk words (λ words. OnOk (request (map string_bytes words.items))
-        (result.status ≢ 7 → L.taken library.new ≡ dictionary_limit + 1 → result.status ≡ 10)) }
+    ensures longer_dictionary { IfOk words (λ words. IfOk (request (map string_bytes words.items)) (λ request. request.mode ≢ Apply →
+        result.status ≢ 7 → L.taken library.new ≡ dictionary_limit + 1 → result.status ≡ 10)) }
+    ensures read_within { (result.status ≡ 0) ⊎ (result.status ≡ 9) → L.taken library.new ≤ input_limit }
     ensures schema_read { result.status ≡ 3 → L.taken library.new ≤ schema_limit }
     ensures read_failed { result.status ≡ 5 → Rose (L.faults library.old) (L.faults library.new) }
     ensures stopped { result.status ≡ 5 → L.is_started library.new ≡ false }

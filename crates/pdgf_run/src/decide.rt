@@ -1,16 +1,20 @@
 //! From the words to a job: all that is read and all memory that is taken, stage by stage.
 
-ghost use Rattle.std.specs.Prelude.{◌≡◌, ◌≢◌, ◌≤◌, ◌+◌, ◌⊎◌, map, string_bytes, Err, IfErr, IfOk, IfSome, Ok, OnOk};
+ghost use Rattle.std.specs.Prelude.{◌≡◌, ◌≢◌, ◌≤◌, ◌+◌, ◌⊎◌, false, map, string_bytes, Err, IfErr, IfOk, IfSome, Ok, OnOk};
 ghost use Rattle.plan_stages.specs.Limits.{dictionary_limit, schema_limit};
 ghost use Rattle.plan_stages.specs.PlanNames.{AskedAlone};
-ghost use Rattle.plan_stages.specs.Stages.{ended, limit_told, told_files, Decides, LibraryAfter};
-ghost use Rattle.refusals.specs.Statuses.{job_status, status_of};
+ghost use Rattle.plan_stages.specs.Plans.{plan_in};
+ghost use Rattle.plan_stages.specs.Stages.{ended, told_files};
+ghost use Rattle.refusals.specs.Statuses.{is_free, job_status, status_of};
 ghost use Rattle.request_words.specs.Ranges.{AreWithinRanges};
 ghost use Rattle.request_words.specs.Words.{request};
+ghost use Rattle.request_words.specs.declared.usage.Mode.TheVariants.{Apply};
+ghost use Rattle.schema_plan.specs.Limits.{IsInLimits};
 ghost use Rattle.pdgf_run.specs.Jobs.{due_of, CanFill};
 ghost use Rattle.pdgf_run.specs.ReadingList.{AsksInTurn};
-ghost use Rattle.pdgf_run.specs.TopCall.{limit_of, limit_of_job};
-ghost use Rattle.pdgf_run.specs.Verdict.{job_over, WhereTold};
+ghost use Rattle.pdgf_run.specs.TopCall.{IsLimitRefused, IsLimitTold, LibraryLeft};
+ghost use Rattle.pdgf_run.specs.Verdict.{IsDecided, IsJobOver, IsVerdict};
+ghost use Rattle.pdgf_run.specs.modes.Apply.{input_limit};
 
 use crate::job::Job;
 use crate::modes::job_of;
@@ -26,18 +30,22 @@ pub(crate) fn decide<L: Library>(
     words: &[String],
     library: &mut L,
 ) -> Result<Job, Refusal>
-    ensures verdict { WhereTold (map string_bytes words.now) (L.content library.old) (Decides status_of due_of result) }
+    ensures verdict { IfSome (told_files (L.content library.old)) (λ files.
+        IsDecided status_of due_of (IsVerdict (map string_bytes words.now) files) result) }
     ensures can { IfOk result CanFill }
     ensures usage { IfErr (request (map string_bytes words.now)) (λ fault. result ≡ Err (Refusal.Words fault)) }
     ensures no_memory { IfErr (request (map string_bytes words.now)) (λ fault. fault ≢ UsageFault.Memory) }
     ensures no_usage { OnOk (request (map string_bytes words.now)) (ended status_of result ≢ 2) }
-    ensures after { LibraryAfter (ended status_of result) (limit_told limit_of result) (told_files (L.content library.old)) (L.content library.new)
+    ensures left { LibraryLeft (ended status_of result) (IsLimitRefused result) (told_files (L.content library.old)) (L.content library.new)
         (L.taken library.new) (L.is_started library.new) (L.faults library.old) (L.faults library.new) }
     ensures longer_schema { IfOk (request (map string_bytes words.now)) (λ request. AskedAlone request.schema (L.asked library.old) (L.asked library.new) →
         (L.taken library.new ≤ schema_limit) ⊎ (ended status_of result ≡ 10)) }
-    ensures longer_dictionary { OnOk (request (map string_bytes words.now))
-        (ended status_of result ≢ 7 → L.taken library.new ≡ dictionary_limit + 1 → ended status_of result ≡ 10) }
+    ensures longer_dictionary { IfOk (request (map string_bytes words.now)) (λ request. request.mode ≢ Apply →
+        ended status_of result ≢ 7 → L.taken library.new ≡ dictionary_limit + 1 → ended status_of result ≡ 10) }
+    ensures within { (ended status_of result ≡ 0) ⊎ (ended status_of result ≡ 9) → L.taken library.new ≤ input_limit }
     ensures schema_read { ended status_of result ≡ 3 → L.taken library.new ≤ schema_limit }
+    ensures limits { IfOk (request (map string_bytes words.now)) (λ asked. is_free (ended status_of result) ≡ false →
+        IfSome (told_files (L.content library.old)) (λ files. IfOk (plan_in files asked.schema) IsInLimits)) }
     ensures asked { AsksInTurn (request (map string_bytes words.now)) (told_files (L.content library.old)) (L.asked library.old) (L.asked library.new) }
 {
     let request = read_words(alloc, words)?;
@@ -51,17 +59,21 @@ fn job_of_request<L: Library>(
     request: &Request,
 ) -> Result<Job, JobFault>
     requires { AreWithinRanges request.now }
-    ensures job { IfSome (told_files (L.content library.old)) (λ files. Decides job_status due_of result (job_over request.now files)) }
+    ensures job { IfSome (told_files (L.content library.old)) (λ files. IsDecided job_status due_of (IsJobOver request.now files) result) }
     ensures can { IfOk result CanFill }
-    ensures after { LibraryAfter (ended job_status result) (limit_told limit_of_job result) (told_files (L.content library.old)) (L.content library.new)
+    ensures left { LibraryLeft (ended job_status result) (IsLimitTold result) (told_files (L.content library.old)) (L.content library.new)
         (L.taken library.new) (L.is_started library.new) (L.faults library.old) (L.faults library.new) }
     ensures longer_schema { AskedAlone request.now.schema (L.asked library.old) (L.asked library.new) →
         (L.taken library.new ≤ schema_limit) ⊎ (ended job_status result ≡ 10) }
-    ensures longer_dictionary { L.taken library.new ≡ dictionary_limit + 1 → ended job_status result ≡ 10 }
+    ensures longer_dictionary { request.now.mode ≢ Apply → L.taken library.new ≡ dictionary_limit + 1 → ended job_status result ≡ 10 }
+    ensures within { (ended job_status result ≡ 0) ⊎ (ended job_status result ≡ 9) → L.taken library.new ≤ input_limit }
     ensures schema_read { ended job_status result ≡ 3 → L.taken library.new ≤ schema_limit }
     ensures usable { ended job_status result ≢ 2 }
+    ensures limits { is_free (ended job_status result) ≡ false →
+        IfSome (told_files (L.content library.old)) (λ files. IfOk (plan_in files request.now.schema) IsInLimits) }
     ensures asked { AsksInTurn (Ok request.now) (told_files (L.content library.old)) (L.asked library.old) (L.asked library.new) }
 {
     let plan = plan_of(alloc, library, request.schema.as_str())?;
-    job_of(alloc, plan, request)
+    let _limits = plan.schema(); // a plan is in its limits
+    job_of(alloc, library, plan, request)
 }

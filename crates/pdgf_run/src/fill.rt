@@ -1,19 +1,22 @@
 //! The files of a job, onto a shelf.
 
-ghost use Rattle.std.specs.Prelude.{◌≡◌, ◌≤◌, ◌⊎◌, [], false, IsErrOf, OnErr, OnOk};
+ghost use Rattle.std.specs.Prelude.{◌≡◌, ◌≤◌, ◌⊎◌, [], ◌∷◌, false, length, IsErrOf, OnErr, OnOk};
 ghost use Rattle.std.specs.Option.{option_copied, option_map};
 ghost use Rattle.pd_outside.specs.Faults.{FailsAtLast, Rose};
 ghost use Rattle.pd_outside.specs.Shelf.{HoldsPrefixOf, finish_files};
-ghost use Rattle.pdgf_run.specs.DueFiles.{text_files};
 ghost use Rattle.pdgf_run.specs.Jobs.{due_of, CanFill};
+ghost use Rattle.pdgf_run.specs.modes.Apply.{named_files};
 
-use crate::job::Job;
+use crate::job::{FilesJob, Job};
 use crate::modes::{snapshot, unit};
 use pd_outside::{Failed, Gate, Shelf, WriteFailed, write_all};
 use range_workers::RunFault;
 use schema_model::Text as Name;
 use std::alloc::Global;
 use std::thread::Threads;
+
+/// The name of the standard output.
+const STANDARD_OUTPUT: &str = "-";
 
 /// The name of a directory, where there is one.
 pub(crate) fn name_of(name: &Option<Name>) -> Option<&str>
@@ -25,11 +28,11 @@ pub(crate) fn name_of(name: &Option<Name>) -> Option<&str>
     }
 }
 
-/// Writes bytes to the standard output.
-fn write_text<S: Shelf>(shelf: &mut S, bytes: &[u8]) -> Result<(), RunFault>
+/// Writes bytes to the file of a name.
+fn write_file<S: Shelf>(shelf: &mut S, name: &str, bytes: &[u8]) -> Result<(), RunFault>
     requires none_begun { S.is_begun shelf.old ≡ false }
-    ensures files { OnOk result (S.held shelf.new ≡ option_map (finish_files (text_files bytes.now)) (S.held shelf.old)) }
-    ensures prefix { OnErr result (HoldsPrefixOf (text_files bytes.now) (S.held shelf.old) (S.held shelf.new)) }
+    ensures files { OnOk result (S.held shelf.new ≡ option_map (finish_files (record { name = name.now; bytes = bytes.now } ∷ [])) (S.held shelf.old)) }
+    ensures prefix { OnErr result (HoldsPrefixOf (record { name = name.now; bytes = bytes.now } ∷ []) (S.held shelf.old) (S.held shelf.new)) }
     ensures cause { OnErr result (Rose (S.faults shelf.old) (S.faults shelf.new)) }
     ensures write { OnErr result (IsErrOf result RunFault.Write) }
     ensures no_fault { OnOk result (S.faults shelf.new ≡ S.faults shelf.old) }
@@ -37,7 +40,7 @@ fn write_text<S: Shelf>(shelf: &mut S, bytes: &[u8]) -> Result<(), RunFault>
     ensures never_falls { S.faults shelf.old ≤ S.faults shelf.new }
     ensures none_begun { OnOk result (S.is_begun shelf.new ≡ false) }
 {
-    match shelf.begin("-") {
+    match shelf.begin(name) {
         Ok(()) => {}
         Err(Failed) => return Err(RunFault::Write),
     }
@@ -49,6 +52,25 @@ fn write_text<S: Shelf>(shelf: &mut S, bytes: &[u8]) -> Result<(), RunFault>
         Ok(()) => Ok(()),
         Err(Failed) => Err(RunFault::Write),
     }
+}
+
+/// Writes texts, each to the file of its name, in turn. At a failure a prefix of them stands.
+fn write_files<S: Shelf>(shelf: &mut S, job: &FilesJob) -> Result<(), RunFault>
+    requires alike { length job.now.names ≡ length job.now.texts }
+    requires none_begun { S.is_begun shelf.old ≡ false }
+    ensures files { OnOk result (S.held shelf.new ≡ option_map (finish_files (named_files job.now.names job.now.texts)) (S.held shelf.old)) }
+    ensures prefix { OnErr result (HoldsPrefixOf (named_files job.now.names job.now.texts) (S.held shelf.old) (S.held shelf.new)) }
+    ensures cause { OnErr result (Rose (S.faults shelf.old) (S.faults shelf.new)) }
+    ensures write { OnErr result (IsErrOf result RunFault.Write) }
+    ensures no_fault { OnOk result (S.faults shelf.new ≡ S.faults shelf.old) }
+    ensures at_last { FailsAtLast result (S.faults shelf.old) (S.faults shelf.new) (S.last_failed shelf.new) }
+    ensures never_falls { S.faults shelf.old ≤ S.faults shelf.new }
+    ensures none_begun { OnOk result (S.is_begun shelf.new ≡ false) }
+{
+    for place in 0..job.texts.len() {
+        write_file(shelf, job.names.get(place).as_str(), job.texts.get(place))?;
+    }
+    Ok(())
 }
 
 /// Writes the files that a job is due. At `Write` a prefix of them stands, and nothing further was begun; `Memory` comes only before the
@@ -72,8 +94,9 @@ pub(crate) fn fill<R: Threads + Sync, S: Shelf, G: Gate + Sync>(
     ensures none_begun { OnOk result (S.is_begun shelf.new ≡ false) }
 {
     match job {
-        Job::Text(bytes) => write_text(shelf, bytes.as_slice()),
-        Job::Page(page) => write_text(shelf, page.text()),
+        Job::Text(bytes) => write_file(shelf, STANDARD_OUTPUT, bytes.as_slice()),
+        Job::Page(page) => write_file(shelf, STANDARD_OUTPUT, page.text()),
+        Job::Files(job) => write_files(shelf, job),
         Job::Snapshot(job) => snapshot::write_snapshot(rt, alloc, job, shelf, gate),
         Job::Unit(job) => unit::write_unit(rt, alloc, job, shelf, gate),
     }

@@ -8,8 +8,9 @@ ghost use Rattle.pdgf_run.specs.DueFiles.{most_page_bytes, page_bytes};
 ghost use Rattle.pdgf_run.specs.Jobs.{CanAsk, CanPack};
 
 use line_pages::PageBuf;
+use plan_stages::Inputs;
 use request_words::Request;
-use schema_model::Text as Name;
+use schema_model::{Text as Name, Texts};
 use schema_plan::Plan;
 use std::alloc::Global;
 use update_box::{Memory, PreparedTables, UnitRows};
@@ -25,6 +26,15 @@ pub(crate) enum Job {
     Snapshot(TablesJob),
     /// What a unit changes in tables.
     Unit(UnitJob),
+    /// Texts, each in a file of its own.
+    Files(FilesJob),
+}
+
+/// Texts, and the names of their files.
+#[derive(Drop)]
+pub(crate) struct FilesJob {
+    pub(crate) names: Texts,
+    pub(crate) texts: Inputs,
 }
 
 /// What is asked of a plan's tables, with what is prepared of these, the number of workers, and the directory of the files, where they

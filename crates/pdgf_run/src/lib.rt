@@ -6,6 +6,7 @@ mod command_line;
 mod decide;
 mod fill;
 mod job;
+pub mod laws;
 mod modes;
 mod report;
 mod run;

@@ -1,18 +1,25 @@
 //! The modes, each in a file of its own.
 
-ghost use Rattle.std.specs.Prelude.{◌≡◌, ◌⊎◌, IfErr, IfOk, IsOk};
-ghost use Rattle.plan_stages.specs.Stages.{Decides};
+ghost use Rattle.std.specs.Prelude.{◌≡◌, ◌≢◌, ◌≤◌, ◌⊎◌, IfOk, IfSome};
+ghost use Rattle.plan_stages.specs.PlanNames.{AskedNone};
+ghost use Rattle.plan_stages.specs.Stages.{ended, told_files, IsReadOut};
 ghost use Rattle.refusals.specs.Statuses.{job_status};
 ghost use Rattle.request_words.specs.Ranges.{AreWithinRanges};
+ghost use Rattle.request_words.specs.declared.usage.Mode.TheVariants.{Apply};
 ghost use Rattle.pdgf_run.specs.Jobs.{due_of, CanFill};
-ghost use Rattle.pdgf_run.specs.Verdict.{in_mode};
+ghost use Rattle.pdgf_run.specs.ReadingList.{AsksInMode};
+ghost use Rattle.pdgf_run.specs.TopCall.{IsLimitTold, LibraryLeft};
+ghost use Rattle.pdgf_run.specs.Verdict.{IsDecided, IsInMode};
+ghost use Rattle.pdgf_run.specs.modes.Apply.{input_limit};
 
+mod apply;
 mod check;
 mod row;
 pub(crate) mod snapshot;
 pub(crate) mod unit;
 
 use crate::job::Job;
+use pd_outside::Library;
 use refusals::JobFault;
 use request_words::{Mode, Request};
 use schema_plan::Plan;
@@ -20,19 +27,31 @@ use std::alloc::Global;
 use std::marker::Brand;
 use std::sync::ledger::Blank;
 
-/// The job of a request over a plan. Want of memory is told only where files are due: what a unit, a table and a key may be is tried
-/// before.
-pub(crate) fn job_of(alloc: Global, plan: Plan, request: &Request) -> Result<Job, JobFault>
-    requires { AreWithinRanges request.now }
-    ensures job { Decides job_status due_of result (in_mode request.now.mode request.now plan) }
-    ensures refused { IfErr result (λ fault. (job_status fault ≡ 7) ⊎ (job_status fault ≡ 8)) }
-    ensures in_range { IfErr result (λ fault. job_status fault ≡ 7 → IsOk (in_mode request.now.mode request.now plan)) }
+/// The job of a request over a plan. Mode apply reads its inputs; every other leaves the library as it is.
+pub(crate) fn job_of<L: Library>(
+    alloc: Global,
+    library: &mut L,
+    plan: Plan,
+    request: &Request,
+) -> Result<Job, JobFault>
+    requires ranges { AreWithinRanges request.now }
+    requires read_out { IsReadOut (L.content library.old) }
+    ensures job { IfSome (told_files (L.content library.old)) (λ files. IsDecided job_status due_of (IsInMode request.now.mode request.now plan files) result) }
     ensures can { IfOk result CanFill }
+    ensures left { LibraryLeft (ended job_status result) (IsLimitTold result) (told_files (L.content library.old)) (L.content library.new)
+        (L.taken library.new) (L.is_started library.new) (L.faults library.old) (L.faults library.new) }
+    ensures usable { ended job_status result ≢ 2 }
+    ensures is_schema { ended job_status result ≢ 3 }
+    ensures unread { request.now.mode ≢ Apply → library.new ≡ library.old }
+    ensures within { L.taken library.old ≤ input_limit → (ended job_status result ≡ 0) ⊎ (ended job_status result ≡ 9) → L.taken library.new ≤ input_limit }
+    ensures asked { AsksInMode request.now plan (told_files (L.content library.old)) (L.asked library.old) (L.asked library.new) }
+    ensures unasked { AskedNone (L.asked library.old) (L.asked library.new) → L.taken library.new ≤ L.taken library.old }
 {
     match request.mode {
         Mode::Check => check::plan_check(alloc, &plan),
         Mode::Snapshot => snapshot::plan_snapshot(alloc, plan, request),
         Mode::Unit => unit::plan_unit::<Brand>(alloc, plan, request, Blank::new(1)),
         Mode::Row => row::plan_row::<Brand>(alloc, plan, request, Blank::new(1)),
+        Mode::Apply => apply::plan_apply(alloc, library, &plan, request),
     }
 }

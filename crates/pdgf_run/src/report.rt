@@ -61,8 +61,7 @@ pub(crate) fn write_failed() -> Report
 pub(crate) fn refused(refusal: Refusal) -> Report
     ensures { result ≡ record { status = status.status_of refusal; message = text.message_of refusal } }
 {
-    Report {
-        status: refusal.status(),
-        message: refusal.message(),
-    }
+    let status = refusal.status();
+    let message = refusal.message();
+    Report { status, message }
 }

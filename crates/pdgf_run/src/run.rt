@@ -1,6 +1,6 @@
 //! The top call.
 
-ghost use Rattle.std.specs.Prelude.{◌≡◌, ◌≢◌, ◌≤◌, ◌+◌, ◌↔◌, [], false, map, string_bytes, IfErr, IfOk, IfSome, IsErr, IsOkAnd, IsTrue, OnOk};
+ghost use Rattle.std.specs.Prelude.{◌≡◌, ◌≢◌, ◌≤◌, ◌+◌, ◌⊎◌, ◌↔◌, [], false, map, string_bytes, IfErr, IfOk, IfSome, IsErr, IsOkAnd, IsTrue};
 ghost use Rattle.std.specs.Option.{option_map};
 ghost use Rattle.pd_outside.specs.Faults.{Rose, counted};
 ghost use Rattle.pd_outside.specs.Library.{Content, left};
@@ -11,9 +11,11 @@ ghost use Rattle.plan_stages.specs.Stages.{told_files};
 ghost use Rattle.refusals.specs.Messages.{fixed_text, message_of};
 ghost use Rattle.refusals.specs.Statuses.{is_status};
 ghost use Rattle.request_words.specs.Words.{request};
+ghost use Rattle.request_words.specs.declared.usage.Mode.TheVariants.{Apply};
 ghost use Rattle.pdgf_run.specs.ReadingList.{AsksInTurn};
-ghost use Rattle.pdgf_run.specs.TopCall.{Carries, IsPastLimit};
+ghost use Rattle.pdgf_run.specs.TopCall.{Carries, GivesLater, IsPastLimit};
 ghost use Rattle.pdgf_run.specs.Verdict.{WhereTold};
+ghost use Rattle.pdgf_run.specs.modes.Apply.{input_limit};
 
 use crate::decide::decide;
 use crate::fill::fill;
@@ -28,11 +30,11 @@ use std::thread::Threads;
 /// writes the files that they are due, by as many workers as they ask for. Each package of lines enters the gate once, before it is
 /// made.
 ///
-/// What words and files come to is the definition `verdict`: due files by a plain simulation that steps from unit to unit,
-/// or a refusal. The statuses are 0 (all is done), 2 (the words give no request), 3 (the schema's text isn't a schema), 4
+/// What words and files come to is the definition `IsVerdict`: due files by a plain simulation that steps from unit to unit, or by
+/// applying what units change to what tables hold; or a refusal. The statuses are 0 (all is done), 2 (the words give no request), 3 (the schema's text isn't a schema), 4
 /// (the schema breaks a rule, or what it cites is no dictionary), 5 (a read failed), 6 (a write failed), 7 (memory ran out), 8
-/// (an option's value is out of the schema's range) and 10 (the schema's text or a dictionary is too long). Where a library or a
-/// shelf doesn't tell its files, the clauses say only what can be said.
+/// (an option's value is out of the schema's range), 9 (what is read in mode apply can't be applied) and 10 (the schema's text, a
+/// dictionary or an input is too long). Where a library or a shelf doesn't tell its files, the clauses say only what can be said.
 pub fn pdgf<R: Threads + Sync, L: Library, S: Shelf, G: Gate + Sync>(
     rt: &R,
     alloc: Global,
@@ -48,6 +50,10 @@ pub fn pdgf<R: Threads + Sync, L: Library, S: Shelf, G: Gate + Sync>(
         WhereTold (map string_bytes words.now) (L.content library.old)
         (λ verdict. Carries verdict result (S.held shelf.old) (S.held shelf.new)) }
 
+    // Its third part: where the files that mode apply reads hold what that simulation gives, what it holds later is finished.
+    ensures applied { result.status ≢ 5 → result.status ≢ 6 → result.status ≢ 7 → IfOk (request (map string_bytes words.now)) (λ asked. asked.mode ≡ Apply →
+        IfSome (told_files (L.content library.old)) (λ files. GivesLater asked files result (S.held shelf.old) (S.held shelf.new))) }
+
     // Each status has its cause.
     ensures known { IsTrue (is_status result.status) }
     ensures message { IfSome (fixed_text result.status) (λ text. result.message ≡ text) }
@@ -56,8 +62,9 @@ pub fn pdgf<R: Threads + Sync, L: Library, S: Shelf, G: Gate + Sync>(
     ensures too_long { result.status ≡ 10 → IsPastLimit result.message (L.taken library.new) }
     ensures longer_schema { IfOk (request (map string_bytes words.now)) (λ request. AskedAlone request.schema (L.asked library.old) (L.asked library.new) →
         L.taken library.new ≡ schema_limit + 1 → result.status ≡ 10) }
-    ensures longer_dictionary { OnOk (request (map string_bytes words.now))
-        (result.status ≢ 7 → L.taken library.new ≡ dictionary_limit + 1 → result.status ≡ 10) }
+    ensures longer_dictionary { IfOk (request (map string_bytes words.now)) (λ request. request.mode ≢ Apply →
+        result.status ≢ 7 → L.taken library.new ≡ dictionary_limit + 1 → result.status ≡ 10) }
+    ensures read_within { (result.status ≡ 0) ⊎ (result.status ≡ 9) → L.taken library.new ≤ input_limit }
     ensures schema_read { result.status ≡ 3 → L.taken library.new ≤ schema_limit }
     ensures read_failed { result.status ≡ 5 → Rose (L.faults library.old) (L.faults library.new) }
     ensures stopped { result.status ≡ 5 → L.is_started library.new ≡ false }

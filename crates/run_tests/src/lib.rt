@@ -1,6 +1,8 @@
-//! Tests of whole runs, from words to files over devices in memory that fail, of these devices, and of files read in turn.
+//! Tests of whole runs, from words to files over devices in memory that fail, of these devices, of files read in turn and of streams applied.
 #![tactic(auto)]
 
+#[cfg(test)]
+mod applied;
 #[cfg(test)]
 mod citations;
 #[cfg(test)]

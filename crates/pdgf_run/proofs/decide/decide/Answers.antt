@@ -1,6 +1,8 @@
 use Rattle.std.proofs.Common.{Ok, Err}
 use Rattle.std.proofs.lemmas.Result.{err_from_is_err_and}
-use Rattle.pdgf_run.proofs.DecideLemmas.{after_words, asks_of_words, decided_for_request, decided_for_words}
+use Rattle.plan_stages.specs.Stages.{told_files}
+use Rattle.refusals.specs.Statuses.{done_status, job_status}
+use Rattle.pdgf_run.proofs.DecideLemmas.{asks_of_words, decided_for_request, decided_for_words, left_by_request, left_by_words, limits_of_words}
 use Rattle.pdgf_run.proofs.decide.decide.Goals as goal
 
 pub returns-in_err-request-clause-verdict : goal.returns-in_err-request-clause-verdict
@@ -8,10 +10,10 @@ returns-in_err-request-clause-verdict g c =
     let made = err_from_is_err_and c.from_residual.result c.from_residual.ensures.1 in
     rw (made.1, made.2) (decided_for_words _ _ _ c.in_err-request.ensures.refused)
 
-pub returns-in_err-request-clause-after : goal.returns-in_err-request-clause-after
-returns-in_err-request-clause-after g c =
+pub returns-in_err-request-clause-left : goal.returns-in_err-request-clause-left
+returns-in_err-request-clause-left g c =
     let made = err_from_is_err_and c.from_residual.result c.from_residual.ensures.1 in
-    rw (made.1, made.2) (after_words _ _ _ _ _ _)
+    rw (made.1, made.2) (left_by_words _ _ _ _ _ _)
 
 pub returns-in_err-job_of_request-clause-verdict : goal.returns-in_err-job_of_request-clause-verdict
 returns-in_err-job_of_request-clause-verdict g c =
@@ -19,10 +21,10 @@ returns-in_err-job_of_request-clause-verdict g c =
     rw (made.1, made.2)
     (decided_for_request _ _ c.in_ok-request.request (Err c.in_err-job_of_request.field-0.0) c.in_ok-request.ensures.read c.in_err-job_of_request.ensures.job)
 
-pub returns-in_err-job_of_request-clause-after : goal.returns-in_err-job_of_request-clause-after
-returns-in_err-job_of_request-clause-after g c =
+pub returns-in_err-job_of_request-clause-left : goal.returns-in_err-job_of_request-clause-left
+returns-in_err-job_of_request-clause-left g c =
     let made = err_from_is_err_and c.from_residual-in_err-job_of_request.result c.from_residual-in_err-job_of_request.ensures.1 in
-    rw (made.1, made.2) c.in_err-job_of_request.ensures.after
+    rw (made.1, made.2) (left_by_request (Err c.in_err-job_of_request.field-0.0) _ _ _ _ _ _ c.in_err-job_of_request.ensures.left)
 
 pub returns-in_err-job_of_request-clause-asked : goal.returns-in_err-job_of_request-clause-asked
 returns-in_err-job_of_request-clause-asked g c = asks_of_words _ c.in_ok-request.request _ _ _ c.in_ok-request.ensures.read c.in_err-job_of_request.ensures.asked
@@ -30,5 +32,16 @@ returns-in_err-job_of_request-clause-asked g c = asks_of_words _ c.in_ok-request
 pub returns-clause-verdict : goal.returns-clause-verdict
 returns-clause-verdict g c = decided_for_request _ _ c.in_ok-request.request (Ok c.in_ok-job_of_request.field-0) c.in_ok-request.ensures.read c.in_ok-job_of_request.ensures.job
 
+pub returns-clause-left : goal.returns-clause-left
+returns-clause-left g c = left_by_request (Ok c.in_ok-job_of_request.field-0) _ _ _ _ _ _ c.in_ok-job_of_request.ensures.left
+
 pub returns-clause-asked : goal.returns-clause-asked
 returns-clause-asked g c = asks_of_words _ c.in_ok-request.request _ _ _ c.in_ok-request.ensures.read c.in_ok-job_of_request.ensures.asked
+
+pub returns-in_err-job_of_request-clause-limits : goal.returns-in_err-job_of_request-clause-limits
+returns-in_err-job_of_request-clause-limits g c =
+    let made = err_from_is_err_and c.from_residual-in_err-job_of_request.result c.from_residual-in_err-job_of_request.ensures.1 in
+    rw (made.1, made.2) (limits_of_words _ (told_files (g.L.Library.content c.args.library.now)) c.in_ok-request.request (job_status c.in_err-job_of_request.field-0.0) c.in_ok-request.ensures.read c.in_err-job_of_request.ensures.limits)
+
+pub returns-clause-limits : goal.returns-clause-limits
+returns-clause-limits g c = limits_of_words _ (told_files (g.L.Library.content c.args.library.now)) c.in_ok-request.request done_status c.in_ok-request.ensures.read c.in_ok-job_of_request.ensures.limits

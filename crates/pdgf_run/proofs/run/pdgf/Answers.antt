@@ -1,11 +1,13 @@
-use Rattle.std.proofs.Common.{◌≡◌, ◌≢◌, [], sym, subst, map, string_bytes, false}
+use Rattle.std.proofs.Common.{◌≡◌, ◌≢◌, [], refl, sym, subst, map, string_bytes, false}
 use Rattle.std.specs.Prelude.{IsErr, ◌↔◌}
 use Rattle.std.specs.Option.{option_map}
 use Rattle.pd_outside.specs.Faults.{Rose, counted}
 use Rattle.pd_outside.specs.Library.{Content, left}
+use Rattle.plan_stages.specs.Stages.{told_files}
 use Rattle.request_words.specs.Words.{request}
 use Rattle.pdgf_run.specs.declared.report.Report.{Report}
 use Rattle.pdgf_run.specs.TopCall.{IsPastLimit}
+use Rattle.pdgf_run.proofs.AppliedLemmas.{applied_done, applied_refused}
 use Rattle.pdgf_run.proofs.DecideLemmas.{read_to_the_end, refused-usage, rose}
 use Rattle.pdgf_run.proofs.ReportLemmas.{past_limit}
 use Rattle.pdgf_run.proofs.run.pdgf.Goals as goal
@@ -18,29 +20,39 @@ returns-in-Err-clause-usage g c =
 pub returns-in-Err-clause-too_long : goal.returns-in-Err-clause-too_long
 returns-in-Err-clause-too_long g c =
     subst (λ (report : Report). report.status ≡ 10 → IsPastLimit report.message (g.L.Library.taken c.decide.new.library)) (sym c.refused.ensures)
-    (λ ten. past_limit c.in-Err.refusal _ ten (c.in-Err.ensures.after.too_long ten))
+    (λ ten. let long = c.in-Err.ensures.left.too_long ten in past_limit c.in-Err.refusal long.0 _ ten long.1 long.2)
 
 pub returns-in-Err-clause-read_failed : goal.returns-in-Err-clause-read_failed
 returns-in-Err-clause-read_failed g c =
     subst (λ (report : Report). report.status ≡ 5 → Rose (g.L.Library.faults c.args.library.now) (g.L.Library.faults c.decide.new.library)) (sym c.refused.ensures)
-    (λ five. rose _ _ (c.in-Err.ensures.after.failed_once five))
+    (λ five. rose _ _ (c.in-Err.ensures.left.failed_once five))
 
 pub returns-in-Err-clause-stopped : goal.returns-in-Err-clause-stopped
 returns-in-Err-clause-stopped g c =
-    subst (λ (report : Report). report.status ≡ 5 → g.L.Library.is_started c.decide.new.library ≡ false) (sym c.refused.ensures) c.in-Err.ensures.after.stopped
+    subst (λ (report : Report). report.status ≡ 5 → g.L.Library.is_started c.decide.new.library ≡ false) (sym c.refused.ensures) c.in-Err.ensures.left.stopped
 
 pub returns-in-Err-clause-read_failed_once : goal.returns-in-Err-clause-read_failed_once
 returns-in-Err-clause-read_failed_once g c =
     subst (λ (report : Report). report.status ≡ 5 → g.L.Library.faults c.decide.new.library ≡ counted (g.L.Library.faults c.args.library.now)) (sym c.refused.ensures)
-    c.in-Err.ensures.after.failed_once
+    c.in-Err.ensures.left.failed_once
 
 pub returns-in-Err-clause-library_faults : goal.returns-in-Err-clause-library_faults
 returns-in-Err-clause-library_faults g c =
     subst (λ (report : Report). report.status ≢ 5 → g.L.Library.faults c.decide.new.library ≡ g.L.Library.faults c.args.library.now) (sym c.refused.ensures)
-    c.in-Err.ensures.after.no_fault
+    c.in-Err.ensures.left.no_fault
 
 pub returns-in-Err-clause-read_out : goal.returns-in-Err-clause-read_out
 returns-in-Err-clause-read_out g c =
     subst (λ (report : Report). report.status ≡ 0 → option_map left (g.L.Library.content c.decide.new.library) ≡ option_map (λ (k : Content). []) (g.L.Library.content c.args.library.now))
     (sym c.refused.ensures)
-    (λ zero. read_to_the_end _ _ c.in-Err.ensures.after.files (c.in-Err.ensures.after.read_out zero))
+    (λ zero. read_to_the_end _ _ c.in-Err.ensures.left.files (c.in-Err.ensures.left.read_out zero))
+
+pub returns-in-Err-clause-applied : goal.returns-in-Err-clause-applied
+returns-in-Err-clause-applied g c = λ five six seven.
+    applied_refused (map string_bytes c.args.words.now) (told_files (g.L.Library.content c.args.library.now)) (request (map string_bytes c.args.words.now)) c.in-Err.refusal
+    c.refused.result _ _ refl c.in-Err.ensures.limits c.in-Err.ensures.verdict c.refused.ensures refl five seven
+
+pub returns-in-Ok-fill-clause-applied : goal.returns-in-Ok-fill-clause-applied
+returns-in-Ok-fill-clause-applied g c = λ five six seven.
+    applied_done (map string_bytes c.args.words.now) (told_files (g.L.Library.content c.args.library.now)) (request (map string_bytes c.args.words.now)) c.in-Ok.job
+    c.done.result _ _ refl c.in-Ok.ensures.limits c.in-Ok.ensures.verdict c.done.ensures c.in-Ok-fill.ensures.files

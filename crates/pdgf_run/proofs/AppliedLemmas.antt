@@ -1,0 +1,252 @@
+-- Inputs that a plain simulation gives make what it holds later.
+use Rattle.std.proofs.Common.{◌≡◌, ◌≢◌, ◌<◌, ◌≤◌, ◌+◌, ◌-◌, ◌*◌, ℕ, zero, suc, Bool, true, false, List, [], ◌∷◌, ◌++◌, drop, flat_map, get_or, length, length-append, map, take, Option, None, Some, Result, Ok, Err, cond, inl, inr, ap, arith, refl, subst, sym, ◌∙◌}
+use Rattle.std.specs.Prelude.{IfOk, IfSome, nat_lt, if◌then◌else◌}
+use Rattle.std.specs.Option.{option_map}
+use Rattle.std.specs.List.{position_or_len, range_with_len}
+use Rattle.std.proofs.Math.Seq.{drop-append-add, take-append_seam}
+use Rattle.std.proofs.lemmas.Bool.{cases_eq, cases_lt, le-ltb, lt-ltb, ne_eqb, true≢false}
+use Rattle.std.proofs.lemmas.List.{get_or-map, length-map}
+use Rattle.std.proofs.lemmas.List.FromFn.{get_or-range_with_len, length-range_with_len}
+use Rattle.std.proofs.lemmas.List.Sums.{sum_by-take-drop}
+use Rattle.pd_outside.specs.Files.{File}
+use Rattle.pd_outside.specs.Shelf.{Held, finish_files}
+use Rattle.plan_stages.specs.Inputs.{first_too_long, inputs_in, inputs_of, total_length, unless_too_long}
+use Rattle.plan_stages.specs.Plans.{plan_in}
+use Rattle.refusals.specs.Messages.{message_of}
+use Rattle.refusals.specs.Statuses.{done_status, is_free, status_of}
+use Rattle.refusals.specs.declared.refusal.JobFault.{JobFault}
+use Rattle.refusals.specs.declared.refusal.JobFault.TheVariants as job
+use Rattle.refusals.specs.declared.refusal.PlanFault.{PlanFault}
+use Rattle.refusals.specs.declared.refusal.Refusal.{Refusal}
+use Rattle.request_words.specs.Words.{request}
+use Rattle.request_words.specs.declared.usage.Mode.TheVariants.{Apply}
+use Rattle.request_words.specs.declared.usage.Mode.{Mode}
+use Rattle.request_words.specs.declared.usage.OptionName.TheVariants as option
+use Rattle.request_words.specs.declared.usage.Request.{Request}
+use Rattle.request_words.specs.declared.usage.UsageFault.{UsageFault}
+use Rattle.row_lines.specs.Lines.{table_text}
+use Rattle.life_intervals.specs.Generator.{generator_of, last_unit}
+use Rattle.row_text.specs.Fields.{IsDelimiter}
+use Rattle.schema_model.specs.declared.table.Delimiter.{Delimiter}
+use Rattle.schema_model.specs.declared.table.Table.{Table}
+use Rattle.schema_model.specs.declared.table.Delimiter.TheVariants.{Bar, Tab}
+use Rattle.schema_plan.specs.Delimiters.{delimiter_byte}
+use Rattle.schema_plan.specs.Dictionaries.{Project}
+use Rattle.schema_plan.specs.Layout.{layout_of}
+use Rattle.schema_plan.specs.Limits.{IsInLimits}
+use Rattle.schema_plan.specs.Names.{same_text}
+use Rattle.schema_plan.specs.Planned.{table_named}
+use Rattle.stream_apply.specs.InTurn.{IsAppliedText}
+use Rattle.update_box.proofs.ApplyLawLemmas.{units-applied}
+use Rattle.update_box.specs.TextLaws.{unit_streams}
+use Rattle.pdgf_run.specs.DueFiles.{chosen_table}
+use Rattle.pdgf_run.specs.Jobs.{due_of}
+use Rattle.pdgf_run.specs.TopCall.{Carries, GivesLater}
+use Rattle.pdgf_run.specs.Verdict.{IsDecided, IsInMode, IsPlanned, IsVerdict}
+use Rattle.pdgf_run.specs.declared.job.Job.{Job}
+use Rattle.pdgf_run.specs.declared.report.Report.{Report}
+use Rattle.pdgf_run.specs.modes.Apply.{AreApplied, HoldInputs, IsApplyDue, input_limit, input_paths, inputs_at, inputs_each, later_files, of_choice, places_in, table_inputs, tables_asked}
+use Rattle.pdgf_run.proofs.ApplyLemmas.{long_behind, read_and_made}
+use Rattle.pdgf_run.proofs.DecideLemmas.{of_words}
+use Rattle.pdgf_run.proofs.OutcomeLemmas.{one_verdict}
+
+-- ---- what is asked is within the plan
+
+passes : (test : Bool) (fault : JobFault) (rest : Result (Option ℕ) JobFault) (table : Option ℕ) → (if test then Err fault else rest) ≡ Ok table → (test ≡ false) × (rest ≡ Ok table)
+passes true fault rest table is = absurd (cc)
+passes false fault rest table is = (refl, is)
+
+not_less : (a b : ℕ) → nat_lt a b ≡ false → b ≤ a
+not_less a b is = elim (cases_lt a b) [
+  | inl less ↦ absurd (true≢false (sym (lt-ltb a b less) ∙ is))
+  | inr order ↦ order
+]
+
+choice_is : (chosen : Option (Option ℕ)) (table : Option ℕ) → of_choice chosen ≡ Ok table → chosen ≡ Some table
+choice_is None table is = absurd (cc)
+choice_is (Some choice) table is = ap Some (let same : choice ≡ table = cc in same)
+
+-- the table that is chosen is there
+found_at : (test : Bool) (k found : ℕ) → cond test (Some k) None ≡ Some found → (test ≡ true) × (k ≡ found)
+found_at true k found is = (refl, let same : k ≡ found = cc in same)
+found_at false k found is = absurd (cc)
+
+less : (a b : ℕ) → nat_lt a b ≡ true → a < b
+less a b is = elim (cases_lt a b) [
+  | inl below ↦ below
+  | inr past ↦ absurd (true≢false (sym is ∙ le-ltb a b past))
+]
+
+found_within : (plan : Project) (found : Option ℕ) (place : ℕ) (name : List ℕ) → found ≡ table_named plan.schema name → option_map Some found ≡ Some (Some place) →
+    place < length plan.schema.tables
+found_within plan None place name at is = absurd (cc)
+found_within plan (Some found) place name at is =
+    let same : found ≡ place = cc in
+    let here = found_at (nat_lt (position_or_len (λ (table : Table). same_text table.name name) plan.schema.tables) (length plan.schema.tables)) _ found (sym at) in
+    omega (arith, same, here.1, less _ (length plan.schema.tables) here.0)
+
+chosen_within : (plan : Project) (name : Option (List ℕ)) (place : ℕ) → chosen_table plan.schema name ≡ Some (Some place) → place < length plan.schema.tables
+chosen_within plan None place is = absurd (cc)
+chosen_within plan (Some name) place is = found_within plan (table_named plan.schema name) place name refl is
+
+-- ---- the inputs of a table among all
+
+chunk : (f : ℕ → List (List ℕ)) (each : ℕ) (places : List ℕ) (i : ℕ) → ((place : ℕ) → length (f place) ≡ each) → i < length places →
+    inputs_at each (flat_map f places) i ≡ f (get_or places i 0)
+chunk f each [] i all below = absurd (omega (arith, below))
+chunk f each (place ∷ places) zero all below =
+    let none : 0 * each ≡ 0 = omega arith in
+    ap (λ (n : ℕ). take each (drop n (f place ++ flat_map f places))) none
+    ∙ ap (λ (n : ℕ). take n (f place ++ flat_map f places)) (sym (all place))
+    ∙ take-append_seam (f place) (flat_map f places)
+chunk f each (place ∷ places) (suc i) all below =
+    let next : suc i * each ≡ length (f place) + i * each = grind (arith, all place) in
+    ap (λ (n : ℕ). take each (drop n (f place ++ flat_map f places))) next
+    ∙ ap (take each) (drop-append-add (f place) (flat_map f places) (i * each))
+    ∙ chunk f each places i all (omega (arith, below))
+
+length-streams : (plan : Project) (place first count : ℕ) → length (flat_map (unit_streams plan place) (range_with_len first count)) ≡ 3 * count
+length-streams plan place first zero = refl
+length-streams plan place first (suc count) =
+    let rest = flat_map (unit_streams plan place) (range_with_len (first + 1) count) in
+    let more : length (unit_streams plan place first ++ rest) ≡ 3 + length rest = length-append (unit_streams plan place first) rest in
+    omega (arith, more, length-streams plan place (first + 1) count)
+
+length-table_inputs : (plan : Project) (r : Request) (place : ℕ) → length (table_inputs plan r.from (r.to - r.from) place) ≡ inputs_each r
+length-table_inputs plan r place = omega (arith, length-streams plan place (r.from + 1) (r.to - r.from))
+
+-- ---- they make what the tables hold later
+
+place_within : (plan : Project) (table : Option ℕ) (i : ℕ) → IfSome table (λ place. place < length plan.schema.tables) → i < length (places_in plan.schema table) →
+    get_or (places_in plan.schema table) i 0 < length plan.schema.tables
+place_within plan None i within below =
+    let count = length-range_with_len 0 (length plan.schema.tables) in
+    let inside : i < length plan.schema.tables = omega (arith, below, count) in
+    omega (arith, get_or-range_with_len 0 (length plan.schema.tables) i 0 inside, inside)
+place_within plan (Some place) zero within below = within
+place_within plan (Some place) (suc i) within below = absurd (omega (arith, below))
+
+later_applied : (plan : Project) (r : Request) (table : Option ℕ) (inputs : List (List ℕ)) → IsInLimits plan → r.from ≤ r.to → r.to ≤ last_unit plan →
+    IfSome table (λ place. place < length plan.schema.tables) →
+    inputs ≡ flat_map (table_inputs plan r.from (r.to - r.from)) (places_in plan.schema table) →
+    AreApplied (layout_of plan).delimiter (inputs_each r) inputs (map (table_text (generator_of plan) r.to) (places_in plan.schema table))
+later_applied plan r table inputs limits order units within are = record {
+  applied = λ i below.
+      let places : List ℕ = places_in plan.schema table in
+      let inside : i < length places = omega (arith, below, length-map places (table_text (generator_of plan) r.to)) in
+      let place : ℕ = get_or places i 0 in
+      let sum : r.from + (r.to - r.from) ≡ r.to = omega (arith, order) in
+      let at_end : r.from + (r.to - r.from) ≤ last_unit plan = omega (arith, sum, units) in
+      let own : inputs_at (inputs_each r) inputs i ≡ table_inputs plan r.from (r.to - r.from) place =
+      ap (λ (l : List (List ℕ)). inputs_at (inputs_each r) l i) are
+      ∙ chunk (table_inputs plan r.from (r.to - r.from)) (inputs_each r) places i (length-table_inputs plan r) inside in
+      let text : get_or (map (table_text (generator_of plan) r.to) places) i [] ≡ table_text (generator_of plan) r.to place =
+      get_or-map (table_text (generator_of plan) r.to) places i 0 [] inside in
+      let made : IsAppliedText (layout_of plan).delimiter (table_inputs plan r.from (r.to - r.from) place) (table_text (generator_of plan) r.to place) =
+      subst (λ (t : ℕ). IsAppliedText (layout_of plan).delimiter (table_inputs plan r.from (r.to - r.from) place) (table_text (generator_of plan) t place)) sum
+      (units-applied plan limits place (place_within plan table i within inside) r.from (r.to - r.from) at_end) in
+      subst (λ (t : List ℕ). IsAppliedText (layout_of plan).delimiter (inputs_at (inputs_each r) inputs i) t) (sym text)
+      (subst (λ (l : List (List ℕ)). IsAppliedText (layout_of plan).delimiter l (table_text (generator_of plan) r.to place)) (sym own) made);
+}
+
+-- inputs within the limit are all read
+less_taken : (inputs : List (List ℕ)) (n : ℕ) → total_length (take n inputs) ≤ total_length inputs
+less_taken inputs n = omega (arith, sum_by-take-drop length inputs n)
+
+none_too_long : (inputs : List (List ℕ)) (long : Option ℕ) → first_too_long input_limit [] inputs ≡ long → total_length inputs ≤ input_limit → long ≡ None
+none_too_long inputs None is within = refl
+none_too_long inputs (Some number) is within =
+    let past = (long_behind input_limit [] inputs number is).1 in
+    let all : total_length ([] ++ take (number + 1 - length {A = List ℕ} []) inputs) ≡ total_length (take (number + 1) inputs) =
+    ap (λ (count : ℕ). total_length (take count inputs)) (let same : number + 1 - 0 ≡ number + 1 = omega arith in same) in
+    absurd (omega (arith, within, past, all, less_taken inputs (number + 1)))
+
+all_read : (files : List File) (paths : List (List ℕ)) → total_length (inputs_of files paths) ≤ input_limit → inputs_in files paths input_limit ≡ Ok (inputs_of files paths)
+all_read files paths within =
+    ap (λ (long : Option ℕ). unless_too_long long (inputs_of files paths)) (none_too_long (inputs_of files paths) (first_too_long input_limit [] (inputs_of files paths)) refl within)
+
+later_due : (plan : Project) (r : Request) (files : List File) (table : Option ℕ) → IsInLimits plan → tables_asked plan r ≡ Ok table → HoldInputs plan r table files →
+    IsApplyDue plan r files (Ok (later_files plan r table))
+later_due plan r files table limits asked hold =
+    let first = passes (nat_lt r.to r.from) (job.Range option.From) _ table asked in
+    let second = passes (nat_lt (layout_of plan).units r.to) (job.Range option.To) _ table first.1 in
+    let chosen : chosen_table plan.schema r.table ≡ Some table = choice_is (chosen_table plan.schema r.table) table second.1 in
+    let paths : List (List ℕ) = input_paths plan.schema r table in
+    read_and_made plan r files table (Ok (inputs_of files paths)) (Ok (later_files plan r table)) (sym asked) (all_read files paths hold.within) (
+      map (table_text (generator_of plan) r.to) (places_in plan.schema table),
+      length-map (places_in plan.schema table) (table_text (generator_of plan) r.to),
+      later_applied plan r table (inputs_of files paths) limits (not_less r.to r.from first.0) (not_less (layout_of plan).units r.to second.0) (there table chosen) hold.texts,
+      refl,
+    )
+  where
+    there : (table : Option ℕ) → chosen_table plan.schema r.table ≡ Some table → IfSome table (λ place. place < length plan.schema.tables)
+    there None chosen = tt
+    there (Some place) chosen = chosen_within plan r.table place chosen
+
+-- ---- the verdict
+
+pub delimits : (plan : Project) → IsDelimiter (layout_of plan).delimiter
+delimits plan = of_delimiter plan.schema.delimiter
+  where
+    of_delimiter : (delimiter : Delimiter) → IsDelimiter (delimiter_byte delimiter)
+    of_delimiter Tab = inl refl
+    of_delimiter Bar = inr refl
+
+of_asked : (words : List (List ℕ)) (files : List File) (r : Request) (plan : Project) (asked : Result (Option ℕ) JobFault) (verdict : Result (List File) Refusal) (report : Report)
+    (before now : Option Held) → request words ≡ Ok r → r.mode ≡ Apply → plan_in files r.schema ≡ Ok plan → tables_asked plan r ≡ asked → IsInLimits plan →
+    IsVerdict words files verdict → Carries verdict report before now →
+    IfOk asked (λ (table : Option ℕ). HoldInputs plan r table files → Carries (Ok (later_files plan r table)) report before now)
+of_asked words files r plan (Err fault) verdict report before now given mode planned asked limits is carries = tt
+of_asked words files r plan (Ok table) verdict report before now given mode planned asked limits is carries = λ hold.
+    let due : IsInMode r.mode r plan files (Ok (later_files plan r table)) =
+    subst (λ (m : Mode). IsInMode m r plan files (Ok (later_files plan r table))) (sym mode) (later_due plan r files table limits asked hold) in
+    let over : IsPlanned r files (plan_in files r.schema) (Ok (later_files plan r table)) =
+    subst (λ (made : Result Project PlanFault). IsPlanned r files made (Ok (later_files plan r table))) (sym planned) due in
+    let later : IsVerdict words files (Ok (later_files plan r table)) = of_words words files (Ok r) (Ok (later_files plan r table)) given (Ok (later_files plan r table), over, refl) in
+    subst (λ (v : Result (List File) Refusal). Carries v report before now) (one_verdict words files verdict (Ok (later_files plan r table)) delimits is later) carries
+
+of_plan : (words : List (List ℕ)) (files : List File) (r : Request) (made : Result Project PlanFault) (verdict : Result (List File) Refusal) (report : Report) (before now : Option Held) →
+    request words ≡ Ok r → r.mode ≡ Apply → plan_in files r.schema ≡ made → IfOk made IsInLimits → IsVerdict words files verdict → Carries verdict report before now →
+    IfOk made (λ (plan : Project). IfOk (tables_asked plan r) (λ (table : Option ℕ). HoldInputs plan r table files → Carries (Ok (later_files plan r table)) report before now))
+of_plan words files r (Err fault) verdict report before now given mode planned limits is carries = tt
+of_plan words files r (Ok plan) verdict report before now given mode planned limits is carries =
+    of_asked words files r plan (tables_asked plan r) verdict report before now given mode planned refl limits is carries
+
+pub gives_later : (words : List (List ℕ)) (files : List File) (r : Request) (verdict : Result (List File) Refusal) (report : Report) (before now : Option Held) →
+    request words ≡ Ok r → r.mode ≡ Apply → IfOk (plan_in files r.schema) IsInLimits → IsVerdict words files verdict → Carries verdict report before now →
+    GivesLater r files report before now
+gives_later words files r verdict report before now given mode limits is carries =
+    of_plan words files r (plan_in files r.schema) verdict report before now given mode refl limits is carries
+
+-- ---- the report
+
+not_free : (status : ℕ) → status ≢ 5 → status ≢ 7 → is_free status ≡ false
+not_free status five seven = elim (cases_eq status 5) [
+  | inl same ↦ absurd (five same)
+  | inr other ↦ elim (cases_eq status 7) [
+    | inl same ↦ absurd (seven same)
+    | inr another ↦ rw (ne_eqb status 5 other, ne_eqb status 7 another) refl
+  ]
+]
+
+-- a request that is refused
+pub applied_refused : (words : List (List ℕ)) (told : Option (List File)) (q : Result Request UsageFault) (r : Refusal) (report : Report) (before now : Option Held) → request words ≡ q →
+    IfOk q (λ asked. is_free (status_of r) ≡ false → IfSome told (λ files. IfOk (plan_in files asked.schema) IsInLimits)) →
+    IfSome told (λ files. IsDecided status_of due_of (IsVerdict words files) (Err r)) → report ≡ record { status = status_of r; message = message_of r } → now ≡ before →
+    report.status ≢ 5 → report.status ≢ 7 → IfOk q (λ asked. asked.mode ≡ Apply → IfSome told (λ files. GivesLater asked files report before now))
+applied_refused words told (Err fault) r report before now given limits decided is same five seven = tt
+applied_refused words None (Ok asked) r report before now given limits decided is same five seven = λ mode. tt
+applied_refused words (Some files) (Ok asked) r report before now given limits decided is same five seven = λ mode.
+    let status : report.status ≡ status_of r = ap (λ (t : Report). t.status) is in
+    let free : is_free (status_of r) ≡ false = subst (λ (s : ℕ). is_free s ≡ false) status (not_free report.status five seven) in
+    gives_later words files asked (Err r) report before now given mode (limits free) (decided free) (is, same)
+
+-- a request that is carried out
+pub applied_done : (words : List (List ℕ)) (told : Option (List File)) (q : Result Request UsageFault) (job : Job) (report : Report) (before now : Option Held) → request words ≡ q →
+    IfOk q (λ asked. is_free 0 ≡ false → IfSome told (λ files. IfOk (plan_in files asked.schema) IsInLimits)) →
+    IfSome told (λ files. IsDecided status_of due_of (IsVerdict words files) (Ok job)) → report ≡ record { status = done_status; message = [] } →
+    now ≡ option_map (finish_files (due_of job)) before → IfOk q (λ asked. asked.mode ≡ Apply → IfSome told (λ files. GivesLater asked files report before now))
+applied_done words told (Err fault) job report before now given limits decided is same = tt
+applied_done words None (Ok asked) job report before now given limits decided is same = λ mode. tt
+applied_done words (Some files) (Ok asked) job report before now given limits decided is same = λ mode.
+    gives_later words files asked (Ok (due_of job)) report before now given mode (limits refl) decided (is, same)

@@ -1,0 +1,130 @@
+-- Words and files come to one verdict.
+use Rattle.std.proofs.Common.{◌≡◌, ◌≢◌, ◌<◌, ◌+◌, ◌*◌, ℕ, suc, List, [], ◌∷◌, get_or, length, Option, Result, Ok, Err, ap, arith, inl, inr, refl, subst, sym, ◌∙◌}
+use Rattle.std.proofs.lemmas.Bool.{cases_eq, cases_lt}
+use Rattle.pd_outside.specs.Files.{File}
+use Rattle.plan_stages.specs.Plans.{plan_in}
+use Rattle.plan_stages.specs.Stages.{in_stage}
+use Rattle.plan_stages.specs.Inputs.{inputs_in}
+use Rattle.plan_stages.specs.declared.inputs.InputFault.{InputFault}
+use Rattle.refusals.specs.declared.refusal.JobFault.{JobFault}
+use Rattle.refusals.specs.declared.refusal.PlanFault.{PlanFault}
+use Rattle.refusals.specs.declared.refusal.Refusal.{Refusal}
+use Rattle.refusals.specs.declared.refusal.Refusal.TheVariants as refusal
+use Rattle.request_words.specs.Words.{request}
+use Rattle.request_words.specs.declared.usage.Mode.TheVariants.{Check, Snapshot, Unit, Row, Apply}
+use Rattle.request_words.specs.declared.usage.Mode.{Mode}
+use Rattle.request_words.specs.declared.usage.Request.{Request}
+use Rattle.request_words.specs.declared.usage.UsageFault.{UsageFault}
+use Rattle.row_text.specs.Fields.{IsDelimiter}
+use Rattle.schema_plan.specs.Dictionaries.{Project}
+use Rattle.schema_plan.specs.Layout.{layout_of}
+use Rattle.stream_apply.proofs.InTurnLemmas.{made-no_fault, one-first, one-made}
+use Rattle.stream_apply.specs.InTurn.{IsAppliedText, IsFaultAt}
+use Rattle.stream_apply.specs.KeyedLines.{lines_text}
+use Rattle.stream_apply.specs.declared.fault.ApplyFault.{ApplyFault}
+use Rattle.stream_apply.specs.declared.fault.ApplyFault.TheVariants.{Memory}
+use Rattle.pdgf_run.specs.Verdict.{IsInMode, IsOfRequest, IsPlanned, IsVerdict}
+use Rattle.pdgf_run.specs.modes.Apply.{AreApplied, IsApplyDue, IsAskedAndMade, IsFirstFault, IsMadeOf, IsReadAndMade, input_limit, input_names, input_paths, inputs_at, inputs_each, made_files, places_in, tables_asked, unapplied}
+
+-- ---- one table
+
+one_text : (delimiter : ℕ) (inputs : List (List ℕ)) (text other : List ℕ) → IsDelimiter delimiter → IsAppliedText delimiter inputs text → IsAppliedText delimiter inputs other → text ≡ other
+one_text delimiter inputs text other delimits is other_is =
+    is.is ∙ ap lines_text (one-made delimiter _ [] is.lines other_is.lines delimits is.made other_is.made) ∙ sym other_is.is
+
+never_both : (delimiter : ℕ) (inputs : List (List ℕ)) (text : List ℕ) (place : ℕ) (fault : ApplyFault) → IsDelimiter delimiter → IsAppliedText delimiter inputs text →
+    fault ≢ Memory → ¬ IsFaultAt delimiter inputs place fault
+never_both delimiter inputs text place fault delimits is told = made-no_fault delimiter _ [] is.lines place fault delimits is.made told
+
+-- ---- all tables
+
+-- lists of the same items are one
+same_items : (xs ys : List (List ℕ)) → length xs ≡ length ys → ((i : ℕ) → i < length xs → get_or xs i [] ≡ get_or ys i []) → xs ≡ ys
+same_items [] [] count same = refl
+same_items [] (y ∷ ys) count same = absurd (omega (arith, count))
+same_items (x ∷ xs) [] count same = absurd (omega (arith, count))
+same_items (x ∷ xs) (y ∷ ys) count same =
+    ap (λ (first : List ℕ). first ∷ xs) (same 0 (omega arith))
+    ∙ ap (λ (rest : List (List ℕ)). y ∷ rest) (same_items xs ys (omega (arith, count)) (λ i below. same (suc i) (omega (arith, below))))
+
+one_list : (delimiter each : ℕ) (inputs texts others : List (List ℕ)) → IsDelimiter delimiter → length texts ≡ length others →
+    AreApplied delimiter each inputs texts → AreApplied delimiter each inputs others → texts ≡ others
+one_list delimiter each inputs texts others delimits count are others_are =
+    same_items texts others count (λ i below. one_text delimiter (inputs_at each inputs i) _ _ delimits (are.applied i below) (others_are.applied i (omega (arith, below, count))))
+
+-- a table's inputs have no fault where they are applied
+no_fault_within : (delimiter each : ℕ) (inputs texts : List (List ℕ)) (count number : ℕ) (fault : ApplyFault) → IsDelimiter delimiter → AreApplied delimiter each inputs texts →
+    (is_first : IsFirstFault delimiter each inputs count number fault) → length is_first.texts < length texts → ⊥
+no_fault_within delimiter each inputs texts count number fault delimits are is_first below =
+    never_both delimiter (inputs_at each inputs (length is_first.texts)) _ is_first.place fault delimits (are.applied (length is_first.texts) below) is_first.told is_first.has
+
+one_fault : (delimiter each : ℕ) (inputs : List (List ℕ)) (count number other_number : ℕ) (fault other : ApplyFault) → IsDelimiter delimiter →
+    IsFirstFault delimiter each inputs count number fault → IsFirstFault delimiter each inputs count other_number other → (number ≡ other_number) × (fault ≡ other)
+one_fault delimiter each inputs count number other_number fault other delimits is other_is = elim (cases_eq (length is.texts) (length other_is.texts)) [
+  | inl same ↦
+      let here : IsFaultAt delimiter (inputs_at each inputs (length is.texts)) other_is.place other =
+      subst (λ (t : ℕ). IsFaultAt delimiter (inputs_at each inputs t) other_is.place other) (sym same) other_is.has in
+      let one = one-first delimiter _ [] is.place other_is.place fault other delimits is.has here is.told other_is.told in
+      (is.number_is ∙ ap (λ (t : ℕ). t * each + is.place) same ∙ ap (λ (p : ℕ). length other_is.texts * each + p) one.0 ∙ sym other_is.number_is, one.1)
+  | inr apart ↦ elim (cases_lt (length is.texts) (length other_is.texts)) [
+    | inl earlier ↦ absurd (no_fault_within delimiter each inputs other_is.texts count number fault delimits other_is.before is earlier)
+    | inr later ↦ absurd (no_fault_within delimiter each inputs is.texts count other_number other delimits is.before other_is (omega (arith, apart, later)))
+  ]
+]
+
+-- ---- a request
+
+one_made : (plan : Project) (r : Request) (table : Option ℕ) (inputs : List (List ℕ)) (answer other : Result (List File) JobFault) → IsDelimiter (layout_of plan).delimiter →
+    IsMadeOf plan r table inputs answer → IsMadeOf plan r table inputs other → answer ≡ other
+one_made plan r table inputs (Ok due) (Ok other) delimits made other_made =
+    let same : made.0 ≡ other_made.0 =
+    one_list (layout_of plan).delimiter (inputs_each r) inputs made.0 other_made.0 delimits (made.1 ∙ sym other_made.1) made.2 other_made.2 in
+    ap Ok (made.3 ∙ ap (made_files plan.schema r.out (places_in plan.schema table)) same ∙ sym other_made.3)
+one_made plan r table inputs (Ok due) (Err fault) delimits made other_made =
+    absurd (no_fault_within (layout_of plan).delimiter (inputs_each r) inputs made.0 _ other_made.0 other_made.1 delimits made.2 other_made.2
+    (omega (arith, other_made.2.within, made.1)))
+one_made plan r table inputs (Err fault) (Ok due) delimits made other_made =
+    absurd (no_fault_within (layout_of plan).delimiter (inputs_each r) inputs other_made.0 _ made.0 made.1 delimits other_made.2 made.2
+    (omega (arith, made.2.within, other_made.1)))
+one_made plan r table inputs (Err fault) (Err other) delimits made other_made =
+    let one = one_fault (layout_of plan).delimiter (inputs_each r) inputs _ made.0 other_made.0 made.1 other_made.1 delimits made.2 other_made.2 in
+    let names : List (List ℕ) = input_names plan.schema r (places_in plan.schema table) in
+    ap Err (made.3 ∙ ap (λ (n : ℕ). unapplied names n made.1) one.0 ∙ ap (unapplied names other_made.0) one.1 ∙ sym other_made.3)
+
+one_read : (plan : Project) (r : Request) (table : Option ℕ) (inputs : Result (List (List ℕ)) InputFault) (answer other : Result (List File) JobFault) → IsDelimiter (layout_of plan).delimiter →
+    IsReadAndMade plan r table inputs answer → IsReadAndMade plan r table inputs other → answer ≡ other
+one_read plan r table (Ok inputs) answer other delimits is other_is = one_made plan r table inputs answer other delimits is other_is
+one_read plan r table (Err fault) answer other delimits is other_is = is ∙ sym other_is
+
+one_asked : (plan : Project) (r : Request) (files : List File) (asked : Result (Option ℕ) JobFault) (answer other : Result (List File) JobFault) → IsDelimiter (layout_of plan).delimiter →
+    IsAskedAndMade plan r files asked answer → IsAskedAndMade plan r files asked other → answer ≡ other
+one_asked plan r files (Ok table) answer other delimits is other_is =
+    one_read plan r table (inputs_in files (input_paths plan.schema r table) input_limit) answer other delimits is other_is
+one_asked plan r files (Err fault) answer other delimits is other_is = is ∙ sym other_is
+
+pub one_apply : (plan : Project) (r : Request) (files : List File) (answer other : Result (List File) JobFault) → IsDelimiter (layout_of plan).delimiter →
+    IsApplyDue plan r files answer → IsApplyDue plan r files other → answer ≡ other
+one_apply plan r files answer other delimits is other_is = one_asked plan r files (tables_asked plan r) answer other delimits is other_is
+
+one_in_mode : (mode : Mode) (r : Request) (plan : Project) (files : List File) (answer other : Result (List File) JobFault) → IsDelimiter (layout_of plan).delimiter →
+    IsInMode mode r plan files answer → IsInMode mode r plan files other → answer ≡ other
+one_in_mode Check r plan files answer other delimits is other_is = is ∙ sym other_is
+one_in_mode Snapshot r plan files answer other delimits is other_is = is ∙ sym other_is
+one_in_mode Unit r plan files answer other delimits is other_is = is ∙ sym other_is
+one_in_mode Row r plan files answer other delimits is other_is = is ∙ sym other_is
+one_in_mode Apply r plan files answer other delimits is other_is = one_apply plan r files answer other delimits is other_is
+
+one_planned : (r : Request) (files : List File) (made : Result Project PlanFault) (answer other : Result (List File) JobFault) →
+    ((plan : Project) → IsDelimiter (layout_of plan).delimiter) → IsPlanned r files made answer → IsPlanned r files made other → answer ≡ other
+one_planned r files (Ok plan) answer other delimits is other_is = one_in_mode r.mode r plan files answer other (delimits plan) is other_is
+one_planned r files (Err fault) answer other delimits is other_is = is ∙ sym other_is
+
+one_of_request : (files : List File) (r : Result Request UsageFault) (verdict other : Result (List File) Refusal) → ((plan : Project) → IsDelimiter (layout_of plan).delimiter) →
+    IsOfRequest files r verdict → IsOfRequest files r other → verdict ≡ other
+one_of_request files (Err fault) verdict other delimits is other_is = is ∙ sym other_is
+one_of_request files (Ok r) verdict other delimits is other_is =
+    is.2 ∙ ap (in_stage refusal.Job) (one_planned r files (plan_in files r.schema) is.0 other_is.0 delimits is.1 other_is.1) ∙ sym other_is.2
+
+pub one_verdict : (words : List (List ℕ)) (files : List File) (verdict other : Result (List File) Refusal) → ((plan : Project) → IsDelimiter (layout_of plan).delimiter) →
+    IsVerdict words files verdict → IsVerdict words files other → verdict ≡ other
+one_verdict words files verdict other delimits is other_is = one_of_request files (request words) verdict other delimits is other_is

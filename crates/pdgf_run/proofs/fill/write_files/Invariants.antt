@@ -1,0 +1,12 @@
+use Rattle.std.proofs.Common.{◌≡◌, false, take}
+use Rattle.std.specs.Option.{option_map}
+use Rattle.pd_outside.specs.Shelf.{finish_files}
+use Rattle.pdgf_run.specs.modes.Apply.{named_files}
+use Rattle.pdgf_run.proofs.fill.write_files.Given as goal
+
+abbrev pub invariant-loop-place : goal.invariant-loop-place
+invariant-loop-place g l = record {
+  held : g.S.Shelf.held l.shelf ≡ option_map (finish_files (take l.place (named_files l.job.names l.job.texts))) (g.S.Shelf.held l.fn.shelf);
+  faults : g.S.Shelf.faults l.shelf ≡ g.S.Shelf.faults l.fn.shelf;
+  none_begun : g.S.Shelf.is_begun l.shelf ≡ false;
+}
