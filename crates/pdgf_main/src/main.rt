@@ -3,14 +3,22 @@
 #![tactic(auto)]
 
 use pdgf_run::run_program;
+use std::io::IsTerminal;
 use std::process::ExitCode;
 use std::rt::Env;
 use std::{env, io};
-use system_files::{FileLibrary, FileShelf};
+use system_files::{FileLibrary, FileShelf, ProgressShelf};
 
 fn main(rt: HostRuntime) -> ExitCode {
     let mut library = FileLibrary::new(&rt);
-    let mut shelf = FileShelf::new(&rt, rt.alloc(), rt.stdout());
+    let files = FileShelf::new(&rt, rt.alloc(), rt.stdout());
+    // How far a file has come is told to somebody who looks on, and to no log.
+    let watched = if rt.stderr().is_terminal() {
+        Some(rt.stderr())
+    } else {
+        None
+    };
+    let mut shelf = ProgressShelf::new(files, &rt, watched, rt.stdout().is_terminal());
     let report = run_program(&rt, rt.alloc(), words_of(&rt), &mut library, &mut shelf);
     // Where the message can't be written, the status still tells.
     let _ = report.tell(&mut rt.stderr());

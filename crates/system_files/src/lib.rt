@@ -3,8 +3,11 @@
 
 mod file_library;
 mod file_shelf;
+mod progress;
+mod progress_shelf;
 mod reading;
 mod writing;
 
 pub use file_library::FileLibrary;
 pub use file_shelf::FileShelf;
+pub use progress_shelf::ProgressShelf;

@@ -1,5 +1,7 @@
-//! Tests of the files of the system: real bytes through the adapters.
+//! Tests of the files of the system: real bytes through the adapters, and what is told of them meanwhile.
 #![tactic(auto)]
 
 #[cfg(test)]
 mod files;
+#[cfg(test)]
+mod progress;

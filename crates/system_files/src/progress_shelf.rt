@@ -1,0 +1,62 @@
+//! A shelf whose progress is told.
+
+ghost use Rattle.std.specs.Prelude.{◌≡◌};
+
+use crate::progress::Progress;
+use pd_outside::{Failed, Shelf};
+use std::io::Write;
+use std::rt::Clock;
+
+/// A shelf, and beside what it does a line on how far its file has come: the name, the bytes and the rate, once a second, and cleared where the file
+/// ends or a call fails. It goes to an output of its own. What the shelf holds and answers is what it would without.
+#[derive(Drop)]
+pub struct ProgressShelf<S, C, W> {
+    shelf: S,
+    progress: Progress<C, W>,
+}
+
+impl<S: Shelf + Drop, C: Clock + Drop, W: Write + Drop> ProgressShelf<S, C, W> {
+    /// The shelf as it stands, with the clock that is looked at and the output that is told to. Where there is none, nothing is told, and
+    /// nothing while `-` is written where that shares the place with it, as a terminal.
+    pub fn new(shelf: S, clock: C, to: Option<W>, shares_output: bool) -> Self
+        ensures { result.shelf ≡ shelf }
+    {
+        ProgressShelf {
+            shelf,
+            progress: Progress::new(clock, to, shares_output),
+        }
+    }
+}
+
+impl<S: Shelf + Drop, C: Clock + Drop, W: Write + Drop> Shelf for ProgressShelf<S, C, W> {
+    ghost held = { λ it. S.held it.shelf };
+
+    ghost is_begun = { λ it. S.is_begun it.shelf };
+
+    ghost faults = { λ it. S.faults it.shelf };
+
+    ghost last_failed = { λ it. S.last_failed it.shelf };
+
+    ghost told_alike = { λ it. S.told_alike it.shelf };
+
+    fn begin(&mut self, name: &str) -> Result<(), Failed> {
+        let begun = self.shelf.begin(name);
+        self.progress.begin(name);
+        begun
+    }
+
+    fn write(&mut self, piece: &[u8]) -> Result<usize, Failed> {
+        let written = self.shelf.write(piece);
+        match written {
+            Ok(n) => self.progress.count(n),
+            Err(_) => self.progress.clear(),
+        }
+        written
+    }
+
+    fn end(&mut self) -> Result<(), Failed> {
+        let ended = self.shelf.end();
+        self.progress.clear();
+        ended
+    }
+}
