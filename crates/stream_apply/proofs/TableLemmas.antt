@@ -1,5 +1,5 @@
 -- The entries of a map as lines.
-use Rattle.std.proofs.Common.{◌≡◌, ℕ, zero, suc, Bool, true, false, cond, ◌||◌, List, [], ◌∷◌, Some, IfSome, is_some, filter, map, slice_get, if◌then◌else◌, refl, ap}
+use Rattle.std.proofs.Common.{◌≡◌, ℕ, zero, suc, Bool, true, false, cond, ◌||◌, List, [], ◌∷◌, Some, IfSome, is_some, filter, map, slice_get, if◌then◌else◌, not, length, refl, ap, arith}
 use Rattle.std.specs.Map.{lookup}
 use Rattle.std.specs.Str.{bytes_eq}
 use Rattle.indexmap.specs.IndexMap.{insert_entry}
@@ -41,3 +41,12 @@ pub text_at-lines_of : (entries : List Entry) (i : ℕ) (text : Bor (List ℕ)) 
 text_at-lines_of [] i text is = tt
 text_at-lines_of (e ∷ es) zero text is = let same : e.1 ≡ text = cc in ap (λ (t : Bor (List ℕ)). t.now) same
 text_at-lines_of (e ∷ es) (suc i) text is = text_at-lines_of es i text is
+
+-- where no line tells a key, all stay
+all_stay : (others : List KeyedLine) → length others ≡ 0 → (table : List KeyedLine) → table ≡ filter (λ (line : KeyedLine). not (has_key others line.key)) table
+all_stay [] none [] = refl
+all_stay [] none (line ∷ table) = ap (λ (rest : List KeyedLine). line ∷ rest) (all_stay [] none table)
+all_stay (other ∷ others) none table = absurd (omega (arith, none))
+
+pub none_dropped : (others table : List KeyedLine) → length others ≡ 0 → table ≡ filter (λ (line : KeyedLine). not (has_key others line.key)) table
+none_dropped others table none = all_stay others none table

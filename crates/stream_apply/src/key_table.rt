@@ -59,6 +59,9 @@ impl<'a> KeyTable<'a> {
     pub(crate) fn drop_all(&mut self, others: &KeyTable)
         ensures { self.new ≡ filter (λ line. not (has_key others.now line.key)) self.old }
     {
+        if others.len() == 0 {
+            return;
+        }
         self.lines.retain(
             |key: &&[u8], text: &mut &[u8]| -> bool
                 ensures { (result ≡ not (has_key others.entry.now key.now.now)) × (text.new ≡ text.old) }
