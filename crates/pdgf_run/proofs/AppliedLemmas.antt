@@ -45,7 +45,8 @@ use Rattle.pdgf_run.specs.TopCall.{Carries, GivesLater}
 use Rattle.pdgf_run.specs.Verdict.{IsDecided, IsInMode, IsPlanned, IsVerdict}
 use Rattle.pdgf_run.specs.declared.job.Job.{Job}
 use Rattle.pdgf_run.specs.declared.report.Report.{Report}
-use Rattle.pdgf_run.specs.modes.Apply.{AreApplied, HoldInputs, IsApplyDue, input_limit, input_paths, inputs_at, inputs_each, later_files, of_choice, places_in, table_inputs, tables_asked}
+use Rattle.update_box.specs.Packages.{chosen_places}
+use Rattle.pdgf_run.specs.modes.Apply.{AreApplied, HoldInputs, IsApplyDue, input_limit, input_paths, inputs_at, inputs_each, later_files, of_choice, table_inputs, tables_asked}
 use Rattle.pdgf_run.proofs.ApplyLemmas.{long_behind, read_and_made}
 use Rattle.pdgf_run.proofs.DecideLemmas.{of_words}
 use Rattle.pdgf_run.proofs.OutcomeLemmas.{one_verdict}
@@ -117,8 +118,8 @@ length-table_inputs plan r place = omega (arith, length-streams plan place (r.fr
 
 -- ---- they make what the tables hold later
 
-place_within : (plan : Project) (table : Option ℕ) (i : ℕ) → IfSome table (λ place. place < length plan.schema.tables) → i < length (places_in plan.schema table) →
-    get_or (places_in plan.schema table) i 0 < length plan.schema.tables
+place_within : (plan : Project) (table : Option ℕ) (i : ℕ) → IfSome table (λ place. place < length plan.schema.tables) → i < length (chosen_places plan table) →
+    get_or (chosen_places plan table) i 0 < length plan.schema.tables
 place_within plan None i within below =
     let count = length-range_with_len 0 (length plan.schema.tables) in
     let inside : i < length plan.schema.tables = omega (arith, below, count) in
@@ -128,11 +129,11 @@ place_within plan (Some place) (suc i) within below = absurd (omega (arith, belo
 
 later_applied : (plan : Project) (r : Request) (table : Option ℕ) (inputs : List (List ℕ)) → IsInLimits plan → r.from ≤ r.to → r.to ≤ last_unit plan →
     IfSome table (λ place. place < length plan.schema.tables) →
-    inputs ≡ flat_map (table_inputs plan r.from (r.to - r.from)) (places_in plan.schema table) →
-    AreApplied (layout_of plan).delimiter (inputs_each r) inputs (map (table_text (generator_of plan) r.to) (places_in plan.schema table))
+    inputs ≡ flat_map (table_inputs plan r.from (r.to - r.from)) (chosen_places plan table) →
+    AreApplied (layout_of plan).delimiter (inputs_each r) inputs (map (table_text (generator_of plan) r.to) (chosen_places plan table))
 later_applied plan r table inputs limits order units within are = record {
   applied = λ i below.
-      let places : List ℕ = places_in plan.schema table in
+      let places : List ℕ = chosen_places plan table in
       let inside : i < length places = omega (arith, below, length-map places (table_text (generator_of plan) r.to)) in
       let place : ℕ = get_or places i 0 in
       let sum : r.from + (r.to - r.from) ≡ r.to = omega (arith, order) in
@@ -171,10 +172,10 @@ later_due plan r files table limits asked hold =
     let first = passes (nat_lt r.to r.from) (job.Range option.From) _ table asked in
     let second = passes (nat_lt (layout_of plan).units r.to) (job.Range option.To) _ table first.1 in
     let chosen : chosen_table plan.schema r.table ≡ Some table = choice_is (chosen_table plan.schema r.table) table second.1 in
-    let paths : List (List ℕ) = input_paths plan.schema r table in
+    let paths : List (List ℕ) = input_paths plan r table in
     read_and_made plan r files table (Ok (inputs_of files paths)) (Ok (later_files plan r table)) (sym asked) (all_read files paths hold.within) (
-      map (table_text (generator_of plan) r.to) (places_in plan.schema table),
-      length-map (places_in plan.schema table) (table_text (generator_of plan) r.to),
+      map (table_text (generator_of plan) r.to) (chosen_places plan table),
+      length-map (chosen_places plan table) (table_text (generator_of plan) r.to),
       later_applied plan r table (inputs_of files paths) limits (not_less r.to r.from first.0) (not_less (layout_of plan).units r.to second.0) (there table chosen) hold.texts,
       refl,
     )

@@ -26,7 +26,8 @@ use Rattle.pdgf_run.specs.Jobs.{due_of}
 use Rattle.pdgf_run.specs.TopCall.{IsLimitOf, LibraryLeft}
 use Rattle.pdgf_run.specs.Verdict.{IsDecided}
 use Rattle.pdgf_run.specs.declared.job.Job.{Job}
-use Rattle.pdgf_run.specs.modes.Apply.{IsApplyDue, IsAskedAndMade, IsReadAndMade, file_named, in_directory, input_limit, input_names, input_paths, paths_asked, paths_possible, places_in, tables_asked, up_to_long}
+use Rattle.update_box.specs.Packages.{chosen_places}
+use Rattle.pdgf_run.specs.modes.Apply.{IsApplyDue, IsAskedAndMade, IsReadAndMade, file_named, in_directory, input_limit, input_names, input_paths, paths_asked, paths_possible, tables_asked, up_to_long}
 
 -- ---- what is told of names
 
@@ -85,20 +86,20 @@ no_memory None plan r = tt
 no_memory (Some files) plan r = λ free. absurd (cc)
 
 pub read_and_made : (plan : Project) (r : Request) (files : List File) (table : Option ℕ) (inputs : Result (List (List ℕ)) InputFault) (answer : Result (List File) JobFault) →
-    Ok table ≡ tables_asked plan r → inputs_in files (input_paths plan.schema r table) input_limit ≡ inputs → IsReadAndMade plan r table inputs answer →
+    Ok table ≡ tables_asked plan r → inputs_in files (input_paths plan r table) input_limit ≡ inputs → IsReadAndMade plan r table inputs answer →
     IsApplyDue plan r files answer
 read_and_made plan r files table inputs answer asked is made =
     asked_and_made plan r files (Ok table) answer asked (subst (λ (i : Result (List (List ℕ)) InputFault). IsReadAndMade plan r table i answer) (sym is) made)
 
 -- an input isn't read
 pub unread_decided : (told : Option (List File)) (plan : Project) (r : Request) (table : Option ℕ) (paths : List (List ℕ)) (fault : InputFault) (file : List ℕ) →
-    Ok table ≡ tables_asked plan r → paths ≡ input_paths plan.schema r table → fault.number < length paths →
+    Ok table ≡ tables_asked plan r → paths ≡ input_paths plan r table → fault.number < length paths →
     file ≡ file_named (drop (length r.source + 1) (get_or paths fault.number [])) →
     IfSome told (λ files. Decides input_status (λ inputs. inputs) (Err fault) (inputs_in files paths input_limit)) →
     IfSome told (λ files. IsDecided job_status due_of (IsApplyDue plan r files) (Err (job.Input (record { file = file; cause = Reading fault.cause }))))
 unread_decided None plan r table paths fault file asked are within named decided = tt
 unread_decided (Some files) plan r table paths fault file asked are within named decided = λ free.
-    let names : List (List ℕ) = input_names plan.schema r (places_in plan.schema table) in
+    let names : List (List ℕ) = input_names plan.schema r (chosen_places plan table) in
     let below : fault.number < length names = omega (arith, within, ap length are, length-in_directory r.source names) in
     let file_is : file ≡ file_named (get_or names fault.number []) =
     named
@@ -110,7 +111,7 @@ unread_decided (Some files) plan r table paths fault file asked are within named
 
 -- what the inputs come to
 pub made_decided : (told : Option (List File)) (plan : Project) (r : Request) (table : Option ℕ) (paths inputs : List (List ℕ)) (answer : Result Job JobFault) →
-    Ok table ≡ tables_asked plan r → paths ≡ input_paths plan.schema r table →
+    Ok table ≡ tables_asked plan r → paths ≡ input_paths plan r table →
     IfSome told (λ files. Decides input_status (λ inputs. inputs) (Ok inputs) (inputs_in files paths input_limit)) →
     IsDecided job_status due_of (IsReadAndMade plan r table (Ok inputs)) answer →
     IfSome told (λ files. IsDecided job_status due_of (IsApplyDue plan r files) answer)
@@ -210,24 +211,24 @@ asked_at_most paths fault taken before now asked = go asked.at_most
     go (inr never) = first_names paths fault.number before now never.0
 
 possible_is : (plan : Project) (r : Request) (table : Option ℕ) (paths : List (List ℕ)) (before now : Option (List (List ℕ))) → Ok table ≡ tables_asked plan r →
-    paths ≡ input_paths plan.schema r table → AskedPrefixOf paths before now → AskedPrefixOf (paths_possible plan r (tables_asked plan r)) before now
+    paths ≡ input_paths plan r table → AskedPrefixOf paths before now → AskedPrefixOf (paths_possible plan r (tables_asked plan r)) before now
 possible_is plan r table paths before now asked are first =
     subst (λ (a : Result (Option ℕ) JobFault). AskedPrefixOf (paths_possible plan r a) before now) asked
     (subst (λ (p : List (List ℕ)). AskedPrefixOf p before now) are first)
 
 pub asked_all : (plan : Project) (r : Request) (table : Option ℕ) (paths : List (List ℕ)) (before now : Option (List (List ℕ))) → Ok table ≡ tables_asked plan r →
-    paths ≡ input_paths plan.schema r table → AskedInTurn paths before now → AskedPrefixOf (paths_possible plan r (tables_asked plan r)) before now
+    paths ≡ input_paths plan r table → AskedInTurn paths before now → AskedPrefixOf (paths_possible plan r (tables_asked plan r)) before now
 asked_all plan r table paths before now asked are turn = possible_is plan r table paths before now asked are (all_names paths before now turn)
 
 pub asked_up_to : (plan : Project) (r : Request) (table : Option ℕ) (paths : List (List ℕ)) (fault : InputFault) (taken : ℕ) (before now : Option (List (List ℕ))) →
-    Ok table ≡ tables_asked plan r → paths ≡ input_paths plan.schema r table → AskedToFault fault paths taken before now →
+    Ok table ≡ tables_asked plan r → paths ≡ input_paths plan r table → AskedToFault fault paths taken before now →
     AskedPrefixOf (paths_possible plan r (tables_asked plan r)) before now
 asked_up_to plan r table paths fault taken before now asked are to =
     possible_is plan r table paths before now asked are (asked_at_most paths fault taken before now to)
 
 -- the same where files are told
 list_is : (plan : Project) (r : Request) (files : List File) (table : Option ℕ) (paths : List (List ℕ)) (inputs : Result (List (List ℕ)) InputFault) (before now : Option (List (List ℕ))) →
-    Ok table ≡ tables_asked plan r → paths ≡ input_paths plan.schema r table → inputs_in files paths input_limit ≡ inputs →
+    Ok table ≡ tables_asked plan r → paths ≡ input_paths plan r table → inputs_in files paths input_limit ≡ inputs →
     AskedPrefixOf (up_to_long paths inputs) before now → AskedPrefixOf (paths_asked plan r files (tables_asked plan r)) before now
 list_is plan r files table paths inputs before now asked are is first =
     subst (λ (a : Result (Option ℕ) JobFault). AskedPrefixOf (paths_asked plan r files a) before now) asked
@@ -235,7 +236,7 @@ list_is plan r files table paths inputs before now asked are is first =
     (subst (λ (i : Result (List (List ℕ)) InputFault). AskedPrefixOf (up_to_long paths i) before now) (sym is) first))
 
 pub asked_all_told : (told : Option (List File)) (plan : Project) (r : Request) (table : Option ℕ) (paths inputs : List (List ℕ)) (before now : Option (List (List ℕ))) →
-    Ok table ≡ tables_asked plan r → paths ≡ input_paths plan.schema r table →
+    Ok table ≡ tables_asked plan r → paths ≡ input_paths plan r table →
     IfSome told (λ files. Decides input_status (λ inputs. inputs) (Ok inputs) (inputs_in files paths input_limit)) → AskedInTurn paths before now →
     IfSome told (λ files. AskedPrefixOf (paths_asked plan r files (tables_asked plan r)) before now)
 asked_all_told None plan r table paths inputs before now asked are decided turn = tt
@@ -301,7 +302,7 @@ fits_so_far files names place own (Some number) is limits =
     (omega (arith, limits, ap total_length (take-map (bytes_of files) place names)))
 
 pub asked_up_to_told : (told : Option (List File)) (plan : Project) (r : Request) (table : Option ℕ) (paths : List (List ℕ)) (fault : InputFault) (own taken : ℕ) (before now : Option (List (List ℕ))) →
-    Ok table ≡ tables_asked plan r → paths ≡ input_paths plan.schema r table → AskedToFault fault paths taken before now →
+    Ok table ≡ tables_asked plan r → paths ≡ input_paths plan r table → AskedToFault fault paths taken before now →
     IfSome told (λ files. total_length (inputs_of files (take fault.number paths)) + own ≡ input_limit) →
     IfSome told (λ files. AskedPrefixOf (paths_asked plan r files (tables_asked plan r)) before now)
 asked_up_to_told None plan r table paths fault own taken before now asked are to limits = tt

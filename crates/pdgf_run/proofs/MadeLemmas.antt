@@ -23,7 +23,8 @@ use Rattle.schema_plan.specs.Layout.{layout_of}
 use Rattle.pdgf_run.specs.Jobs.{due_of}
 use Rattle.pdgf_run.specs.Verdict.{IsDecided}
 use Rattle.pdgf_run.specs.declared.job.Job.{Job}
-use Rattle.pdgf_run.specs.modes.Apply.{AreApplied, IsFirstFault, IsReadAndMade, IsUnapplied, file_named, in_directory, input_names, inputs_at, inputs_each, made_files, places_in}
+use Rattle.update_box.specs.Packages.{chosen_places}
+use Rattle.pdgf_run.specs.modes.Apply.{AreApplied, IsFirstFault, IsReadAndMade, IsUnapplied, file_named, in_directory, input_names, inputs_at, inputs_each, made_files}
 use Rattle.pdgf_run.proofs.ApplyLemmas.{named_at}
 use Rattle.pdgf_run.proofs.PathLemmas.{length-tables}
 
@@ -101,7 +102,7 @@ in_all count each texts place number within below is =
     omega (arith, rows, next, is, below)
 
 told_is : (plan : Project) (r : Request) (table : Option ℕ) (each first count : ℕ) (paths inputs : List (List ℕ)) (number : ℕ) (cause : ApplyFault) (fault : JobFault) →
-    range_with_len first count ≡ places_in plan.schema table → each ≡ inputs_each r →
+    range_with_len first count ≡ chosen_places plan table → each ≡ inputs_each r →
     paths ≡ map (in_directory r.source) (input_names plan.schema r (range_with_len first count)) →
     IsFirstFault (layout_of plan).delimiter each inputs count number cause →
     fault ≡ job.Input (record { file = file_named (drop (length r.source + 1) (get_or paths number [])); cause = Applying cause }) →
@@ -111,10 +112,10 @@ told_is plan r table each first count paths inputs number cause fault places eac
     let within : number < count * each = in_all count each (length is_first.texts) is_first.place number is_first.within is_first.below is_first.number_is in
     let all : length names ≡ count * each = length-tables plan.schema r first count ∙ ap (λ (e : ℕ). count * e) (sym each_is) in
     let below : number < length names = omega (arith, within, all) in
-    let counted : count ≡ length (places_in plan.schema table) = sym (length-range_with_len first count) ∙ ap length places in (
+    let counted : count ≡ length (chosen_places plan table) = sym (length-range_with_len first count) ∙ ap length places in (
       number,
       cause,
-      subst (λ (e : ℕ). IsFirstFault (layout_of plan).delimiter e inputs (length (places_in plan.schema table)) number cause) each_is
+      subst (λ (e : ℕ). IsFirstFault (layout_of plan).delimiter e inputs (length (chosen_places plan table)) number cause) each_is
           (subst (λ (n : ℕ). IsFirstFault (layout_of plan).delimiter each inputs n number cause) counted is_first),
       is
           ∙ ap (λ (name : List ℕ). job.Input (record { file = file_named name; cause = Applying cause }))
@@ -124,7 +125,7 @@ told_is plan r table each first count paths inputs number cause fault places eac
     )
 
 pub made_is : (plan : Project) (r : Request) (table : Option ℕ) (each first count : ℕ) (paths inputs : List (List ℕ)) (made : Result Job JobFault) →
-    range_with_len first count ≡ places_in plan.schema table → each ≡ inputs_each r →
+    range_with_len first count ≡ chosen_places plan table → each ≡ inputs_each r →
     paths ≡ map (in_directory r.source) (input_names plan.schema r (range_with_len first count)) →
     IfOk made (λ job. (texts : List (List ℕ)) × (length texts ≡ count) × AreApplied (layout_of plan).delimiter each inputs texts
     × (due_of job ≡ made_files plan.schema r.out (range_with_len first count) texts)) →

@@ -24,7 +24,8 @@ use Rattle.stream_apply.specs.KeyedLines.{lines_text}
 use Rattle.stream_apply.specs.declared.fault.ApplyFault.{ApplyFault}
 use Rattle.stream_apply.specs.declared.fault.ApplyFault.TheVariants.{Memory}
 use Rattle.pdgf_run.specs.Verdict.{IsInMode, IsOfRequest, IsPlanned, IsVerdict}
-use Rattle.pdgf_run.specs.modes.Apply.{AreApplied, IsApplyDue, IsAskedAndMade, IsFirstFault, IsMadeOf, IsReadAndMade, input_limit, input_names, input_paths, inputs_at, inputs_each, made_files, places_in, tables_asked, unapplied}
+use Rattle.update_box.specs.Packages.{chosen_places}
+use Rattle.pdgf_run.specs.modes.Apply.{AreApplied, IsApplyDue, IsAskedAndMade, IsFirstFault, IsMadeOf, IsReadAndMade, input_limit, input_names, input_paths, inputs_at, inputs_each, made_files, tables_asked, unapplied}
 
 -- ---- one table
 
@@ -79,7 +80,7 @@ one_made : (plan : Project) (r : Request) (table : Option ℕ) (inputs : List (L
 one_made plan r table inputs (Ok due) (Ok other) delimits made other_made =
     let same : made.0 ≡ other_made.0 =
     one_list (layout_of plan).delimiter (inputs_each r) inputs made.0 other_made.0 delimits (made.1 ∙ sym other_made.1) made.2 other_made.2 in
-    ap Ok (made.3 ∙ ap (made_files plan.schema r.out (places_in plan.schema table)) same ∙ sym other_made.3)
+    ap Ok (made.3 ∙ ap (made_files plan.schema r.out (chosen_places plan table)) same ∙ sym other_made.3)
 one_made plan r table inputs (Ok due) (Err fault) delimits made other_made =
     absurd (no_fault_within (layout_of plan).delimiter (inputs_each r) inputs made.0 _ other_made.0 other_made.1 delimits made.2 other_made.2
     (omega (arith, other_made.2.within, made.1)))
@@ -88,7 +89,7 @@ one_made plan r table inputs (Err fault) (Ok due) delimits made other_made =
     (omega (arith, made.2.within, other_made.1)))
 one_made plan r table inputs (Err fault) (Err other) delimits made other_made =
     let one = one_fault (layout_of plan).delimiter (inputs_each r) inputs _ made.0 other_made.0 made.1 other_made.1 delimits made.2 other_made.2 in
-    let names : List (List ℕ) = input_names plan.schema r (places_in plan.schema table) in
+    let names : List (List ℕ) = input_names plan.schema r (chosen_places plan table) in
     ap Err (made.3 ∙ ap (λ (n : ℕ). unapplied names n made.1) one.0 ∙ ap (unapplied names other_made.0) one.1 ∙ sym other_made.3)
 
 one_read : (plan : Project) (r : Request) (table : Option ℕ) (inputs : Result (List (List ℕ)) InputFault) (answer other : Result (List File) JobFault) → IsDelimiter (layout_of plan).delimiter →
@@ -99,7 +100,7 @@ one_read plan r table (Err fault) answer other delimits is other_is = is ∙ sym
 one_asked : (plan : Project) (r : Request) (files : List File) (asked : Result (Option ℕ) JobFault) (answer other : Result (List File) JobFault) → IsDelimiter (layout_of plan).delimiter →
     IsAskedAndMade plan r files asked answer → IsAskedAndMade plan r files asked other → answer ≡ other
 one_asked plan r files (Ok table) answer other delimits is other_is =
-    one_read plan r table (inputs_in files (input_paths plan.schema r table) input_limit) answer other delimits is other_is
+    one_read plan r table (inputs_in files (input_paths plan r table) input_limit) answer other delimits is other_is
 one_asked plan r files (Err fault) answer other delimits is other_is = is ∙ sym other_is
 
 pub one_apply : (plan : Project) (r : Request) (files : List File) (answer other : Result (List File) JobFault) → IsDelimiter (layout_of plan).delimiter →

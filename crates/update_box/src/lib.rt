@@ -22,7 +22,7 @@ mod units;
 pub use list_packer::ListPacker;
 pub use memory::Memory;
 pub use names::push_file_name;
-pub use parts::{Content, Job};
+pub use parts::{Content, Job, Places, places_of};
 pub use prepared::PreparedTables;
 pub use scan::{TableRows, table_rows};
 pub use snapshot_packer::SnapshotPacker;

@@ -36,13 +36,15 @@ pub struct Job {
 
 /// The places of `count` tables from the one at place `from` on.
 #[derive(Clone, Copy, Debug, PartialEq, Eq)]
-pub(crate) struct Places {
-    pub(crate) from: u32,
-    pub(crate) count: u32,
+pub struct Places {
+    /// The place of the first.
+    pub from: u32,
+    /// How many they are.
+    pub count: u32,
 }
 
-/// The places of the tables that are chosen.
-pub(crate) fn places_of(plan: &Plan, table: Option<u32>) -> Places
+/// The places of the tables that are chosen: the one, or all where none is named.
+pub fn places_of(plan: &Plan, table: Option<u32>) -> Places
     requires table { IsChoice plan.now table }
     ensures places { range_with_len result.from result.count ≡ chosen_places plan.now table }
     ensures within { result.from + result.count ≤ length plan.now.schema.tables }

@@ -17,6 +17,7 @@ use Rattle.schema_plan.specs.Layout.{layout_of}
 use Rattle.stream_apply.specs.InTurn.{IsAppliedText, IsFaultAt}
 use Rattle.stream_apply.specs.declared.fault.ApplyFault.{ApplyFault}
 use Rattle.stream_apply.specs.declared.fault.ApplyFault.TheVariants.{Memory}
+use Rattle.update_box.specs.Packages.{chosen_places}
 use Rattle.update_box.specs.Parts.{Part, ending_of, name_at, unit_contents}
 use Rattle.update_box.specs.TextLaws.{unit_streams}
 use Rattle.update_box.specs.declared.parts.Content.TheVariants as content
@@ -34,11 +35,6 @@ abbrev pub tables_asked : Project → Request → Result (Option ℕ) JobFault
 tables_asked plan request =
     if nat_lt request.to request.from then Err (job.Range option.From)
     else (if nat_lt (layout_of plan).units request.to then Err (job.Range option.To) else of_choice (chosen_table plan.schema request.table))
-
--- the places of the tables that are chosen: all in order, or the one
-abbrev pub places_in : Schema → Option ℕ → List ℕ
-places_in schema None = range_with_len 0 (length schema.tables)
-places_in schema (Some place) = place ∷ []
 
 -- ---- the inputs
 
@@ -68,8 +64,8 @@ input_names schema request places = flat_map (table_names schema request.from (r
 abbrev pub in_directory : List ℕ → List ℕ → List ℕ
 in_directory directory name = (directory ++ codes "/") ++ name
 
-abbrev pub input_paths : Schema → Request → Option ℕ → List (List ℕ)
-input_paths schema request table = map (in_directory request.source) (input_names schema request (places_in schema table))
+abbrev pub input_paths : Project → Request → Option ℕ → List (List ℕ)
+input_paths plan request table = map (in_directory request.source) (input_names plan.schema request (chosen_places plan table))
 
 -- how many inputs a table has, and those of the table at a place among those that are chosen
 abbrev pub inputs_each : Request → ℕ
@@ -133,21 +129,21 @@ unapplied names number fault = job.Input (record { file = file_named (get_or nam
 -- inputs give the due files, or the first fault
 abbrev pub IsMadeOf : Project → Request → Option ℕ → List (List ℕ) → Result (List File) JobFault → Type 0
 IsMadeOf plan request table inputs (Ok due) =
-    (texts : List (List ℕ)) × (length texts ≡ length (places_in plan.schema table))
+    (texts : List (List ℕ)) × (length texts ≡ length (chosen_places plan table))
     × AreApplied (layout_of plan).delimiter (inputs_each request) inputs texts
-    × (due ≡ made_files plan.schema request.out (places_in plan.schema table) texts)
+    × (due ≡ made_files plan.schema request.out (chosen_places plan table) texts)
 IsMadeOf plan request table inputs (Err fault) =
     (number : ℕ) × (cause : ApplyFault)
-    × IsFirstFault (layout_of plan).delimiter (inputs_each request) inputs (length (places_in plan.schema table)) number cause
-    × (fault ≡ unapplied (input_names plan.schema request (places_in plan.schema table)) number cause)
+    × IsFirstFault (layout_of plan).delimiter (inputs_each request) inputs (length (chosen_places plan table)) number cause
+    × (fault ≡ unapplied (input_names plan.schema request (chosen_places plan table)) number cause)
 
 abbrev pub IsReadAndMade : Project → Request → Option ℕ → Result (List (List ℕ)) InputFault → Result (List File) JobFault → Type 0
 IsReadAndMade plan request table (Ok inputs) answer = IsMadeOf plan request table inputs answer
-IsReadAndMade plan request table (Err fault) answer = answer ≡ Err (unread (input_names plan.schema request (places_in plan.schema table)) fault)
+IsReadAndMade plan request table (Err fault) answer = answer ≡ Err (unread (input_names plan.schema request (chosen_places plan table)) fault)
 
 abbrev pub IsAskedAndMade : Project → Request → List File → Result (Option ℕ) JobFault → Result (List File) JobFault → Type 0
 IsAskedAndMade plan request files (Ok table) answer =
-    IsReadAndMade plan request table (inputs_in files (input_paths plan.schema request table) input_limit) answer
+    IsReadAndMade plan request table (inputs_in files (input_paths plan request table) input_limit) answer
 IsAskedAndMade plan request files (Err fault) answer = answer ≡ Err fault
 
 -- what the mode is due over files: the first unit past the last one is refused first, then a last one past the plan's, then a table that
@@ -165,12 +161,12 @@ up_to_long paths (Err fault) = take (fault.number + 1) paths
 abbrev pub paths_asked : Project → Request → List File → Result (Option ℕ) JobFault → List (List ℕ)
 paths_asked plan request files (Err fault) = []
 paths_asked plan request files (Ok table) =
-    up_to_long (input_paths plan.schema request table) (inputs_in files (input_paths plan.schema request table) input_limit)
+    up_to_long (input_paths plan request table) (inputs_in files (input_paths plan request table) input_limit)
 
 -- those that may be asked, where no file is told
 abbrev pub paths_possible : Project → Request → Result (Option ℕ) JobFault → List (List ℕ)
 paths_possible plan request (Err fault) = []
-paths_possible plan request (Ok table) = input_paths plan.schema request table
+paths_possible plan request (Ok table) = input_paths plan request table
 
 -- ---- inputs that a simulation gives
 
@@ -181,11 +177,11 @@ table_inputs plan from count place = table_text (generator_of plan) from place �
 -- files hold these as the inputs of a request
 pub record HoldInputs (plan : Project) (request : Request) (table : Option ℕ) (files : List File) : Type 0 where
   pub texts :
-      inputs_of files (input_paths plan.schema request table)
-      ≡ flat_map (table_inputs plan request.from (request.to - request.from)) (places_in plan.schema table)
-  pub within : total_length (inputs_of files (input_paths plan.schema request table)) ≤ input_limit
+      inputs_of files (input_paths plan request table)
+      ≡ flat_map (table_inputs plan request.from (request.to - request.from)) (chosen_places plan table)
+  pub within : total_length (inputs_of files (input_paths plan request table)) ≤ input_limit
 
 -- the files of what the tables hold at the last unit that is asked for
 abbrev pub later_files : Project → Request → Option ℕ → List File
 later_files plan request table =
-    made_files plan.schema request.out (places_in plan.schema table) (map (table_text (generator_of plan) request.to) (places_in plan.schema table))
+    made_files plan.schema request.out (chosen_places plan table) (map (table_text (generator_of plan) request.to) (chosen_places plan table))

@@ -9,11 +9,11 @@ ghost use Rattle.plan_stages.specs.Stages.{ended, told_files, IsReadOut};
 ghost use Rattle.refusals.specs.Statuses.{job_status};
 ghost use Rattle.row_text.specs.Fields.{IsDelimiter};
 ghost use Rattle.schema_plan.specs.Layout.{layout_of};
-ghost use Rattle.update_box.specs.Packages.{IsChoice};
+ghost use Rattle.update_box.specs.Packages.{IsChoice, chosen_places};
 ghost use Rattle.pdgf_run.specs.Jobs.{due_of, CanFill};
 ghost use Rattle.pdgf_run.specs.TopCall.{IsLimitTold, LibraryLeft};
 ghost use Rattle.pdgf_run.specs.Verdict.{IsDecided};
-ghost use Rattle.pdgf_run.specs.modes.Apply.{AreApplied, AreInDirectory, IsApplyDue, IsUnapplied, file_name, file_named, in_directory, input_limit, input_names, inputs_each, made_files, paths_asked, paths_possible, places_in, table_names, tables_asked, text_name, unit_names};
+ghost use Rattle.pdgf_run.specs.modes.Apply.{AreApplied, AreInDirectory, IsApplyDue, IsUnapplied, file_name, file_named, in_directory, input_limit, input_names, inputs_each, made_files, paths_asked, paths_possible, table_names, tables_asked, text_name, unit_names};
 
 use crate::asked::{chosen_table, is_past_last};
 use crate::job::{FilesJob, Job};
@@ -25,7 +25,7 @@ use schema_model::{Text, Texts};
 use schema_plan::Plan;
 use std::alloc::Global;
 use stream_apply::{ApplyFault, apply_in_turn};
-use update_box::{Content, Memory, push_file_name};
+use update_box::{Content, Memory, Places, places_of, push_file_name};
 
 /// The most bytes that all inputs have together.
 const INPUT_LIMIT: u64 = 268_435_456;
@@ -98,20 +98,17 @@ fn tables_of(plan: &Plan, table: Option<u32>, request: &Request) -> Tables
     requires table { IsChoice plan.now table }
     requires order { request.now.from ≤ request.now.to }
     requires units { request.now.to ≤ (layout_of plan.now).units }
-    ensures places { range_with_len result.first result.count ≡ places_in plan.now.schema table }
+    ensures places { range_with_len result.first result.count ≡ chosen_places plan.now table }
     ensures within { result.first + result.count ≤ length plan.now.schema.tables }
     ensures few { result.count ≤ 64 }
     ensures some { 1 ≤ result.count }
     ensures each { result.inputs ≡ inputs_each request.now }
     ensures not_many { result.inputs ≤ 30001 }
 {
-    let _limits = plan.schema(); // there are 1 to 64 tables and at most 10,000 units
-    let (first, count) = match table {
-        None => (0, plan.tables()),
-        Some(place) => (place, 1),
-    };
+    let _limits = plan.schema(); // there are at most 10,000 units
+    let Places { from, count } = places_of(plan, table);
     Tables {
-        first,
+        first: from,
         count,
         inputs: 1 + 3 * (request.to - request.from) as usize,
     }
