@@ -1,6 +1,8 @@
-//! Tests of lines that are read back and of streams that are applied to a table, by public calls.
+//! Tests of lines that are read back, of streams that are applied to a table and of rows in CSV, by public calls.
 #![tactic(auto)]
 
+#[cfg(test)]
+mod csv_tests;
 #[cfg(test)]
 mod line_tests;
 #[cfg(test)]

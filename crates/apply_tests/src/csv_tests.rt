@@ -1,0 +1,44 @@
+//! Rows in CSV, worked out by hand after RFC 4180, section 2.
+
+use csv_face::{CsvFault, from_csv, to_csv};
+
+/// A line with a comma, null, the text \N and the empty text, and one with quotes, line ends and a backslash behind the first byte.
+#[test]
+fn rows_are_written_and_read_back(rt: HostRuntime) {
+    let text = b"1\ta,b\t\\N\t\\\\N\t\n2\t\"q\"\tx\\\\y\tl\\nm\t\\r\n".as_slice();
+    let csv = to_csv(rt.alloc(), text, b'\t').expect(&rt, "ample memory");
+    assert!(rt;
+        csv.as_slice() == b"1,\"a,b\",\\N,\\\\N,\n2,\"\"\"q\"\"\",x\\y,\"l\nm\",\"\r\"\n".as_slice()
+    );
+    let back = from_csv(rt.alloc(), &csv, b'\t', 5).expect(&rt, "no record is bad");
+    assert!(rt; back.as_slice() == text);
+}
+
+/// A bar is escaped in a line, and a tab isn't then a delimiter.
+#[test]
+fn rows_with_bars_are_written(rt: HostRuntime) {
+    let text = b"7|a\\|b|c\\td\n".as_slice();
+    let csv = to_csv(rt.alloc(), text, b'|').expect(&rt, "ample memory");
+    assert!(rt; csv.as_slice() == b"7,a|b,c\td\n".as_slice());
+}
+
+/// Line ends of two bytes, quotes where none are wanted, and a last record without a line end.
+#[test]
+fn other_spellings_are_read(rt: HostRuntime) {
+    let text = from_csv(rt.alloc(), b"1,\"a\"\r\n\"2\",b", b'\t', 2).expect(
+        &rt,
+        "no record is bad",
+    );
+    assert!(rt; text.as_slice() == b"1\ta\n2\tb\n".as_slice());
+}
+
+/// The first record that is bad is told, by a field or by their number.
+#[test]
+fn bad_records_are_told(rt: HostRuntime) {
+    let field = from_csv(rt.alloc(), b"1,\\x\n2\n", b'\t', 2);
+    assert!(rt; matches!(field, Err(CsvFault::BadRecord { number: 1 })));
+    let fewer = from_csv(rt.alloc(), b"1,a\n2\n3,\\\n", b'\t', 2);
+    assert!(rt; matches!(fewer, Err(CsvFault::BadRecord { number: 2 })));
+    let more = from_csv(rt.alloc(), b"1\n2\n3,4\n", b'\t', 1);
+    assert!(rt; matches!(more, Err(CsvFault::BadRecord { number: 3 })));
+}

@@ -1,0 +1,5 @@
+pub mod ScanLemmas
+pub mod FieldLemmas
+pub mod RecordLemmas
+pub mod RowLemmas
+pub mod BackLemmas

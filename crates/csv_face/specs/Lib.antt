@@ -1,0 +1,4 @@
+pub mod Csv
+pub mod Reading
+pub mod Scan
+pub mod Scanners

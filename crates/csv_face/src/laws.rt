@@ -1,0 +1,29 @@
+//! The laws of CSV, each the contract of a function that does nothing.
+
+ghost use Rattle.std.specs.Prelude.{◌≡◌, ℕ, List};
+ghost use Rattle.row_text.specs.Fields.{IsDelimiter};
+ghost use Rattle.csv_face.specs.Csv.{BeginsWithDigit, IsCopyText, IsCsvOf, Row, csv_text};
+ghost use Rattle.csv_face.specs.Reading.{HasBadRecord, IsReadAs};
+
+/// Rows that are written as CSV are read back, where their text begins with a digit, as one does whose first field is a key: as nothing
+/// else, and no record is bad.
+pub fn csv_is_read_back()
+    ensures read { (delimiter fields : ℕ) (rows : List Row) (text : List ℕ) → IsDelimiter delimiter → IsCopyText delimiter fields rows text →
+        BeginsWithDigit text → IsReadAs delimiter fields (csv_text rows) text }
+    ensures one { (delimiter fields : ℕ) (bytes text other : List ℕ) →
+        IsReadAs delimiter fields bytes text → IsReadAs delimiter fields bytes other → text ≡ other }
+    ensures none_bad { (delimiter fields : ℕ) (bytes text : List ℕ) (number : ℕ) →
+        IsReadAs delimiter fields bytes text → ¬ HasBadRecord fields bytes number }
+{}
+
+/// Bytes have at most one record that is the first bad one.
+pub fn one_record_is_the_first_bad_one()
+    ensures { (fields : ℕ) (bytes : List ℕ) (number other : ℕ) →
+        HasBadRecord fields bytes number → HasBadRecord fields bytes other → number ≡ other }
+{}
+
+/// A text has one CSV.
+pub fn a_text_has_one_csv()
+    ensures { (delimiter : ℕ) (text csv other : List ℕ) → IsDelimiter delimiter →
+        IsCsvOf delimiter text csv → IsCsvOf delimiter text other → csv ≡ other }
+{}

@@ -1,0 +1,158 @@
+//! From COPY text form to CSV.
+
+ghost use Rattle.std.specs.Prelude.{◌≡◌, ◌∷◌, ◌++◌, [], ℕ, List, IfOk, OnOk, false};
+ghost use Rattle.csv.specs.Records.{fields_of, partial_of};
+ghost use Rattle.csv_face.specs.Csv.{HasRows, IsCsvOf, record_text, records_text};
+ghost use Rattle.csv_face.specs.Scan.{byte_of, records_behind, with_byte, with_letter};
+ghost use Rattle.csv_face.specs.Scanners.{HasWritten, WillWrite};
+ghost use Rattle.row_text.specs.Fields.{IsDelimiter};
+
+use crate::Memory;
+use csv::{ByteRecord, Writer, WriterBuilder};
+use std::alloc::Global;
+
+/// What is read of a text, and written of it.
+#[derive(Drop)]
+struct Scanner {
+    writer: Writer<Vec<u8>>,
+    /// The fields of the record at hand that are read whole.
+    fields: ByteRecord,
+    /// The bytes of the field at hand.
+    field: Vec<u8>,
+    /// Whether a backslash is read whose letter isn't.
+    is_escape: bool,
+}
+
+/// The byte that a backslash and a letter stand for.
+fn byte_of(letter: u8) -> u8
+    ensures { result ≡ byte_of letter }
+{
+    match letter {
+        b'b' => 8,
+        b't' => 9,
+        b'n' => 10,
+        b'v' => 11,
+        b'f' => 12,
+        b'r' => 13,
+        itself => itself,
+    }
+}
+
+/// Appends a byte of a text to the field of a record that holds the text.
+fn put_byte(field: &mut Vec<u8>, byte: u8) -> Result<(), Memory>
+    ensures { OnOk result (field.new.items ≡ with_byte field.old.items byte) }
+{
+    if byte == b'\\' && field.is_empty() {
+        field.push(b'\\')?;
+    }
+    field.push(byte)?;
+    Ok(())
+}
+
+/// Appends what a backslash and a letter stand for.
+fn put_letter(field: &mut Vec<u8>, letter: u8) -> Result<(), Memory>
+    ensures { OnOk result (field.new.items ≡ with_letter field.old.items letter) }
+{
+    if letter == b'N' {
+        field.extend_from_slice(b"\\N")?;
+        Ok(())
+    } else {
+        put_byte(field, byte_of(letter))
+    }
+}
+
+impl Scanner {
+    /// Nothing is read yet.
+    fn new(alloc: Global) -> Scanner
+        ensures { (delimiter : ℕ) (text : List ℕ) →
+            WillWrite delimiter result (records_text (records_behind delimiter [] [] false text)) text }
+    {
+        Scanner {
+            writer: WriterBuilder::new().from_writer(Vec::new(alloc)),
+            fields: ByteRecord::new(alloc),
+            field: Vec::new(alloc),
+            is_escape: false,
+        }
+    }
+
+    /// Reads one byte more.
+    #[tactic(auto, unfolding(crate::specs::Scan::records_behind))]
+    fn read(&mut self, byte: u8, delimiter: u8) -> Result<(), Memory>
+        ensures { (whole rest : List ℕ) → WillWrite delimiter self.old whole (byte ∷ rest) →
+            OnOk result (WillWrite delimiter self.new whole rest) }
+    {
+        if self.is_escape {
+            self.is_escape = false;
+            return put_letter(&mut self.field, byte);
+        }
+        if byte == b'\\' {
+            self.is_escape = true;
+            return Ok(());
+        }
+        if byte == delimiter {
+            return self.end_field();
+        }
+        if byte == b'\n' {
+            return self.end_record();
+        }
+        self.field.push(byte)?;
+        Ok(())
+    }
+
+    /// The field at hand is read whole.
+    fn end_field(&mut self) -> Result<(), Memory>
+        ensures same { OnOk result (self.new ≡ record self.old { fields = self.new.fields; field = self.new.field }) }
+        ensures fields { OnOk result (fields_of self.new.fields ≡ fields_of self.old.fields ++ (partial_of self.old.fields ++ self.old.field.items) ∷ []) }
+        ensures partial { OnOk result (partial_of self.new.fields ≡ []) }
+        ensures field { OnOk result (self.new.field.items ≡ []) }
+    {
+        self.fields.push_field(self.field.as_slice())?;
+        self.field.clear();
+        Ok(())
+    }
+
+    /// The record at hand is read whole, and written.
+    fn end_record(&mut self) -> Result<(), Memory>
+        ensures written { (text : List ℕ) → HasWritten self.old text →
+            OnOk result (HasWritten self.new (text ++ record_text (fields_of self.old.fields ++ self.old.field.items ∷ []))) }
+        ensures fields { OnOk result (fields_of self.new.fields ≡ []) }
+        ensures field { OnOk result (self.new.field.items ≡ []) }
+        ensures escape { OnOk result (self.new.is_escape ≡ self.old.is_escape) }
+    {
+        self.end_field()?;
+        self.writer.write_byte_record(&self.fields)?;
+        self.fields.clear();
+        Ok(())
+    }
+
+    /// What is written of a text that is read whole.
+    #[tactic(auto, unfolding(crate::specs::Scan::records_behind))]
+    fn finish(self) -> Result<Vec<u8>, Memory>
+        ensures { (delimiter : ℕ) (whole : List ℕ) → WillWrite delimiter self whole [] → IfOk result (λ csv. csv.items ≡ whole) }
+    {
+        match self.writer.into_inner() {
+            Ok(text) => Ok(text),
+            Err(_) => Err(Memory),
+        }
+    }
+}
+
+/// The records of a text, as CSV.
+fn scanned(alloc: Global, text: &[u8], delimiter: u8) -> Result<Vec<u8>, Memory>
+    ensures { IfOk result (λ csv. csv.items ≡ records_text (records_behind delimiter [] [] false text.now)) }
+{
+    let mut scanner = Scanner::new(alloc);
+    for byte in text {
+        scanner.read(*byte, delimiter)?;
+    }
+    scanner.finish()
+}
+
+/// A text in COPY text form as CSV, row by row. The text is lines as they are written with the delimiter, all of as many fields.
+pub fn to_csv(alloc: Global, text: &[u8], delimiter: u8) -> Result<Vec<u8>, Memory>
+    requires delimiter { IsDelimiter delimiter }
+    requires rows { HasRows delimiter text.now }
+    ensures { IfOk result (λ csv. IsCsvOf delimiter text.now csv.items) }
+{
+    scanned(alloc, text, delimiter)
+}
