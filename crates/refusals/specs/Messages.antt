@@ -50,6 +50,7 @@ usage_text (usage.Unwanted name) = codes "usage: unwanted " ++ option_text name
 usage_text (usage.Missing name) = codes "usage: missing " ++ option_text name
 usage_text (usage.Number name) = codes "usage: bad number for " ++ option_text name
 usage_text (usage.EmptyDirectory name) = codes "usage: empty directory for " ++ option_text name
+usage_text usage.Format = codes "usage: bad format"
 usage_text usage.Memory = codes "out of memory"
 
 -- a place of a schema: a table, a column and a branch, each counted from 1, or 0 where the place isn't inside one
@@ -168,6 +169,7 @@ applying_text file applying.Memory = codes "out of memory"
 abbrev pub input_text : List ℕ → InputCause → List ℕ
 input_text file (input.Reading fault) = reading_input_text file fault
 input_text file (input.Applying fault) = applying_text file fault
+input_text file (input.BadRecord number) = line_fault_text file number (codes "bad record")
 
 abbrev pub job_fault_text : JobFault → List ℕ
 job_fault_text (job.Plan fault) = plan_fault_text fault

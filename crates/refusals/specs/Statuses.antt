@@ -58,6 +58,7 @@ applying_status fault = 9
 abbrev pub input_cause_status : InputCause → ℕ
 input_cause_status (input.Reading fault) = reading_status fault
 input_cause_status (input.Applying fault) = applying_status fault
+input_cause_status (input.BadRecord number) = 9
 
 -- the status of a request that gives no job
 abbrev pub job_status : JobFault → ℕ

@@ -171,6 +171,9 @@ fn put_input_fault(message: &mut Message, fault: InputFault)
     match fault.cause {
         InputCause::Reading(cause) => put_reading_input(message, fault.file, cause),
         InputCause::Applying(cause) => put_applying(message, fault.file, cause),
+        InputCause::BadRecord(number) => {
+            put_line_fault(message, fault.file, number, b"bad record")
+        }
     }
 }
 
@@ -235,6 +238,7 @@ fn put_usage(message: &mut Message, fault: UsageFault)
             b"usage: empty directory for ",
             name,
         ),
+        UsageFault::Format => message.put(b"usage: bad format"),
         UsageFault::Memory => message.put(b"out of memory"),
     }
 }

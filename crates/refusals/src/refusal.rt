@@ -90,6 +90,8 @@ pub enum InputCause {
     Reading(ReadFault),
     /// Its bytes are no lines of a table, or don't fit the table that they are applied to.
     Applying(ApplyFault),
+    /// The record of this number, counted from 1, is the first of its CSV that is bad.
+    BadRecord(u64),
 }
 
 impl Refusal {
@@ -169,6 +171,7 @@ impl InputCause {
         match self {
             InputCause::Reading(fault) => reading_status(fault),
             InputCause::Applying(fault) => applying_status(fault),
+            InputCause::BadRecord(_) => 9,
         }
     }
 }

@@ -1,12 +1,12 @@
 -- The faults of words: none of them is want of memory.
 use Rattle.std.proofs.Common.{◌≢◌, ℕ, Bool, true, false, List, [], ◌∷◌, Option, None, Some, Result, Err, subst}
-use Rattle.std.specs.Prelude.{⊤, if◌then◌else◌, IfErr, IfSome}
+use Rattle.std.specs.Prelude.{⊤, if◌then◌else◌, IfErr, IfSome, is_some}
 use Rattle.std.specs.Option.{option_and_then, option_or}
 use Rattle.request_words.specs.Form.{given_in, has_form, mode_in}
-use Rattle.request_words.specs.Options.{Given, is_number_of, mode_named, order, request_of, takes}
+use Rattle.request_words.specs.Options.{Given, format_named, is_number_of, mode_named, order, request_of, takes}
 use Rattle.request_words.specs.Words.{first_fault, of_mode, option_fault, request, unless_fault, value_fault}
 use Rattle.request_words.specs.declared.options.Form.{Form}
-use Rattle.request_words.specs.declared.options.Form.TheVariants.{Text, Number, FromOneTo, Directory}
+use Rattle.request_words.specs.declared.options.Form.TheVariants.{Text, Number, FromOneTo, Directory, FormatName}
 use Rattle.request_words.specs.declared.options.Take.{Take}
 use Rattle.request_words.specs.declared.options.Take.TheVariants.{Unwanted, Optional, Preset, Needed}
 use Rattle.request_words.specs.declared.usage.Mode.{Mode}
@@ -24,12 +24,17 @@ number_fault-of_words : (name : OptionName) (is : Bool) → IfSome (if is then N
 number_fault-of_words name true = tt
 number_fault-of_words name false = tt
 
+format_fault-of_words : (is : Bool) → IfSome (if is then None else Some usage.Format) IsOfWords
+format_fault-of_words true = tt
+format_fault-of_words false = tt
+
 value_fault-of_words : (form : Form) (name : OptionName) (value : List ℕ) → IfSome (value_fault form name value) IsOfWords
 value_fault-of_words Text name value = tt
 value_fault-of_words Number name value = number_fault-of_words name (is_number_of Number value)
 value_fault-of_words (FromOneTo most) name value = number_fault-of_words name (is_number_of (FromOneTo most) value)
 value_fault-of_words Directory name [] = tt
 value_fault-of_words Directory name (byte ∷ value) = tt
+value_fault-of_words FormatName name value = format_fault-of_words (is_some (format_named value))
 
 option_fault-of_words : (take : Take) (name : OptionName) (value : Option (List ℕ)) → IfSome (option_fault take name value) IsOfWords
 option_fault-of_words Unwanted name None = tt

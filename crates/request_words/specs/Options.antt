@@ -7,9 +7,11 @@ use Rattle.std.specs.Str.{bytes_eq}
 use Rattle.std.specs.Str.Parse.{digits_value}
 use Rattle.request_words.specs.declared.options.Columns.{Columns}
 use Rattle.request_words.specs.declared.options.Form.{Form}
-use Rattle.request_words.specs.declared.options.Form.TheVariants.{Text, Number, FromOneTo, Directory}
+use Rattle.request_words.specs.declared.options.Form.TheVariants.{Text, Number, FromOneTo, Directory, FormatName}
 use Rattle.request_words.specs.declared.options.Take.{Take}
 use Rattle.request_words.specs.declared.options.Take.TheVariants.{Unwanted, Optional, Preset, Needed}
+use Rattle.request_words.specs.declared.usage.Format.{Format}
+use Rattle.request_words.specs.declared.usage.Format.TheVariants.{Copy, Csv}
 use Rattle.request_words.specs.declared.usage.Mode.{Mode}
 use Rattle.request_words.specs.declared.usage.Mode.TheVariants.{Check, Snapshot, Unit, Row, Apply}
 use Rattle.request_words.specs.declared.usage.OptionName.{OptionName}
@@ -24,6 +26,10 @@ mode_named word =
     else (if bytes_eq word (codes "unit") then Some Unit
     else (if bytes_eq word (codes "row") then Some Row
     else (if bytes_eq word (codes "apply") then Some Apply else None))))
+
+-- the format of this name
+abbrev pub format_named : List ℕ → Option Format
+format_named word = if bytes_eq word (codes "copy") then Some Copy else (if bytes_eq word (codes "csv") then Some Csv else None)
 
 -- ---- the table: a line for each option, a column for each mode
 
@@ -44,6 +50,7 @@ option_line option.Workers = (codes "workers", by_modes Unwanted (Preset (FromOn
 option_line option.Package = (codes "package", by_modes Unwanted (Optional (FromOneTo 1000000)) (Optional (FromOneTo 1000000)) Unwanted Unwanted)
 option_line option.Node = (codes "node", by_modes Unwanted (Preset Number 0) (Preset Number 0) Unwanted Unwanted)
 option_line option.Nodes = (codes "nodes", by_modes Unwanted (Preset (FromOneTo 1024) 1) (Preset (FromOneTo 1024) 1) Unwanted Unwanted)
+option_line option.Format = (codes "format", by_modes Unwanted (Optional FormatName) (Optional FormatName) Unwanted (Optional FormatName))
 
 -- the column of a mode
 abbrev pub in_column : Mode → Columns → Take
@@ -65,7 +72,7 @@ word_of name = (option_line name).0
 abbrev pub options : List OptionName
 options =
     option.Unit ∷ option.From ∷ option.To ∷ option.Table ∷ option.Key ∷ option.In ∷ option.Out
-    ∷ option.Workers ∷ option.Package ∷ option.Node ∷ option.Nodes ∷ []
+    ∷ option.Workers ∷ option.Package ∷ option.Node ∷ option.Nodes ∷ option.Format ∷ []
 
 -- and the schema's name before them
 abbrev pub order : List OptionName
@@ -92,6 +99,7 @@ is_number_of Number word = is_number word
 is_number_of (FromOneTo most) word =
     is_number word && nat_le 1 (digits_value 10 word) && nat_le (digits_value 10 word) most
 is_number_of Directory word = false
+is_number_of FormatName word = false
 
 -- the number of this form that a word stands for
 abbrev pub number_in : Form → List ℕ → Option ℕ
@@ -112,6 +120,11 @@ number_for mode given name = number_given (takes mode name) (given name)
 abbrev pub number_or_zero : Mode → Given → OptionName → ℕ
 number_or_zero mode given name = unwrap_or (number_for mode given name) 0
 
+-- the format that is given: lines in COPY text form where none is
+abbrev pub format_given : Option (List ℕ) → Format
+format_given None = Copy
+format_given (Some word) = unwrap_or (format_named word) Copy
+
 -- the request that is given for a mode
 abbrev pub request_of : Mode → Given → Request
 request_of mode given = record {
@@ -128,4 +141,5 @@ request_of mode given = record {
   «package» = number_for mode given option.Package;
   node = number_or_zero mode given option.Node;
   nodes = number_or_zero mode given option.Nodes;
+  format = format_given (given option.Format);
 }

@@ -1,10 +1,10 @@
 -- The request that the words of a command line give, or what is wrong with them first.
-use Rattle.std.specs.Prelude.{ℕ, List, [], ◌∷◌, Option, Some, None, Result, Ok, Err, if◌then◌else◌}
+use Rattle.std.specs.Prelude.{ℕ, List, [], ◌∷◌, Option, Some, None, Result, Ok, Err, if◌then◌else◌, is_some}
 use Rattle.std.specs.Option.{option_and_then, option_or}
 use Rattle.request_words.specs.Form.{given_in, has_form, mode_in}
-use Rattle.request_words.specs.Options.{Given, is_number_of, mode_named, order, request_of, takes}
+use Rattle.request_words.specs.Options.{Given, format_named, is_number_of, mode_named, order, request_of, takes}
 use Rattle.request_words.specs.declared.options.Form.{Form}
-use Rattle.request_words.specs.declared.options.Form.TheVariants.{Text, Number, FromOneTo, Directory}
+use Rattle.request_words.specs.declared.options.Form.TheVariants.{Text, Number, FromOneTo, Directory, FormatName}
 use Rattle.request_words.specs.declared.options.Take.{Take}
 use Rattle.request_words.specs.declared.options.Take.TheVariants.{Unwanted, Optional, Preset, Needed}
 use Rattle.request_words.specs.declared.usage.Mode.{Mode}
@@ -17,13 +17,14 @@ use Rattle.request_words.specs.declared.usage.UsageFault.TheVariants as usage
 abbrev pub number_fault : Form → OptionName → List ℕ → Option UsageFault
 number_fault form name value = if is_number_of form value then None else Some (usage.Number name)
 
--- what is wrong with a value: a number is to be one of its form, and a directory isn't the empty text
+-- what is wrong with a value: a number is to be one of its form, a directory isn't the empty text, and a format has its name
 abbrev pub value_fault : Form → OptionName → List ℕ → Option UsageFault
 value_fault Text name value = None
 value_fault Number name value = number_fault Number name value
 value_fault (FromOneTo most) name value = number_fault (FromOneTo most) name value
 value_fault Directory name [] = Some (usage.EmptyDirectory name)
 value_fault Directory name (byte ∷ value) = None
+value_fault FormatName name value = if is_some (format_named value) then None else Some usage.Format
 
 -- what is wrong with what is given for an option, by what the mode does with it
 abbrev pub option_fault : Take → OptionName → Option (List ℕ) → Option UsageFault

@@ -1,9 +1,9 @@
 //! The options: how each is written, and which mode takes it.
 
 ghost use Rattle.std.specs.Prelude.{◌≡◌};
-ghost use Rattle.request_words.specs.Options.{by_modes, option_line, mode_named, takes};
+ghost use Rattle.request_words.specs.Options.{by_modes, format_named, option_line, mode_named, takes};
 
-use crate::usage::{Mode, OptionName};
+use crate::usage::{Format, Mode, OptionName};
 
 /// What a value has to be.
 #[derive(Clone, Copy, Debug, PartialEq, Eq)]
@@ -16,6 +16,8 @@ pub(crate) enum Form {
     FromOneTo(u64),
     /// A text that isn't empty.
     Directory,
+    /// The name of a format.
+    FormatName,
 }
 
 /// What a mode does with an option.
@@ -42,7 +44,7 @@ pub(crate) struct Columns {
 }
 
 /// The options that are written with two hyphens, in the order in which they are tried.
-pub(crate) const OPTIONS: [OptionName; 11] = [
+pub(crate) const OPTIONS: [OptionName; 12] = [
     OptionName::Unit,
     OptionName::From,
     OptionName::To,
@@ -54,6 +56,7 @@ pub(crate) const OPTIONS: [OptionName; 11] = [
     OptionName::Package,
     OptionName::Node,
     OptionName::Nodes,
+    OptionName::Format,
 ];
 
 /// The mode of this name.
@@ -66,6 +69,17 @@ pub(crate) fn mode_named(word: &str) -> Option<Mode>
         "unit" => Some(Mode::Unit),
         "row" => Some(Mode::Row),
         "apply" => Some(Mode::Apply),
+        _ => None,
+    }
+}
+
+/// The format of this name.
+pub(crate) fn format_named(word: &str) -> Option<Format>
+    ensures { result ≡ format_named word.now }
+{
+    match word {
+        "copy" => Some(Format::Copy),
+        "csv" => Some(Format::Csv),
         _ => None,
     }
 }
@@ -125,6 +139,7 @@ fn option_line(name: OptionName) -> (&'static str, Columns)
     let package = Take::Optional(Form::FromOneTo(1_000_000));
     let node = Take::Preset(Form::Number, 0);
     let nodes = Take::Preset(Form::FromOneTo(1_024), 1);
+    let format = Take::Optional(Form::FormatName);
     match name {
         //                             check, snapshot, unit, row, apply
         OptionName::Schema => ("schema", by_modes(any, any, any, any, any)),
@@ -139,5 +154,6 @@ fn option_line(name: OptionName) -> (&'static str, Columns)
         OptionName::Package => ("package", by_modes(no, package, package, no, no)),
         OptionName::Node => ("node", by_modes(no, node, node, no, no)),
         OptionName::Nodes => ("nodes", by_modes(no, nodes, nodes, no, no)),
+        OptionName::Format => ("format", by_modes(no, format, format, no, format)),
     }
 }

@@ -4,14 +4,14 @@ ghost use Rattle.std.specs.Prelude.{◌≡◌, map, string_bytes, unwrap_or, IfE
 ghost use Rattle.std.specs.Option.{option_and_then, option_copied};
 ghost use Rattle.request_words.specs.Command.{given_by};
 ghost use Rattle.request_words.specs.Form.{given_in, mode_in};
-ghost use Rattle.request_words.specs.Options.{mode_named, number_for, number_or_zero, order, request_of, takes};
+ghost use Rattle.request_words.specs.Options.{format_given, mode_named, number_for, number_or_zero, order, request_of, takes};
 ghost use Rattle.request_words.specs.Words.{first_fault, option_fault, value_fault};
 
 use crate::command::given_by;
 use crate::form::{given_in, mode_in};
 use crate::numbers::{number_given, number_in};
-use crate::options::{Form, OPTIONS, Take, mode_named, takes};
-use crate::usage::{Mode, OptionName, Request, UsageFault};
+use crate::options::{Form, OPTIONS, Take, format_named, mode_named, takes};
+use crate::usage::{Format, Mode, OptionName, Request, UsageFault};
 use clap::ArgMatches;
 use schema_model::Text;
 use std::alloc::Global;
@@ -76,6 +76,10 @@ fn value_fault(form: Form, name: OptionName, value: &str) -> Option<UsageFault>
             [] => Some(UsageFault::EmptyDirectory(name)),
             [_, ..] => None,
         },
+        Form::FormatName => match format_named(value) {
+            Some(_) => None,
+            None => Some(UsageFault::Format),
+        },
     }
 }
 
@@ -106,7 +110,18 @@ pub(crate) fn request_of(
         package: number_for(mode, matches, OptionName::Package),
         node: number_or_zero(mode, matches, OptionName::Node),
         nodes: number_or_zero(mode, matches, OptionName::Nodes),
+        format: format_given(given_by(matches, OptionName::Format)),
     })
+}
+
+/// The format that is given: lines in COPY text form where none is.
+fn format_given(word: Option<&str>) -> Format
+    ensures { result ≡ format_given (option_copied word.entry) }
+{
+    match word {
+        None => Format::Copy,
+        Some(word) => format_named(word).unwrap_or(Format::Copy),
+    }
 }
 
 /// The number that a mode has of an option.

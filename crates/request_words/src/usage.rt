@@ -44,6 +44,17 @@ pub enum OptionName {
     Node,
     /// `--nodes`: how many nodes share the rows, 1 to 1,024.
     Nodes,
+    /// `--format`: how rows are written and read.
+    Format,
+}
+
+/// How rows are written and read.
+#[derive(Clone, Copy, Debug, PartialEq, Eq)]
+pub enum Format {
+    /// `copy`: lines in COPY text form.
+    Copy,
+    /// `csv`: records in CSV.
+    Csv,
 }
 
 /// What the words ask for. A number that the mode doesn't take is 0, a package is none then, and the directory of the files that are
@@ -76,6 +87,8 @@ pub struct Request {
     pub node: u64,
     /// How many nodes share the rows, 1 to 1,024: 1 where the words don't say.
     pub nodes: u64,
+    /// How rows are written and read: as lines in COPY text form where the words don't say, or the mode doesn't take it.
+    pub format: Format,
 }
 
 /// Why words give no request.
@@ -93,6 +106,8 @@ pub enum UsageFault {
     Number(OptionName),
     /// The directory is the empty text.
     EmptyDirectory(OptionName),
+    /// The value is no name of a format.
+    Format,
     /// Memory ran out.
     Memory,
 }
