@@ -1,9 +1,8 @@
 -- Inputs that a plain simulation gives make what it holds later.
-use Rattle.std.proofs.Common.{◌≡◌, ◌≢◌, ◌<◌, ◌≤◌, ◌+◌, ◌-◌, ◌*◌, ℕ, zero, suc, Bool, true, false, List, [], ◌∷◌, ◌++◌, drop, flat_map, get_or, length, length-append, map, take, Option, None, Some, Result, Ok, Err, cond, inl, inr, ap, arith, refl, subst, sym, ◌∙◌}
+use Rattle.std.proofs.Common.{◌≡◌, ◌≢◌, ◌<◌, ◌≤◌, ◌+◌, ◌-◌, ◌*◌, ℕ, zero, suc, All, Bool, true, false, List, [], ◌++◌, flat_map, get_or, length, length-append, map, take, Option, None, Some, Result, Ok, Err, cond, inl, inr, ap, arith, refl, subst, sym, ◌∙◌}
 use Rattle.std.specs.Prelude.{IfOk, IfSome, nat_lt, if◌then◌else◌}
 use Rattle.std.specs.Option.{option_map}
-use Rattle.std.specs.List.{position_or_len, range_with_len}
-use Rattle.std.proofs.Math.Seq.{drop-append-add, take-append_seam}
+use Rattle.std.specs.List.{AllZip, position_or_len, range_with_len}
 use Rattle.std.proofs.lemmas.Bool.{cases_eq, cases_lt, le-ltb, lt-ltb, ne_eqb, true≢false}
 use Rattle.std.proofs.lemmas.List.{get_or-map, length-map}
 use Rattle.std.proofs.lemmas.List.FromFn.{get_or-range_with_len, length-range_with_len}
@@ -46,7 +45,13 @@ use Rattle.pdgf_run.specs.Verdict.{IsDecided, IsInMode, IsPlanned, IsVerdict}
 use Rattle.pdgf_run.specs.declared.job.Job.{Job}
 use Rattle.pdgf_run.specs.declared.report.Report.{Report}
 use Rattle.update_box.specs.Packages.{chosen_places}
-use Rattle.pdgf_run.specs.modes.Apply.{AreApplied, HoldInputs, IsApplyDue, input_limit, input_paths, inputs_at, inputs_each, later_files, of_choice, table_inputs, tables_asked}
+use Rattle.csv_face.specs.Csv.{HasRows}
+use Rattle.request_words.specs.declared.usage.Format.{Format}
+use Rattle.request_words.specs.declared.usage.Format.TheVariants.{Copy, Csv}
+use Rattle.pdgf_run.specs.Formats.{AreWritten, made_files}
+use Rattle.pdgf_run.specs.modes.Apply.{AreApplied, AreLaterFiles, HoldInputs, IsApplyDue, IsMadeIn, IsMadeOf, input_fields, input_limit, input_paths, inputs_at, inputs_each, of_choice, table_inputs, tables_asked, text_name}
+use Rattle.pdgf_run.proofs.KeyedTextLemmas.{IsKeyedText, inputs-keyed, later-rows, some-csvs, texts-read}
+use Rattle.pdgf_run.proofs.ChunkLemmas.{chunk}
 use Rattle.pdgf_run.proofs.ApplyLemmas.{long_behind, read_and_made}
 use Rattle.pdgf_run.proofs.DecideLemmas.{of_words}
 use Rattle.pdgf_run.proofs.OutcomeLemmas.{one_verdict}
@@ -91,20 +96,6 @@ chosen_within plan None place is = absurd (cc)
 chosen_within plan (Some name) place is = found_within plan (table_named plan.schema name) place name refl is
 
 -- ---- the inputs of a table among all
-
-chunk : (f : ℕ → List (List ℕ)) (each : ℕ) (places : List ℕ) (i : ℕ) → ((place : ℕ) → length (f place) ≡ each) → i < length places →
-    inputs_at each (flat_map f places) i ≡ f (get_or places i 0)
-chunk f each [] i all below = absurd (omega (arith, below))
-chunk f each (place ∷ places) zero all below =
-    let none : 0 * each ≡ 0 = omega arith in
-    ap (λ (n : ℕ). take each (drop n (f place ++ flat_map f places))) none
-    ∙ ap (λ (n : ℕ). take n (f place ++ flat_map f places)) (sym (all place))
-    ∙ take-append_seam (f place) (flat_map f places)
-chunk f each (place ∷ places) (suc i) all below =
-    let next : suc i * each ≡ length (f place) + i * each = grind (arith, all place) in
-    ap (λ (n : ℕ). take each (drop n (f place ++ flat_map f places))) next
-    ∙ ap (take each) (drop-append-add (f place) (flat_map f places) (i * each))
-    ∙ chunk f each places i all (omega (arith, below))
 
 length-streams : (plan : Project) (place first count : ℕ) → length (flat_map (unit_streams plan place) (range_with_len first count)) ≡ 3 * count
 length-streams plan place first zero = refl
@@ -166,18 +157,42 @@ all_read : (files : List File) (paths : List (List ℕ)) → total_length (input
 all_read files paths within =
     ap (λ (long : Option ℕ). unless_too_long long (inputs_of files paths)) (none_too_long (inputs_of files paths) (first_too_long input_limit [] (inputs_of files paths)) refl within)
 
-later_due : (plan : Project) (r : Request) (files : List File) (table : Option ℕ) → IsInLimits plan → tables_asked plan r ≡ Ok table → HoldInputs plan r table files →
-    IsApplyDue plan r files (Ok (later_files plan r table))
-later_due plan r files table limits asked hold =
+-- what they come to in a format
+written_made : (format : Format) (plan : Project) (r : Request) (table : Option ℕ) (texts inputs : List (List ℕ)) (answer : Result (List File) JobFault) → IsDelimiter (layout_of plan).delimiter →
+    AllZip (IsKeyedText (layout_of plan).delimiter) (input_fields plan r (chosen_places plan table)) texts → AreWritten format (layout_of plan).delimiter texts inputs →
+    IsMadeOf plan r table texts answer → IsMadeIn format plan r table inputs answer
+written_made Copy plan r table texts inputs answer delimits of are made = subst (λ (l : List (List ℕ)). IsMadeOf plan r table l answer) (sym are) made
+written_made Csv plan r table texts inputs answer delimits of are made =
+    inl (texts, texts-read (layout_of plan).delimiter delimits (input_fields plan r (chosen_places plan table)) texts inputs of are, made)
+
+-- what is written of texts with rows, in a format
+some_written : (format : Format) (delimiter : ℕ) (texts : List (List ℕ)) → All (λ (text : List ℕ). HasRows delimiter text) texts → (written : List (List ℕ)) × AreWritten format delimiter texts written
+some_written Copy delimiter texts all = (texts, refl)
+some_written Csv delimiter texts all = some-csvs delimiter texts all
+
+later_due : (plan : Project) (r : Request) (files : List File) (table : Option ℕ) → IsDelimiter (layout_of plan).delimiter → IsInLimits plan → tables_asked plan r ≡ Ok table →
+    HoldInputs plan r table files → (due : List File) × AreLaterFiles plan r table due × IsApplyDue plan r files (Ok due)
+later_due plan r files table delimits limits asked hold =
     let first = passes (nat_lt r.to r.from) (job.Range option.From) _ table asked in
     let second = passes (nat_lt (layout_of plan).units r.to) (job.Range option.To) _ table first.1 in
     let chosen : chosen_table plan.schema r.table ≡ Some table = choice_is (chosen_table plan.schema r.table) table second.1 in
     let paths : List (List ℕ) = input_paths plan r table in
-    read_and_made plan r files table (Ok (inputs_of files paths)) (Ok (later_files plan r table)) (sym asked) (all_read files paths hold.within) (
-      map (table_text (generator_of plan) r.to) (chosen_places plan table),
-      length-map (chosen_places plan table) (table_text (generator_of plan) r.to),
-      later_applied plan r table (inputs_of files paths) limits (not_less r.to r.from first.0) (not_less (layout_of plan).units r.to second.0) (there table chosen) hold.texts,
-      refl,
+    let texts : List (List ℕ) = flat_map (table_inputs plan r.from (r.to - r.from)) (chosen_places plan table) in
+    let later : List (List ℕ) = map (table_text (generator_of plan) r.to) (chosen_places plan table) in
+    let written = some_written r.format (layout_of plan).delimiter later (later-rows plan limits r.to table (there table chosen)) in
+    let due : List File = made_files (text_name r.format plan.schema) r.out (chosen_places plan table) written.0 in
+    let are : AreLaterFiles plan r table due = record { written = written.0; are = written.1; due_is = refl } in
+    let within : r.to ≤ last_unit plan = not_less (layout_of plan).units r.to second.0 in
+    let order : r.from ≤ r.to = not_less r.to r.from first.0 in (
+      due,
+      are,
+      read_and_made plan r files table (Ok (inputs_of files paths)) (Ok due) (sym asked) (all_read files paths hold.within)
+          (written_made r.format plan r table texts (inputs_of files paths) (Ok due) delimits (inputs-keyed plan limits r table order within (there table chosen)) hold.texts (
+            later,
+            length-map (chosen_places plan table) (table_text (generator_of plan) r.to),
+            later_applied plan r table texts limits order within (there table chosen) refl,
+            are,
+          )),
     )
   where
     there : (table : Option ℕ) → chosen_table plan.schema r.table ≡ Some table → IfSome table (λ place. place < length plan.schema.tables)
@@ -196,19 +211,21 @@ delimits plan = of_delimiter plan.schema.delimiter
 of_asked : (words : List (List ℕ)) (files : List File) (r : Request) (plan : Project) (asked : Result (Option ℕ) JobFault) (verdict : Result (List File) Refusal) (report : Report)
     (before now : Option Held) → request words ≡ Ok r → r.mode ≡ Apply → plan_in files r.schema ≡ Ok plan → tables_asked plan r ≡ asked → IsInLimits plan →
     IsVerdict words files verdict → Carries verdict report before now →
-    IfOk asked (λ (table : Option ℕ). HoldInputs plan r table files → Carries (Ok (later_files plan r table)) report before now)
+    IfOk asked (λ (table : Option ℕ). HoldInputs plan r table files → (due : List File) × AreLaterFiles plan r table due × Carries (Ok due) report before now)
 of_asked words files r plan (Err fault) verdict report before now given mode planned asked limits is carries = tt
 of_asked words files r plan (Ok table) verdict report before now given mode planned asked limits is carries = λ hold.
-    let due : IsInMode r.mode r plan files (Ok (later_files plan r table)) =
-    subst (λ (m : Mode). IsInMode m r plan files (Ok (later_files plan r table))) (sym mode) (later_due plan r files table limits asked hold) in
-    let over : IsPlanned r files (plan_in files r.schema) (Ok (later_files plan r table)) =
-    subst (λ (made : Result Project PlanFault). IsPlanned r files made (Ok (later_files plan r table))) (sym planned) due in
-    let later : IsVerdict words files (Ok (later_files plan r table)) = of_words words files (Ok r) (Ok (later_files plan r table)) given (Ok (later_files plan r table), over, refl) in
-    subst (λ (v : Result (List File) Refusal). Carries v report before now) (one_verdict words files verdict (Ok (later_files plan r table)) delimits is later) carries
+    let found = later_due plan r files table (delimits plan) limits asked hold in
+    let answer : Result (List File) JobFault = Ok found.0 in
+    let due : IsInMode r.mode r plan files answer = subst (λ (m : Mode). IsInMode m r plan files answer) (sym mode) found.2 in
+    let over : IsPlanned r files (plan_in files r.schema) answer =
+    subst (λ (made : Result Project PlanFault). IsPlanned r files made answer) (sym planned) due in
+    let later : IsVerdict words files (Ok found.0) = of_words words files (Ok r) (Ok found.0) given (answer, over, refl) in
+    (found.0, found.1, subst (λ (v : Result (List File) Refusal). Carries v report before now) (one_verdict words files verdict (Ok found.0) delimits is later) carries)
 
 of_plan : (words : List (List ℕ)) (files : List File) (r : Request) (made : Result Project PlanFault) (verdict : Result (List File) Refusal) (report : Report) (before now : Option Held) →
     request words ≡ Ok r → r.mode ≡ Apply → plan_in files r.schema ≡ made → IfOk made IsInLimits → IsVerdict words files verdict → Carries verdict report before now →
-    IfOk made (λ (plan : Project). IfOk (tables_asked plan r) (λ (table : Option ℕ). HoldInputs plan r table files → Carries (Ok (later_files plan r table)) report before now))
+    IfOk made (λ (plan : Project). IfOk (tables_asked plan r) (λ (table : Option ℕ).
+    HoldInputs plan r table files → (due : List File) × AreLaterFiles plan r table due × Carries (Ok due) report before now))
 of_plan words files r (Err fault) verdict report before now given mode planned limits is carries = tt
 of_plan words files r (Ok plan) verdict report before now given mode planned limits is carries =
     of_asked words files r plan (tables_asked plan r) verdict report before now given mode planned refl limits is carries

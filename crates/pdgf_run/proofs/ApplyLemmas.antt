@@ -8,8 +8,6 @@ use Rattle.std.proofs.lemmas.List.{length-append, length-take-le, take-map}
 use Rattle.std.proofs.lemmas.List.Sums.{sum_by-append}
 use Rattle.pd_outside.specs.Files.{File, bytes_of}
 use Rattle.pd_outside.specs.Library.{AskedPrefixOf, Content, left, read_out}
-use Rattle.pd_outside.specs.declared.faults.ReadFault.{ReadFault}
-use Rattle.pd_outside.specs.declared.faults.ReadFault.TheVariants as reading
 use Rattle.plan_stages.specs.Inputs.{AskedInTurn, AskedToFault, InputUnread, InputsRead, all_read_out, first_too_long, input_status, inputs_in, inputs_of, taken_of_last, total_length, unless_too_long}
 use Rattle.plan_stages.specs.PlanNames.{AskedNone}
 use Rattle.plan_stages.specs.Stages.{Decides, IsReadOut, told_files}
@@ -27,7 +25,8 @@ use Rattle.pdgf_run.specs.TopCall.{IsLimitOf, LibraryLeft}
 use Rattle.pdgf_run.specs.Verdict.{IsDecided}
 use Rattle.pdgf_run.specs.declared.job.Job.{Job}
 use Rattle.update_box.specs.Packages.{chosen_places}
-use Rattle.pdgf_run.specs.modes.Apply.{IsApplyDue, IsAskedAndMade, IsReadAndMade, file_named, in_directory, input_limit, input_names, input_paths, paths_asked, paths_possible, tables_asked, up_to_long}
+use Rattle.pdgf_run.specs.Formats.{in_directory}
+use Rattle.pdgf_run.specs.modes.Apply.{IsApplyDue, IsAskedAndMade, IsReadAndMade, file_named, input_limit, input_names, input_paths, paths_asked, paths_possible, tables_asked, up_to_long}
 
 -- ---- what is told of names
 

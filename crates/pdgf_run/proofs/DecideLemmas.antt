@@ -1,5 +1,5 @@
 -- What words come to, as it is found.
-use Rattle.std.proofs.Common.{◌≡◌, ◌≢◌, ◌+◌, ℕ, Bool, false, List, [], ◌++◌, append_assoc, drop, take, Option, None, Some, Result, Ok, Err, inl, inr, refl, ap, sym, subst, ◌∙◌, arith}
+use Rattle.std.proofs.Common.{◌≡◌, ◌≢◌, ℕ, Bool, false, List, [], ◌++◌, append_assoc, drop, take, Option, None, Some, Result, Ok, Err, inl, inr, refl, ap, sym, subst, ◌∙◌, arith}
 use Rattle.std.specs.Prelude.{◌⊎◌, IfErr, IfOk, IfSome, IsErr, OnOk, ◌↔◌}
 use Rattle.std.specs.Option.{option_map}
 use Rattle.std.proofs.lemmas.List.{take-append-drop}
@@ -22,7 +22,6 @@ use Rattle.request_words.specs.declared.usage.Mode.{Mode}
 use Rattle.request_words.specs.declared.usage.Request.{Request}
 use Rattle.request_words.specs.declared.usage.UsageFault.{UsageFault}
 use Rattle.request_words.specs.declared.usage.UsageFault.TheVariants as usage
-use Rattle.schema_model.specs.declared.table.Schema.{Schema}
 use Rattle.schema_plan.specs.Dictionaries.{Project, project_of}
 use Rattle.schema_plan.specs.Limits.{IsInLimits}
 use Rattle.schema_read.specs.Schema.{schema_of}
@@ -58,6 +57,7 @@ words_status (usage.Unwanted name) = inl refl
 words_status (usage.Missing name) = inl refl
 words_status (usage.Number name) = inl refl
 words_status (usage.EmptyDirectory name) = inl refl
+words_status usage.Format = inl refl
 
 -- nothing was done to the library
 unchanged : (status : ℕ) (IsLimit : ℕ → Type 0) (content : Option Content) (taken : ℕ) (is_started : Bool) (faults : ℕ) → (status ≡ 2) ⊎ (status ≡ 7) →
@@ -257,6 +257,7 @@ fault-status (usage.Unwanted name) other = refl
 fault-status (usage.Missing name) other = refl
 fault-status (usage.Number name) other = refl
 fault-status (usage.EmptyDirectory name) other = refl
+fault-status usage.Format other = refl
 
 usage_status : (q : Result Request UsageFault) (r : Refusal) → IfErr q (λ fault. fault ≢ usage.Memory) →
     IfErr q (λ fault. ◌≡◌ {A = Result Job Refusal} (Err r) (Err (refusal.Words fault))) → OnOk q (status_of r ≢ 2) → (status_of r ≡ 2) ↔ IsErr q

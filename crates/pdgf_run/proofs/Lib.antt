@@ -6,5 +6,11 @@ mod ModeLemmas
 mod MadeLemmas
 mod FileLemmas
 mod PathLemmas
+mod CsvJobLemmas
+mod CsvLemmas
 mod OutcomeLemmas
+mod RowLemmas
+mod KeyedTextLemmas
+mod ChunkLemmas
+mod TextShelfLemmas
 mod AppliedLemmas

@@ -1,15 +1,16 @@
 -- What the inputs of tables make, table by table.
-use Rattle.std.proofs.Common.{◌≡◌, ◌≢◌, ◌<◌, ◌≤◌, ◌+◌, ◌-◌, ◌*◌, ℕ, zero, suc, Bool, false, List, [], ◌∷◌, ◌++◌, drop, get_or, length, map, take, Option, Some, Result, Ok, Err, inl, inr, ap, sym, subst, ◌∙◌, arith}
+use Rattle.std.proofs.Common.{◌≡◌, ◌≢◌, ◌<◌, ◌≤◌, ◌+◌, ◌*◌, ℕ, zero, suc, false, List, [], ◌∷◌, ◌++◌, drop, get_or, length, map, take, Option, Some, Result, Ok, Err, inl, inr, ap, refl, sym, subst, ◌∙◌, arith}
 use Rattle.std.specs.List.{range_with_len}
 use Rattle.std.proofs.Math.Seq.{get_or-append_seam}
 use Rattle.std.proofs.lemmas.Bool.{cases_lt}
-use Rattle.std.specs.Prelude.{IfErr, IfOk, slice_get}
-use Rattle.std.proofs.lemmas.List.{drop-map, get_or_append_left, length-append, take-map}
+use Rattle.std.specs.Prelude.{◌⊎◌, IfErr, slice_get, zip}
+use Rattle.std.proofs.lemmas.List.{drop-map, get_or_append_left, length-append, length-map, take-map}
 use Rattle.std.proofs.lemmas.List.FromFn.{length-range_with_len}
 use Rattle.std.proofs.lemmas.Nat.{mul-le}
 use Rattle.std.proofs.lemmas.Option.{get_or_from_slice_get}
 use Rattle.plan_stages.specs.Stages.{ended}
-use Rattle.refusals.specs.declared.refusal.InputCause.TheVariants.{Applying}
+use Rattle.pd_outside.specs.Files.{File}
+use Rattle.refusals.specs.declared.refusal.InputCause.TheVariants.{Applying, BadRecord}
 use Rattle.refusals.specs.declared.refusal.JobFault.{JobFault}
 use Rattle.refusals.specs.declared.refusal.JobFault.TheVariants as job
 use Rattle.stream_apply.specs.InTurn.{IsAppliedText, IsFaultAt}
@@ -24,7 +25,8 @@ use Rattle.pdgf_run.specs.Jobs.{due_of}
 use Rattle.pdgf_run.specs.Verdict.{IsDecided}
 use Rattle.pdgf_run.specs.declared.job.Job.{Job}
 use Rattle.update_box.specs.Packages.{chosen_places}
-use Rattle.pdgf_run.specs.modes.Apply.{AreApplied, IsFirstFault, IsReadAndMade, IsUnapplied, file_named, in_directory, input_names, inputs_at, inputs_each, made_files}
+use Rattle.pdgf_run.specs.Formats.{AreWritten, in_directory, made_files}
+use Rattle.pdgf_run.specs.modes.Apply.{AreApplied, AreReadAs, HasBadAt, IsCsvMade, IsFirstFault, IsMadeOf, IsUnapplied, IsUnreadRecord, file_named, input_fields, input_names, input_paths, inputs_at, inputs_each, text_name}
 use Rattle.pdgf_run.proofs.ApplyLemmas.{named_at}
 use Rattle.pdgf_run.proofs.PathLemmas.{length-tables}
 
@@ -102,15 +104,15 @@ in_all count each texts place number within below is =
     omega (arith, rows, next, is, below)
 
 told_is : (plan : Project) (r : Request) (table : Option ℕ) (each first count : ℕ) (paths inputs : List (List ℕ)) (number : ℕ) (cause : ApplyFault) (fault : JobFault) →
-    range_with_len first count ≡ chosen_places plan table → each ≡ inputs_each r →
-    paths ≡ map (in_directory r.source) (input_names plan.schema r (range_with_len first count)) →
+    range_with_len first count ≡ chosen_places plan table → each ≡ inputs_each r → paths ≡ input_paths plan r table →
     IsFirstFault (layout_of plan).delimiter each inputs count number cause →
     fault ≡ job.Input (record { file = file_named (drop (length r.source + 1) (get_or paths number [])); cause = Applying cause }) →
-    IsReadAndMade plan r table (Ok inputs) (Err fault)
+    IsMadeOf plan r table inputs (Err fault)
 told_is plan r table each first count paths inputs number cause fault places each_is paths_are is_first is =
-    let names : List (List ℕ) = input_names plan.schema r (range_with_len first count) in
+    let names : List (List ℕ) = input_names plan.schema r (chosen_places plan table) in
     let within : number < count * each = in_all count each (length is_first.texts) is_first.place number is_first.within is_first.below is_first.number_is in
-    let all : length names ≡ count * each = length-tables plan.schema r first count ∙ ap (λ (e : ℕ). count * e) (sym each_is) in
+    let all : length names ≡ count * each =
+    ap (λ (p : List ℕ). length (input_names plan.schema r p)) (sym places) ∙ length-tables plan.schema r first count ∙ ap (λ (e : ℕ). count * e) (sym each_is) in
     let below : number < length names = omega (arith, within, all) in
     let counted : count ≡ length (chosen_places plan table) = sym (length-range_with_len first count) ∙ ap length places in (
       number,
@@ -119,45 +121,89 @@ told_is plan r table each first count paths inputs number cause fault places eac
           (subst (λ (n : ℕ). IsFirstFault (layout_of plan).delimiter each inputs n number cause) counted is_first),
       is
           ∙ ap (λ (name : List ℕ). job.Input (record { file = file_named name; cause = Applying cause }))
-          (ap (λ (p : List (List ℕ)). drop (length r.source + 1) (get_or p number [])) paths_are
-          ∙ named_at r.source names number below
-          ∙ ap (λ (p : List ℕ). get_or (input_names plan.schema r p) number []) places),
+          (ap (λ (p : List (List ℕ)). drop (length r.source + 1) (get_or p number [])) paths_are ∙ named_at r.source names number below),
     )
 
-pub made_is : (plan : Project) (r : Request) (table : Option ℕ) (each first count : ℕ) (paths inputs : List (List ℕ)) (made : Result Job JobFault) →
-    range_with_len first count ≡ chosen_places plan table → each ≡ inputs_each r →
-    paths ≡ map (in_directory r.source) (input_names plan.schema r (range_with_len first count)) →
-    IfOk made (λ job. (texts : List (List ℕ)) × (length texts ≡ count) × AreApplied (layout_of plan).delimiter each inputs texts
-    × (due_of job ≡ made_files plan.schema r.out (range_with_len first count) texts)) →
-    IfErr made (IsUnapplied (layout_of plan).delimiter r.source paths each inputs count) →
-    IsDecided job_status due_of (IsReadAndMade plan r table (Ok inputs)) made
-made_is plan r table each first count paths inputs (Ok job) places each_is paths_are ok err = (
-  ok.0,
-  ok.1 ∙ sym (length-range_with_len first count) ∙ ap length places,
-  subst (λ (e : ℕ). AreApplied (layout_of plan).delimiter e inputs ok.0) each_is ok.2,
-  ok.3 ∙ ap (λ (p : List ℕ). made_files plan.schema r.out p ok.0) places,
+-- texts that are made, as they are written
+pub made_of_texts : (plan : Project) (r : Request) (table : Option ℕ) (each first count : ℕ) (inputs texts written : List (List ℕ)) (due : List File) →
+    range_with_len first count ≡ chosen_places plan table → each ≡ inputs_each r → length texts ≡ count → AreApplied (layout_of plan).delimiter each inputs texts →
+    AreWritten r.format (layout_of plan).delimiter texts written → due ≡ made_files (text_name r.format plan.schema) r.out (range_with_len first count) written →
+    IsMadeOf plan r table inputs (Ok due)
+made_of_texts plan r table each first count inputs texts written due places each_is many are as_written due_is = (
+  texts,
+  many ∙ sym (length-range_with_len first count) ∙ ap length places,
+  subst (λ (e : ℕ). AreApplied (layout_of plan).delimiter e inputs texts) each_is are,
+  record {
+    written = written;
+    are = as_written;
+    due_is = due_is ∙ ap (λ (p : List ℕ). made_files (text_name r.format plan.schema) r.out p written) places;
+  },
 )
-made_is plan r table each first count paths inputs (Err fault) places each_is paths_are ok err = go err
-  where
-    go : IsUnapplied (layout_of plan).delimiter r.source paths each inputs count fault → is_free (job_status fault) ≡ false → IsReadAndMade plan r table (Ok inputs) (Err fault)
-    go (inl memory) = λ free. let never = ap (λ (f : JobFault). is_free (job_status f)) memory in absurd (cc)
-    go (inr found) = λ free. told_is plan r table each first count paths inputs found.0 found.1 fault places each_is paths_are found.2 found.3
 
-applying : (cause : ApplyFault) → (applying_status cause ≢ 5) × (applying_status cause ≢ 10)
-applying (fault.BadLine line) = (λ e. absurd (cc), λ e. absurd (cc))
-applying (fault.DoubleKey line) = (λ e. absurd (cc), λ e. absurd (cc))
-applying (fault.NoSuchKey line) = (λ e. absurd (cc), λ e. absurd (cc))
-applying (fault.KeyExists line) = (λ e. absurd (cc), λ e. absurd (cc))
-applying Memory = (λ e. absurd (cc), λ e. absurd (cc))
+-- why none are
+pub unapplied_decided : (plan : Project) (r : Request) (table : Option ℕ) (each first count : ℕ) (paths inputs : List (List ℕ)) (fault : JobFault) →
+    range_with_len first count ≡ chosen_places plan table → each ≡ inputs_each r → paths ≡ input_paths plan r table →
+    IsUnapplied (layout_of plan).delimiter r.source paths each inputs count fault → is_free (job_status fault) ≡ false → IsMadeOf plan r table inputs (Err fault)
+unapplied_decided plan r table each first count paths inputs fault places each_is paths_are (inl memory) =
+    λ free. let never = ap (λ (f : JobFault). is_free (job_status f)) memory in absurd (cc)
+unapplied_decided plan r table each first count paths inputs fault places each_is paths_are (inr found) =
+    λ free. told_is plan r table each first count paths inputs found.0 found.1 fault places each_is paths_are found.2 found.3
+
+-- it is want of memory, or a line at fault
+applying : (cause : ApplyFault) → (applying_status cause ≡ 7) ⊎ (applying_status cause ≡ 9)
+applying (fault.BadLine line) = inr refl
+applying (fault.DoubleKey line) = inr refl
+applying (fault.NoSuchKey line) = inr refl
+applying (fault.KeyExists line) = inr refl
+applying Memory = inl refl
+
+pub unapplied_status : (delimiter : ℕ) (directory : List ℕ) (paths : List (List ℕ)) (each : ℕ) (inputs : List (List ℕ)) (count : ℕ) (fault : JobFault) →
+    IsUnapplied delimiter directory paths each inputs count fault → (job_status fault ≡ 7) ⊎ (job_status fault ≡ 9)
+unapplied_status delimiter directory paths each inputs count fault (inl memory) = inl (ap job_status memory)
+unapplied_status delimiter directory paths each inputs count fault (inr found) =
+    subst (λ (s : ℕ). (s ≡ 7) ⊎ (s ≡ 9)) (sym (ap job_status found.3)) (applying found.1)
 
 -- what is made tells of no read
-pub made_of_itself : (delimiter : ℕ) (directory : List ℕ) (paths : List (List ℕ)) (each : ℕ) (inputs : List (List ℕ)) (count : ℕ) (made : Result Job JobFault) →
-    IfErr made (IsUnapplied delimiter directory paths each inputs count) → (ended job_status made ≢ 5) × (ended job_status made ≢ 10)
-made_of_itself delimiter directory paths each inputs count (Ok job) err = (λ e. absurd (cc), λ e. absurd (cc))
-made_of_itself delimiter directory paths each inputs count (Err fault) err = go err
+pub made_of_itself : (made : Result Job JobFault) → IfErr made (λ fault. (job_status fault ≡ 7) ⊎ (job_status fault ≡ 9)) →
+    (ended job_status made ≢ 5) × (ended job_status made ≢ 10)
+made_of_itself (Ok job) refused = (λ e. absurd (cc), λ e. absurd (cc))
+made_of_itself (Err fault) (inl seven) = (λ e. absurd (omega (arith, seven, e)), λ e. absurd (omega (arith, seven, e)))
+made_of_itself (Err fault) (inr nine) = (λ e. absurd (omega (arith, nine, e)), λ e. absurd (omega (arith, nine, e)))
+
+-- ---- inputs in CSV
+
+-- the first bad record refuses the inputs
+pub unread_record_decided : (plan : Project) (r : Request) (table : Option ℕ) (paths inputs : List (List ℕ)) (fault : JobFault) → paths ≡ input_paths plan r table → length inputs ≡ length paths →
+    IsUnreadRecord (layout_of plan).delimiter r.source paths (zip (input_fields plan r (chosen_places plan table)) inputs) fault →
+    is_free (job_status fault) ≡ false → IsCsvMade plan r table inputs (Err fault)
+unread_record_decided plan r table paths inputs fault paths_are many (inl memory) =
+    λ free. let never = ap (λ (f : JobFault). is_free (job_status f)) memory in absurd (cc)
+unread_record_decided plan r table paths inputs fault paths_are many (inr found) = λ free.
+    let names : List (List ℕ) = input_names plan.schema r (chosen_places plan table) in
+    let within : found.0 < length inputs = bad_within (layout_of plan).delimiter (input_fields plan r (chosen_places plan table)) inputs found.0 found.1 found.2 in
+    let below : found.0 < length names = omega (arith, within, many, ap length paths_are, length-map names (in_directory r.source)) in
+    inr (
+      found.0,
+      found.1,
+      found.2,
+      ap Err (found.3 ∙ ap (λ (name : List ℕ). job.Input (record { file = file_named name; cause = BadRecord found.1 }))
+          (ap (λ (p : List (List ℕ)). drop (length r.source + 1) (get_or p found.0 [])) paths_are ∙ named_at r.source names found.0 below)),
+    )
   where
-    go : IsUnapplied delimiter directory paths each inputs count fault → (job_status fault ≢ 5) × (job_status fault ≢ 10)
-    go (inl memory) = (λ e. let same = ap job_status memory in absurd (cc), λ e. let same = ap job_status memory in absurd (cc))
-    go (inr found) =
-        let same : job_status fault ≡ applying_status found.1 = ap job_status found.3 in
-        (λ e. (applying found.1).0 (sym same ∙ e), λ e. (applying found.1).1 (sym same ∙ e))
+    bad_within : (delimiter : ℕ) (fields : List ℕ) (inputs : List (List ℕ)) (number at : ℕ) → HasBadAt delimiter (zip fields inputs) number at → number < length inputs
+    bad_within delimiter [] inputs number at bad = absurd bad
+    bad_within delimiter (count ∷ fields) [] number at bad = absurd bad
+    bad_within delimiter (count ∷ fields) (input ∷ inputs) zero at bad = omega arith
+    bad_within delimiter (count ∷ fields) (input ∷ inputs) (suc number) at bad = omega (arith, bad_within delimiter fields inputs number at bad.1)
+
+pub unread_status : (delimiter : ℕ) (directory : List ℕ) (paths : List (List ℕ)) (inputs : List (ℕ × List ℕ)) (fault : JobFault) →
+    IsUnreadRecord delimiter directory paths inputs fault → (job_status fault ≡ 7) ⊎ (job_status fault ≡ 9)
+unread_status delimiter directory paths inputs fault (inl memory) = inl (ap job_status memory)
+unread_status delimiter directory paths inputs fault (inr found) = inr (ap job_status found.3)
+
+-- what the inputs are in COPY text form decides
+pub copies_decided : (plan : Project) (r : Request) (table : Option ℕ) (inputs copies : List (List ℕ)) (made : Result Job JobFault) →
+    AreReadAs (layout_of plan).delimiter (zip (input_fields plan r (chosen_places plan table)) inputs) copies →
+    IsDecided job_status due_of (IsMadeOf plan r table copies) made → IsDecided job_status due_of (IsCsvMade plan r table inputs) made
+copies_decided plan r table inputs copies (Ok job) are decided = inl (copies, are, decided)
+copies_decided plan r table inputs copies (Err fault) are decided = λ free. inl (copies, are, decided free)

@@ -18,8 +18,8 @@ use Rattle.pdgf_run.specs.Verdict.{IsDecided, IsInMode}
 use Rattle.pdgf_run.specs.modes.Apply.{paths_asked, paths_possible, tables_asked}
 use Rattle.pdgf_run.specs.modes.Check.{check_due}
 use Rattle.pdgf_run.specs.modes.Row.{row_due}
-use Rattle.pdgf_run.specs.modes.Snapshot.{snapshot_due}
-use Rattle.pdgf_run.specs.modes.Unit.{unit_due}
+use Rattle.pdgf_run.specs.modes.Snapshot.{IsSnapshotDue}
+use Rattle.pdgf_run.specs.modes.Unit.{IsUnitDue}
 use Rattle.pdgf_run.specs.declared.job.Job.{Job}
 use Rattle.pdgf_run.proofs.ApplyLemmas.{left_alone}
 
@@ -44,13 +44,13 @@ pub check_decided : (told : Option (List File)) (r : Request) (plan : Project) (
     IfSome told (λ files. IsDecided job_status due_of (IsInMode r.mode r plan files) made)
 check_decided told r plan made is decided = in_mode told Check r plan made is (λ files. decided_due (check_due plan) made decided)
 
-pub snapshot_decided : (told : Option (List File)) (r : Request) (plan : Project) (made : Result Job JobFault) → r.mode ≡ Snapshot → Decides job_status due_of made (snapshot_due r plan) →
+pub snapshot_decided : (told : Option (List File)) (r : Request) (plan : Project) (made : Result Job JobFault) → r.mode ≡ Snapshot → IsDecided job_status due_of (IsSnapshotDue r plan) made →
     IfSome told (λ files. IsDecided job_status due_of (IsInMode r.mode r plan files) made)
-snapshot_decided told r plan made is decided = in_mode told Snapshot r plan made is (λ files. decided_due (snapshot_due r plan) made decided)
+snapshot_decided told r plan made is decided = in_mode told Snapshot r plan made is (λ files. decided)
 
-pub unit_decided : (told : Option (List File)) (r : Request) (plan : Project) (made : Result Job JobFault) → r.mode ≡ Unit → Decides job_status due_of made (unit_due r plan) →
+pub unit_decided : (told : Option (List File)) (r : Request) (plan : Project) (made : Result Job JobFault) → r.mode ≡ Unit → IsDecided job_status due_of (IsUnitDue r plan) made →
     IfSome told (λ files. IsDecided job_status due_of (IsInMode r.mode r plan files) made)
-unit_decided told r plan made is decided = in_mode told Unit r plan made is (λ files. decided_due (unit_due r plan) made decided)
+unit_decided told r plan made is decided = in_mode told Unit r plan made is (λ files. decided)
 
 pub row_decided : (told : Option (List File)) (r : Request) (plan : Project) (made : Result Job JobFault) → r.mode ≡ Row → Decides job_status due_of made (row_due r plan) →
     IfSome told (λ files. IsDecided job_status due_of (IsInMode r.mode r plan files) made)

@@ -1,5 +1,7 @@
 -- Words and files come to one verdict.
-use Rattle.std.proofs.Common.{◌≡◌, ◌≢◌, ◌<◌, ◌+◌, ◌*◌, ℕ, suc, List, [], ◌∷◌, get_or, length, Option, Result, Ok, Err, ap, arith, inl, inr, refl, subst, sym, ◌∙◌}
+use Rattle.std.specs.Prelude.{nat_lt}
+use Rattle.std.specs.List.{sum_by}
+use Rattle.std.proofs.Common.{◌≡◌, ◌≢◌, ◌<◌, ◌+◌, ◌*◌, ℕ, suc, Bool, true, false, List, [], ◌∷◌, get_or, length, Option, Result, Ok, Err, ap, arith, inl, inr, refl, subst, sym, ◌∙◌}
 use Rattle.std.proofs.lemmas.Bool.{cases_eq, cases_lt}
 use Rattle.pd_outside.specs.Files.{File}
 use Rattle.plan_stages.specs.Plans.{plan_in}
@@ -11,6 +13,8 @@ use Rattle.refusals.specs.declared.refusal.PlanFault.{PlanFault}
 use Rattle.refusals.specs.declared.refusal.Refusal.{Refusal}
 use Rattle.refusals.specs.declared.refusal.Refusal.TheVariants as refusal
 use Rattle.request_words.specs.Words.{request}
+use Rattle.request_words.specs.declared.usage.Format.{Format}
+use Rattle.request_words.specs.declared.usage.Format.TheVariants.{Copy, Csv}
 use Rattle.request_words.specs.declared.usage.Mode.TheVariants.{Check, Snapshot, Unit, Row, Apply}
 use Rattle.request_words.specs.declared.usage.Mode.{Mode}
 use Rattle.request_words.specs.declared.usage.Request.{Request}
@@ -25,7 +29,15 @@ use Rattle.stream_apply.specs.declared.fault.ApplyFault.{ApplyFault}
 use Rattle.stream_apply.specs.declared.fault.ApplyFault.TheVariants.{Memory}
 use Rattle.pdgf_run.specs.Verdict.{IsInMode, IsOfRequest, IsPlanned, IsVerdict}
 use Rattle.update_box.specs.Packages.{chosen_places}
-use Rattle.pdgf_run.specs.modes.Apply.{AreApplied, IsApplyDue, IsAskedAndMade, IsFirstFault, IsMadeOf, IsReadAndMade, input_limit, input_names, input_paths, inputs_at, inputs_each, made_files, tables_asked, unapplied}
+use Rattle.update_box.specs.Parts.{parts_of, snapshot_contents, unit_contents}
+use Rattle.update_box.specs.declared.parts.Content.{Content}
+use Rattle.update_box.specs.declared.parts.Job.{Job}
+use Rattle.pdgf_run.specs.CsvFiles.{IsCsvAsked, IsCsvUnless, IsDueIn, csv_limit, texts_asked}
+use Rattle.pdgf_run.specs.Formats.{file_name, made_files}
+use Rattle.pdgf_run.specs.modes.Apply.{AreApplied, AreDueFor, IsApplyDue, IsAskedAndMade, IsCsvMade, IsFirstFault, IsMadeIn, IsMadeOf, IsReadAndMade, input_limit, input_names, input_paths, inputs_at, inputs_each, tables_asked, text_name, unapplied, unread_record}
+use Rattle.pdgf_run.specs.modes.Snapshot.{snapshot_asked}
+use Rattle.pdgf_run.specs.modes.Unit.{unit_asked}
+use Rattle.pdgf_run.proofs.CsvLemmas.{no_bad, one_bad, one_copies, one_written}
 
 -- ---- one table
 
@@ -75,12 +87,21 @@ one_fault delimiter each inputs count number other_number fault other delimits i
 
 -- ---- a request
 
+-- what is due for texts is one
+one_due : (plan : Project) (r : Request) (table : Option ℕ) (texts : List (List ℕ)) (due other : List File) → IsDelimiter (layout_of plan).delimiter →
+    AreDueFor plan r table texts due → AreDueFor plan r table texts other → due ≡ other
+one_due plan r table texts due other delimits is other_is =
+    is.due_is
+    ∙ ap (made_files (text_name r.format plan.schema) r.out (chosen_places plan table)) (one_written r.format (layout_of plan).delimiter texts is.written other_is.written delimits is.are other_is.are)
+    ∙ sym other_is.due_is
+
 one_made : (plan : Project) (r : Request) (table : Option ℕ) (inputs : List (List ℕ)) (answer other : Result (List File) JobFault) → IsDelimiter (layout_of plan).delimiter →
     IsMadeOf plan r table inputs answer → IsMadeOf plan r table inputs other → answer ≡ other
 one_made plan r table inputs (Ok due) (Ok other) delimits made other_made =
     let same : made.0 ≡ other_made.0 =
     one_list (layout_of plan).delimiter (inputs_each r) inputs made.0 other_made.0 delimits (made.1 ∙ sym other_made.1) made.2 other_made.2 in
-    ap Ok (made.3 ∙ ap (made_files plan.schema r.out (chosen_places plan table)) same ∙ sym other_made.3)
+    let other_due : AreDueFor plan r table made.0 other = subst (λ (texts : List (List ℕ)). AreDueFor plan r table texts other) (sym same) other_made.3 in
+    ap Ok (one_due plan r table made.0 due other delimits made.3 other_due)
 one_made plan r table inputs (Ok due) (Err fault) delimits made other_made =
     absurd (no_fault_within (layout_of plan).delimiter (inputs_each r) inputs made.0 _ other_made.0 other_made.1 delimits made.2 other_made.2
     (omega (arith, other_made.2.within, made.1)))
@@ -92,9 +113,28 @@ one_made plan r table inputs (Err fault) (Err other) delimits made other_made =
     let names : List (List ℕ) = input_names plan.schema r (chosen_places plan table) in
     ap Err (made.3 ∙ ap (λ (n : ℕ). unapplied names n made.1) one.0 ∙ ap (unapplied names other_made.0) one.1 ∙ sym other_made.3)
 
+-- inputs in CSV
+one_csv_made : (plan : Project) (r : Request) (table : Option ℕ) (inputs : List (List ℕ)) (answer other : Result (List File) JobFault) → IsDelimiter (layout_of plan).delimiter →
+    IsCsvMade plan r table inputs answer → IsCsvMade plan r table inputs other → answer ≡ other
+one_csv_made plan r table inputs answer other delimits (inl made) (inl other_made) =
+    let same : made.0 ≡ other_made.0 = one_copies (layout_of plan).delimiter _ made.0 other_made.0 made.1 other_made.1 in
+    one_made plan r table made.0 answer other delimits made.2
+    (subst (λ (copies : List (List ℕ)). IsMadeOf plan r table copies other) (sym same) other_made.2)
+one_csv_made plan r table inputs answer other delimits (inl made) (inr bad) = absurd (no_bad (layout_of plan).delimiter _ made.0 bad.0 bad.1 made.1 bad.2)
+one_csv_made plan r table inputs answer other delimits (inr bad) (inl made) = absurd (no_bad (layout_of plan).delimiter _ made.0 bad.0 bad.1 made.1 bad.2)
+one_csv_made plan r table inputs answer other delimits (inr bad) (inr other_bad) =
+    let one = one_bad (layout_of plan).delimiter _ bad.0 other_bad.0 bad.1 other_bad.1 bad.2 other_bad.2 in
+    let names : List (List ℕ) = input_names plan.schema r (chosen_places plan table) in
+    bad.3 ∙ ap Err (ap (λ (n : ℕ). unread_record names n bad.1) one.0 ∙ ap (unread_record names other_bad.0) one.1) ∙ sym other_bad.3
+
+one_made_in : (format : Format) (plan : Project) (r : Request) (table : Option ℕ) (inputs : List (List ℕ)) (answer other : Result (List File) JobFault) →
+    IsDelimiter (layout_of plan).delimiter → IsMadeIn format plan r table inputs answer → IsMadeIn format plan r table inputs other → answer ≡ other
+one_made_in Copy plan r table inputs answer other delimits is other_is = one_made plan r table inputs answer other delimits is other_is
+one_made_in Csv plan r table inputs answer other delimits is other_is = one_csv_made plan r table inputs answer other delimits is other_is
+
 one_read : (plan : Project) (r : Request) (table : Option ℕ) (inputs : Result (List (List ℕ)) InputFault) (answer other : Result (List File) JobFault) → IsDelimiter (layout_of plan).delimiter →
     IsReadAndMade plan r table inputs answer → IsReadAndMade plan r table inputs other → answer ≡ other
-one_read plan r table (Ok inputs) answer other delimits is other_is = one_made plan r table inputs answer other delimits is other_is
+one_read plan r table (Ok inputs) answer other delimits is other_is = one_made_in r.format plan r table inputs answer other delimits is other_is
 one_read plan r table (Err fault) answer other delimits is other_is = is ∙ sym other_is
 
 one_asked : (plan : Project) (r : Request) (files : List File) (asked : Result (Option ℕ) JobFault) (answer other : Result (List File) JobFault) → IsDelimiter (layout_of plan).delimiter →
@@ -107,11 +147,32 @@ pub one_apply : (plan : Project) (r : Request) (files : List File) (answer other
     IsApplyDue plan r files answer → IsApplyDue plan r files other → answer ≡ other
 one_apply plan r files answer other delimits is other_is = one_asked plan r files (tables_asked plan r) answer other delimits is other_is
 
+-- files of tables in a format
+one_csv_unless : (past : Bool) (contents : List Content) (plan : Project) (r : Request) (job : Job) (answer other : Result (List File) JobFault) → IsDelimiter (layout_of plan).delimiter →
+    IsCsvUnless past contents plan r job answer → IsCsvUnless past contents plan r job other → answer ≡ other
+one_csv_unless true contents plan r job answer other delimits is other_is = is ∙ sym other_is
+one_csv_unless false contents plan r job answer other delimits is other_is =
+    is.2
+    ∙ ap (λ (csvs : List (List ℕ)). Ok (made_files (file_name Csv plan.schema job.unit) r.out (parts_of contents (chosen_places plan job.table)) csvs))
+    (one_written Csv (layout_of plan).delimiter (texts_asked contents plan job) is.0 other_is.0 delimits is.1 other_is.1)
+    ∙ sym other_is.2
+
+one_csv_asked : (contents : List Content) (r : Request) (plan : Project) (job : Result Job JobFault) (answer other : Result (List File) JobFault) → IsDelimiter (layout_of plan).delimiter →
+    IsCsvAsked contents r plan job answer → IsCsvAsked contents r plan job other → answer ≡ other
+one_csv_asked contents r plan (Ok job) answer other delimits is other_is =
+    one_csv_unless (nat_lt csv_limit (sum_by length (texts_asked contents plan job))) contents plan r job answer other delimits is other_is
+one_csv_asked contents r plan (Err fault) answer other delimits is other_is = is ∙ sym other_is
+
+one_due_in : (format : Format) (contents : List Content) (r : Request) (plan : Project) (job : Result Job JobFault) (answer other : Result (List File) JobFault) →
+    IsDelimiter (layout_of plan).delimiter → IsDueIn format contents r plan job answer → IsDueIn format contents r plan job other → answer ≡ other
+one_due_in Copy contents r plan job answer other delimits is other_is = is ∙ sym other_is
+one_due_in Csv contents r plan job answer other delimits is other_is = one_csv_asked contents r plan job answer other delimits is other_is
+
 one_in_mode : (mode : Mode) (r : Request) (plan : Project) (files : List File) (answer other : Result (List File) JobFault) → IsDelimiter (layout_of plan).delimiter →
     IsInMode mode r plan files answer → IsInMode mode r plan files other → answer ≡ other
 one_in_mode Check r plan files answer other delimits is other_is = is ∙ sym other_is
-one_in_mode Snapshot r plan files answer other delimits is other_is = is ∙ sym other_is
-one_in_mode Unit r plan files answer other delimits is other_is = is ∙ sym other_is
+one_in_mode Snapshot r plan files answer other delimits is other_is = one_due_in r.format snapshot_contents r plan (snapshot_asked r plan) answer other delimits is other_is
+one_in_mode Unit r plan files answer other delimits is other_is = one_due_in r.format unit_contents r plan (unit_asked r plan) answer other delimits is other_is
 one_in_mode Row r plan files answer other delimits is other_is = is ∙ sym other_is
 one_in_mode Apply r plan files answer other delimits is other_is = one_apply plan r files answer other delimits is other_is
 

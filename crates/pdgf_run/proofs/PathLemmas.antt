@@ -6,7 +6,11 @@ use Rattle.std.proofs.lemmas.List.{length-map, map-append, take_all}
 use Rattle.std.proofs.lemmas.List.FromFn.{map-range_with_len_more}
 use Rattle.request_words.specs.declared.usage.Request.{Request}
 use Rattle.schema_model.specs.declared.table.Schema.{Schema}
-use Rattle.pdgf_run.specs.modes.Apply.{in_directory, input_names, inputs_each, table_names, text_name, unit_names}
+use Rattle.request_words.specs.declared.usage.Format.{Format}
+use Rattle.pdgf_run.specs.Formats.{in_directory}
+use Rattle.update_box.specs.Parts.{Part, parts_at, parts_of}
+use Rattle.update_box.specs.declared.parts.Content.{Content}
+use Rattle.pdgf_run.specs.modes.Apply.{change_fields, fields_in, input_names, inputs_each, table_names, text_name, unit_names}
 
 -- ---- names
 
@@ -21,6 +25,30 @@ flat_map_more f first (suc count) =
     ∙ ap (λ rest. f first ++ rest) (flat_map_more f (first + 1) count ∙ ap (λ n. flat_map f (range_with_len (first + 1) count) ++ f n) there)
     ∙ sym (append_assoc (f first) (flat_map f (range_with_len (first + 1) count)) (f (first + suc count)))
 
+-- how many fields the inputs of one more unit have
+pub fields_more : (columns unit : ℕ) (before mid now : List ℕ) → mid ≡ before ++ fields_in columns unit → now ≡ ((mid ++ 1 ∷ []) ++ columns ∷ []) ++ columns ∷ [] →
+    now ≡ before ++ fields_in columns (unit + 1)
+fields_more columns unit before mid now so_far step =
+    step
+    ∙ append_assoc (mid ++ 1 ∷ []) (columns ∷ []) (columns ∷ [])
+    ∙ append_assoc mid (1 ∷ []) (columns ∷ columns ∷ [])
+    ∙ ap (λ front. front ++ change_fields columns) so_far
+    ∙ append_assoc before (fields_in columns unit) (change_fields columns)
+    ∙ ap (λ rest. before ++ columns ∷ rest) (sym (flat_map_more (λ (u : ℕ). change_fields columns) 0 unit))
+
+-- those of one more table
+pub tables_more : (f : ℕ → List ℕ) (first number : ℕ) (mid now : List ℕ) → mid ≡ flat_map f (range_with_len first number) → now ≡ mid ++ f (first + number) →
+    now ≡ flat_map f (range_with_len first (number + 1))
+tables_more f first number mid now so_far step = step ∙ ap (λ front. front ++ f (first + number)) so_far ∙ sym (flat_map_more f first number)
+
+-- the parts of one more table
+pub parts_more : (name : Part → List ℕ) (contents : List Content) (first number : ℕ) (mid now : List (List ℕ)) → mid ≡ map name (parts_of contents (range_with_len first number)) →
+    now ≡ mid ++ map name (parts_at contents (first + number)) → now ≡ map name (parts_of contents (range_with_len first (number + 1)))
+parts_more name contents first number mid now so_far step =
+    step ∙ ap (λ front. front ++ map name (parts_at contents (first + number))) so_far
+    ∙ sym (map-append name (parts_of contents (range_with_len first number)) (parts_at contents (first + number)))
+    ∙ ap (map name) (sym (flat_map_more (parts_at contents) first number))
+
 -- one more behind what is mapped
 names_more : (directory : List ℕ) (f : ℕ → List (List ℕ)) (first count : ℕ) →
     map (in_directory directory) (flat_map f (range_with_len first (count + 1)))
@@ -30,32 +58,32 @@ names_more directory f first count =
     ∙ map-append (in_directory directory) (flat_map f (range_with_len first count)) (f (first + count))
 
 -- the paths of a table, as far as some units
-abbrev pub paths_to : List ℕ → Schema → ℕ → ℕ → ℕ → List (List ℕ)
-paths_to directory schema from table count = map (in_directory directory) (table_names schema from count table)
+abbrev pub paths_to : List ℕ → Format → Schema → ℕ → ℕ → ℕ → List (List ℕ)
+paths_to directory format schema from table count = map (in_directory directory) (table_names format schema from count table)
 
-pub paths_begun : (directory : List ℕ) (schema : Schema) (from table : ℕ) (before now : List (List ℕ)) → now ≡ before ++ in_directory directory (text_name schema table) ∷ [] →
-    now ≡ before ++ paths_to directory schema from table 0
-paths_begun directory schema from table before now is = is
+pub paths_begun : (directory : List ℕ) (format : Format) (schema : Schema) (from table : ℕ) (before now : List (List ℕ)) → now ≡ before ++ in_directory directory (text_name format schema table) ∷ [] →
+    now ≡ before ++ paths_to directory format schema from table 0
+paths_begun directory format schema from table before now is = is
 
-pub paths_more : (directory : List ℕ) (schema : Schema) (from table count unit : ℕ) (before mid now : List (List ℕ)) → unit ≡ from + 1 + count →
-    mid ≡ before ++ paths_to directory schema from table count → now ≡ mid ++ map (in_directory directory) (unit_names schema table unit) →
-    now ≡ before ++ paths_to directory schema from table (count + 1)
-paths_more directory schema from table count unit before mid now at so_far step =
-    let units = map (in_directory directory) (unit_names schema table unit) in
+pub paths_more : (directory : List ℕ) (format : Format) (schema : Schema) (from table count unit : ℕ) (before mid now : List (List ℕ)) → unit ≡ from + 1 + count →
+    mid ≡ before ++ paths_to directory format schema from table count → now ≡ mid ++ map (in_directory directory) (unit_names format schema table unit) →
+    now ≡ before ++ paths_to directory format schema from table (count + 1)
+paths_more directory format schema from table count unit before mid now at so_far step =
+    let units = map (in_directory directory) (unit_names format schema table unit) in
     step
     ∙ ap (λ front. front ++ units) so_far
-    ∙ append_assoc before (paths_to directory schema from table count) units
-    ∙ ap (λ (u : ℕ). before ++ (paths_to directory schema from table count ++ map (in_directory directory) (unit_names schema table u))) at
-    ∙ ap (λ rest. before ++ (in_directory directory (text_name schema table) ∷ rest)) (sym (names_more directory (unit_names schema table) (from + 1) count))
+    ∙ append_assoc before (paths_to directory format schema from table count) units
+    ∙ ap (λ (u : ℕ). before ++ (paths_to directory format schema from table count ++ map (in_directory directory) (unit_names format schema table u))) at
+    ∙ ap (λ rest. before ++ (in_directory directory (text_name format schema table) ∷ rest)) (sym (names_more directory (unit_names format schema table) (from + 1) count))
 
 -- those of some tables
 pub inputs_more : (schema : Schema) (r : Request) (first number : ℕ) (mid now : List (List ℕ)) →
     mid ≡ map (in_directory r.source) (input_names schema r (range_with_len first number)) →
-    now ≡ mid ++ map (in_directory r.source) (table_names schema r.from (r.to - r.from) (first + number)) →
+    now ≡ mid ++ map (in_directory r.source) (table_names r.format schema r.from (r.to - r.from) (first + number)) →
     now ≡ map (in_directory r.source) (input_names schema r (range_with_len first (number + 1)))
 inputs_more schema r first number mid now so_far step =
-    step ∙ ap (λ front. front ++ map (in_directory r.source) (table_names schema r.from (r.to - r.from) (first + number))) so_far
-    ∙ sym (names_more r.source (table_names schema r.from (r.to - r.from)) first number)
+    step ∙ ap (λ front. front ++ map (in_directory r.source) (table_names r.format schema r.from (r.to - r.from) (first + number))) so_far
+    ∙ sym (names_more r.source (table_names r.format schema r.from (r.to - r.from)) first number)
 
 -- those of the texts that are made
 pub texts_more : (f : ℕ → List ℕ) (first number : ℕ) (mid now : List (List ℕ)) → mid ≡ map f (range_with_len first number) → now ≡ mid ++ f (first + number) ∷ [] →
@@ -65,21 +93,21 @@ texts_more f first number mid now so_far step =
 
 -- ---- how many they are
 
-length-units : (schema : Schema) (table first count : ℕ) → length (flat_map (unit_names schema table) (range_with_len first count)) ≡ 3 * count
-length-units schema table first zero = refl
-length-units schema table first (suc count) =
-    let rest = flat_map (unit_names schema table) (range_with_len (first + 1) count) in
-    let more : length (unit_names schema table first ++ rest) ≡ 3 + length rest = length-append (unit_names schema table first) rest in
-    omega (arith, more, length-units schema table (first + 1) count)
+length-units : (format : Format) (schema : Schema) (table first count : ℕ) → length (flat_map (unit_names format schema table) (range_with_len first count)) ≡ 3 * count
+length-units format schema table first zero = refl
+length-units format schema table first (suc count) =
+    let rest = flat_map (unit_names format schema table) (range_with_len (first + 1) count) in
+    let more : length (unit_names format schema table first ++ rest) ≡ 3 + length rest = length-append (unit_names format schema table first) rest in
+    omega (arith, more, length-units format schema table (first + 1) count)
 
-length-table : (schema : Schema) (r : Request) (table : ℕ) → length (table_names schema r.from (r.to - r.from) table) ≡ inputs_each r
-length-table schema r table = omega (arith, length-units schema table (r.from + 1) (r.to - r.from))
+length-table : (schema : Schema) (r : Request) (table : ℕ) → length (table_names r.format schema r.from (r.to - r.from) table) ≡ inputs_each r
+length-table schema r table = omega (arith, length-units r.format schema table (r.from + 1) (r.to - r.from))
 
 pub length-tables : (schema : Schema) (r : Request) (first count : ℕ) → length (input_names schema r (range_with_len first count)) ≡ count * inputs_each r
 length-tables schema r first zero = omega arith
 length-tables schema r first (suc count) =
     let rest = input_names schema r (range_with_len (first + 1) count) in
-    let own = table_names schema r.from (r.to - r.from) first in
+    let own = table_names r.format schema r.from (r.to - r.from) first in
     length-append own rest
     ∙ ap (λ (n : ℕ). n + length rest) (length-table schema r first)
     ∙ ap (λ (n : ℕ). inputs_each r + n) (length-tables schema r (first + 1) count)

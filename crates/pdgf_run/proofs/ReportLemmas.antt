@@ -55,6 +55,7 @@ past_input file (input.Applying (applying.DoubleKey line)) limit taken ten withi
 past_input file (input.Applying (applying.NoSuchKey line)) limit taken ten within is = absurd (cc)
 past_input file (input.Applying (applying.KeyExists line)) limit taken ten within is = absurd (cc)
 past_input file (input.Applying applying.Memory) limit taken ten within is = absurd (cc)
+past_input file (input.BadRecord number) limit taken ten within is = absurd (cc)
 
 -- a refusal of status 10 is of a file that is too long
 pub past_limit : (r : Refusal) (limit taken : ℕ) → status_of r ≡ 10 → IsLimitOfRefusal r limit → taken ≡ limit + 1 → IsPastLimit (message_of r) taken

@@ -7,7 +7,6 @@ use Rattle.schema_plan.specs.Dictionaries.{Project}
 use Rattle.schema_plan.specs.Layout.{layout_of}
 use Rattle.schema_plan.specs.Planned.{table_named}
 use Rattle.schema_plan.specs.TableFacts.{reach}
-use Rattle.plan_stages.specs.Stages.{on_ok}
 use Rattle.refusals.specs.declared.refusal.JobFault.{JobFault}
 use Rattle.refusals.specs.declared.refusal.JobFault.TheVariants.{Range}
 use Rattle.request_words.specs.declared.usage.OptionName.TheVariants as option
@@ -62,10 +61,6 @@ asked plan request = asked_of plan request (chosen_table plan.schema request.tab
 -- the files of such contents of a job's tables
 abbrev pub table_files : List Content → Project → Option (List ℕ) → Job → List File
 table_files contents plan out job = share_files (packages_of contents plan job) out
-
--- the same of what a request asks
-abbrev pub files_asked : List Content → Request → Project → Result (List File) JobFault
-files_asked contents request plan = on_ok (asked plan request) (λ job. Ok (table_files contents plan request.out job))
 
 -- a text as the one file, on the standard output
 abbrev pub text_files : List ℕ → List File

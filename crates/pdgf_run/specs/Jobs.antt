@@ -13,7 +13,7 @@ use Rattle.pdgf_run.specs.declared.job.Job.{Job}
 use Rattle.pdgf_run.specs.declared.job.Job.TheVariants.{Files, Text, Page, Snapshot, Unit}
 use Rattle.pdgf_run.specs.declared.job.TablesJob.{TablesJob}
 use Rattle.pdgf_run.specs.declared.job.UnitJob.{UnitJob}
-use Rattle.pdgf_run.specs.modes.Apply.{named_files}
+use Rattle.pdgf_run.specs.Formats.{named_files}
 
 -- the numbers of a request that asks of tables are within their ranges: the workers, the lines of a package where they are given, and
 -- the nodes

@@ -1,4 +1,7 @@
 pub mod DueFiles
+pub mod Formats
+pub mod InMemory
+pub mod CsvFiles
 pub mod Jobs
 pub mod ReadingList
 pub mod TopCall

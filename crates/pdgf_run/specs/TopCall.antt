@@ -17,7 +17,7 @@ use Rattle.refusals.specs.declared.refusal.Refusal.TheVariants as refusal
 use Rattle.request_words.specs.declared.usage.Request.{Request}
 use Rattle.schema_plan.specs.Dictionaries.{Project}
 use Rattle.pdgf_run.specs.declared.report.Report.{Report}
-use Rattle.pdgf_run.specs.modes.Apply.{HoldInputs, input_limit, later_files, tables_asked}
+use Rattle.pdgf_run.specs.modes.Apply.{AreLaterFiles, HoldInputs, input_limit, tables_asked}
 
 -- The report is the verdict's: the due files were finished, in order, and none is begun; or the shelf is as it was.
 abbrev pub Carries : Result (List File) Refusal → Report → Option Held → Option Held → Type 0
@@ -69,8 +69,9 @@ pub record LibraryLeft (status : ℕ) (IsLimit : ℕ → Type 0) (before : Optio
   pub never_falls : faults_before ≤ faults_now
 
 -- Where files hold what a plain simulation gives as the inputs of a request, all is done, and what the tables hold at the later unit is
--- finished.
+-- finished, in the request's format.
 abbrev pub GivesLater : Request → List File → Report → Option Held → Option Held → Type 0
 GivesLater request files report before now =
     IfOk (plan_in files request.schema) (λ (plan : Project). IfOk (tables_asked plan request) (λ (table : Option ℕ).
-    HoldInputs plan request table files → Carries (Ok (later_files plan request table)) report before now))
+    HoldInputs plan request table files →
+    (due : List File) × AreLaterFiles plan request table due × Carries (Ok due) report before now))

@@ -19,14 +19,14 @@ use Rattle.schema_plan.specs.Dictionaries.{Project}
 use Rattle.pdgf_run.specs.modes.Apply.{IsApplyDue}
 use Rattle.pdgf_run.specs.modes.Check.{check_due}
 use Rattle.pdgf_run.specs.modes.Row.{row_due}
-use Rattle.pdgf_run.specs.modes.Snapshot.{snapshot_due}
-use Rattle.pdgf_run.specs.modes.Unit.{unit_due}
+use Rattle.pdgf_run.specs.modes.Snapshot.{IsSnapshotDue}
+use Rattle.pdgf_run.specs.modes.Unit.{IsUnitDue}
 
 -- what a request over a plan and files comes to, by its mode
 abbrev pub IsInMode : Mode → Request → Project → List File → Result (List File) JobFault → Type 0
 IsInMode Check request plan files answer = answer ≡ check_due plan
-IsInMode Snapshot request plan files answer = answer ≡ snapshot_due request plan
-IsInMode Unit request plan files answer = answer ≡ unit_due request plan
+IsInMode Snapshot request plan files answer = IsSnapshotDue request plan answer
+IsInMode Unit request plan files answer = IsUnitDue request plan answer
 IsInMode Row request plan files answer = answer ≡ row_due request plan
 IsInMode Apply request plan files answer = IsApplyDue plan request files answer
 

@@ -18,17 +18,20 @@ ghost use Rattle.pdgf_run.specs.modes.Apply.{input_limit};
 
 use crate::job::Job;
 use crate::modes::job_of;
-use pd_outside::Library;
+use pd_outside::{Gate, Library};
 use plan_stages::plan_of;
 use refusals::{JobFault, Refusal};
 use request_words::{Request, UsageFault, read_words};
 use std::alloc::Global;
+use std::thread::Threads;
 
 /// Decides what the words come to: a job, or why there is none. Nothing but the names of the reading list is started.
-pub(crate) fn decide<L: Library>(
+pub(crate) fn decide<R: Threads + Sync, L: Library, G: Gate + Sync>(
+    rt: &R,
     alloc: Global,
     words: &[String],
     library: &mut L,
+    gate: &G,
 ) -> Result<Job, Refusal>
     ensures verdict { IfSome (told_files (L.content library.old)) (λ files.
         IsDecided status_of due_of (IsVerdict (map string_bytes words.now) files) result) }
@@ -49,13 +52,15 @@ pub(crate) fn decide<L: Library>(
     ensures asked { AsksInTurn (request (map string_bytes words.now)) (told_files (L.content library.old)) (L.asked library.old) (L.asked library.new) }
 {
     let request = read_words(alloc, words)?;
-    Ok(job_of_request(alloc, library, &request)?)
+    Ok(job_of_request(rt, alloc, library, gate, &request)?)
 }
 
 /// The job of a request.
-fn job_of_request<L: Library>(
+fn job_of_request<R: Threads + Sync, L: Library, G: Gate + Sync>(
+    rt: &R,
     alloc: Global,
     library: &mut L,
+    gate: &G,
     request: &Request,
 ) -> Result<Job, JobFault>
     requires { AreWithinRanges request.now }
@@ -75,5 +80,5 @@ fn job_of_request<L: Library>(
 {
     let plan = plan_of(alloc, library, request.schema.as_str())?;
     let _limits = plan.schema(); // a plan is in its limits
-    job_of(alloc, library, plan, request)
+    job_of(rt, alloc, library, gate, plan, request)
 }

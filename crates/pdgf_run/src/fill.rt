@@ -5,7 +5,7 @@ ghost use Rattle.std.specs.Option.{option_copied, option_map};
 ghost use Rattle.pd_outside.specs.Faults.{FailsAtLast, Rose};
 ghost use Rattle.pd_outside.specs.Shelf.{HoldsPrefixOf, finish_files};
 ghost use Rattle.pdgf_run.specs.Jobs.{due_of, CanFill};
-ghost use Rattle.pdgf_run.specs.modes.Apply.{named_files};
+ghost use Rattle.pdgf_run.specs.Formats.{named_files};
 
 use crate::job::{FilesJob, Job};
 use crate::modes::{snapshot, unit};

@@ -55,23 +55,23 @@ pub(crate) struct UnitJob {
     pub(crate) rows: UnitRows,
 }
 
-/// The job of what a request asks of a plan's tables. At `Memory` there is none.
+/// The job of what a request asks of a plan's tables, with its files in a directory or on the standard output. At `Memory` there is none.
 pub(crate) fn tables_job(
     alloc: Global,
     plan: Plan,
     asked: update_box::Job,
     request: &Request,
+    out: Option<Name>,
 ) -> Result<TablesJob, Memory>
     requires asked { IsJobOf plan asked }
     requires ranges { CanAsk request.now }
     requires pages { page_bytes request.now.workers asked.package (reach (layout_of plan)) ≤ most_page_bytes }
     ensures plan { IfOk result (λ job. job.plan ≡ plan) }
     ensures asked { IfOk result (λ job. job.asked ≡ asked) }
-    ensures out { IfOk result (λ job. job.out ≡ request.now.out) }
+    ensures out { IfOk result (λ job. job.out ≡ out) }
     ensures can { IfOk result CanPack }
 {
     let tables = PreparedTables::new(alloc, &plan, asked.unit, asked.table)?;
-    let out = copied(alloc, &request.out)?;
     Ok(TablesJob {
         plan,
         tables,
@@ -82,7 +82,7 @@ pub(crate) fn tables_job(
 }
 
 /// A name of its own, where there is one.
-fn copied(alloc: Global, name: &Option<Name>) -> Result<Option<Name>, Memory>
+pub(crate) fn copied(alloc: Global, name: &Option<Name>) -> Result<Option<Name>, Memory>
     ensures { IfOk result (λ made. made ≡ name.now) }
 {
     match name {

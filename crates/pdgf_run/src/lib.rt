@@ -3,17 +3,20 @@
 
 mod asked;
 mod command_line;
+mod csv;
 mod decide;
 mod fill;
 mod job;
 pub mod laws;
 mod modes;
+mod names;
 mod report;
 mod run;
+mod text_shelf;
 
 pub use asked::default_package;
 pub use command_line::run_program;
 pub use refusals::{DictionaryCause, DictionaryFault, JobFault, PlanFault, Refusal};
 pub use report::Report;
-pub use request_words::{Mode, OptionName, Request, UsageFault, read_words};
+pub use request_words::{Format, Mode, OptionName, Request, UsageFault, read_words};
 pub use run::pdgf;

@@ -19,18 +19,22 @@ pub(crate) mod snapshot;
 pub(crate) mod unit;
 
 use crate::job::Job;
-use pd_outside::Library;
+use pd_outside::{Gate, Library};
 use refusals::JobFault;
 use request_words::{Mode, Request};
 use schema_plan::Plan;
 use std::alloc::Global;
 use std::marker::Brand;
 use std::sync::ledger::Blank;
+use std::thread::Threads;
 
-/// The job of a request over a plan. Mode apply reads its inputs; every other leaves the library as it is.
-pub(crate) fn job_of<L: Library>(
+/// The job of a request over a plan. Mode apply reads its inputs; every other leaves the library as it is. What is due in CSV is made here,
+/// by the workers where it is of rows, and each package of lines enters the gate then.
+pub(crate) fn job_of<R: Threads + Sync, L: Library, G: Gate + Sync>(
+    rt: &R,
     alloc: Global,
     library: &mut L,
+    gate: &G,
     plan: Plan,
     request: &Request,
 ) -> Result<Job, JobFault>
@@ -49,8 +53,8 @@ pub(crate) fn job_of<L: Library>(
 {
     match request.mode {
         Mode::Check => check::plan_check(alloc, &plan),
-        Mode::Snapshot => snapshot::plan_snapshot(alloc, plan, request),
-        Mode::Unit => unit::plan_unit::<Brand>(alloc, plan, request, Blank::new(1)),
+        Mode::Snapshot => snapshot::plan_snapshot(rt, alloc, gate, plan, request),
+        Mode::Unit => unit::plan_unit::<Brand, R, G>(rt, alloc, gate, plan, request, Blank::new(1)),
         Mode::Row => row::plan_row::<Brand>(alloc, plan, request, Blank::new(1)),
         Mode::Apply => apply::plan_apply(alloc, library, &plan, request),
     }

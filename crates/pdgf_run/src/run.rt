@@ -93,7 +93,7 @@ pub fn pdgf<R: Threads + Sync, L: Library, S: Shelf, G: Gate + Sync>(
     ensures library_never_falls { L.faults library.old ≤ L.faults library.new }
     ensures shelf_never_falls { S.faults shelf.old ≤ S.faults shelf.new }
 {
-    let job = match decide(alloc, words, library) {
+    let job = match decide(rt, alloc, words, library, gate) {
         Ok(job) => job,
         Err(refusal) => return refused(refusal),
     };

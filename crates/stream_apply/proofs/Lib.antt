@@ -8,3 +8,4 @@ pub mod MadeLemmas
 pub mod OutcomeLemmas
 pub mod ChainLemmas
 pub mod InTurnLemmas
+pub mod KeptLineLemmas

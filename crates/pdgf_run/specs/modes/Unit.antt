@@ -8,10 +8,14 @@ use Rattle.refusals.specs.declared.refusal.JobFault.TheVariants.{Range}
 use Rattle.request_words.specs.declared.usage.OptionName.TheVariants as option
 use Rattle.request_words.specs.declared.usage.Request.{Request}
 use Rattle.update_box.specs.Parts.{unit_contents}
-use Rattle.pdgf_run.specs.DueFiles.{files_asked}
+use Rattle.update_box.specs.declared.parts.Job.{Job}
+use Rattle.pdgf_run.specs.CsvFiles.{IsDueIn}
+use Rattle.pdgf_run.specs.DueFiles.{asked}
 
--- what the mode is due: unit 0, which changes nothing, and a unit past the last one are refused first
-abbrev pub unit_due : Request → Project → Result (List File) JobFault
-unit_due request plan =
-    if request.unit == 0 || nat_lt (last_unit plan) request.unit then Err (Range option.Unit)
-    else files_asked unit_contents request plan
+-- what is asked of the tables: unit 0, which changes nothing, and a unit past the last one are refused first
+abbrev pub unit_asked : Request → Project → Result Job JobFault
+unit_asked request plan = if request.unit == 0 || nat_lt (last_unit plan) request.unit then Err (Range option.Unit) else asked plan request
+
+-- what the mode is due
+abbrev pub IsUnitDue : Request → Project → Result (List File) JobFault → Type 0
+IsUnitDue request plan answer = IsDueIn request.format unit_contents request plan (unit_asked request plan) answer

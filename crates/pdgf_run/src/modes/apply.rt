@@ -1,8 +1,9 @@
 //! Mode apply: the texts of tables and the streams of later units are read from files and applied.
 
-ghost use Rattle.std.specs.Prelude.{◌≡◌, ◌≢◌, ◌<◌, ◌≤◌, ◌+◌, ◌-◌, ◌*◌, ◌⊎◌, ◌++◌, ◌∷◌, [], ℕ, List, IfErr, IfOk, IfSome, OnOk, drop, flat_map, length, map};
+ghost use Rattle.std.specs.Prelude.{◌≡◌, ◌≢◌, ◌<◌, ◌≤◌, ◌+◌, ◌-◌, ◌*◌, ◌⊎◌, ◌++◌, ◌∷◌, [], ℕ, All, List, IfErr, IfOk, IfSome, OnOk, drop, length, map, zip};
 ghost use Rattle.std.specs.Bool.{OnFalse, OnTrue};
 ghost use Rattle.std.specs.List.{range_with_len};
+ghost use Rattle.csv_face.specs.Csv.{HasRows};
 ghost use Rattle.pd_outside.specs.Library.{AskedPrefixOf};
 ghost use Rattle.plan_stages.specs.PlanNames.{AskedNone};
 ghost use Rattle.plan_stages.specs.Stages.{ended, told_files, IsReadOut};
@@ -13,19 +14,23 @@ ghost use Rattle.update_box.specs.Packages.{IsChoice, chosen_places};
 ghost use Rattle.pdgf_run.specs.Jobs.{due_of, CanFill};
 ghost use Rattle.pdgf_run.specs.TopCall.{IsLimitTold, LibraryLeft};
 ghost use Rattle.pdgf_run.specs.Verdict.{IsDecided};
-ghost use Rattle.pdgf_run.specs.modes.Apply.{AreApplied, AreInDirectory, IsApplyDue, IsUnapplied, file_name, file_named, in_directory, input_limit, input_names, inputs_each, made_files, paths_asked, paths_possible, table_names, tables_asked, text_name, unit_names};
+ghost use Rattle.pdgf_run.specs.Formats.{AreCsvOf, AreRowsOf, AreWritten, in_directory, made_files};
+ghost use Rattle.pdgf_run.specs.modes.Apply.{AreApplied, AreInDirectory, AreReadAs, IsApplyDue, IsMadeIn, IsMadeOf, IsUnapplied, IsUnreadRecord, fields_in, file_named, input_fields, input_limit, input_names, input_paths, inputs_each, paths_asked, paths_possible, table_names, tables_asked, text_name};
 
 use crate::asked::{chosen_table, is_past_last};
+use crate::csv::{joined, push_csv};
 use crate::job::{FilesJob, Job};
+use crate::names::{Directory, put};
+use csv_face::{CsvFault, from_csv};
 use pd_outside::Library;
 use plan_stages::{Inputs, read_in_turn};
 use refusals::{FileName, InputCause, InputFault, JobFault};
-use request_words::{OptionName, Request};
+use request_words::{Format, OptionName, Request};
 use schema_model::{Text, Texts};
 use schema_plan::Plan;
 use std::alloc::Global;
 use stream_apply::{ApplyFault, apply_in_turn};
-use update_box::{Content, Memory, Places, places_of, push_file_name};
+use update_box::{Content, Memory, Places, places_of};
 
 /// The most bytes that all inputs have together.
 const INPUT_LIMIT: u64 = 268_435_456;
@@ -65,7 +70,7 @@ pub(crate) fn plan_apply<L: Library>(
         Err(Memory) => return Err(JobFault::Memory),
     };
     match read_in_turn(alloc, library, &paths, INPUT_LIMIT) {
-        Ok(inputs) => made_job(alloc, plan, tables, request, &paths, &inputs),
+        Ok(inputs) => made_in(alloc, plan, table, request, &paths, &inputs),
         Err(fault) => Err(JobFault::Input(InputFault {
             file: file_of(paths.get(fault.number), request),
             cause: InputCause::Reading(fault.cause),
@@ -114,6 +119,11 @@ fn tables_of(plan: &Plan, table: Option<u32>, request: &Request) -> Tables
     }
 }
 
+/// What the file of a table's text tells, and those of what a unit changes in it, in the order in which it is applied.
+const TEXT: [Content; 1] = [Content::Snapshot];
+
+const CHANGES: [Content; 3] = [Content::Deleted, Content::Updated, Content::Inserted];
+
 /// The paths of the inputs of tables, in the order in which they are read.
 fn input_paths(
     alloc: Global,
@@ -128,9 +138,20 @@ fn input_paths(
         ≡ map (in_directory request.now.source) (input_names plan.now.schema request.now (range_with_len tables.first tables.count))) }
 {
     let _limits = plan.schema(); // there are 1 to 64 tables
+    let directory = Directory {
+        plan,
+        name: request.source.as_str(),
+        format: request.format,
+    };
     let mut paths = Texts::new(alloc);
     for number in 0..tables.count {
-        push_paths(alloc, &mut paths, plan, tables.first + number, request)?;
+        push_paths(
+            alloc,
+            &mut paths,
+            &directory,
+            tables.first + number,
+            request,
+        )?;
     }
     Ok(paths)
 }
@@ -139,97 +160,23 @@ fn input_paths(
 fn push_paths(
     alloc: Global,
     paths: &mut Texts,
-    plan: &Plan,
+    directory: &Directory<'_>,
     table: u32,
     request: &Request,
 ) -> Result<(), Memory>
-    requires table { table < length plan.now.schema.tables }
+    requires table { table < length directory.now.plan.now.schema.tables }
     requires order { request.now.from ≤ request.now.to }
-    requires units { request.now.to ≤ (layout_of plan.now).units }
-    ensures { OnOk result (paths.new ≡ paths.old
-        ++ map (in_directory request.now.source) (table_names plan.now.schema request.now.from (request.now.to - request.now.from) table)) }
+    requires units { request.now.to ≤ (layout_of directory.now.plan.now).units }
+    ensures { OnOk result (paths.new ≡ paths.old ++ map (in_directory directory.now.name.now)
+        (table_names directory.now.format directory.now.plan.now.schema request.now.from (request.now.to - request.now.from) table)) }
 {
-    let _limits = plan.schema(); // there are at most 10,000 units
-    push_path(alloc, paths, plan, table, 0, Content::Snapshot, request)?;
+    let _limits = directory.plan.schema(); // there are at most 10,000 units
+    directory.push_paths(alloc, paths, table, 0, TEXT.as_slice())?;
     for step in 0..request.to - request.from {
-        push_unit_paths(alloc, paths, plan, table, request.from + 1 + step, request)?;
+        let unit = request.from + 1 + step;
+        directory.push_paths(alloc, paths, table, unit, CHANGES.as_slice())?;
     }
     Ok(())
-}
-
-/// Puts the paths of what a unit changes in a table behind others.
-fn push_unit_paths(
-    alloc: Global,
-    paths: &mut Texts,
-    plan: &Plan,
-    table: u32,
-    unit: u64,
-    request: &Request,
-) -> Result<(), Memory>
-    requires { table < length plan.now.schema.tables }
-    ensures { OnOk result (paths.new ≡ paths.old ++ map (in_directory request.now.source) (unit_names plan.now.schema table unit)) }
-{
-    push_path(alloc, paths, plan, table, unit, Content::Deleted, request)?;
-    push_path(alloc, paths, plan, table, unit, Content::Updated, request)?;
-    push_path(alloc, paths, plan, table, unit, Content::Inserted, request)
-}
-
-/// Puts the path of a content of a table at a unit behind others.
-fn push_path(
-    alloc: Global,
-    paths: &mut Texts,
-    plan: &Plan,
-    table: u32,
-    unit: u64,
-    content: Content,
-    request: &Request,
-) -> Result<(), Memory>
-    requires { table < length plan.now.schema.tables }
-    ensures { OnOk result (paths.new ≡ paths.old
-        ++ in_directory request.now.source (file_name plan.now.schema unit (record { place = table; content = content })) ∷ []) }
-{
-    let path = path_of(alloc, request.source.as_str(), plan, table, unit, content)?;
-    put(paths, path)
-}
-
-/// The path in a directory of the file of a content of a table at a unit.
-fn path_of(
-    alloc: Global,
-    directory: &str,
-    plan: &Plan,
-    table: u32,
-    unit: u64,
-    content: Content,
-) -> Result<Text, Memory>
-    requires { table < length plan.now.schema.tables }
-    ensures { IfOk result (λ path. path
-        ≡ in_directory directory.now (file_name plan.now.schema unit (record { place = table; content = content }))) }
-{
-    let mut path = Text::new(alloc);
-    push(&mut path, directory)?;
-    push(&mut path, "/")?;
-    push_file_name(&mut path, plan, table, unit, content)?;
-    Ok(path)
-}
-
-/// Appends a piece to a path.
-fn push(path: &mut Text, piece: &str) -> Result<(), Memory>
-    ensures { OnOk result (path.new ≡ path.old ++ piece.now) }
-{
-    match path.push(piece) {
-        Ok(()) => Ok(()),
-        Err(_) => Err(Memory),
-    }
-}
-
-/// Puts a path behind others.
-fn put(paths: &mut Texts, path: Text) -> Result<(), Memory>
-    ensures { OnOk result (paths.new ≡ paths.old ++ path ∷ []) }
-{
-    match paths.push(path) {
-        Ok(()) => Ok(()),
-        Err(_) => Err(Memory),
-    }
 }
 
 /// The name of an input by its path, without the directory.
@@ -241,40 +188,226 @@ fn file_of(path: &Text, request: &Request) -> FileName
     FileName::of(&name[..name.len().min(FileName::ROOM)])
 }
 
-/// The job of inputs that are read, and whose paths have these names.
-fn made_job(
+/// The job of inputs that are read, in the request's format.
+fn made_in(
     alloc: Global,
     plan: &Plan,
-    tables: Tables,
+    table: Option<u32>,
     request: &Request,
     paths: &Texts,
     inputs: &Inputs,
 ) -> Result<Job, JobFault>
+    requires table { IsChoice plan.now table }
+    requires order { request.now.from ≤ request.now.to }
+    requires units { request.now.to ≤ (layout_of plan.now).units }
+    requires paths { paths.now ≡ input_paths plan.now request.now table }
     requires alike { length inputs.now ≡ length paths.now }
-    requires count { length inputs.now ≡ tables.count * tables.inputs }
-    requires named { AreInDirectory request.now.source paths.now }
-    requires within { tables.first + tables.count ≤ length plan.now.schema.tables }
-    requires few { tables.count ≤ 64 }
-    requires not_many { tables.inputs ≤ 30001 }
-    ensures made { IfOk result (λ job. (texts : List (List ℕ)) × (length texts ≡ tables.count)
-        × AreApplied (layout_of plan.now).delimiter tables.inputs inputs.now texts
-        × (due_of job ≡ made_files plan.now.schema request.now.out (range_with_len tables.first tables.count) texts)) }
-    ensures fault { IfErr result (IsUnapplied (layout_of plan.now).delimiter request.now.source paths.now tables.inputs inputs.now tables.count) }
+    ensures made { IsDecided job_status due_of (IsMadeIn request.now.format plan.now request.now table inputs.now) result }
+    ensures refused { IfErr result (λ fault. (job_status fault ≡ 7) ⊎ (job_status fault ≡ 9)) }
     ensures can { IfOk result CanFill }
 {
-    let texts = applied_texts(alloc, plan.delimiter(), tables, request, paths, inputs)?;
-    match &request.out {
-        None => match joined(alloc, &texts) {
-            Ok(text) => Ok(Job::Text(text)),
-            Err(Memory) => Err(JobFault::Memory),
-        },
-        Some(directory) => {
-            match text_paths(alloc, directory.as_str(), plan, tables) {
-                Ok(names) => Ok(Job::Files(FilesJob { names, texts })),
-                Err(Memory) => Err(JobFault::Memory),
-            }
+    match request.format {
+        Format::Copy => made_job(alloc, plan, table, request, paths, inputs),
+        Format::Csv => {
+            let copies = copies_of(alloc, plan, table, request, paths, inputs)?;
+            made_job(alloc, plan, table, request, paths, &copies)
         }
     }
+}
+
+/// Inputs in CSV as they are in COPY text form; or why the first with a bad record isn't read.
+fn copies_of(
+    alloc: Global,
+    plan: &Plan,
+    table: Option<u32>,
+    request: &Request,
+    paths: &Texts,
+    inputs: &Inputs,
+) -> Result<Inputs, JobFault>
+    requires table { IsChoice plan.now table }
+    requires order { request.now.from ≤ request.now.to }
+    requires units { request.now.to ≤ (layout_of plan.now).units }
+    requires paths { paths.now ≡ input_paths plan.now request.now table }
+    requires alike { length inputs.now ≡ length paths.now }
+    ensures read { IfOk result (AreReadAs (layout_of plan.now).delimiter (zip (input_fields plan.now request.now (chosen_places plan.now table)) inputs.now)) }
+    ensures rows { IfOk result (AreRowsOf (layout_of plan.now).delimiter (input_fields plan.now request.now (chosen_places plan.now table))) }
+    ensures count { IfOk result (λ copies. length copies ≡ length inputs.now) }
+    ensures bad { IfErr result (IsUnreadRecord (layout_of plan.now).delimiter request.now.source paths.now
+        (zip (input_fields plan.now request.now (chosen_places plan.now table)) inputs.now)) }
+{
+    let tables = tables_of(plan, table, request);
+    let fields = match input_fields(alloc, plan, tables, request) {
+        Ok(fields) => fields,
+        Err(Memory) => return Err(JobFault::Memory),
+    };
+    read_csv(alloc, plan.delimiter(), &fields, request, paths, inputs)
+}
+
+/// How many fields the rows of each input of tables have.
+fn input_fields(
+    alloc: Global,
+    plan: &Plan,
+    tables: Tables,
+    request: &Request,
+) -> Result<Vec<u32>, Memory>
+    requires within { tables.first + tables.count ≤ length plan.now.schema.tables }
+    requires order { request.now.from ≤ request.now.to }
+    ensures fields { IfOk result (λ fields. fields.items ≡ input_fields plan.now request.now (range_with_len tables.first tables.count)) }
+    ensures some { IfOk result (λ fields. All (λ count. 0 < count) fields.items) }
+{
+    let _limits = plan.schema(); // there are 1 to 64 tables
+    let mut fields = Vec::new(alloc);
+    for number in 0..tables.count {
+        let columns = plan.columns(tables.first + number).len() as u32;
+        push_fields(&mut fields, columns, request.to - request.from)?;
+    }
+    Ok(fields)
+}
+
+/// Puts how many fields the rows of each input of a table have behind others: of its text, and of what so many units change.
+fn push_fields(fields: &mut Vec<u32>, columns: u32, units: u64) -> Result<(), Memory>
+    ensures { OnOk result (fields.new.items ≡ fields.old.items ++ fields_in columns units) }
+{
+    fields.push(columns)?;
+    for _unit in 0..units {
+        fields.push(1)?;
+        fields.push(columns)?;
+        fields.push(columns)?;
+    }
+    Ok(())
+}
+
+/// Inputs in CSV, with so many fields in the rows of each, as they are in COPY text form; or why the first with a bad record isn't read.
+fn read_csv(
+    alloc: Global,
+    delimiter: u8,
+    fields: &[u32],
+    request: &Request,
+    paths: &Texts,
+    inputs: &Inputs,
+) -> Result<Inputs, JobFault>
+    requires delimiter { IsDelimiter delimiter }
+    requires fields { length fields.now ≡ length inputs.now }
+    requires some { All (λ count. 0 < count) fields.now }
+    requires alike { length inputs.now ≡ length paths.now }
+    requires named { AreInDirectory request.now.source paths.now }
+    ensures read { IfOk result (AreReadAs delimiter (zip fields.now inputs.now)) }
+    ensures rows { IfOk result (AreRowsOf delimiter fields.now) }
+    ensures count { IfOk result (λ copies. length copies ≡ length inputs.now) }
+    ensures bad { IfErr result (IsUnreadRecord delimiter request.now.source paths.now (zip fields.now inputs.now)) }
+{
+    let mut copies = Inputs::new(alloc);
+    for number in 0..inputs.len() {
+        match from_csv(alloc, inputs.get(number), delimiter, fields[number]) {
+            Ok(text) => match copies.push(text) {
+                Ok(()) => {}
+                Err(_) => return Err(JobFault::Memory),
+            },
+            Err(CsvFault::BadRecord { number: at }) => {
+                return Err(unread_record(paths.get(number), request, at));
+            }
+            Err(CsvFault::Memory) => return Err(JobFault::Memory),
+        }
+    }
+    Ok(copies)
+}
+
+/// Why the input of a path isn't read as rows.
+fn unread_record(path: &Text, request: &Request, at: u64) -> JobFault
+    requires { length request.now.source + 1 ≤ length path.now }
+    ensures { result ≡ JobFault.Input (record { file = file_named (drop (length request.now.source + 1) path.now); cause = InputCause.BadRecord at }) }
+{
+    JobFault::Input(InputFault {
+        file: file_of(path, request),
+        cause: InputCause::BadRecord(at),
+    })
+}
+
+/// The job of inputs in COPY text form.
+fn made_job(
+    alloc: Global,
+    plan: &Plan,
+    table: Option<u32>,
+    request: &Request,
+    paths: &Texts,
+    inputs: &Inputs,
+) -> Result<Job, JobFault>
+    requires table { IsChoice plan.now table }
+    requires order { request.now.from ≤ request.now.to }
+    requires units { request.now.to ≤ (layout_of plan.now).units }
+    requires paths { paths.now ≡ input_paths plan.now request.now table }
+    requires alike { length inputs.now ≡ length paths.now }
+    requires rows { request.now.format ≡ Format.Csv →
+        AreRowsOf (layout_of plan.now).delimiter (input_fields plan.now request.now (chosen_places plan.now table)) inputs.now }
+    ensures made { IsDecided job_status due_of (IsMadeOf plan.now request.now table inputs.now) result }
+    ensures refused { IfErr result (λ fault. (job_status fault ≡ 7) ⊎ (job_status fault ≡ 9)) }
+    ensures can { IfOk result CanFill }
+{
+    let _limits = plan.schema(); // a table has a column at least
+    let tables = tables_of(plan, table, request);
+    let texts = applied_texts(alloc, plan.delimiter(), tables, request, paths, inputs)?;
+    match written_job(alloc, plan, tables, request, texts) {
+        Ok(job) => Ok(job),
+        Err(Memory) => Err(JobFault::Memory),
+    }
+}
+
+/// The job of texts of tables, in the request's format: in a directory, or on the standard output.
+fn written_job(
+    alloc: Global,
+    plan: &Plan,
+    tables: Tables,
+    request: &Request,
+    texts: Inputs,
+) -> Result<Job, Memory>
+    requires within { tables.first + tables.count ≤ length plan.now.schema.tables }
+    requires count { length texts ≡ tables.count }
+    requires rows { request.now.format ≡ Format.Csv → All (HasRows (layout_of plan.now).delimiter) texts }
+    ensures made { IfOk result (λ job. (written : List (List ℕ)) × AreWritten request.now.format (layout_of plan.now).delimiter texts written
+        × (due_of job ≡ made_files (text_name request.now.format plan.now.schema) request.now.out (range_with_len tables.first tables.count) written)) }
+    ensures can { IfOk result CanFill }
+{
+    let written = written_in(alloc, request.format, texts, plan.delimiter())?;
+    let Some(directory) = &request.out else {
+        return Ok(Job::Text(joined(alloc, &written)?));
+    };
+    let directory = Directory {
+        plan,
+        name: directory.as_str(),
+        format: request.format,
+    };
+    let names = text_paths(alloc, &directory, tables)?;
+    Ok(Job::Files(FilesJob {
+        names,
+        texts: written,
+    }))
+}
+
+/// Texts in COPY text form as they are written in a format.
+fn written_in(alloc: Global, format: Format, texts: Inputs, delimiter: u8) -> Result<Inputs, Memory>
+    requires delimiter { IsDelimiter delimiter }
+    requires rows { format ≡ Format.Csv → All (HasRows delimiter) texts }
+    ensures written { IfOk result (AreWritten format delimiter texts) }
+    ensures count { IfOk result (λ written. length written ≡ length texts) }
+{
+    match format {
+        Format::Copy => Ok(texts),
+        Format::Csv => csv_of_texts(alloc, &texts, delimiter),
+    }
+}
+
+/// Texts in COPY text form as CSV.
+fn csv_of_texts(alloc: Global, texts: &Inputs, delimiter: u8) -> Result<Inputs, Memory>
+    requires delimiter { IsDelimiter delimiter }
+    requires rows { All (HasRows delimiter) texts.now }
+    ensures csvs { IfOk result (AreCsvOf delimiter texts.now) }
+    ensures count { IfOk result (λ csvs. length csvs ≡ length texts.now) }
+{
+    let mut csvs = Inputs::new(alloc);
+    for place in 0..texts.len() {
+        push_csv(alloc, &mut csvs, texts.get(place), delimiter)?;
+    }
+    Ok(csvs)
 }
 
 /// The texts that the inputs of tables make; or why the first that can't be applied isn't.
@@ -335,28 +468,17 @@ fn unapplied(path: &Text, request: &Request, fault: ApplyFault) -> JobFault
     })
 }
 
-/// The texts one after the other.
-fn joined(alloc: Global, texts: &Inputs) -> Result<Vec<u8>, Memory>
-    ensures { IfOk result (λ bytes. bytes.items ≡ flat_map (λ text. text) texts.now) }
-{
-    let mut bytes = Vec::new(alloc);
-    for place in 0..texts.len() {
-        bytes.extend_from_slice(texts.get(place))?;
-    }
-    Ok(bytes)
-}
-
 /// The paths of the files of tables' texts.
-fn text_paths(alloc: Global, directory: &str, plan: &Plan, tables: Tables) -> Result<Texts, Memory>
-    requires within { tables.first + tables.count ≤ length plan.now.schema.tables }
+fn text_paths(alloc: Global, directory: &Directory<'_>, tables: Tables) -> Result<Texts, Memory>
+    requires within { tables.first + tables.count ≤ length directory.now.plan.now.schema.tables }
     ensures { IfOk result (λ names. names
-        ≡ map (λ place. in_directory directory.now (text_name plan.now.schema place)) (range_with_len tables.first tables.count)) }
+        ≡ map (λ place. in_directory directory.now.name.now (text_name directory.now.format directory.now.plan.now.schema place)) (range_with_len tables.first tables.count)) }
 {
-    let _limits = plan.schema(); // there are 1 to 64 tables
+    let _limits = directory.plan.schema(); // there are 1 to 64 tables
     let mut names = Texts::new(alloc);
     for number in 0..tables.count {
         let place = tables.first + number;
-        let path = path_of(alloc, directory, plan, place, 0, Content::Snapshot)?;
+        let path = directory.path(alloc, place, 0, Content::Snapshot)?;
         put(&mut names, path)?;
     }
     Ok(names)

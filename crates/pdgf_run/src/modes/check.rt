@@ -3,11 +3,11 @@
 ghost use Rattle.std.specs.Prelude.{◌≡◌, ◌<◌, ◌∷◌, ◌++◌, ◌⊎◌, [], IfErr, IfOk, IsOk, OnOk, codes, decimal, length};
 ghost use Rattle.plan_stages.specs.Stages.{Decides};
 ghost use Rattle.refusals.specs.Statuses.{job_status};
-ghost use Rattle.update_box.specs.Parts.{name_at};
 ghost use Rattle.pdgf_run.specs.Jobs.{due_of, CanFill};
 ghost use Rattle.pdgf_run.specs.modes.Check.{check_due, check_line, check_lines, life_text};
 
 use crate::job::Job;
+use crate::names::name_of;
 use itoa::Buffer;
 use life_intervals::born;
 use line_pages::Memory;
@@ -71,12 +71,4 @@ fn push_number(text: &mut Vec<u8>, number: u64, behind: u8) -> Result<(), Memory
     text.extend_from_slice(digits.format(number).as_bytes())?;
     text.push(behind)?;
     Ok(())
-}
-
-/// The name of a table.
-fn name_of(plan: &Plan, table: u32) -> &str
-    requires { table < length plan.now.schema.tables }
-    ensures { result.now ≡ name_at plan.now.schema table }
-{
-    plan.table(table).name.as_str()
 }

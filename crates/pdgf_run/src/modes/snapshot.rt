@@ -4,31 +4,47 @@ ghost use Rattle.std.specs.Prelude.{◌≡◌, ◌≤◌, ◌⊎◌, false, IfEr
 ghost use Rattle.std.specs.Option.{option_map};
 ghost use Rattle.pd_outside.specs.Faults.{FailsAtLast, Rose};
 ghost use Rattle.pd_outside.specs.Shelf.{HoldsPrefixOf, finish_files};
-ghost use Rattle.plan_stages.specs.Stages.{Decides};
 ghost use Rattle.refusals.specs.Statuses.{job_status};
 ghost use Rattle.update_box.specs.Parts.{snapshot_contents};
-ghost use Rattle.pdgf_run.specs.DueFiles.{table_files};
+ghost use Rattle.schema_plan.specs.Layout.{layout_of};
+ghost use Rattle.schema_plan.specs.TableFacts.{reach};
+ghost use Rattle.update_box.specs.Packages.{IsJobOf};
+ghost use Rattle.pdgf_run.specs.CsvFiles.{IsCsvOfJob};
+ghost use Rattle.pdgf_run.specs.DueFiles.{most_page_bytes, page_bytes, table_files};
 ghost use Rattle.pdgf_run.specs.Jobs.{due_of, CanAsk, CanFill, CanPack};
-ghost use Rattle.pdgf_run.specs.modes.Snapshot.{snapshot_due};
+ghost use Rattle.pdgf_run.specs.Verdict.{IsDecided};
+ghost use Rattle.pdgf_run.specs.modes.Snapshot.{IsSnapshotDue, snapshot_asked};
 
 use crate::asked::{asked, is_past_last};
+use crate::csv::csv_job;
 use crate::fill::name_of;
-use crate::job::{Job, TablesJob, tables_job};
+use crate::job::{Job, TablesJob, copied, tables_job};
+use crate::text_shelf::TextShelf;
 use pd_outside::{Gate, Shelf};
 use range_workers::{RunFault, run};
 use refusals::JobFault;
-use request_words::{OptionName, Request};
+use request_words::{Format, OptionName, Request};
+use schema_model::Text;
 use schema_plan::Plan;
 use std::alloc::Global;
 use std::thread::Threads;
-use update_box::SnapshotPacker;
+use update_box::{Content, SnapshotPacker};
 
-/// The job of a snapshot of a plan's tables.
-pub(crate) fn plan_snapshot(alloc: Global, plan: Plan, request: &Request) -> Result<Job, JobFault>
+/// What a snapshot's files tell of each table.
+const CONTENTS: [Content; 1] = [Content::Snapshot];
+
+/// The job of a snapshot of a plan's tables. In CSV its texts are made here.
+pub(crate) fn plan_snapshot<R: Threads + Sync, G: Gate + Sync>(
+    rt: &R,
+    alloc: Global,
+    gate: &G,
+    plan: Plan,
+    request: &Request,
+) -> Result<Job, JobFault>
     requires { CanAsk request.now }
-    ensures job { Decides job_status due_of result (snapshot_due request.now plan) }
+    ensures job { IsDecided job_status due_of (IsSnapshotDue request.now plan) result }
     ensures refused { IfErr result (λ fault. (job_status fault ≡ 7) ⊎ (job_status fault ≡ 8)) }
-    ensures in_range { IfErr result (λ fault. job_status fault ≡ 7 → IsOk (snapshot_due request.now plan)) }
+    ensures in_range { IfErr result (λ fault. job_status fault ≡ 7 → IsOk (snapshot_asked request.now plan)) }
     ensures can { IfOk result CanFill }
 {
     if is_past_last(&plan, request.unit) {
@@ -38,10 +54,58 @@ pub(crate) fn plan_snapshot(alloc: Global, plan: Plan, request: &Request) -> Res
         Ok(asked) => asked,
         Err(fault) => return Err(fault),
     };
-    match tables_job(alloc, plan, asked, request) {
+    match request.format {
+        Format::Copy => copied_snapshot(alloc, plan, asked, request),
+        Format::Csv => csv_snapshot(rt, alloc, gate, plan, asked, request),
+    }
+}
+
+/// The job of a snapshot in COPY text form.
+fn copied_snapshot(
+    alloc: Global,
+    plan: Plan,
+    asked: update_box::Job,
+    request: &Request,
+) -> Result<Job, JobFault>
+    requires asked { IsJobOf plan asked }
+    requires ranges { CanAsk request.now }
+    requires pages { page_bytes request.now.workers asked.package (reach (layout_of plan)) ≤ most_page_bytes }
+    ensures job { IfOk result (λ job. due_of job ≡ table_files snapshot_contents plan request.now.out asked) }
+    ensures memory { IfErr result (λ fault. fault ≡ JobFault.Memory) }
+    ensures can { IfOk result CanFill }
+{
+    let Ok(out) = copied(alloc, &request.out) else {
+        return Err(JobFault::Memory);
+    };
+    match tables_job(alloc, plan, asked, request, out) {
         Ok(job) => Ok(Job::Snapshot(job)),
         Err(_) => Err(JobFault::Memory),
     }
+}
+
+/// The job of a snapshot in CSV.
+fn csv_snapshot<R: Threads + Sync, G: Gate + Sync>(
+    rt: &R,
+    alloc: Global,
+    gate: &G,
+    plan: Plan,
+    asked: update_box::Job,
+    request: &Request,
+) -> Result<Job, JobFault>
+    requires asked { IsJobOf plan asked }
+    requires ranges { CanAsk request.now }
+    requires pages { page_bytes request.now.workers asked.package (reach (layout_of plan)) ≤ most_page_bytes }
+    ensures job { IsDecided job_status due_of (IsCsvOfJob snapshot_contents plan request.now asked) result }
+    ensures refused { IfErr result (λ fault. (job_status fault ≡ 7) ⊎ (job_status fault ≡ 8)) }
+    ensures can { IfOk result CanFill }
+{
+    let job = match tables_job(alloc, plan, asked, request, Some(Text::new(alloc))) {
+        Ok(job) => job,
+        Err(_) => return Err(JobFault::Memory),
+    };
+    let mut shelf = TextShelf::new(alloc);
+    let written = write_snapshot(rt, alloc, &job, &mut shelf, gate);
+    csv_job(alloc, &job, CONTENTS.as_slice(), written, &shelf, request)
 }
 
 /// Writes the files of a snapshot, by its workers. All memory is taken before the first file is begun.

@@ -4,31 +4,43 @@ ghost use Rattle.std.specs.Prelude.{◌≡◌, ◌≤◌, ◌⊎◌, ◌<◌, fa
 ghost use Rattle.std.specs.Option.{option_map};
 ghost use Rattle.pd_outside.specs.Faults.{FailsAtLast, Rose};
 ghost use Rattle.pd_outside.specs.Shelf.{HoldsPrefixOf, finish_files};
-ghost use Rattle.plan_stages.specs.Stages.{Decides};
 ghost use Rattle.refusals.specs.Statuses.{job_status};
 ghost use Rattle.update_box.specs.Parts.{unit_contents};
 ghost use Rattle.update_box.specs.TableLists.{HoldLists};
-ghost use Rattle.pdgf_run.specs.DueFiles.{table_files};
+ghost use Rattle.schema_plan.specs.Layout.{layout_of};
+ghost use Rattle.schema_plan.specs.TableFacts.{reach};
+ghost use Rattle.update_box.specs.Packages.{IsJobOf};
+ghost use Rattle.pdgf_run.specs.CsvFiles.{IsCsvOfJob};
+ghost use Rattle.pdgf_run.specs.DueFiles.{most_page_bytes, page_bytes, table_files};
 ghost use Rattle.pdgf_run.specs.Jobs.{due_of, CanAsk, CanFill, CanPack, CanPackUnit};
-ghost use Rattle.pdgf_run.specs.modes.Unit.{unit_due};
+ghost use Rattle.pdgf_run.specs.Verdict.{IsDecided};
+ghost use Rattle.pdgf_run.specs.modes.Unit.{IsUnitDue, unit_asked};
 
 use crate::asked::{asked, is_past_last};
+use crate::csv::csv_job;
 use crate::fill::name_of;
-use crate::job::{Job, TablesJob, UnitJob, tables_job};
+use crate::job::{Job, TablesJob, UnitJob, copied, tables_job};
+use crate::text_shelf::TextShelf;
 use pd_outside::{Gate, Shelf};
 use range_workers::{RunFault, run};
 use refusals::JobFault;
-use request_words::{OptionName, Request};
+use request_words::{Format, OptionName, Request};
+use schema_model::Text;
 use schema_plan::Plan;
 use std::alloc::Global;
 use std::sync::ledger::{Blank, Ledger};
 use std::thread::Threads;
 use step_count::Steps;
-use update_box::{ListPacker, Memory, UnitRows, rows_of_unit};
+use update_box::{Content, ListPacker, Memory, UnitRows, rows_of_unit};
 
-/// The job of what a unit changes in a plan's tables.
-pub(crate) fn plan_unit<B: Ledger>(
+/// What the files of what a unit changes tell of each table.
+const CONTENTS: [Content; 3] = [Content::Deleted, Content::Updated, Content::Inserted];
+
+/// The job of what a unit changes in a plan's tables. In CSV its texts are made here.
+pub(crate) fn plan_unit<B: Ledger, R: Threads + Sync, G: Gate + Sync>(
+    rt: &R,
     alloc: Global,
+    gate: &G,
     plan: Plan,
     request: &Request,
     blank: Blank,
@@ -37,9 +49,9 @@ pub(crate) fn plan_unit<B: Ledger>(
     requires parts { blank.parts ≡ B.parts }
     requires some { 0 < blank.parts }
     requires ranges { CanAsk request.now }
-    ensures job { Decides job_status due_of result (unit_due request.now plan) }
+    ensures job { IsDecided job_status due_of (IsUnitDue request.now plan) result }
     ensures refused { IfErr result (λ fault. (job_status fault ≡ 7) ⊎ (job_status fault ≡ 8)) }
-    ensures in_range { IfErr result (λ fault. job_status fault ≡ 7 → IsOk (unit_due request.now plan)) }
+    ensures in_range { IfErr result (λ fault. job_status fault ≡ 7 → IsOk (unit_asked request.now plan)) }
     ensures can { IfOk result CanFill }
 {
     if request.unit == 0 || is_past_last(&plan, request.unit) {
@@ -49,14 +61,101 @@ pub(crate) fn plan_unit<B: Ledger>(
         Ok(asked) => asked,
         Err(fault) => return Err(fault),
     };
-    let of = match tables_job(alloc, plan, asked, request) {
-        Ok(of) => of,
-        Err(_) => return Err(JobFault::Memory),
+    match request.format {
+        Format::Copy => copied_unit::<B>(alloc, plan, asked, request, blank),
+        Format::Csv => csv_unit::<B, R, G>(rt, alloc, gate, plan, asked, request, blank),
+    }
+}
+
+/// The job of what a unit changes in COPY text form.
+fn copied_unit<B: Ledger>(
+    alloc: Global,
+    plan: Plan,
+    asked: update_box::Job,
+    request: &Request,
+    blank: Blank,
+) -> Result<Job, JobFault>
+    requires name { blank.name ≡ B.name }
+    requires parts { blank.parts ≡ B.parts }
+    requires some { 0 < blank.parts }
+    requires asked { IsJobOf plan asked }
+    requires later { 1 ≤ asked.unit }
+    requires ranges { CanAsk request.now }
+    requires pages { page_bytes request.now.workers asked.package (reach (layout_of plan)) ≤ most_page_bytes }
+    ensures job { IfOk result (λ job. due_of job ≡ table_files unit_contents plan request.now.out asked) }
+    ensures memory { IfErr result (λ fault. fault ≡ JobFault.Memory) }
+    ensures can { IfOk result CanFill }
+{
+    let Ok(out) = copied(alloc, &request.out) else {
+        return Err(JobFault::Memory);
     };
-    match found_rows::<B>(alloc, &of, blank) {
-        Ok(rows) => Ok(Job::Unit(UnitJob { of, rows })),
+    match found_job::<B>(alloc, plan, asked, request, out, blank) {
+        Ok(job) => Ok(Job::Unit(job)),
         Err(_) => Err(JobFault::Memory),
     }
+}
+
+/// The job of what a unit changes in CSV.
+fn csv_unit<B: Ledger, R: Threads + Sync, G: Gate + Sync>(
+    rt: &R,
+    alloc: Global,
+    gate: &G,
+    plan: Plan,
+    asked: update_box::Job,
+    request: &Request,
+    blank: Blank,
+) -> Result<Job, JobFault>
+    requires name { blank.name ≡ B.name }
+    requires parts { blank.parts ≡ B.parts }
+    requires some { 0 < blank.parts }
+    requires asked { IsJobOf plan asked }
+    requires later { 1 ≤ asked.unit }
+    requires ranges { CanAsk request.now }
+    requires pages { page_bytes request.now.workers asked.package (reach (layout_of plan)) ≤ most_page_bytes }
+    ensures job { IsDecided job_status due_of (IsCsvOfJob unit_contents plan request.now asked) result }
+    ensures refused { IfErr result (λ fault. (job_status fault ≡ 7) ⊎ (job_status fault ≡ 8)) }
+    ensures can { IfOk result CanFill }
+{
+    let job = match found_job::<B>(alloc, plan, asked, request, Some(Text::new(alloc)), blank) {
+        Ok(job) => job,
+        Err(_) => return Err(JobFault::Memory),
+    };
+    let mut shelf = TextShelf::new(alloc);
+    let written = write_unit(rt, alloc, &job, &mut shelf, gate);
+    csv_job(
+        alloc,
+        &job.of,
+        CONTENTS.as_slice(),
+        written,
+        &shelf,
+        request,
+    )
+}
+
+/// The job of what a unit changes, with its files in a directory or on the standard output. At `Memory` there is none.
+fn found_job<B: Ledger>(
+    alloc: Global,
+    plan: Plan,
+    asked: update_box::Job,
+    request: &Request,
+    out: Option<Text>,
+    blank: Blank,
+) -> Result<UnitJob, Memory>
+    requires name { blank.name ≡ B.name }
+    requires parts { blank.parts ≡ B.parts }
+    requires some { 0 < blank.parts }
+    requires asked { IsJobOf plan asked }
+    requires later { 1 ≤ asked.unit }
+    requires ranges { CanAsk request.now }
+    requires pages { page_bytes request.now.workers asked.package (reach (layout_of plan)) ≤ most_page_bytes }
+    ensures plan { IfOk result (λ job. job.of.plan ≡ plan) }
+    ensures asked { IfOk result (λ job. job.of.asked ≡ asked) }
+    ensures out { IfOk result (λ job. job.of.out ≡ out) }
+    ensures can { IfOk result CanPackUnit }
+{
+    let of = tables_job(alloc, plan, asked, request, out)?;
+    let rows = found_rows::<B>(alloc, &of, blank)?;
+    Ok(UnitJob { of, rows })
 }
 
 /// The rows of a job's tables that its unit changes, found with the orders that are prepared.

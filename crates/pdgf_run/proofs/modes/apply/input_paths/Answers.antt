@@ -1,6 +1,12 @@
+use Rattle.std.proofs.Common.{◌++◌, ap, List, ℕ, map, ◌-◌, ◌+◌, ◌∙◌}
+use Rattle.pdgf_run.specs.Formats.{in_directory}
+use Rattle.pdgf_run.specs.modes.Apply.{table_names}
 use Rattle.pdgf_run.proofs.PathLemmas.{inputs_more}
 use Rattle.pdgf_run.proofs.modes.apply.input_paths.Goals as goal
 
 pub loop-number-preserved : goal.loop-number-preserved
 loop-number-preserved c =
-    inputs_more c.args.plan.now.schema c.args.request.now c.args.tables.first c.loop-number.number _ _ c.loop-number.invariant c.in_ok-push_paths.ensures
+    let r = c.args.request.now in
+    inputs_more c.args.plan.now.schema r c.args.tables.first c.loop-number.number _ _ c.loop-number.invariant
+    (c.in_ok-push_paths.ensures
+    ∙ ap (λ (source : List ℕ). c.loop-number.paths ++ map (in_directory source) (table_names r.format c.args.plan.now.schema r.from (r.to - r.from) (c.args.tables.first + c.loop-number.number))) c.as_str.ensures.value)

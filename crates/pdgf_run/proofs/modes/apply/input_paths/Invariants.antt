@@ -1,6 +1,7 @@
 use Rattle.std.proofs.Common.{◌≡◌, map}
 use Rattle.std.specs.List.{range_with_len}
-use Rattle.pdgf_run.specs.modes.Apply.{in_directory, input_names}
+use Rattle.pdgf_run.specs.Formats.{in_directory}
+use Rattle.pdgf_run.specs.modes.Apply.{input_names}
 use Rattle.pdgf_run.proofs.modes.apply.input_paths.Given as goal
 
 abbrev pub invariant-loop-number : goal.invariant-loop-number

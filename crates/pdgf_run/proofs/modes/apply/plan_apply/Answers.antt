@@ -2,34 +2,26 @@ use Rattle.std.proofs.Common.{◌≤◌, ◌+◌, ◌*◌, ℕ, List, [], ap, ar
 use Rattle.std.proofs.lemmas.Nat.{mul-le}
 use Rattle.std.proofs.lemmas.Option.{get_or_from_slice_get}
 use Rattle.std.specs.List.{range_with_len}
-use Rattle.pdgf_run.specs.modes.Apply.{file_named, in_directory, input_limit, input_names, inputs_each}
+use Rattle.pdgf_run.specs.Formats.{in_directory}
+use Rattle.pdgf_run.specs.modes.Apply.{file_named, input_limit, input_names, inputs_each}
 use Rattle.pdgf_run.proofs.ApplyLemmas.{asked_all, asked_all_told, asked_up_to, asked_up_to_told, left_by_inputs, made_decided, paths-longer, taken_within, unasked_fault, unasked_read, unread_decided}
-use Rattle.pdgf_run.proofs.MadeLemmas.{made_is, made_of_itself}
+use Rattle.pdgf_run.proofs.MadeLemmas.{made_of_itself}
 use Rattle.pdgf_run.proofs.PathLemmas.{length-paths}
 use Rattle.pdgf_run.proofs.modes.apply.plan_apply.Goals as goal
 
-pub made_job-requires-clause-count : goal.made_job-requires-clause-count
-made_job-requires-clause-count g c =
-    c.in-Ok-read_in_turn.ensures.read.count
-    ∙ length-paths c.args.plan.now.schema c.args.request.now c.tables_of-tables.result.first c.tables_of-tables.result.count c.in-Ok.paths c.in-Ok.ensures
-    ∙ ap (λ (n : ℕ). c.tables_of-tables.result.count * n) (sym c.tables_of-tables.ensures.each)
-
-pub made_job-requires-clause-named : goal.made_job-requires-clause-named
-made_job-requires-clause-named g c =
-    let names : List (List ℕ) = input_names c.args.plan.now.schema c.args.request.now (range_with_len c.tables_of-tables.result.first c.tables_of-tables.result.count) in
-    λ number below. paths-longer c.args.request.now.source names c.in-Ok.paths number c.in-Ok.ensures below
+pub made_in-requires-clause-paths : goal.made_in-requires-clause-paths
+made_in-requires-clause-paths g c =
+    c.in-Ok.ensures ∙ ap (λ (p : List ℕ). map (in_directory c.args.request.now.source) (input_names c.args.plan.now.schema c.args.request.now p)) c.tables_of-tables.ensures.places
 
 pub returns-in-Ok-read_in_turn-clause-job : goal.returns-in-Ok-read_in_turn-clause-job
 returns-in-Ok-read_in_turn-clause-job g c =
-    made_decided _ c.args.plan.now c.args.request.now c.in_ok-table.table c.in-Ok.paths c.in-Ok-read_in_turn.inputs c.made_job.result c.in_ok-table.ensures.asked
+    made_decided _ c.args.plan.now c.args.request.now c.in_ok-table.table c.in-Ok.paths c.in-Ok-read_in_turn.inputs c.made_in.result c.in_ok-table.ensures.asked
     (c.in-Ok.ensures ∙ ap (λ (p : List ℕ). map (in_directory c.args.request.now.source) (input_names c.args.plan.now.schema c.args.request.now p)) c.tables_of-tables.ensures.places)
-    c.in-Ok-read_in_turn.ensures.inputs
-    (made_is c.args.plan.now c.args.request.now c.in_ok-table.table c.tables_of-tables.result.inputs c.tables_of-tables.result.first c.tables_of-tables.result.count c.in-Ok.paths
-    c.in-Ok-read_in_turn.inputs c.made_job.result c.tables_of-tables.ensures.places c.tables_of-tables.ensures.each c.in-Ok.ensures c.made_job.ensures.made c.made_job.ensures.fault)
+    c.in-Ok-read_in_turn.ensures.inputs c.made_in.ensures.made
 
 pub returns-in-Ok-read_in_turn-clause-left : goal.returns-in-Ok-read_in_turn-clause-left
 returns-in-Ok-read_in_turn-clause-left g c =
-    let others = made_of_itself _ _ _ _ _ _ c.made_job.result c.made_job.ensures.fault in
+    let others = made_of_itself c.made_in.result c.made_in.ensures.refused in
     left_by_inputs _ _ _ _ _ _ _ _ _ _ _ _ others.0 others.1 c.requires.read_out c.in-Ok-read_in_turn.ensures.read
 
 pub returns-in-Ok-read_in_turn-clause-within : goal.returns-in-Ok-read_in_turn-clause-within

@@ -2,7 +2,7 @@ use Rattle.std.proofs.Common.{map, ap, sym, ◌∙◌, []}
 use Rattle.std.specs.Option.{option_map}
 use Rattle.std.proofs.lemmas.Option.{get_or_from_slice_get, slice_get-map}
 use Rattle.schema_model.specs.declared.table.Table.{Table}
-use Rattle.pdgf_run.proofs.modes.check.name_of.Goals as goal
+use Rattle.pdgf_run.proofs.names.name_of.Goals as goal
 
 pub returns : goal.returns
 returns c =

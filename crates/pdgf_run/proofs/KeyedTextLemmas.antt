@@ -1,0 +1,299 @@
+-- The texts of tables and of what units change in them as rows whose first field is a key, written as CSV and read back.
+use Rattle.std.proofs.Common.{◌≡◌, ◌<◌, ◌≤◌, ◌+◌, ◌-◌, ◌*◌, ◌^◌, ℕ, zero, suc, Bool, true, false, All, List, [], ◌∷◌, ◌++◌, decimal, flat_map, get_or, length, length-append, map, Option, None, Some, inl, inr, ap, arith, refl, subst, sym, ◌∙◌}
+use Rattle.std.specs.Prelude.{IfSome, ◌==◌, not, ◌||◌, zip}
+use Rattle.std.specs.List.{AllZip, list_any, range_with_len}
+use Rattle.std.specs.Str.Parse.{AllDigits}
+use Rattle.std.proofs.lemmas.Bool.{cases_Bool, eqb-true}
+use Rattle.std.proofs.lemmas.Fmt.{decimal_is_IsNumeral}
+use Rattle.std.proofs.lemmas.List.{length-map}
+use Rattle.std.proofs.lemmas.List.Elements.{All-append, All-cons, All-from_get_or, All-head, All-map, All-nil, All-tail}
+use Rattle.std.proofs.lemmas.Str.Parse.{tells_digits}
+use Rattle.csv_face.specs.Csv.{BeginsWithDigit, HasRows, IsCopyText, IsCsvOf, csv_text, rows_text}
+use Rattle.csv_face.specs.Csv as csv
+use Rattle.csv_face.specs.Reading.{AreGood, IsReadAs, is_bad_field, is_bad_record, row_field}
+use Rattle.csv_face.proofs.BackLemmas.{csv-one, csv_text-read}
+use Rattle.cohort_sizes.specs.Births.{born_count, cohort_size, first_ordinal}
+use Rattle.cohort_sizes.proofs.CohortLemmas.{born_count-le, born_count-next}
+use Rattle.life_intervals.specs.Generator.{generator_of, last_unit, table_of}
+use Rattle.life_intervals.specs.Intervals.{is_live}
+use Rattle.life_intervals.specs.Keys.{key_of}
+use Rattle.row_lines.specs.Lines.{deleted_text, inserted_text, table_text, updated_text}
+use Rattle.row_text.specs.Fields.{IsDelimiter, field_text}
+use Rattle.schema_plan.specs.Dictionaries.{Project}
+use Rattle.schema_plan.specs.Layout.{layout_of}
+use Rattle.schema_plan.specs.Limits.{IsInLimits}
+use Rattle.stream_apply.specs.KeyedLines.{lines_text}
+use Rattle.stream_apply.proofs.NumberedLineLemmas.{lines_in}
+use Rattle.update_box.specs.Fates.{changes_at, dies_at}
+use Rattle.update_box.specs.Packages.{chosen_places}
+use Rattle.update_box.specs.TextLaws.{unit_streams}
+use Rattle.update_box.proofs.KeyLineLemmas.{key-small}
+use Rattle.update_box.proofs.KeyedTextLemmas.{body_text, key_text, keyed-text, table_text-rows, unit_streams-lines}
+use Rattle.request_words.specs.declared.usage.Request.{Request}
+use Rattle.pdgf_run.specs.Formats.{AreCsvOf, AreRowsOf, IsOfFields}
+use Rattle.pdgf_run.specs.modes.Apply.{AreApplied, AreReadAs, change_fields, fields_in, input_fields, inputs_at, inputs_each, table_fields, table_inputs}
+use Rattle.pdgf_run.proofs.ChunkLemmas.{chunk}
+use Rattle.pdgf_run.proofs.CsvLemmas.{appended, dropped, taken}
+use Rattle.pdgf_run.proofs.RowLemmas.{applied-rows, keys-copy, lines-copy, some_column}
+
+-- a text of rows with so many fields that begins with a key
+abbrev pub IsKeyedText : ℕ → ℕ → List ℕ → Type 0
+IsKeyedText delimiter count text = IsOfFields delimiter count text × BeginsWithDigit text
+
+-- ---- texts begin with digits
+
+-- bytes that begin with a digit
+data StartsWithDigit (text : List ℕ) : Type 0 where
+  starts : (byte : ℕ) (rest : List ℕ) → text ≡ byte ∷ rest → 48 ≤ byte → byte ≤ 57 → StartsWithDigit text
+
+digits-start : (bytes tail : List ℕ) → 0 < length bytes → AllDigits 10 bytes → StartsWithDigit (bytes ++ tail)
+digits-start [] tail some digits = absurd (omega (arith, some))
+digits-start (byte ∷ bytes) tail some digits =
+    let parts = tells_digits.parts byte bytes digits in
+    starts byte (bytes ++ tail) refl (omega (arith, parts.0)) (omega (arith, parts.0))
+
+number-start : (number : ℕ) (tail : List ℕ) → number < 2 ^ 64 → StartsWithDigit (decimal number ++ tail)
+number-start number tail small =
+    let numeral = (decimal_is_IsNumeral number small).0 in
+    digits-start (decimal number) tail numeral.0 numeral.1
+
+-- lines of which each does
+lines-begin : (key text : ℕ → List ℕ) (p : ℕ → Bool) (a n : ℕ) → ((j : ℕ) → a ≤ j → j < a + n → StartsWithDigit (text j)) → BeginsWithDigit (lines_text (lines_in key text p a n))
+lines-begin key text p a zero each = tt
+lines-begin key text p a (suc n) each = elim (cases_Bool (p a)) [
+  | inl passes ↦ rw passes (elim (each a (omega arith) (omega arith)) [
+    | starts byte rest is from to ↦
+        subst (λ (t : List ℕ). BeginsWithDigit ((t ++ 10 ∷ []) ++ lines_text (lines_in key text p (a + 1) n))) (sym is) (from, to)
+  ])
+  | inr fails ↦ rw fails (lines-begin key text p (a + 1) n (λ j low high. each j (omega (arith, low)) (omega (arith, high))))
+]
+
+module _ (plan : Project) (limits : IsInLimits plan) (place : ℕ) (below : place < length plan.schema.tables) where
+  by_last : (unit ordinal : ℕ) → unit ≤ last_unit plan → ordinal < born_count (table_of plan place).births unit → ordinal < born_count (table_of plan place).births (last_unit plan)
+  by_last unit ordinal within born = omega (arith, born, born_count-le (table_of plan place).births unit (last_unit plan) within)
+
+  key-starts : (ordinal : ℕ) → ordinal < born_count (table_of plan place).births (last_unit plan) → StartsWithDigit (key_text plan place ordinal)
+  key-starts ordinal born =
+      let small = key-small plan limits (last_unit plan) (omega arith) place below ordinal born in
+      let numeral = (decimal_is_IsNumeral (key_of (generator_of plan) place (last_unit plan) ordinal) small).0 in
+      whole (key_text plan place ordinal) numeral.0 numeral.1
+    where
+      whole : (bytes : List ℕ) → 0 < length bytes → AllDigits 10 bytes → StartsWithDigit bytes
+      whole [] some digits = absurd (omega (arith, some))
+      whole (byte ∷ bytes) some digits =
+          let parts = tells_digits.parts byte bytes digits in
+          starts byte bytes refl (omega (arith, parts.0)) (omega (arith, parts.0))
+
+  body-starts : (unit ordinal : ℕ) → unit ≤ last_unit plan → ordinal < born_count (table_of plan place).births unit → StartsWithDigit (body_text plan place unit ordinal)
+  body-starts unit ordinal within born =
+      let keyed = keyed-text plan limits place below unit within ordinal born in
+      let small = key-small plan limits (last_unit plan) (omega arith) place below ordinal (by_last unit ordinal within born) in
+      let tail : List ℕ =
+      flat_map (λ (field : Option (List ℕ)). ((generator_of plan).delimiter ∷ []) ++ field_text (generator_of plan).delimiter field) keyed.others in
+      subst StartsWithDigit (sym (keyed.written ∙ ap (λ (first : List ℕ). first ++ tail) (sym keyed.key_written)))
+      (number-start (key_of (generator_of plan) place (last_unit plan) ordinal) tail small)
+
+  table-keyed : (unit : ℕ) → unit ≤ last_unit plan → IsKeyedText (layout_of plan).delimiter (length (table_of plan place).columns) (table_text (generator_of plan) unit place)
+  unfolding table_text
+  table-keyed unit within = (
+    lines-copy (generator_of plan) unit place _ (some_column plan limits place below),
+    subst BeginsWithDigit (sym (table_text-rows plan limits place below unit within))
+        (lines-begin (key_text plan place) (body_text plan place unit) (is_live (generator_of plan) place unit) 0 (born_count (table_of plan place).births unit)
+        (λ j low high. body-starts unit j within (omega (arith, high)))),
+  )
+
+  unit-keyed : (unit : ℕ) → unit ≤ last_unit plan →
+      AllZip (IsKeyedText (layout_of plan).delimiter) (change_fields (length (table_of plan place).columns)) (unit_streams plan place unit)
+  unit-keyed unit within =
+      let births = (table_of plan place).births in
+      let same = unit_streams-lines plan limits place below unit within in
+      let deletes : deleted_text plan unit place ≡ lines_text (lines_in (key_text plan place) (key_text plan place) (dies_at plan unit place) 0 (first_ordinal births unit)) = cc same in
+      let updates : updated_text plan unit place ≡ lines_text (lines_in (key_text plan place) (body_text plan place unit) (changes_at plan unit place) 0 (first_ordinal births unit)) = cc same in
+      let inserts : inserted_text plan unit place
+      ≡ lines_text (lines_in (key_text plan place) (body_text plan place unit) (is_live (generator_of plan) place unit) (first_ordinal births unit) (cohort_size births unit)) = cc same in
+      let next = born_count-next births unit in
+      let some = some_column plan limits place below in (
+        (
+          keys-copy (generator_of plan) (last_unit plan) place _,
+          subst BeginsWithDigit (sym deletes)
+              (lines-begin (key_text plan place) (key_text plan place) (dies_at plan unit place) 0 (first_ordinal births unit)
+              (λ j low high. key-starts j (by_last unit j within (omega (arith, high, next))))),
+        ),
+        (
+          (
+            lines-copy (generator_of plan) unit place _ some,
+            subst BeginsWithDigit (sym updates)
+                (lines-begin (key_text plan place) (body_text plan place unit) (changes_at plan unit place) 0 (first_ordinal births unit)
+                (λ j low high. body-starts unit j within (omega (arith, high, next)))),
+          ),
+          (
+            (
+              lines-copy (generator_of plan) unit place _ some,
+              subst BeginsWithDigit (sym inserts)
+                  (lines-begin (key_text plan place) (body_text plan place unit) (is_live (generator_of plan) place unit) (first_ordinal births unit) (cohort_size births unit)
+                  (λ j low high. body-starts unit j within (omega (arith, high, next)))),
+            ),
+            tt,
+          ),
+        ),
+      )
+
+  units-keyed : (first from count : ℕ) → from + count ≤ last_unit plan + 1 →
+      AllZip (IsKeyedText (layout_of plan).delimiter) (flat_map (λ (unit : ℕ). change_fields (length (table_of plan place).columns)) (range_with_len first count))
+      (flat_map (unit_streams plan place) (range_with_len from count))
+  units-keyed first from zero within = tt
+  units-keyed first from (suc count) within =
+      appended (IsKeyedText (layout_of plan).delimiter) (change_fields (length (table_of plan place).columns)) (unit_streams plan place from) _ _
+      (unit-keyed from (omega (arith, within))) (units-keyed (first + 1) (from + 1) count (omega (arith, within)))
+
+  pub own-keyed : (from count : ℕ) → from + count ≤ last_unit plan →
+      AllZip (IsKeyedText (layout_of plan).delimiter) (fields_in (length (table_of plan place).columns) count) (table_inputs plan from count place)
+  own-keyed from count within = (table-keyed from (omega (arith, within)), units-keyed 0 (from + 1) count (omega (arith, within)))
+
+-- ---- of tables
+
+chosen-within : (plan : Project) (table : Option ℕ) → IfSome table (λ place. place < length plan.schema.tables) → All (λ place. place < length plan.schema.tables) (chosen_places plan table)
+chosen-within plan None choice = range-within (length plan.schema.tables) 0 (length plan.schema.tables) (omega arith)
+  where
+    range-within : (all first count : ℕ) → first + count ≤ all → All (λ place. place < all) (range_with_len first count)
+    range-within all first zero within = All-nil (λ (place : ℕ). place < all)
+    range-within all first (suc count) within =
+        All-cons (λ (place : ℕ). place < all) first (range_with_len (first + 1) count) (omega (arith, within)) (range-within all (first + 1) count (omega (arith, within)))
+chosen-within plan (Some place) choice = All-cons (λ (p : ℕ). p < length plan.schema.tables) place [] choice (All-nil (λ (p : ℕ). p < length plan.schema.tables))
+
+tables-keyed : (plan : Project) → IsInLimits plan → (r : Request) → r.from ≤ r.to → r.to ≤ last_unit plan → (places : List ℕ) → All (λ place. place < length plan.schema.tables) places →
+    AllZip (IsKeyedText (layout_of plan).delimiter) (input_fields plan r places) (flat_map (table_inputs plan r.from (r.to - r.from)) places)
+tables-keyed plan limits r order within [] all = tt
+tables-keyed plan limits r order within (place ∷ places) all =
+    appended (IsKeyedText (layout_of plan).delimiter) (table_fields plan r place) (table_inputs plan r.from (r.to - r.from) place) _ _
+    (own-keyed plan limits place (All-head (λ (p : ℕ). p < length plan.schema.tables) place places all) r.from (r.to - r.from) (omega (arith, order, within)))
+    (tables-keyed plan limits r order within places (All-tail (λ (p : ℕ). p < length plan.schema.tables) place places all))
+
+pub inputs-keyed : (plan : Project) → IsInLimits plan → (r : Request) (table : Option ℕ) → r.from ≤ r.to → r.to ≤ last_unit plan → IfSome table (λ place. place < length plan.schema.tables) →
+    AllZip (IsKeyedText (layout_of plan).delimiter) (input_fields plan r (chosen_places plan table)) (flat_map (table_inputs plan r.from (r.to - r.from)) (chosen_places plan table))
+inputs-keyed plan limits r table order within choice = tables-keyed plan limits r order within (chosen_places plan table) (chosen-within plan table choice)
+
+pub later-rows : (plan : Project) → IsInLimits plan → (unit : ℕ) (table : Option ℕ) → IfSome table (λ place. place < length plan.schema.tables) →
+    All (λ (text : List ℕ). HasRows (layout_of plan).delimiter text) (map (table_text (generator_of plan) unit) (chosen_places plan table))
+unfolding table_text
+later-rows plan limits unit table choice =
+    All-map (λ (text : List ℕ). HasRows (layout_of plan).delimiter text) (table_text (generator_of plan) unit) (chosen_places plan table)
+    (λ k d inside.
+    let below = chosen-within plan table choice k d inside in
+    let of = lines-copy (generator_of plan) unit _ _ (some_column plan limits _ below) in
+    record { fields = length (table_of plan _).columns; rows = of.0; copy = of.1 })
+
+-- ---- as CSV, and back
+
+pub some-csvs : (delimiter : ℕ) (texts : List (List ℕ)) → All (λ (text : List ℕ). HasRows delimiter text) texts → (csvs : List (List ℕ)) × AreCsvOf delimiter texts csvs
+some-csvs delimiter [] all = ([], tt)
+some-csvs delimiter (text ∷ texts) all =
+    let own : HasRows delimiter text = All-head (λ (t : List ℕ). HasRows delimiter t) text texts all in
+    let rest = some-csvs delimiter texts (All-tail (λ (t : List ℕ). HasRows delimiter t) text texts all) in
+    (csv_text own.rows ∷ rest.0, (record { fields = own.fields; rows = own.rows; copy = own.copy; is = refl }, rest.1))
+
+read_back : (delimiter count : ℕ) (text bytes : List ℕ) → IsDelimiter delimiter → IsKeyedText delimiter count text → IsCsvOf delimiter text bytes → IsReadAs delimiter count bytes text
+read_back delimiter count text bytes delimits keyed is =
+    let same : bytes ≡ csv_text keyed.0.0 =
+    csv-one delimiter text bytes (csv_text keyed.0.0) delimits is (record { fields = count; rows = keyed.0.0; copy = keyed.0.1; is = refl }) in
+    subst (λ (b : List ℕ). IsReadAs delimiter count b text) (sym same) (csv_text-read delimiter delimits count keyed.0.0 text keyed.0.1 keyed.1)
+
+pub texts-read : (delimiter : ℕ) → IsDelimiter delimiter → (fields : List ℕ) (texts inputs : List (List ℕ)) → AllZip (IsKeyedText delimiter) fields texts → AreCsvOf delimiter texts inputs →
+    AreReadAs delimiter (zip fields inputs) texts
+texts-read delimiter delimits [] [] [] of are = tt
+texts-read delimiter delimits [] [] (input ∷ inputs) of are = absurd are
+texts-read delimiter delimits [] (text ∷ texts) inputs of are = absurd of
+texts-read delimiter delimits (count ∷ fields) [] inputs of are = absurd of
+texts-read delimiter delimits (count ∷ fields) (text ∷ texts) [] of are = absurd are
+texts-read delimiter delimits (count ∷ fields) (text ∷ texts) (input ∷ inputs) of are =
+    (read_back delimiter count text input delimits of.0 are.0, texts-read delimiter delimits fields texts inputs of.1 are.1)
+
+-- ---- the rows of what is read and made
+
+good-long : (count : ℕ) (fields : List (List ℕ)) → is_bad_record count fields ≡ false → length fields ≡ count
+good-long count fields good = go (length fields == count) refl good
+  where
+    go : (same : Bool) → length fields == count ≡ same → (not same || list_any is_bad_field fields) ≡ false → length fields ≡ count
+    go true is good = eqb-true (length fields) count is
+    go false is good = cc good
+
+records-alike : (count : ℕ) (records : List (List (List ℕ))) → AreGood count records → All (λ (row : csv.Row). length row ≡ count) (map (map row_field) records)
+records-alike count [] good = All-nil (λ (row : csv.Row). length row ≡ count)
+records-alike count (fields ∷ records) good =
+    let Good : List (List ℕ) → Type 0 = λ f. is_bad_record count f ≡ false in
+    All-cons (λ (row : csv.Row). length row ≡ count) (map row_field fields) (map (map row_field) records)
+    (length-map fields row_field ∙ good-long count fields (All-head Good fields records good)) (records-alike count records (All-tail Good fields records good))
+
+pub read-rows : (delimiter : ℕ) (fields : List ℕ) (inputs copies : List (List ℕ)) → length fields ≡ length inputs → All (λ count. 0 < count) fields → AreReadAs delimiter (zip fields inputs) copies →
+    AreRowsOf delimiter fields copies
+read-rows delimiter [] [] [] alike some are = tt
+read-rows delimiter [] [] (copy ∷ copies) alike some are = absurd are
+read-rows delimiter [] (input ∷ inputs) copies alike some are = absurd (omega (arith, alike))
+read-rows delimiter (count ∷ fields) [] copies alike some are = absurd (omega (arith, alike))
+read-rows delimiter (count ∷ fields) (input ∷ inputs) [] alike some are = absurd are
+read-rows delimiter (count ∷ fields) (input ∷ inputs) (copy ∷ copies) alike some are =
+    let read = are.0 in (
+      (
+        map (map row_field) read.records,
+        record { some = All-head (λ n. 0 < n) count fields some; alike = records-alike count read.records read.good; written = read.is },
+      ),
+      read-rows delimiter fields inputs copies (omega (arith, alike)) (All-tail (λ n. 0 < n) count fields some) are.1,
+    )
+
+length-changes : (columns first units : ℕ) → length (flat_map (λ (unit : ℕ). change_fields columns) (range_with_len first units)) ≡ 3 * units
+length-changes columns first zero = refl
+length-changes columns first (suc units) = omega (arith, length-changes columns (first + 1) units)
+
+length-fields : (plan : Project) (r : Request) (place : ℕ) → length (table_fields plan r place) ≡ inputs_each r
+length-fields plan r place = omega (arith, length-changes (length (table_of plan place).columns) 0 (r.to - r.from))
+
+pub length-input_fields : (plan : Project) (r : Request) (first count : ℕ) → length (input_fields plan r (range_with_len first count)) ≡ count * inputs_each r
+length-input_fields plan r first zero = omega arith
+length-input_fields plan r first (suc count) =
+    let rest : List ℕ = input_fields plan r (range_with_len (first + 1) count) in
+    length-append (table_fields plan r first) rest
+    ∙ ap (λ (n : ℕ). n + length rest) (length-fields plan r first)
+    ∙ ap (λ (n : ℕ). inputs_each r + n) (length-input_fields plan r (first + 1) count)
+    ∙ one_more (inputs_each r) count
+  where
+    one_more : (each count : ℕ) → each + count * each ≡ suc count * each
+    one_more each count = grind (arith)
+
+changes-some : (columns first units : ℕ) → 0 < columns → All (λ count. 0 < count) (flat_map (λ (unit : ℕ). change_fields columns) (range_with_len first units))
+changes-some columns first zero some = All-nil (λ count. 0 < count)
+changes-some columns first (suc units) some =
+    let rest = flat_map (λ (unit : ℕ). change_fields columns) (range_with_len (first + 1) units) in
+    All-cons (λ count. 0 < count) 1 (columns ∷ columns ∷ rest) (omega arith)
+    (All-cons (λ count. 0 < count) columns (columns ∷ rest) some (All-cons (λ count. 0 < count) columns rest some (changes-some columns (first + 1) units some)))
+
+-- each has a field at least
+pub input_fields-some : (plan : Project) → IsInLimits plan → (r : Request) (first count : ℕ) → first + count ≤ length plan.schema.tables →
+    All (λ fields. 0 < fields) (input_fields plan r (range_with_len first count))
+input_fields-some plan limits r first zero within = All-nil (λ fields. 0 < fields)
+input_fields-some plan limits r first (suc count) within =
+    let columns : ℕ = length (table_of plan first).columns in
+    let some : 0 < columns = some_column plan limits first (omega (arith, within)) in
+    All-append (λ fields. 0 < fields) (table_fields plan r first) (input_fields plan r (range_with_len (first + 1) count))
+    (All-cons (λ fields. 0 < fields) columns (flat_map (λ (unit : ℕ). change_fields columns) (range_with_len 0 (r.to - r.from))) some (changes-some columns 0 (r.to - r.from) some))
+    (input_fields-some plan limits r (first + 1) count (omega (arith, within)))
+
+-- each text that inputs with rows make has rows
+pub made-rows : (plan : Project) → IsInLimits plan → (r : Request) (table : Option ℕ) (inputs texts : List (List ℕ)) → IsDelimiter (layout_of plan).delimiter →
+    IfSome table (λ place. place < length plan.schema.tables) → AreRowsOf (layout_of plan).delimiter (input_fields plan r (chosen_places plan table)) inputs →
+    AreApplied (layout_of plan).delimiter (inputs_each r) inputs texts → length texts ≡ length (chosen_places plan table) →
+    All (λ (text : List ℕ). HasRows (layout_of plan).delimiter text) texts
+made-rows plan limits r table inputs texts delimits choice are applied many =
+    let delimiter : ℕ = (layout_of plan).delimiter in
+    let places : List ℕ = chosen_places plan table in
+    let each : ℕ = inputs_each r in
+    All-from_get_or (λ (text : List ℕ). HasRows delimiter text) texts [] (λ p inside.
+    let below : p < length places = omega (arith, inside, many) in
+    let place : ℕ = get_or places p 0 in
+    let own : AllZip (IsOfFields delimiter) (table_fields plan r place) (inputs_at each inputs p) =
+    subst (λ (fields : List ℕ). AllZip (IsOfFields delimiter) fields (inputs_at each inputs p)) (chunk (table_fields plan r) each places p (length-fields plan r) below)
+    (taken (IsOfFields delimiter) each _ _ (dropped (IsOfFields delimiter) (p * each) _ _ are)) in
+    applied-rows delimiter (length (table_of plan place).columns) (r.to - r.from) delimits
+    (some_column plan limits place (within places p below)) (inputs_at each inputs p) (get_or texts p []) own (applied.applied p inside))
+  where
+    within : (places : List ℕ) (p : ℕ) → p < length (chosen_places plan table) → get_or (chosen_places plan table) p 0 < length plan.schema.tables
+    within places p below = chosen-within plan table choice p 0 below

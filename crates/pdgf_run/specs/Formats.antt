@@ -1,0 +1,59 @@
+-- Rows in a format: the names of their files, and their texts.
+use Rattle.std.specs.Prelude.{◌≡◌, ℕ, ◌++◌, List, [], ◌∷◌, codes, flat_map, map, Option, Some, None}
+use Rattle.std.specs.List.{AllZip}
+use Rattle.pd_outside.specs.Files.{File}
+use Rattle.csv_face.specs.Csv.{IsCopyText, IsCsvOf, Row}
+use Rattle.request_words.specs.declared.usage.Format.{Format}
+use Rattle.request_words.specs.declared.usage.Format.TheVariants.{Copy, Csv}
+use Rattle.schema_model.specs.declared.table.Schema.{Schema}
+use Rattle.update_box.specs.Parts.{Part, ending_of, name_at}
+use Rattle.update_box.specs.declared.parts.Content.{Content}
+use Rattle.update_box.specs.declared.parts.Content.TheVariants as content
+use Rattle.pdgf_run.specs.DueFiles.{text_files}
+
+-- ---- names
+
+-- how the name of a file ends that holds nothing but this content of a table at a unit: CSV of a table has an ending of its own, and CSV
+-- of what a unit changes one more
+abbrev pub ending_in : Format → ℕ → Content → List ℕ
+ending_in Copy unit content = ending_of unit content
+ending_in Csv unit content.Snapshot = codes ".csv"
+ending_in Csv unit content = ending_of unit content ++ codes ".csv"
+
+-- the name of a file that holds a part at a unit, without its directory
+abbrev pub file_name : Format → Schema → ℕ → Part → List ℕ
+file_name format schema unit part = name_at schema part.place ++ ending_in format unit part.content
+
+abbrev pub in_directory : List ℕ → List ℕ → List ℕ
+in_directory directory name = (directory ++ codes "/") ++ name
+
+-- ---- files
+
+-- texts under names
+abbrev pub named_files : List (List ℕ) → List (List ℕ) → List File
+named_files [] texts = []
+named_files (name ∷ names) [] = []
+named_files (name ∷ names) (text ∷ texts) = record { name = name; bytes = text } ∷ named_files names texts
+
+-- the files that are due for the texts of some things that have names: one for each in a directory, or all joined on the standard output
+abbrev pub made_files : {A : Type 0} → (A → List ℕ) → Option (List ℕ) → List A → List (List ℕ) → List File
+made_files name None things texts = text_files (flat_map (λ text. text) texts)
+made_files name (Some directory) things texts = named_files (map (λ thing. in_directory directory (name thing)) things) texts
+
+-- ---- texts
+
+-- texts in COPY text form whose rows have so many fields each
+abbrev pub IsOfFields : ℕ → ℕ → List ℕ → Type 0
+IsOfFields delimiter fields text = (rows : List Row) × IsCopyText delimiter fields rows text
+
+abbrev pub AreRowsOf : ℕ → List ℕ → List (List ℕ) → Type 0
+AreRowsOf delimiter fields texts = AllZip (IsOfFields delimiter) fields texts
+
+-- texts in COPY text form, and each of them as CSV
+abbrev pub AreCsvOf : ℕ → List (List ℕ) → List (List ℕ) → Type 0
+AreCsvOf delimiter texts csvs = AllZip (IsCsvOf delimiter) texts csvs
+
+-- texts in COPY text form, and what is written for them in a format
+abbrev pub AreWritten : Format → ℕ → List (List ℕ) → List (List ℕ) → Type 0
+AreWritten Copy delimiter texts written = written ≡ texts
+AreWritten Csv delimiter texts written = AreCsvOf delimiter texts written

@@ -1,0 +1,136 @@
+//! The paths of files that hold parts of tables.
+
+ghost use Rattle.std.specs.Prelude.{◌≡◌, ◌<◌, ◌≤◌, ◌+◌, ◌++◌, ◌∷◌, [], IfOk, OnOk, length, map};
+ghost use Rattle.std.specs.List.{range_with_len};
+ghost use Rattle.update_box.specs.Parts.{name_at, parts_at, parts_of};
+ghost use Rattle.pdgf_run.specs.Formats.{ending_in, file_name, in_directory};
+
+use request_words::Format;
+use schema_model::{Text, Texts};
+use schema_plan::Plan;
+use std::alloc::Global;
+use update_box::{Content, Memory, Places, push_file_name};
+
+/// The files in a directory that hold parts of a plan's tables in a format.
+#[derive(Clone, Copy)]
+pub(crate) struct Directory<'a> {
+    pub(crate) plan: &'a Plan,
+    pub(crate) name: &'a str,
+    pub(crate) format: Format,
+}
+
+/// Appends a piece to a path.
+fn push(path: &mut Text, piece: &str) -> Result<(), Memory>
+    ensures { OnOk result (path.new ≡ path.old ++ piece.now) }
+{
+    match path.push(piece) {
+        Ok(()) => Ok(()),
+        Err(_) => Err(Memory),
+    }
+}
+
+/// Puts a path behind others.
+pub(crate) fn put(paths: &mut Texts, path: Text) -> Result<(), Memory>
+    ensures { OnOk result (paths.new ≡ paths.old ++ path ∷ []) }
+{
+    match paths.push(path) {
+        Ok(()) => Ok(()),
+        Err(_) => Err(Memory),
+    }
+}
+
+/// The name of a table.
+pub(crate) fn name_of(plan: &Plan, table: u32) -> &str
+    requires { table < length plan.now.schema.tables }
+    ensures { result.now ≡ name_at plan.now.schema table }
+{
+    plan.table(table).name.as_str()
+}
+
+/// Appends the name of the file that holds this content of a table at a unit as CSV.
+fn push_csv_name(
+    path: &mut Text,
+    plan: &Plan,
+    table: u32,
+    unit: u64,
+    content: Content,
+) -> Result<(), Memory>
+    requires { table < length plan.now.schema.tables }
+    ensures { OnOk result (path.new ≡ path.old ++ (name_at plan.now.schema table ++ ending_in Format.Csv unit content)) }
+{
+    match content {
+        Content::Snapshot => push(path, name_of(plan, table))?,
+        Content::Deleted | Content::Updated | Content::Inserted => {
+            push_file_name(path, plan, table, unit, content)?
+        }
+    }
+    push(path, ".csv")
+}
+
+impl Directory<'_> {
+    /// The path of the file that holds this content of a table at a unit.
+    pub(crate) fn path(
+        &self,
+        alloc: Global,
+        table: u32,
+        unit: u64,
+        content: Content,
+    ) -> Result<Text, Memory>
+        requires { table < length self.now.plan.now.schema.tables }
+        ensures { IfOk result (λ path. path
+            ≡ in_directory self.now.name.now (file_name self.now.format self.now.plan.now.schema unit (record { place = table; content = content }))) }
+    {
+        let mut path = Text::new(alloc);
+        push(&mut path, self.name)?;
+        push(&mut path, "/")?;
+        match self.format {
+            Format::Copy => push_file_name(&mut path, self.plan, table, unit, content)?,
+            Format::Csv => push_csv_name(&mut path, self.plan, table, unit, content)?,
+        }
+        Ok(path)
+    }
+
+    /// Puts the paths of such contents of a table at a unit behind others.
+    pub(crate) fn push_paths(
+        &self,
+        alloc: Global,
+        paths: &mut Texts,
+        table: u32,
+        unit: u64,
+        contents: &[Content],
+    ) -> Result<(), Memory>
+        requires { table < length self.now.plan.now.schema.tables }
+        ensures { OnOk result (paths.new ≡ paths.old
+            ++ map (λ part. in_directory self.now.name.now (file_name self.now.format self.now.plan.now.schema unit part)) (parts_at contents.now table)) }
+    {
+        match contents {
+            [] => Ok(()),
+            [content, rest @ ..] => {
+                let path = self.path(alloc, table, unit, *content)?;
+                put(paths, path)?;
+                self.push_paths(alloc, paths, table, unit, rest)
+            }
+        }
+    }
+
+    /// The paths of such contents of tables at a unit.
+    pub(crate) fn paths(
+        &self,
+        alloc: Global,
+        places: Places,
+        unit: u64,
+        contents: &[Content],
+    ) -> Result<Texts, Memory>
+        requires { places.from + places.count ≤ length self.now.plan.now.schema.tables }
+        ensures { IfOk result (λ paths. paths
+            ≡ map (λ part. in_directory self.now.name.now (file_name self.now.format self.now.plan.now.schema unit part))
+            (parts_of contents.now (range_with_len places.from places.count))) }
+    {
+        let _limits = self.plan.schema(); // there are 1 to 64 tables
+        let mut paths = Texts::new(alloc);
+        for number in 0..places.count {
+            self.push_paths(alloc, &mut paths, places.from + number, unit, contents)?;
+        }
+        Ok(paths)
+    }
+}

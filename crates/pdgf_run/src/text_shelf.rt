@@ -1,0 +1,118 @@
+//! Files that are written into memory, up to a limit.
+
+ghost use Rattle.std.specs.Prelude.{◌≡◌, ◌≤◌, ◌+◌, Some, is_some};
+ghost use Rattle.pd_outside.specs.Faults.{Rose, counted, faults_after};
+ghost use Rattle.pdgf_run.specs.InMemory.{bytes_held, no_files};
+
+use pd_outside::{Failed, Files, MemShelf, Shelf, ShelfFails};
+use std::alloc::Global;
+
+/// The most bytes that the files have together that are taken whole.
+pub(crate) const TEXT_LIMIT: usize = 268_435_456;
+
+/// A shelf in memory that takes a byte more than the limit of all its files, and then fails. So files that are longer are told from want of
+/// memory, and of how many bytes more they are none is kept.
+#[derive(Drop)]
+pub(crate) struct TextShelf {
+    shelf: MemShelf,
+    /// How many bytes are still taken.
+    room: usize,
+    faults: u64,
+    last_failed: bool,
+    ghost counted: { bytes_held shelf.held + room ≡ 268435457 },
+}
+
+impl TextShelf {
+    ghost use Rattle.std.specs.Prelude.{◌↔◌, ◌<◌, IsTrue, false};
+    ghost use Rattle.pd_outside.specs.Shelf.{Held};
+
+    /// No file is written yet.
+    pub(crate) fn new(alloc: Global) -> TextShelf
+        ensures held { result.shelf.held ≡ no_files }
+        ensures left { result.room ≡ 268435457 }
+    {
+        TextShelf {
+            shelf: MemShelf::new(alloc, ShelfFails::new(alloc), usize::MAX),
+            room: TEXT_LIMIT + 1,
+            faults: 0,
+            last_failed: false,
+        }
+    }
+
+    /// The finished files, in order.
+    pub(crate) fn finished(&self) -> &Files
+        ensures { result.now ≡ self.now.shelf.held.finished }
+    {
+        self.shelf.finished()
+    }
+
+    /// Whether more bytes were to be written than the limit.
+    pub(crate) fn is_past_limit(&self) -> bool
+        ensures past { IsTrue result ↔ (268435456 < bytes_held self.now.shelf.held) }
+    {
+        self.room == 0
+    }
+
+    /// A call failed.
+    fn failed(&mut self) -> Failed
+        ensures shelf { self.new.shelf ≡ self.old.shelf }
+        ensures room { self.new.room ≡ self.old.room }
+        ensures faults { self.new.faults ≡ counted self.old.faults }
+        ensures never_falls { self.old.faults ≤ self.new.faults }
+        ensures cause { Rose self.old.faults self.new.faults }
+        ensures last { IsTrue self.new.last_failed }
+    {
+        self.faults = self.faults.saturating_add(1);
+        self.last_failed = true;
+        Failed
+    }
+}
+
+impl Shelf for TextShelf {
+    ghost use Rattle.std.proofs.Common.{rules};
+
+    ghost held = { λ m. Some m.shelf.held };
+
+    ghost is_begun = { λ m. is_some m.shelf.held.begun };
+
+    ghost faults = { λ m. m.faults };
+
+    ghost last_failed = { λ m. m.last_failed };
+
+    ghost told_alike = { λ m. Prim.search rules };
+
+    fn begin(&mut self, name: &str) -> Result<(), Failed> {
+        match self.shelf.begin(name) {
+            Ok(()) => {
+                self.last_failed = false;
+                Ok(())
+            }
+            Err(_) => Err(self.failed()),
+        }
+    }
+
+    fn write(&mut self, piece: &[u8]) -> Result<usize, Failed> {
+        let size = piece.len().min(self.room);
+        if size == 0 {
+            return Err(self.failed());
+        }
+        match self.shelf.write(&piece[..size]) {
+            Ok(taken) => {
+                self.room -= taken;
+                self.last_failed = false;
+                Ok(taken)
+            }
+            Err(_) => Err(self.failed()),
+        }
+    }
+
+    fn end(&mut self) -> Result<(), Failed> {
+        match self.shelf.end() {
+            Ok(()) => {
+                self.last_failed = false;
+                Ok(())
+            }
+            Err(_) => Err(self.failed()),
+        }
+    }
+}
