@@ -13,7 +13,9 @@
 
 mod asked;
 mod births;
+mod children;
 mod found;
+mod found_at;
 mod job_orders;
 mod kept;
 mod keys;
@@ -28,6 +30,7 @@ mod wanted;
 mod window;
 
 pub use births::{birth, born, cohort};
+pub use children::{Block, child_block, child_of_place};
 pub use cohort_sizes::Cohort;
 pub use found::{FoundRow, find, row_of_cohort};
 pub use job_orders::JobOrders;
