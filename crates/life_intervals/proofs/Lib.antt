@@ -27,3 +27,6 @@ pub mod ParentsLiveLemmas
 pub mod RunLemmas
 pub mod KeptLemmas
 pub mod PartLemmas
+pub mod PermutationLemmas
+pub mod BlockLemmas
+pub mod ChildLemmas

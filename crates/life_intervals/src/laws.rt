@@ -201,9 +201,10 @@ pub fn parents_are_for_good()
 /// The parents of a cohort's rows are among those of which it chooses: they are born in the window of the reference, which ends at the
 /// unit of the cohort.
 pub fn parents_are_born_in_the_window()
-    ensures candidate { (project : Project) → IsInLimits project → (place : ℕ) → place < length project.schema.tables →
-        (unit ordinal : ℕ) → unit ≤ last_unit project → LiesIn (table_of project place).births unit ordinal →
-        All (λ reference. IsCandidate project reference unit (parent_of (generator_of project) place unit ordinal reference)) (references_of (table_of project place)) }
+    ensures candidate { (project : Project) → IsInLimits project → (table : ℕ) → table < length project.schema.tables → (unit : ℕ) → unit ≤ last_unit project →
+        (column : ℕ) (reference : Reference) → reference_at (table_of project table) column ≡ Some reference →
+        (ordinal : ℕ) → LiesIn (table_of project table).births unit ordinal →
+        IsCandidate project reference unit (parent_of (generator_of project) table unit ordinal reference) }
     ensures window { (project : Project) (reference : Reference) (unit parent : ℕ) → IsCandidate project reference unit parent →
         IsInWindow reference.window unit (birth (table_of project reference.parent).births unit parent) }
 {}
@@ -211,20 +212,20 @@ pub fn parents_are_born_in_the_window()
 /// A cohort's rows that have a row as their parent are those at the places of its blocks, turn by turn up to the first that has none, each
 /// once. From then on no turn has one, and there are no more turns that have one than rows.
 pub fn blocks_have_the_children()
-    ensures children { (project : Project) → IsInLimits project → (table : ℕ) → table < length project.schema.tables →
+    ensures children { (project : Project) → IsInLimits project → (table : ℕ) → table < length project.schema.tables → (unit : ℕ) → unit ≤ last_unit project →
         (column : ℕ) (reference : Reference) → reference_at (table_of project table) column ≡ Some reference →
-        (unit parent : ℕ) → unit ≤ last_unit project → IsCandidate project reference unit parent →
+        (parent : ℕ) → IsCandidate project reference unit parent →
         (turns : ℕ) → child_block project table reference parent unit turns ≡ None →
         IsPermutation (children project table reference unit parent)
         (map (child_at project table column unit) (flat_map (λ turn. places_of (child_block project table reference parent unit turn)) (range_with_len 0 turns))) }
-    ensures over { (project : Project) → IsInLimits project → (table : ℕ) → table < length project.schema.tables →
+    ensures ends { (project : Project) → IsInLimits project → (table : ℕ) → table < length project.schema.tables → (unit : ℕ) → unit ≤ last_unit project →
         (column : ℕ) (reference : Reference) → reference_at (table_of project table) column ≡ Some reference →
-        (unit parent turn later : ℕ) → turn ≤ later → child_block project table reference parent unit turn ≡ None →
-        child_block project table reference parent unit later ≡ None }
-    ensures ends { (project : Project) → IsInLimits project → (table : ℕ) → table < length project.schema.tables →
-        (column : ℕ) (reference : Reference) → reference_at (table_of project table) column ≡ Some reference →
-        (unit parent : ℕ) → IsCandidate project reference unit parent →
+        (parent : ℕ) → IsCandidate project reference unit parent →
         child_block project table reference parent unit (cohort_size (table_of project table).births unit) ≡ None }
+    ensures over { (project : Project) → IsInLimits project → (table : ℕ) → table < length project.schema.tables → (unit : ℕ) → unit ≤ last_unit project →
+        (column : ℕ) (reference : Reference) → reference_at (table_of project table) column ≡ Some reference →
+        (parent turn later : ℕ) → turn ≤ later → child_block project table reference parent unit turn ≡ None →
+        child_block project table reference parent unit later ≡ None }
 {}
 
 /// A row's own life ends as many units after its birth as the table's lives say.

@@ -1,0 +1,156 @@
+-- The rows of a cohort that have a row as their parent, by their places.
+use Rattle.std.proofs.Common.{◌≡◌, ℕ, true, ◌+◌, ◌-◌, ◌*◌, ◌<◌, ◌≤◌, max, List, [], ◌∷◌, length, map, take, Option, Some, None, refl, ap, ap₂, arith, subst, sym, ◌∙◌}
+use Rattle.std.specs.Prelude.{◌==◌, All, IfSome}
+use Rattle.std.specs.List.{flat_map, range_with_len}
+use Rattle.std.specs.List.Sorted.{IsPermutation}
+use Rattle.std.proofs.lemmas.Nat.{mod_below}
+use Rattle.philox_seeds.specs.SeedTree.{reference_order_seed}
+use Rattle.id_permutation.specs.Order.{number_at, place_in}
+use Rattle.id_permutation.proofs.OrderLaws.{AreInversesBelow-number_at}
+use Rattle.cohort_sizes.specs.Births.{Births, LiesIn, birth, born_count, cohort_size, first_ordinal, index_at}
+use Rattle.cohort_sizes.proofs.CohortLemmas.{LiesIn-birth, birth-first_ordinal, birth-from, birth-le, birth-later, birth-only}
+use Rattle.schema_plan.specs.Dictionaries.{Project}
+use Rattle.schema_plan.specs.Layout.{KindLayout, reference_kind, TableLayout, column_at, layout_of, table_at}
+use Rattle.schema_plan.specs.Limits.{IsInLimits}
+use Rattle.schema_plan.specs.Lineage.{sure_life}
+use Rattle.schema_plan.specs.References.{IsReferenceInLimits, Reference, count_in_window, first_in_window, reference_at, reference_of, references_of, window_start}
+use Rattle.life_intervals.specs.Blocks.{block_start, places_of_parent, places_of}
+use Rattle.life_intervals.specs.Children.{IsCandidate, IsInWindow, candidate_number, child_at, child_block, children}
+use Rattle.life_intervals.specs.CohortOrders.{parent_order}
+use Rattle.life_intervals.specs.Generator.{Generator, generator_of, last_unit, table_of}
+use Rattle.life_intervals.specs.Intervals.{Known, known_tables, parent_by, parent_of}
+use Rattle.life_intervals.specs.References.{choice}
+use Rattle.life_intervals.proofs.AcceptedLemmas.{AreSound-accepted, length-tables}
+use Rattle.life_intervals.proofs.BlockLemmas.{block_of-ends, block_of-over, none_from_over, over_from_none, places_before-all, places_of_parent-candidate}
+use Rattle.life_intervals.proofs.KnownLemmas.{known_at-before, length-known_before, refers-of}
+use Rattle.life_intervals.proofs.OrderLemmas.{place_by-if}
+use Rattle.life_intervals.proofs.ParentLemmas.{Refers, parent_by-lies}
+use Rattle.life_intervals.proofs.PermutationLemmas.{IsPermutation-by_places}
+use Rattle.life_intervals.proofs.ReferenceLemmas.{at_column, reference_at-within}
+
+-- a row's parent is the same, whatever the unit by which it is born
+pub parent_of-later : (generator : Generator) (place unit last ordinal : ℕ) (reference : Reference) → ordinal < born_count (table_at generator.tables place).births unit → unit ≤ last →
+    parent_of generator place last ordinal reference ≡ parent_of generator place unit ordinal reference
+parent_of-later generator place unit last ordinal reference born within =
+    let births : Births = (table_at generator.tables place).births in
+    ap (λ (b : ℕ). parent_by generator.order (take place (known_tables generator)) b (ordinal - first_ordinal births b) reference) (birth-later births unit last ordinal born within)
+
+-- a reference of a column names the column
+pub column-reference_of : (column : ℕ) (kind : KindLayout) (reference : Reference) → reference_of column kind ≡ Some reference → reference.column ≡ column
+column-reference_of column (reference_kind parent window spread nulls) reference is = cc
+column-reference_of column _ reference is = absurd (cc)
+
+-- a row that is born in a window lies in it by its birth
+pub IsInWindow-candidate : (plan : Project) (reference : Reference) (unit parent : ℕ) → IsCandidate plan reference unit parent →
+    IsInWindow reference.window unit (birth (table_of plan reference.parent).births unit parent)
+IsInWindow-candidate plan reference unit parent candidate =
+    let births : Births = (table_of plan reference.parent).births in
+    record {
+      begun = recent reference.window (birth births unit parent) (birth-from births (window_start reference.window unit) unit parent candidate.born candidate.begun);
+      by = birth-le births unit parent candidate.born;
+    }
+  where
+    recent : (window : Option ℕ) (born : ℕ) → window_start window unit ≤ born → IfSome window (λ units. unit ≤ born + units)
+    recent None born from = tt
+    recent (Some units) born from = omega (arith, from)
+
+module _ (plan : Project) (limits : IsInLimits plan) (table : ℕ) (below : table < length plan.schema.tables) (unit : ℕ) (within : unit ≤ last_unit plan) (column : ℕ) (reference : Reference) (at : reference_at (table_of plan table) column ≡ Some reference) where
+  abbrev generator : Generator
+  generator = generator_of plan
+
+  abbrev births : Births
+  births = (table_of plan table).births
+
+  abbrev size : ℕ
+  size = cohort_size births unit
+
+  abbrev parents : Births
+  parents = (table_of plan reference.parent).births
+
+  abbrev first : ℕ
+  first = first_in_window parents reference.window unit
+
+  abbrev count : ℕ
+  count = count_in_window parents reference.window unit
+
+  in_tables : table < length generator.tables
+  in_tables = omega (arith, below, length-tables plan)
+
+  in_columns : column < length (table_of plan table).columns
+  in_columns = reference_at-within (table_of plan table) column reference at
+
+  pub reference-limits : IsReferenceInLimits (last_unit plan) (layout_of plan).tables table reference
+  reference-limits = at_column (IsReferenceInLimits (last_unit plan) (layout_of plan).tables table) (table_of plan table) (limits.references table below) column reference in_columns at
+
+  column_is : reference.column ≡ column
+  column_is = column-reference_of column (column_at (table_of plan table).columns column).kind reference at
+
+  -- where there are rows, they have some to choose of
+  pub count-some : 0 < size → 0 < count
+  count-some some = omega (arith, reference-limits.some_parent unit within some)
+
+  -- the parent that a row of the cohort has, by its place
+  pub parent_of-place : (index : ℕ) → index < size → parent_of generator table unit (first_ordinal births unit + index) reference ≡ first + choice reference.spread count (place_in (parent_order plan table column unit) index)
+  parent_of-place index inside =
+      let earlier : List Known = take table (known_tables generator) in
+      let ordinal : ℕ = first_ordinal births unit + index in
+      let birth_is : birth births unit ordinal ≡ unit = birth-first_ordinal births unit unit index (omega arith) inside in
+      let index_is : ordinal - first_ordinal births unit ≡ index = omega arith in
+      let placed : place_in (parent_order plan table column unit) index ≡ generator.order table column unit index =
+      place_by-if true (cohort_size births unit) (reference_order_seed (layout_of plan).seed table column unit) index inside in
+      let chosen : ℕ → ℕ → Births → ℕ = λ place named born. first_in_window born reference.window unit + choice reference.spread (count_in_window born reference.window unit) (generator.order place named unit index) in
+      ap (λ (b : ℕ). parent_by generator.order earlier b (ordinal - first_ordinal births b) reference) birth_is
+      ∙ ap (λ (i : ℕ). parent_by generator.order earlier unit i reference) index_is
+      ∙ ap (λ (known : Known). chosen (length earlier) reference.column known.table.births) (known_at-before generator table reference.parent in_tables reference-limits.earlier)
+      ∙ ap₂ (λ (place named : ℕ). chosen place named parents) (length-known_before generator table in_tables) column_is
+      ∙ ap (λ (place : ℕ). first + choice reference.spread count place) (sym placed)
+
+  -- the children of a row are those at the places at which it is chosen
+  pub children-places : (parent : ℕ) →
+      IsPermutation (children plan table reference unit parent) (map (child_at plan table column unit) (places_of_parent reference.spread first count size parent))
+  children-places parent =
+      let order = parent_order plan table column unit in
+      IsPermutation-by_places (first_ordinal births unit) size (place_in order) (number_at order) (AreInversesBelow-number_at order)
+      (λ ordinal. parent_of generator table unit ordinal reference == parent) (λ place. first + choice reference.spread count place == parent)
+      (λ index inside. ap (λ (p : ℕ). p == parent) (parent_of-place index inside))
+
+  -- a row's parent is one of those of which the cohort chooses
+  pub parent_of-candidate : (ordinal : ℕ) → LiesIn births unit ordinal → IsCandidate plan reference unit (parent_of generator table unit ordinal reference)
+  parent_of-candidate ordinal lies =
+      let index : ℕ = ordinal - first_ordinal births unit in
+      let inside : index < size = omega (arith, lies.begun, lies.not_ended) in
+      let is : first_ordinal births unit + index ≡ ordinal = omega (arith, lies.begun) in
+      let placed : parent_of generator table unit ordinal reference ≡ first + choice reference.spread count (place_in (parent_order plan table column unit) index) =
+      ap (λ (j : ℕ). parent_of generator table unit j reference) (sym is) ∙ parent_of-place index inside in
+      let some : 0 < count = count-some (omega (arith, inside)) in
+      let chosen : choice reference.spread count (place_in (parent_order plan table column unit) index) < count = mod_below _ count some in
+      record { begun = omega (arith, placed); born = omega (arith, placed, chosen, some) }
+
+  -- ---- block by block
+
+  module _ (parent : ℕ) (candidate : IsCandidate plan reference unit parent) where
+    number_below : candidate_number plan reference unit parent < count
+    number_below = omega (arith, candidate.begun, candidate.born)
+
+    pub children-blocks : (turns : ℕ) → child_block plan table reference parent unit turns ≡ None →
+        IsPermutation (children plan table reference unit parent)
+        (map (child_at plan table column unit) (flat_map (λ turn. places_of (child_block plan table reference parent unit turn)) (range_with_len 0 turns)))
+    children-blocks turns none =
+        let number : ℕ = candidate_number plan reference unit parent in
+        let whole : first + number ≡ parent = omega (arith, candidate.begun) in
+        subst (λ (places : List ℕ). IsPermutation (children plan table reference unit parent) (map (child_at plan table column unit) places))
+        (sym (
+        places_before-all reference.spread reference-limits.spread size count number number_below turns (over_from_none reference.spread size (number + turns * count) none)
+        ∙ places_of_parent-candidate reference.spread first count size parent number whole))
+        (children-places parent)
+
+    pub child_block-ends : child_block plan table reference parent unit size ≡ None
+    child_block-ends =
+        let number : ℕ = candidate_number plan reference unit parent in
+        none_from_over reference.spread size (number + size * count) (block_of-ends reference.spread reference-limits.spread size count number number_below)
+
+  pub child_block-over : (parent turn later : ℕ) → turn ≤ later → child_block plan table reference parent unit turn ≡ None → child_block plan table reference parent unit later ≡ None
+  child_block-over parent turn later order none =
+      let number : ℕ = candidate_number plan reference unit parent in
+      none_from_over reference.spread size (number + later * count)
+      (block_of-over reference.spread reference-limits.spread size count number turn later order (over_from_none reference.spread size (number + turn * count) none))
