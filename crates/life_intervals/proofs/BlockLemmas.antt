@@ -4,7 +4,7 @@ use Rattle.std.specs.Prelude.{◌==◌, All, if◌then◌else◌, nat_lt}
 use Rattle.std.specs.List.{flat_map, range_with_len}
 use Rattle.std.proofs.Math.Nat.{add-mul}
 use Rattle.std.proofs.lemmas.Bool.{cases_Bool, cases_lt, eqb-true, le-ltb, lt-ltb}
-use Rattle.std.proofs.lemmas.List.{append-nil}
+use Rattle.std.proofs.lemmas.List.{append-nil, append_assoc}
 use Rattle.std.proofs.lemmas.List.Elements.{All-filter, filter-append}
 use Rattle.std.proofs.lemmas.List.FromFn.{get_or-range_with_len, length-range_with_len}
 use Rattle.std.proofs.lemmas.Nat.{div-add-mod', div-mul-add, mod-mul-add, mod_below, mul-le}
@@ -25,7 +25,7 @@ filter-range_none p a (suc n) none =
     rw (none a (omega arith) (omega arith)) (filter-range_none p (a + 1) n (λ i low high. none i (omega (arith, low)) (omega (arith, high))))
 
 -- a number strictly between another and the next that leaves the same leaves something else
-between : (m v u : ℕ) → v < u → u < v + m → u % m ≡ v % m → ⊥
+pub between : (m v u : ℕ) → v < u → u < v + m → u % m ≡ v % m → ⊥
 between m v u above below same =
     let at_v = div-add-mod' v m in
     let at_u = div-add-mod' u m in
@@ -33,6 +33,14 @@ between m v u above below same =
       | inl more ↦ omega (arith, above, below, same, at_v, at_u, mul-le (v / m + 1) m (u / m) m (omega (arith, more)) (omega arith), add-mul (v / m) 1 m)
       | inr less ↦ omega (arith, above, below, same, at_v, at_u, mul-le (u / m) m (v / m) m less (omega arith))
     ]
+
+pub mod-next : (m v : ℕ) → 0 < m → (v + m) % m ≡ v % m
+mod-next m v some =
+    let next : (v / m + 1) * m + v % m ≡ v + m = omega (arith, div-add-mod' v m, add-mul (v / m) 1 m) in
+    ap (λ n. n % m) (sym next) ∙ mod-mul-add (v / m + 1) m (v % m) (mod_below v m some)
+
+pub mod-smaller : (m v : ℕ) → v < m → v % m ≡ v
+mod-smaller m v below = let same : 0 * m + v ≡ v = omega arith in ap (λ n. n % m) (sym same) ∙ mod-mul-add 0 m v below
 
 module _ (spread : List ℕ) (is : IsSpread spread) where
   abbrev groups : ℕ
@@ -204,6 +212,16 @@ module _ (spread : List ℕ) (is : IsSpread spread) where
               ∙ ap (λ (b : Option Block). chosen_by start ++ places_of b) (sym block_is)
         ]
 
+    -- the places of a block go behind those before it
+    pub chosen-push : (number : ℕ) (block : Block) (before between after : List ℕ) → number % count ≡ candidate → block_below spread size number ≡ Some block →
+        between ≡ before ++ chosen_by (block_start spread number) → after ≡ between ++ range_with_len block.first block.size → after ≡ before ++ chosen_by (block_start spread (number + count))
+    chosen-push number block before between after own block_is so_far put =
+        put
+        ∙ ap (λ (xs : List ℕ). xs ++ range_with_len block.first block.size) so_far
+        ∙ append_assoc before (chosen_by (block_start spread number)) (range_with_len block.first block.size)
+        ∙ ap (λ (b : Option Block). before ++ (chosen_by (block_start spread number) ++ places_of b)) (sym block_is)
+        ∙ ap (λ (xs : List ℕ). before ++ xs) (sym (chosen-next number own))
+
     -- where there is none, all are found
     pub chosen-all : (number : ℕ) → size ≤ block_start spread number → chosen_by (block_start spread number) ≡ places_choosing spread size count candidate
     chosen-all number none = let whole : min size (block_start spread number) ≡ size = omega (arith, none) in ap (λ (n : ℕ). filter chooses (range_with_len 0 n)) whole
@@ -247,12 +265,12 @@ pub none_from_over : (spread : List ℕ) (size number : ℕ) → size ≤ block_
 none_from_over spread size number over = rw (le-ltb (block_start spread number) size over) refl
 
 -- a block is of the places below the size
-pub block-within : (spread : List ℕ) (size number : ℕ) (block : Block) → block_below spread size number ≡ Some block → (block.first + block.size ≤ size) × (block.first ≡ block_start spread number)
+pub block-within : (spread : List ℕ) (size number : ℕ) (block : Block) → block_below spread size number ≡ Some block → (block.first + block.size ≤ size) × (block_start spread number < size)
 block-within spread size number block is = elim (cases_lt (block_start spread number) size) [
   | inl some ↦
       let one = rw (lt-ltb (block_start spread number) size some) at is in
       let same : record { first = block_start spread number; size = min (get_or spread (number % length spread) 0) (size - block_start spread number) } ≡ block = cc in
-      subst (λ (b : Block). (b.first + b.size ≤ size) × (b.first ≡ block_start spread number)) same (omega (arith, some), refl)
+      subst (λ (b : Block). (b.first + b.size ≤ size) × (block_start spread number < size)) same (omega (arith, some), some)
   | inr over ↦ let none = rw (le-ltb (block_start spread number) size over) at is in absurd (cc)
 ]
 

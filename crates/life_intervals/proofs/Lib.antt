@@ -30,3 +30,5 @@ pub mod PartLemmas
 pub mod PermutationLemmas
 pub mod BlockLemmas
 pub mod ChildLemmas
+pub mod AppendLemmas
+pub mod ResidueLemmas

@@ -108,8 +108,8 @@ fn push_block(block: Block, places: &mut Vec<u64>) -> Result<(), Memory>
     requires size { block.size ≤ 2 ^ 40 }
     ensures { OnOk result (places.new.items ≡ places.old.items ++ range_with_len block.first block.size) }
 {
-    for place in block.first..block.first + block.size {
-        places.push(place)?;
+    for i in 0..block.size {
+        places.push(block.first + i)?;
     }
     Ok(())
 }
@@ -189,8 +189,7 @@ impl<'a> Rows<'a> {
         for parent in parents {
             push_places_of(reference, &window, size, *parent, children)?;
         }
-        let found = &mut children.as_mut_slice()[from..];
-        self.put_rows_at(table, Purpose::Parents(column), unit, found, steps);
+        self.put_rows_from(table, Purpose::Parents(column), unit, from, children, steps);
         Ok(())
     }
 }

@@ -1,6 +1,6 @@
 //! The rows of a cohort to which something comes at a unit, found by their places: those whose own lives end, and those that are due.
 
-ghost use Rattle.std.specs.Prelude.{◌≡◌, ◌+◌, ◌*◌, ◌<◌, ◌≤◌, ◌++◌, ◌^◌, All, OnOk, length, map};
+ghost use Rattle.std.specs.Prelude.{◌≡◌, ◌+◌, ◌*◌, ◌<◌, ◌≤◌, ◌++◌, ◌^◌, All, OnOk, drop, length, map, take};
 ghost use Rattle.cohort_sizes.specs.Births.{cohort_size};
 ghost use Rattle.schema_plan.specs.Lineage.{one_if};
 ghost use Rattle.life_intervals.specs.CohortOrders.{do_lives_differ, do_updates_differ, is_drawn};
@@ -60,7 +60,7 @@ fn add_first(indices: &mut [u64], first: u64)
 
 impl<'a> Rows<'a> {
     /// Puts over places in an order of the cohort that is born at unit `born` the ordinals of the rows that have them.
-    pub(crate) fn put_rows_at<L: Ledger>(
+    fn put_rows_at<L: Ledger>(
         &self,
         table: u32,
         purpose: Purpose,
@@ -74,9 +74,29 @@ impl<'a> Rows<'a> {
         ensures rows { places.new ≡ map (row_at_place self.now table purpose born) places.old }
         ensures steps { steps.new ≡ steps.old + length places.old * one_if (is_drawn (table_of self.now table) purpose) }
     {
-        let _limits = self.plan().table(table); // it has at most 2^40 rows
+        let _limits = self.plan().schema(); // a table has at most 2^40 rows
         self.order(table, purpose, born).numbers(places, steps);
         add_first(places, cohort(self.plan(), table, born).first);
+    }
+
+    /// Puts over the places that stand in a list from `from` on the ordinals of the rows that have them.
+    pub(crate) fn put_rows_from<L: Ledger>(
+        &self,
+        table: u32,
+        purpose: Purpose,
+        born: u64,
+        from: usize,
+        rows: &mut Vec<u64>,
+        steps: &mut Steps<L>,
+    )
+        requires table { table < length self.now.schema.tables }
+        requires unit { born ≤ last_unit self.now }
+        requires within { from ≤ length rows.old.items }
+        requires below { All (λ place. place < cohort_size (table_of self.now table).births born) (drop from rows.old.items) }
+        ensures rows { rows.new.items ≡ take from rows.old.items ++ map (row_at_place self.now table purpose born) (drop from rows.old.items) }
+        ensures steps { steps.new ≡ steps.old + length (drop from rows.old.items) * one_if (is_drawn (table_of self.now table) purpose) }
+    {
+        self.put_rows_at(table, purpose, born, &mut rows[from..], steps);
     }
 
     /// Puts the rows of the cohort whose places leave a residue behind a list.
@@ -100,8 +120,7 @@ impl<'a> Rows<'a> {
         let _limits = self.plan().table(table); // it has at most 2^40 rows
         let from = rows.len();
         push_places_leaving(cohort(self.plan(), table, born).size, residue, rows)?;
-        let found = &mut rows.as_mut_slice()[from..];
-        self.put_rows_at(table, purpose, born, found, steps);
+        self.put_rows_from(table, purpose, born, from, rows, steps);
         Ok(())
     }
 
