@@ -15,7 +15,7 @@ use Rattle.schema_plan.specs.References.{IsSpread}
 use Rattle.life_intervals.specs.declared.children.Block.{Block}
 use Rattle.life_intervals.specs.Blocks.{block_below, block_of, block_start, places_before, places_choosing, places_of, places_of_parent}
 use Rattle.life_intervals.specs.References.{choice}
-use Rattle.life_intervals.proofs.PermutationLemmas.{differs, filter-range_same}
+use Rattle.life_intervals.proofs.PermutationLemmas.{differs, filter-range_same, tests-same}
 use Rattle.life_intervals.proofs.Ranges.{filter-range_with_len_all, flat_map-range_with_len_more, range_with_len-add}
 
 -- what passes a test that no number of a range passes
@@ -279,15 +279,7 @@ block-within spread size number block is = elim (cases_lt (block_start spread nu
 pub places_of_parent-candidate : (spread : List ℕ) (first count size parent candidate : ℕ) → first + candidate ≡ parent → places_choosing spread size count candidate ≡ places_of_parent spread first count size parent
 places_of_parent-candidate spread first count size parent candidate is =
     filter-range_same (λ place. choice spread count place == candidate) (λ place. first + choice spread count place == parent) 0 size (λ place low high.
-    elim (cases_Bool (choice spread count place == candidate)) [
-      | inl same ↦ same ∙ sym (eq-eqb (first + choice spread count place) parent (ap (λ n. first + n) (eqb-true (choice spread count place) candidate same) ∙ is))
-      | inr other ↦ other ∙ sym (differs (first + choice spread count place) parent (λ same.
-          let here : choice spread count place ≡ candidate = omega (arith, same, is) in
-          absurd (false-not-true (sym other ∙ eq-eqb (choice spread count place) candidate here))))
-    ])
-  where
-    false-not-true : false ≡ true → ⊥
-    false-not-true same = cc
+    tests-same (choice spread count place) candidate (first + choice spread count place) parent (λ same. ap (λ n. first + n) same ∙ is) (λ same. omega (arith, same, is)))
 
 -- a row that is no candidate has none
 pub places_of_parent-none : (spread : List ℕ) (first count size parent : ℕ) → 0 < count → ((candidate : ℕ) → candidate < count → first + candidate ≡ parent → ⊥) → [] ≡ places_of_parent spread first count size parent

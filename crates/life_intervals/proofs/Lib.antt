@@ -32,3 +32,4 @@ pub mod BlockLemmas
 pub mod ChildLemmas
 pub mod AppendLemmas
 pub mod ResidueLemmas
+pub mod FoundAtLemmas

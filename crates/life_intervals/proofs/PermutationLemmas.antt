@@ -3,7 +3,7 @@ use Rattle.std.proofs.Common.{◌≡◌, ℕ, zero, suc, ◌+◌, ◌<◌, ◌�
 use Rattle.std.specs.Prelude.{◌==◌}
 use Rattle.std.specs.List.{flat_map, range_with_len}
 use Rattle.std.specs.List.Sorted.{IsPermutation}
-use Rattle.std.proofs.lemmas.Bool.{cases_Bool, cases_lt, eqb-true}
+use Rattle.std.proofs.lemmas.Bool.{cases_Bool, cases_lt, eqb-true, true≢false}
 use Rattle.std.proofs.lemmas.List.{map-append}
 use Rattle.std.proofs.lemmas.List.Sorted.{IsPermutation-append, IsPermutation-cons, IsPermutation-map, IsPermutation-middle, IsPermutation-refl, IsPermutation-sym, IsPermutation-trans, sum_by-IsPermutation}
 use Rattle.std.proofs.lemmas.List.Sums.{sum_by-append, sum_by-cons}
@@ -127,14 +127,11 @@ count-one p a (suc n) at low high passes only =
             | inl before ↦ before
             | inr after ↦
                 let here : a ≡ at = omega (arith, after, low) in
-                absurd (true-not-false (sym passes ∙ ap p (sym here) ∙ later))
+                absurd (true≢false (sym passes ∙ ap p (sym here) ∙ later))
           ] in
           let rest : count_by p (range_with_len (a + 1) n) ≡ 1 = count-one p (a + 1) n at (omega (arith, past)) (omega (arith, high)) passes (λ i is above below. only i is (omega (arith, above)) (omega (arith, below))) in
           omega (arith, parts, rest, ap once_if later)
     ]
-  where
-    true-not-false : true ≡ false → ⊥
-    true-not-false same = cc
 
 times-map : (g : ℕ → ℕ) (z : ℕ) (xs : List ℕ) → times z (map g xs) ≡ count_by (λ i. g i == z) xs
 times-map g z [] = refl
@@ -144,6 +141,13 @@ pub differs : (x y : ℕ) → (x ≡ y → ⊥) → (x == y) ≡ false
 differs x y apart = elim (cases_Bool (x == y)) [
   | inl same ↦ absurd (apart (eqb-true x y same))
   | inr other ↦ other
+]
+
+-- two tests that pass together
+pub tests-same : (x y a b : ℕ) → (x ≡ y → a ≡ b) → (a ≡ b → x ≡ y) → (x == y) ≡ (a == b)
+tests-same x y a b there back = elim (cases_Bool (x == y)) [
+  | inl same ↦ same ∙ sym (eq-eqb a b (there (eqb-true x y same)))
+  | inr other ↦ other ∙ sym (differs a b (λ same. absurd (true≢false (sym (eq-eqb x y (back same)) ∙ other))))
 ]
 
 times-undone : (n : ℕ) (f g : ℕ → ℕ) → AreInversesBelow n f g → (z : ℕ) → times z (range_with_len 0 n) ≡ times z (map g (range_with_len 0 n))
