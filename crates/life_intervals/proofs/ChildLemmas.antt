@@ -1,32 +1,45 @@
 -- The rows of a cohort that have a row as their parent, by their places.
-use Rattle.std.proofs.Common.{◌≡◌, ℕ, true, ◌+◌, ◌-◌, ◌*◌, ◌<◌, ◌≤◌, max, List, [], ◌∷◌, length, map, take, Option, Some, None, refl, ap, ap₂, arith, subst, sym, ◌∙◌}
+use Rattle.std.proofs.Common.{◌≡◌, ℕ, true, ◌+◌, ◌-◌, ◌*◌, ◌^◌, ◌<◌, ◌≤◌, max, List, [], ◌∷◌, length, map, take, inl, inr, Option, Some, None, refl, ap, ap₂, arith, subst, sym, ◌∙◌}
 use Rattle.std.specs.Prelude.{◌==◌, All, IfSome}
 use Rattle.std.specs.List.{flat_map, range_with_len}
 use Rattle.std.specs.List.Sorted.{IsPermutation}
+use Rattle.std.proofs.lemmas.Bool.{cases_lt}
+use Rattle.std.proofs.lemmas.List.Elements.{All-append}
 use Rattle.std.proofs.lemmas.Nat.{mod_below}
 use Rattle.philox_seeds.specs.SeedTree.{reference_order_seed}
 use Rattle.id_permutation.specs.Order.{number_at, place_in}
 use Rattle.id_permutation.proofs.OrderLaws.{AreInversesBelow-number_at}
 use Rattle.cohort_sizes.specs.Births.{Births, LiesIn, birth, born_count, cohort_size, first_ordinal, index_at}
-use Rattle.cohort_sizes.proofs.CohortLemmas.{LiesIn-birth, birth-first_ordinal, birth-from, birth-le, birth-later, birth-only}
+use Rattle.cohort_sizes.proofs.CohortLemmas.{birth-first_ordinal, birth-from, birth-le, birth-later, born_count-le}
+use Rattle.schema_plan.specs.declared.ready.ReadyReference.{ReadyReference}
 use Rattle.schema_plan.specs.Dictionaries.{Project}
 use Rattle.schema_plan.specs.Layout.{KindLayout, reference_kind, TableLayout, column_at, layout_of, table_at}
 use Rattle.schema_plan.specs.Limits.{IsInLimits}
 use Rattle.schema_plan.specs.Lineage.{sure_life}
 use Rattle.schema_plan.specs.References.{IsReferenceInLimits, Reference, count_in_window, first_in_window, reference_at, reference_of, references_of, window_start}
 use Rattle.life_intervals.specs.Blocks.{block_start, places_of_parent, places_of}
-use Rattle.life_intervals.specs.Children.{IsCandidate, IsInWindow, candidate_number, child_at, child_block, children}
+use Rattle.life_intervals.specs.Children.{IsCandidate, IsInWindow, candidate_number, child_at, child_block, children, children_of_each}
 use Rattle.life_intervals.specs.CohortOrders.{parent_order}
+use Rattle.life_intervals.specs.CohortParents.{IsReferenceOf, reference_by, window_by}
+use Rattle.life_intervals.specs.declared.window.Window.{Window}
 use Rattle.life_intervals.specs.Generator.{Generator, generator_of, last_unit, table_of}
 use Rattle.life_intervals.specs.Intervals.{Known, known_tables, parent_by, parent_of}
 use Rattle.life_intervals.specs.References.{choice}
-use Rattle.life_intervals.proofs.AcceptedLemmas.{AreSound-accepted, length-tables}
-use Rattle.life_intervals.proofs.BlockLemmas.{block_of-ends, block_of-over, none_from_over, over_from_none, places_before-all, places_of_parent-candidate}
+use Rattle.life_intervals.proofs.AcceptedLemmas.{length-tables}
+use Rattle.life_intervals.proofs.BlockLemmas.{All-filter_below, block_of-ends, block_of-over, none_from_over, over_from_none, places_before-all, places_of_parent-candidate}
+use Rattle.life_intervals.proofs.CohortParentLemmas.{parent_below, ready_is, row_limit}
 use Rattle.life_intervals.proofs.KnownLemmas.{known_at-before, length-known_before, refers-of}
 use Rattle.life_intervals.proofs.OrderLemmas.{place_by-if}
 use Rattle.life_intervals.proofs.ParentLemmas.{Refers, parent_by-lies}
-use Rattle.life_intervals.proofs.PermutationLemmas.{IsPermutation-by_places}
+use Rattle.life_intervals.proofs.PermutationLemmas.{IsPermutation-by_places, IsPermutation-flat_map, map-flat_map}
 use Rattle.life_intervals.proofs.ReferenceLemmas.{at_column, reference_at-within}
+
+-- the places of some rows are below the cohort's size
+pub All-places : (spread : List ℕ) (first count size most : ℕ) → size ≤ most → (rows : List ℕ) → All (λ place. place < most) (flat_map (places_of_parent spread first count size) rows)
+All-places spread first count size most within [] = λ k d inside. absurd (omega (arith, inside))
+All-places spread first count size most within (row ∷ rows) =
+    All-append (λ place. place < most) (places_of_parent spread first count size row) (flat_map (places_of_parent spread first count size) rows)
+    (All-filter_below (λ place. first + choice spread count place == row) 0 size most (omega (arith, within))) (All-places spread first count size most within rows)
 
 -- a row's parent is the same, whatever the unit by which it is born
 pub parent_of-later : (generator : Generator) (place unit last ordinal : ℕ) (reference : Reference) → ordinal < born_count (table_at generator.tables place).births unit → unit ≤ last →
@@ -114,6 +127,27 @@ module _ (plan : Project) (limits : IsInLimits plan) (table : ℕ) (below : tabl
       (λ ordinal. parent_of generator table unit ordinal reference == parent) (λ place. first + choice reference.spread count place == parent)
       (λ index inside. ap (λ (p : ℕ). p == parent) (parent_of-place index inside))
 
+  -- also by a window that counts one row where there is none, since then there is no place
+  pub children-window : (parent : ℕ) →
+      IsPermutation (children plan table reference unit parent) (map (child_at plan table column unit) (places_of_parent reference.spread first (max 1 count) size parent))
+  children-window parent =
+      let same : places_of_parent reference.spread first count size parent ≡ places_of_parent reference.spread first (max 1 count) size parent =
+      elim (cases_lt 0 size) [
+        | inl some ↦ let many : count ≡ max 1 count = omega (arith, count-some some) in ap (λ (n : ℕ). places_of_parent reference.spread first n size parent) many
+        | inr none ↦
+            let empty : size ≡ 0 = omega (arith, none) in
+            ap (λ (n : ℕ). places_of_parent reference.spread first count n parent) empty ∙ sym (ap (λ (n : ℕ). places_of_parent reference.spread first (max 1 count) n parent) empty)
+      ] in
+      subst (λ (places : List ℕ). IsPermutation (children plan table reference unit parent) (map (child_at plan table column unit) places)) same (children-places parent)
+
+  -- and those of each of some rows
+  pub children-each : (rows : List ℕ) →
+      IsPermutation (children_of_each plan table reference unit rows) (map (child_at plan table column unit) (flat_map (places_of_parent reference.spread first (max 1 count) size) rows))
+  children-each rows =
+      let places : ℕ → List ℕ = places_of_parent reference.spread first (max 1 count) size in
+      subst (IsPermutation (children_of_each plan table reference unit rows)) (sym (map-flat_map (child_at plan table column unit) places rows))
+      (IsPermutation-flat_map (children plan table reference unit) (λ parent. map (child_at plan table column unit) (places parent)) children-window rows)
+
   -- a row's parent is one of those of which the cohort chooses
   pub parent_of-candidate : (ordinal : ℕ) → LiesIn births unit ordinal → IsCandidate plan reference unit (parent_of generator table unit ordinal reference)
   parent_of-candidate ordinal lies =
@@ -154,3 +188,20 @@ module _ (plan : Project) (limits : IsInLimits plan) (table : ℕ) (below : tabl
       let number : ℕ = candidate_number plan reference unit parent in
       none_from_over reference.spread size (number + later * count)
       (block_of-over reference.spread reference-limits.spread size count number turn later order (over_from_none reference.spread size (number + turn * count) none))
+
+-- a window is of at most 2^40 rows
+pub window-count : (plan : Project) → IsInLimits plan → (table unit column : ℕ) (ready : ReadyReference) → table < length plan.schema.tables → unit ≤ last_unit plan → IsReferenceOf plan table column ready →
+    (window_by plan ready unit).count ≤ 2 ^ 40
+window-count plan limits table unit column ready below within of =
+    let parents : Births = (table_of plan ready.parent).births in
+    omega (arith, born_count-le parents unit (last_unit plan) within, row_limit plan limits ready.parent (parent_below plan limits table column ready below of))
+
+-- the children of some rows by a reference that is ready
+pub children-ready : (plan : Project) → IsInLimits plan → (table : ℕ) → table < length plan.schema.tables → (unit : ℕ) → unit ≤ last_unit plan →
+    (column : ℕ) (ready : ReadyReference) → IsReferenceOf plan table column ready → (window : Window) → window ≡ window_by plan ready unit → (size : ℕ) → size ≡ cohort_size (table_of plan table).births unit → (rows : List ℕ) →
+    IsPermutation (children_of_each plan table (reference_by column ready) unit rows) (map (child_at plan table column unit) (flat_map (places_of_parent ready.spread window.first window.count size) rows))
+children-ready plan limits table below unit within column ready of window window_is size size_is rows =
+    subst (λ (w : Window). IsPermutation (children_of_each plan table (reference_by column ready) unit rows) (map (child_at plan table column unit) (flat_map (places_of_parent ready.spread w.first w.count size) rows))) (sym window_is)
+    (subst (λ (n : ℕ). IsPermutation (children_of_each plan table (reference_by column ready) unit rows)
+    (map (child_at plan table column unit) (flat_map (places_of_parent ready.spread (window_by plan ready unit).first (window_by plan ready unit).count n) rows))) (sym size_is)
+    (children-each plan limits table below unit within column (reference_by column ready) (ready_is plan table column ready of).is rows))
