@@ -264,6 +264,15 @@ over_from_none spread size number none = elim (cases_lt (block_start spread numb
 pub none_from_over : (spread : List ℕ) (size number : ℕ) → size ≤ block_start spread number → block_below spread size number ≡ None
 none_from_over spread size number over = rw (le-ltb (block_start spread number) size over) refl
 
+-- a number that is cut past the size tells of no other block
+pub block_below-cut : (spread : List ℕ) → IsSpread spread → (size number most : ℕ) → size ≤ most → block_below spread size (min number most) ≡ block_below spread size number
+block_below-cut spread is size number most within = elim (cases_lt number most) [
+  | inl whole ↦ let same : min number most ≡ number = omega (arith, whole) in ap (block_below spread size) same
+  | inr past ↦
+      none_from_over spread size (min number most) (omega (arith, within, past, block_start-from spread is (min number most)))
+      ∙ sym (none_from_over spread size number (omega (arith, within, past, block_start-from spread is number)))
+]
+
 -- a block is of the places below the size
 pub block-within : (spread : List ℕ) (size number : ℕ) (block : Block) → block_below spread size number ≡ Some block → (block.first + block.size ≤ size) × (block_start spread number < size)
 block-within spread size number block is = elim (cases_lt (block_start spread number) size) [

@@ -1,9 +1,9 @@
 -- The rows of a cohort that have a row as their parent, by their places.
-use Rattle.std.proofs.Common.{◌≡◌, ℕ, true, ◌+◌, ◌-◌, ◌*◌, ◌^◌, ◌<◌, ◌≤◌, max, List, [], ◌∷◌, length, map, take, inl, inr, Option, Some, None, refl, ap, ap₂, arith, subst, sym, ◌∙◌}
+use Rattle.std.proofs.Common.{◌≡◌, ℕ, true, ◌+◌, ◌-◌, ◌*◌, ◌^◌, ◌<◌, ◌≤◌, max, min, List, [], ◌∷◌, length, map, take, inl, inr, Option, Some, None, get_or, is_some, refl, ap, ap₂, arith, subst, sym, ◌∙◌}
 use Rattle.std.specs.Prelude.{◌==◌, All, IfSome}
 use Rattle.std.specs.List.{flat_map, range_with_len}
 use Rattle.std.specs.List.Sorted.{IsPermutation}
-use Rattle.std.proofs.lemmas.Bool.{cases_lt}
+use Rattle.std.proofs.lemmas.Bool.{cases_lt, true≢false}
 use Rattle.std.proofs.lemmas.List.Elements.{All-append}
 use Rattle.std.proofs.lemmas.Nat.{mod_below}
 use Rattle.philox_seeds.specs.SeedTree.{reference_order_seed}
@@ -11,13 +11,16 @@ use Rattle.id_permutation.specs.Order.{number_at, place_in}
 use Rattle.id_permutation.proofs.OrderLaws.{AreInversesBelow-number_at}
 use Rattle.cohort_sizes.specs.Births.{Births, LiesIn, birth, born_count, cohort_size, first_ordinal, index_at}
 use Rattle.cohort_sizes.proofs.CohortLemmas.{birth-first_ordinal, birth-from, birth-le, birth-later, born_count-le}
+use Rattle.schema_plan.specs.declared.ready.ReadyColumn.{ReadyColumn}
 use Rattle.schema_plan.specs.declared.ready.ReadyReference.{ReadyReference}
+use Rattle.schema_plan.specs.declared.ready.ReadyKind.TheVariants as kind
+use Rattle.schema_plan.specs.Ready.{ready_columns}
 use Rattle.schema_plan.specs.Dictionaries.{Project}
 use Rattle.schema_plan.specs.Layout.{KindLayout, reference_kind, TableLayout, column_at, layout_of, table_at}
 use Rattle.schema_plan.specs.Limits.{IsInLimits}
 use Rattle.schema_plan.specs.Lineage.{sure_life}
-use Rattle.schema_plan.specs.References.{IsReferenceInLimits, Reference, count_in_window, first_in_window, reference_at, reference_of, references_of, window_start}
-use Rattle.life_intervals.specs.Blocks.{block_start, places_of_parent, places_of}
+use Rattle.schema_plan.specs.References.{IsReferenceInLimits, IsSpread, Reference, count_in_window, first_in_window, reference_at, reference_of, references_of, window_start}
+use Rattle.life_intervals.specs.Blocks.{block_below, places_of_parent, places_of}
 use Rattle.life_intervals.specs.Children.{IsCandidate, IsInWindow, candidate_number, child_at, child_block, children, children_of_each}
 use Rattle.life_intervals.specs.CohortOrders.{parent_order}
 use Rattle.life_intervals.specs.CohortParents.{IsReferenceOf, reference_by, window_by}
@@ -26,8 +29,8 @@ use Rattle.life_intervals.specs.Generator.{Generator, generator_of, last_unit, t
 use Rattle.life_intervals.specs.Intervals.{Known, known_tables, parent_by, parent_of}
 use Rattle.life_intervals.specs.References.{choice}
 use Rattle.life_intervals.proofs.AcceptedLemmas.{length-tables}
-use Rattle.life_intervals.proofs.BlockLemmas.{All-filter_below, block_of-ends, block_of-over, none_from_over, over_from_none, places_before-all, places_of_parent-candidate}
-use Rattle.life_intervals.proofs.CohortParentLemmas.{parent_below, ready_is, row_limit}
+use Rattle.life_intervals.proofs.BlockLemmas.{All-filter_below, block_below-cut, block_of-ends, block_of-over, none_from_over, over_from_none, places_before-all, places_of_parent-candidate}
+use Rattle.life_intervals.proofs.CohortParentLemmas.{length-ready_columns, parent_below, ready_is, reference_from_columns, row_limit}
 use Rattle.life_intervals.proofs.KnownLemmas.{known_at-before, length-known_before, refers-of}
 use Rattle.life_intervals.proofs.OrderLemmas.{place_by-if}
 use Rattle.life_intervals.proofs.ParentLemmas.{Refers, parent_by-lies}
@@ -205,3 +208,39 @@ children-ready plan limits table below unit within column ready of window window
     (subst (λ (n : ℕ). IsPermutation (children_of_each plan table (reference_by column ready) unit rows)
     (map (child_at plan table column unit) (flat_map (places_of_parent ready.spread (window_by plan ready unit).first (window_by plan ready unit).count n) rows))) (sym size_is)
     (children-each plan limits table below unit within column (reference_by column ready) (ready_is plan table column ready of).is rows))
+
+-- a column that has a reference
+pub record HasReference (at : Option Reference) : Type 0 where
+  pub reference : Reference
+  pub is : at ≡ Some reference
+
+pub HasReference-some : (at : Option Reference) → is_some at ≡ true → HasReference at
+HasReference-some None none = absurd (true≢false (sym none))
+HasReference-some (Some reference) some = record { reference = reference; is = refl }
+
+-- a column that is read as a reference has the one that is ready
+pub record IsRead (plan : Project) (table column : ℕ) (ready : ReadyReference) (reference : Reference) : Type 0 where
+  pub of : IsReferenceOf plan table column ready
+  pub same : reference_by column ready ≡ reference
+
+pub IsRead-columns : (plan : Project) (table column : ℕ) (columns : List ReadyColumn) (held : ReadyColumn) (ready : ReadyReference) (reference : Reference) → columns ≡ ready_columns (layout_of plan) table →
+    held ≡ get_or columns column held → held.kind ≡ kind.Reference ready → reference_at (table_of plan table) column ≡ Some reference → IsRead plan table column ready reference
+IsRead-columns plan table column columns held ready reference are is kind_is at =
+    let within : column < length columns = omega (arith, reference_at-within (table_of plan table) column reference at, ap length are, length-ready_columns plan table) in
+    let of = reference_from_columns plan table column columns held ready are within is kind_is in
+    let both : Some (reference_by column ready) ≡ Some reference = sym (ready_is plan table column ready of).is ∙ at in
+    record { of = of; same = cc }
+
+-- the block of a turn, by a number that is cut past the size of the cohort
+pub child_block-cut : (plan : Project) (table column unit parent turn : ℕ) (ready : ReadyReference) (window : Window) (size number most : ℕ) → IsSpread ready.spread → IsCandidate plan (reference_by column ready) unit parent →
+    window ≡ window_by plan ready unit → size ≡ cohort_size (table_of plan table).births unit → size ≤ most → number ≡ min (min (turn * window.count) most + (parent - window.first)) most →
+    block_below ready.spread size number ≡ child_block plan table (reference_by column ready) parent unit turn
+child_block-cut plan table column unit parent turn ready window size number most spread candidate window_is size_is within number_is =
+    let births : Births = (table_of plan ready.parent).births in
+    let count : ℕ = count_in_window births ready.window unit in
+    let exact : ℕ = candidate_number plan (reference_by column ready) unit parent + turn * count in
+    let many : (window_by plan ready unit).count ≡ count = omega (arith, candidate.begun, candidate.born) in
+    let count_is : turn * window.count ≡ turn * count = ap (λ (w : Window). turn * w.count) window_is ∙ ap (λ (n : ℕ). turn * n) many in
+    let first_is : window.first ≡ first_in_window births ready.window unit = ap (λ (w : Window). w.first) window_is in
+    let cut : number ≡ min exact most = omega (arith, number_is, count_is, first_is) in
+    ap (block_below ready.spread size) cut ∙ block_below-cut ready.spread spread size exact most within ∙ ap (λ (n : ℕ). block_below ready.spread n exact) size_is
