@@ -1,16 +1,16 @@
 -- The blocks of places that a spread gives out, and the candidates that it chooses there.
-use Rattle.std.proofs.Common.{◌≡◌, ℕ, zero, suc, ◌+◌, ◌-◌, ◌*◌, ◌/◌, ◌%◌, ◌<◌, ◌≤◌, min, Bool, true, false, List, [], ◌∷◌, ◌++◌, eq-eqb, filter, get_or, inl, inr, length, map, sum, Option, Some, None, refl, ap, ap₂, arith, subst, sym, ◌∙◌}
-use Rattle.std.specs.Prelude.{◌==◌, All, if◌then◌else◌, nat_lt}
-use Rattle.std.specs.List.{flat_map, range_with_len}
+use Rattle.std.proofs.Common.{◌≡◌, ℕ, zero, suc, ◌+◌, ◌-◌, ◌*◌, ◌/◌, ◌%◌, ◌<◌, ◌≤◌, min, Bool, false, List, [], ◌++◌, eq-eqb, filter, get_or, inl, inr, length, sum, Option, Some, None, refl, ap, ap₂, arith, subst, sym, ◌∙◌}
+use Rattle.std.specs.Prelude.{◌==◌, All, if◌then◌else◌}
+use Rattle.std.specs.List.{range_with_len}
 use Rattle.std.proofs.Math.Nat.{add-mul}
-use Rattle.std.proofs.lemmas.Bool.{cases_Bool, cases_lt, eqb-true, le-ltb, lt-ltb}
+use Rattle.std.proofs.lemmas.Bool.{cases_lt, le-ltb, lt-ltb}
 use Rattle.std.proofs.lemmas.List.{append-nil, append_assoc}
 use Rattle.std.proofs.lemmas.List.Elements.{All-filter, filter-append}
 use Rattle.std.proofs.lemmas.List.FromFn.{get_or-range_with_len, length-range_with_len}
 use Rattle.std.proofs.lemmas.Nat.{div-add-mod', div-mul-add, mod-mul-add, mod_below, mul-le}
-use Rattle.weight_tables.specs.Weights.{Selects, selected, weight_before}
+use Rattle.weight_tables.specs.Weights.{selected, weight_before}
 use Rattle.weight_tables.proofs.PrefixSumLemmas.{prefix_sum-le-sum, prefix_sum-split, weight_before-all}
-use Rattle.weight_tables.proofs.SelectionLemmas.{Selects-place, Selects-selected, Selects-unique}
+use Rattle.weight_tables.proofs.SelectionLemmas.{Selects-place, Selects-selected}
 use Rattle.schema_plan.specs.References.{IsSpread}
 use Rattle.life_intervals.specs.declared.children.Block.{Block}
 use Rattle.life_intervals.specs.Blocks.{block_below, block_of, block_start, places_before, places_choosing, places_of, places_of_parent}

@@ -9,17 +9,16 @@ use Rattle.std.proofs.lemmas.Nat.{mod_below}
 use Rattle.philox_seeds.specs.SeedTree.{reference_order_seed}
 use Rattle.id_permutation.specs.Order.{number_at, place_in}
 use Rattle.id_permutation.proofs.OrderLaws.{AreInversesBelow-number_at}
-use Rattle.cohort_sizes.specs.Births.{Births, LiesIn, birth, born_count, cohort_size, first_ordinal, index_at}
+use Rattle.cohort_sizes.specs.Births.{Births, LiesIn, birth, born_count, cohort_size, first_ordinal}
 use Rattle.cohort_sizes.proofs.CohortLemmas.{birth-first_ordinal, birth-from, birth-le, birth-later, born_count-le}
 use Rattle.schema_plan.specs.declared.ready.ReadyColumn.{ReadyColumn}
 use Rattle.schema_plan.specs.declared.ready.ReadyReference.{ReadyReference}
 use Rattle.schema_plan.specs.declared.ready.ReadyKind.TheVariants as kind
 use Rattle.schema_plan.specs.Ready.{ready_columns}
 use Rattle.schema_plan.specs.Dictionaries.{Project}
-use Rattle.schema_plan.specs.Layout.{KindLayout, reference_kind, TableLayout, column_at, layout_of, table_at}
+use Rattle.schema_plan.specs.Layout.{KindLayout, reference_kind, column_at, layout_of, table_at}
 use Rattle.schema_plan.specs.Limits.{IsInLimits}
-use Rattle.schema_plan.specs.Lineage.{sure_life}
-use Rattle.schema_plan.specs.References.{IsReferenceInLimits, IsSpread, Reference, count_in_window, first_in_window, reference_at, reference_of, references_of, window_start}
+use Rattle.schema_plan.specs.References.{IsReferenceInLimits, IsSpread, Reference, count_in_window, first_in_window, reference_at, reference_of, window_start}
 use Rattle.life_intervals.specs.Blocks.{block_below, places_of_parent, places_of}
 use Rattle.life_intervals.specs.Children.{IsCandidate, IsInWindow, candidate_number, child_at, child_block, children, children_of_each}
 use Rattle.life_intervals.specs.CohortOrders.{parent_order}
@@ -31,9 +30,8 @@ use Rattle.life_intervals.specs.References.{choice}
 use Rattle.life_intervals.proofs.AcceptedLemmas.{length-tables}
 use Rattle.life_intervals.proofs.BlockLemmas.{All-filter_below, block_below-cut, block_of-ends, block_of-over, none_from_over, over_from_none, places_before-all, places_of_parent-candidate}
 use Rattle.life_intervals.proofs.CohortParentLemmas.{length-ready_columns, parent_below, ready_is, reference_from_columns, row_limit}
-use Rattle.life_intervals.proofs.KnownLemmas.{known_at-before, length-known_before, refers-of}
+use Rattle.life_intervals.proofs.KnownLemmas.{known_at-before, length-known_before}
 use Rattle.life_intervals.proofs.OrderLemmas.{place_by-if}
-use Rattle.life_intervals.proofs.ParentLemmas.{Refers, parent_by-lies}
 use Rattle.life_intervals.proofs.PermutationLemmas.{IsPermutation-by_places, IsPermutation-flat_map, map-flat_map}
 use Rattle.life_intervals.proofs.ReferenceLemmas.{at_column, reference_at-within}
 

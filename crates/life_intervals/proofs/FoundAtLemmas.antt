@@ -1,9 +1,9 @@
 -- The rows of a cohort whose own lives end at a unit and those that are due at it, by what their places leave.
-use Rattle.std.proofs.Common.{◌≡◌, ℕ, ◌+◌, ◌-◌, ◌*◌, ◌%◌, ◌/◌, ◌<◌, ◌≤◌, ◌⊎◌, Bool, false, List, [], filter, inl, inr, Option, Some, None, option_map, refl, ap, arith, sym, ◌∙◌}
-use Rattle.std.specs.Prelude.{◌==◌, if◌then◌else◌}
+use Rattle.std.proofs.Common.{◌≡◌, ℕ, ◌+◌, ◌-◌, ◌*◌, ◌%◌, ◌/◌, ◌<◌, ◌≤◌, ◌⊎◌, Bool, [], inl, inr, length, Option, Some, None, option_map, ap, arith, sym, ◌∙◌}
+use Rattle.std.specs.Prelude.{◌==◌, IfSome, if◌then◌else◌}
 use Rattle.std.proofs.lemmas.Bool.{cases_lt, le-ltb, lt-ltb}
 use Rattle.std.proofs.lemmas.Nat.{div-add-mod', mod-mul-add, mod_below}
-use Rattle.cohort_sizes.specs.Births.{Births, LiesIn, cohort_size, first_ordinal}
+use Rattle.cohort_sizes.specs.Births.{Births, LiesIn, birth, cohort_size, first_ordinal}
 use Rattle.cohort_sizes.proofs.CohortLemmas.{birth-only}
 use Rattle.schema_plan.specs.declared.layout.Span.{Span}
 use Rattle.schema_plan.specs.Dictionaries.{Project}
@@ -11,9 +11,11 @@ use Rattle.life_intervals.specs.declared.orders.Purpose.TheVariants.{Lives, Upda
 use Rattle.life_intervals.specs.Changes.{due_by, last_due}
 use Rattle.life_intervals.specs.CohortOrders.{due_for, place_for}
 use Rattle.life_intervals.specs.FoundAt.{due_at, due_unit, ending_at, rows_leaving}
-use Rattle.life_intervals.specs.Generator.{Generator, generator_of, last_unit, table_of}
+use Rattle.life_intervals.specs.Generator.{generator_of, last_unit, table_of}
 use Rattle.life_intervals.specs.Intervals.{is_at, own_death}
 use Rattle.life_intervals.specs.Rows.{life_by}
+use Rattle.schema_plan.specs.Limits.{IsInLimits, IsSpan}
+use Rattle.life_intervals.proofs.AcceptedLemmas.{AreSound-accepted, length-tables}
 use Rattle.life_intervals.proofs.BlockLemmas.{filter-range_none, mod-smaller}
 use Rattle.life_intervals.proofs.PartLemmas.{due_for-never, place_for-due, place_for-own_death}
 use Rattle.life_intervals.proofs.PermutationLemmas.{differs, filter-range_same, tests-same}
@@ -83,9 +85,9 @@ module _ (plan : Project) (table born : ℕ) (t : ℕ) (early : born ≤ t) (wit
         let rest : place % lengths < lengths = mod_below place lengths (omega arith) in
         ap (λ (death : Option ℕ). is_at death t) (own_death_is (Some life) is ordinal low high)
         ∙ differs (born + (life.least + place % lengths)) t (λ same. elim outside [
-            | inl before ↦ omega (arith, before, same)
-            | inr past ↦ omega (arith, past, same, rest, order)
-          ])))
+          | inl before ↦ omega (arith, before, same)
+          | inr past ↦ omega (arith, past, same, rest, order)
+        ])))
 
     -- within it, those whose places leave how far it has come
     pub ending-leaving : born + life.least ≤ t → ending_at plan table born t ≡ rows_leaving plan table Lives born lengths (t - born - life.least)
@@ -118,3 +120,17 @@ module _ (plan : Project) (table born : ℕ) (t : ℕ) (early : born ≤ t) (wit
       let place : ℕ = place_for plan table Updates born ordinal in
       ap (λ (due : ℕ). due == t) (due_unit_is ordinal low high ∙ sym (place_for-due plan table born born_within ordinal (lies_in ordinal low high) t period is some))
       ∙ last_due-at born t period (place % period) before (mod_below place period some))
+
+-- a row's own life ends within the span of the table's lives
+own_death-span : (life : Option Span) → IfSome life IsSpan → (born place death : ℕ) → option_map (λ l. born + l) (life_by life place) ≡ Some death →
+    IfSome life (λ span. (born + span.least ≤ death) × (death ≤ born + span.most))
+own_death-span None span born place death is = tt
+own_death-span (Some life) span born place death is =
+    let rest : place % (life.most - life.least + 1) < life.most - life.least + 1 = mod_below place (life.most - life.least + 1) (omega arith) in
+    let same : born + (life.least + place % (life.most - life.least + 1)) ≡ death = cc in
+    (omega (arith, same), omega (arith, same, rest, span.ordered))
+
+pub own_death-in_span : (plan : Project) → IsInLimits plan → (table : ℕ) → table < length plan.schema.tables → (unit ordinal death : ℕ) → own_death (generator_of plan) table unit ordinal ≡ Some death →
+    IfSome (table_of plan table).life (λ span. (birth (table_of plan table).births unit ordinal + span.least ≤ death) × (death ≤ birth (table_of plan table).births unit ordinal + span.most))
+own_death-in_span plan limits table below unit ordinal death is =
+    own_death-span (table_of plan table).life (AreSound-accepted plan limits table (omega (arith, below, length-tables plan))).life (birth (table_of plan table).births unit ordinal) _ death is

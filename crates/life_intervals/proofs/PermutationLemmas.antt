@@ -1,5 +1,5 @@
 -- Lists that have the same numbers, in another order: what passes a test of the numbers of a range, found by their places.
-use Rattle.std.proofs.Common.{◌≡◌, ℕ, zero, suc, ◌+◌, ◌<◌, ◌≤◌, Bool, true, false, cond, eqb, List, [], ◌∷◌, ◌++◌, count_by, eq-eqb, filter, inl, inr, length, map, sum_by, ⊎_elim, ◌⊎◌, refl, ap, ap₂, arith, subst, sym, ◌∙◌}
+use Rattle.std.proofs.Common.{◌≡◌, ℕ, zero, suc, ◌+◌, ◌<◌, ◌≤◌, Bool, true, false, cond, List, [], ◌∷◌, ◌++◌, count_by, eq-eqb, filter, inl, inr, map, refl, ap, ap₂, arith, subst, sym, ◌∙◌}
 use Rattle.std.specs.Prelude.{◌==◌}
 use Rattle.std.specs.List.{flat_map, range_with_len}
 use Rattle.std.specs.List.Sorted.{IsPermutation}

@@ -1,12 +1,9 @@
-use Rattle.std.proofs.Common.{◌≡◌, ◌<◌, ◌≤◌, ◌+◌, ◌-◌, ◌*◌, ◌^◌, min, max, ℕ, Some, ap, arith, subst, sym, ◌∙◌}
-use Rattle.cohort_sizes.specs.Births.{cohort_size}
+use Rattle.std.proofs.Common.{◌-◌, ◌*◌, ◌^◌, ℕ, ap, arith, subst, sym, ◌∙◌}
 use Rattle.schema_plan.specs.declared.ready.ReadyColumn.{ReadyColumn}
 use Rattle.schema_plan.specs.Dictionaries.{Project}
 use Rattle.schema_plan.specs.References.{Reference, reference_at}
 use Rattle.life_intervals.specs.declared.window.Window.{Window}
-use Rattle.life_intervals.specs.Blocks.{block_below}
 use Rattle.life_intervals.specs.Children.{IsCandidate, child_block}
-use Rattle.life_intervals.specs.CohortParents.{reference_by}
 use Rattle.life_intervals.specs.Generator.{table_of}
 use Rattle.life_intervals.proofs.ChildLemmas.{HasReference-some, IsRead-columns, child_block-cut}
 use Rattle.life_intervals.proofs.CohortParentLemmas.{limits_of, parent_below}

@@ -1,5 +1,5 @@
-use Rattle.std.proofs.Common.{◌≡◌, ◌+◌, ◌++◌, ℕ, List, Option, Some, ap, arith, sym, ◌∙◌}
-use Rattle.std.proofs.lemmas.List.{append-nil, append_assoc}
+use Rattle.std.proofs.Common.{◌++◌, ℕ, List, ap, arith, sym, ◌∙◌}
+use Rattle.std.proofs.lemmas.List.{append-nil}
 use Rattle.life_intervals.proofs.BlockLemmas.{block-within, block_start-from, chosen-all, chosen-first, chosen-push, mod-next, mod-smaller, over_from_none}
 use Rattle.life_intervals.proofs.children.push_choosing.Goals as goal
 

@@ -1,4 +1,4 @@
-use Rattle.std.proofs.Common.{◌≡◌, ◌-◌, ◌%◌, ◌≤◌, ◌++◌, ◌+◌, ◌^◌, min, filter}
+use Rattle.std.proofs.Common.{◌≡◌, ◌-◌, ◌%◌, ◌++◌, min, filter}
 use Rattle.std.specs.Prelude.{◌==◌}
 use Rattle.std.specs.List.{range_with_len}
 use Rattle.life_intervals.specs.Blocks.{block_start}

@@ -1,6 +1,6 @@
 use Rattle.std.proofs.Common.{◌≡◌, ◌<◌, ◌+◌, ◌++◌, ℕ, List, ap, arith, sym, ◌∙◌}
 use Rattle.std.proofs.lemmas.List.{append-nil}
-use Rattle.life_intervals.proofs.BlockLemmas.{places_of_parent-candidate, places_of_parent-none}
+use Rattle.life_intervals.proofs.BlockLemmas.{places_of_parent-none}
 use Rattle.life_intervals.proofs.children.push_places_of.Goals as goal
 use Rattle.life_intervals.proofs.children.push_places_of.Goals.{then-parent-window-via-then-parent-window, then-parent-window-via-else-parent-window+then-parent-window-2}
 

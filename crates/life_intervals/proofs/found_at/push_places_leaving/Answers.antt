@@ -1,4 +1,4 @@
-use Rattle.std.proofs.Common.{◌≡◌, ◌++◌, ℕ, List, ap, arith, sym, ◌∙◌}
+use Rattle.std.proofs.Common.{◌++◌, ℕ, List, ap, arith, sym, ◌∙◌}
 use Rattle.std.proofs.lemmas.List.{append-nil}
 use Rattle.life_intervals.proofs.BlockLemmas.{mod-next, mod-smaller}
 use Rattle.life_intervals.proofs.ResidueLemmas.{leaving-all, leaving-first, leaving-push}
