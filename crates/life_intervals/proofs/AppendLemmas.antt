@@ -11,7 +11,7 @@ use borrow.Rule.Slice.PartMut.{put_mid}
 use Rattle.life_intervals.proofs.RunLemmas.{length-put_mid}
 use Rattle.std.proofs.lemmas.List.Elements.{Contains-append_cases, Contains-append_left, Contains-append_right}
 use Rattle.std.proofs.lemmas.List.Sorted.{Contains-permutation, IsPermutation-append, IsPermutation-refl, IsPermutation-sym, length_permutation}
-use Rattle.life_intervals.specs.FoundAt.{AreAppended}
+use Rattle.life_intervals.specs.FoundAt.{AreAppended, GoesOn}
 use Rattle.life_intervals.proofs.Ranges.{range_with_len-add}
 
 -- one number more behind a list and a range
@@ -27,6 +27,19 @@ AreAppended-none rows before none = record {
   is = sym (append-nil before);
   same = subst (λ (xs : List ℕ). IsPermutation xs []) none (IsPermutation-refl []);
 }
+
+-- a list that stays, and what goes on with it
+pub GoesOn-same : (before after : List ℕ) → after ≡ before → GoesOn before after
+GoesOn-same before after same = record { behind = []; is = same ∙ sym (append-nil before) }
+
+pub GoesOn-more : (before between after : List ℕ) → GoesOn before between → GoesOn between after → GoesOn before after
+GoesOn-more before between after first then = record {
+  behind = first.behind ++ then.behind;
+  is = then.is ∙ ap (λ (zs : List ℕ). zs ++ then.behind) first.is ∙ append_assoc before first.behind then.behind;
+}
+
+pub GoesOn-appended : (rows before after : List ℕ) → AreAppended rows before after → GoesOn before after
+GoesOn-appended rows before after are = record { behind = are.behind; is = are.is }
 
 -- first some, and then others
 pub AreAppended-more : (xs ys before between after : List ℕ) → AreAppended xs before between → AreAppended ys between after → AreAppended (xs ++ ys) before after

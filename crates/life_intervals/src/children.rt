@@ -1,13 +1,13 @@
 //! The children of rows: the rows of a cohort that have one of them as their parent, found by the places at which they choose it.
 
-ghost use Rattle.std.specs.Prelude.{◌≡◌, ◌+◌, ◌*◌, ◌-◌, ◌<◌, ◌≤◌, ◌++◌, ◌^◌, OnOk, Some, is_some, length, sum, true};
+ghost use Rattle.std.specs.Prelude.{◌≡◌, ◌+◌, ◌*◌, ◌-◌, ◌<◌, ◌≤◌, ◌++◌, ◌^◌, OnErr, OnOk, Some, is_some, length, sum, true};
 ghost use Rattle.std.specs.List.{flat_map, range_with_len};
 ghost use Rattle.cohort_sizes.specs.Births.{LiesIn, cohort_size, first_ordinal};
 ghost use Rattle.schema_plan.specs.References.{IsSpread, Reference, reference_at};
 ghost use Rattle.life_intervals.specs.Blocks.{block_below, places_choosing, places_of_parent};
 ghost use Rattle.life_intervals.specs.Children.{IsCandidate, child_at, child_block, children_of_each};
 ghost use Rattle.life_intervals.specs.CohortParents.{IsReferenceOf, reference_by, window_by};
-ghost use Rattle.life_intervals.specs.FoundAt.{AreAppended};
+ghost use Rattle.life_intervals.specs.FoundAt.{AreAppended, GoesOn};
 ghost use Rattle.life_intervals.specs.Generator.{generator_of, last_unit, table_of};
 
 use crate::births::cohort;
@@ -106,7 +106,8 @@ pub fn child_of_place<L: Ledger>(
 fn push_block(block: Block, places: &mut Vec<u64>) -> Result<(), Memory>
     requires first { block.first ≤ 2 ^ 40 }
     requires size { block.size ≤ 2 ^ 40 }
-    ensures { OnOk result (places.new.items ≡ places.old.items ++ range_with_len block.first block.size) }
+    ensures places { OnOk result (places.new.items ≡ places.old.items ++ range_with_len block.first block.size) }
+    ensures before { GoesOn places.old.items places.new.items }
 {
     for i in 0..block.size {
         places.push(block.first + i)?;
@@ -128,7 +129,8 @@ fn push_choosing(
     requires groups { reference.now.groups ≡ length reference.now.spread }
     requires total { reference.now.total ≡ sum reference.now.spread }
     requires spread { IsSpread reference.now.spread }
-    ensures { OnOk result (places.new.items ≡ places.old.items ++ places_choosing reference.now.spread size count candidate) }
+    ensures places { OnOk result (places.new.items ≡ places.old.items ++ places_choosing reference.now.spread size count candidate) }
+    ensures before { GoesOn places.old.items places.new.items }
 {
     let mut number = candidate;
     while let Some(block) = block_below(reference, size, number) {
@@ -151,7 +153,8 @@ fn push_places_of(
     requires groups { reference.now.groups ≡ length reference.now.spread }
     requires total { reference.now.total ≡ sum reference.now.spread }
     requires spread { IsSpread reference.now.spread }
-    ensures { OnOk result (places.new.items ≡ places.old.items ++ places_of_parent reference.now.spread window.now.first window.now.count size parent) }
+    ensures places { OnOk result (places.new.items ≡ places.old.items ++ places_of_parent reference.now.spread window.now.first window.now.count size parent) }
+    ensures before { GoesOn places.old.items places.new.items }
 {
     let count = window.count.number();
     if parent < window.first || parent - window.first >= count {
@@ -163,8 +166,8 @@ fn push_places_of(
 impl<'a> Rows<'a> {
     /// Puts the ordinals of the children that some rows have by a reference, which is ready in the column at a place, in the cohort that
     /// is born at `unit` behind a list: those of one row after those of another, and those of each in no special order. A row that isn't
-    /// born in the reference's window has none. It takes one step for each child. At `Memory` some may stand behind the list, each
-    /// of any number, and no step is taken.
+    /// born in the reference's window has none. It takes one step for each child. At `Memory` what the list held still begins it, whatever
+    /// stands behind, and no step is taken.
     pub fn push_children<L: Ledger>(
         &self,
         table: u32,
@@ -179,6 +182,8 @@ impl<'a> Rows<'a> {
         requires reference { IsReferenceOf self.now table column reference.now }
         requires unit { unit ≤ last_unit self.now }
         ensures children { OnOk result (AreAppended (children_of_each self.now table (reference_by column reference.now) unit parents.now) children.old.items children.new.items) }
+        ensures before { GoesOn children.old.items children.new.items }
+        ensures memory { OnErr result (steps.new ≡ steps.old) }
         ensures least { steps.old ≤ steps.new }
         ensures steps { steps.new ≤ steps.old + length (children_of_each self.now table (reference_by column reference.now) unit parents.now) }
     {

@@ -1,10 +1,10 @@
 //! The rows of a cohort to which something comes at a unit, found by their places: those whose own lives end, and those that are due.
 
-ghost use Rattle.std.specs.Prelude.{◌≡◌, ◌+◌, ◌*◌, ◌<◌, ◌≤◌, ◌++◌, ◌^◌, All, OnOk, drop, length, map, take};
+ghost use Rattle.std.specs.Prelude.{◌≡◌, ◌+◌, ◌*◌, ◌<◌, ◌≤◌, ◌++◌, ◌^◌, All, OnErr, OnOk, drop, length, map, take};
 ghost use Rattle.cohort_sizes.specs.Births.{cohort_size};
 ghost use Rattle.schema_plan.specs.Lineage.{one_if};
 ghost use Rattle.life_intervals.specs.CohortOrders.{do_lives_differ, do_updates_differ, is_drawn};
-ghost use Rattle.life_intervals.specs.FoundAt.{AreAppended, due_at, ending_at, places_leaving, row_at_place, rows_leaving};
+ghost use Rattle.life_intervals.specs.FoundAt.{AreAppended, GoesOn, due_at, ending_at, places_leaving, row_at_place, rows_leaving};
 ghost use Rattle.life_intervals.specs.Generator.{last_unit, table_of};
 
 use crate::births::cohort;
@@ -36,7 +36,8 @@ fn push_places_leaving(size: u64, residue: Residue, places: &mut Vec<u64>) -> Re
     requires size { size ≤ 2 ^ 40 }
     requires modulus { residue.modulus ≤ 2 ^ 40 }
     requires remainder { residue.remainder < residue.modulus }
-    ensures { OnOk result (places.new.items ≡ places.old.items ++ places_leaving residue.modulus residue.remainder size) }
+    ensures places { OnOk result (places.new.items ≡ places.old.items ++ places_leaving residue.modulus residue.remainder size) }
+    ensures before { GoesOn places.old.items places.new.items }
 {
     places.try_reserve(count_below(size, residue) as usize)?;
     let mut place = residue.remainder;
@@ -114,6 +115,8 @@ impl<'a> Rows<'a> {
         requires modulus { residue.modulus ≤ 2 ^ 40 }
         requires remainder { residue.remainder < residue.modulus }
         ensures rows { OnOk result (AreAppended (rows_leaving self.now table purpose born residue.modulus residue.remainder) rows.old.items rows.new.items) }
+        ensures before { GoesOn rows.old.items rows.new.items }
+        ensures memory { OnErr result (steps.new ≡ steps.old) }
         ensures least { steps.old ≤ steps.new }
         ensures steps { steps.new ≤ steps.old + length (rows_leaving self.now table purpose born residue.modulus residue.remainder) * one_if (is_drawn (table_of self.now table) purpose) }
     {
@@ -125,8 +128,8 @@ impl<'a> Rows<'a> {
     }
 
     /// Puts the ordinals of the rows that are born at unit `born` and whose own lives end at unit `t` behind a list, in no special order.
-    /// It takes one step for each where lives of the table differ, else none. At `Memory` some may stand behind the list, each of any
-    /// number, and no step is taken.
+    /// It takes one step for each where lives of the table differ, else none. At `Memory` what the list held still begins it, whatever stands
+    /// behind, and no step is taken.
     pub fn push_ending<L: Ledger>(
         &self,
         table: u32,
@@ -139,6 +142,8 @@ impl<'a> Rows<'a> {
         requires born { born ≤ t }
         requires unit { t ≤ last_unit self.now }
         ensures rows { OnOk result (AreAppended (ending_at self.now table born t) rows.old.items rows.new.items) }
+        ensures before { GoesOn rows.old.items rows.new.items }
+        ensures memory { OnErr result (steps.new ≡ steps.old) }
         ensures least { steps.old ≤ steps.new }
         ensures steps { steps.new ≤ steps.old + length (ending_at self.now table born t) * one_if (do_lives_differ (table_of self.now table).life) }
     {
@@ -157,8 +162,8 @@ impl<'a> Rows<'a> {
     }
 
     /// Puts the ordinals of the rows that are born at unit `born`, before unit `t`, and are due at `t` behind a list, in no special order.
-    /// It takes one step for each where rows of a cohort may be due at different units, else none. At `Memory` some may stand behind the
-    /// list, each of any number, and no step is taken.
+    /// It takes one step for each where rows of a cohort may be due at different units, else none. At `Memory` what the list held still
+    /// begins it, whatever stands behind, and no step is taken.
     pub fn push_due<L: Ledger>(
         &self,
         table: u32,
@@ -171,6 +176,8 @@ impl<'a> Rows<'a> {
         requires born { born < t }
         requires unit { t ≤ last_unit self.now }
         ensures rows { OnOk result (AreAppended (due_at self.now table born t) rows.old.items rows.new.items) }
+        ensures before { GoesOn rows.old.items rows.new.items }
+        ensures memory { OnErr result (steps.new ≡ steps.old) }
         ensures least { steps.old ≤ steps.new }
         ensures steps { steps.new ≤ steps.old + length (due_at self.now table born t) * one_if (do_updates_differ (table_of self.now table).update) }
     {

@@ -10,7 +10,7 @@ use Rattle.life_intervals.specs.Blocks.{places_of_parent}
 use Rattle.life_intervals.specs.Children.{child_at, children_of_each}
 use Rattle.life_intervals.specs.CohortParents.{reference_by}
 use Rattle.life_intervals.specs.Generator.{table_of}
-use Rattle.life_intervals.proofs.AppendLemmas.{AreAppended-places, drop-behind, steps-places}
+use Rattle.life_intervals.proofs.AppendLemmas.{AreAppended-places, GoesOn-appended, GoesOn-more, drop-behind, steps-places}
 use Rattle.life_intervals.proofs.ChildLemmas.{All-places, children-ready, window-count}
 use Rattle.life_intervals.proofs.CohortParentLemmas.{limits_of, parent_below}
 use Rattle.life_intervals.proofs.rows.Rows.push_children.Goals as goal
@@ -75,3 +75,12 @@ returns-clause-steps g c =
     (children-ready plan (subst IsInLimits c.plan.ensures c.schema-limits.ensures.limits) c.args.table c.requires.table c.args.unit c.requires.unit c.args.column c.args.reference.now c.requires.reference window c.window-window.ensures c.cohort-size.result.size size_is c.args.parents.now)
     c.put_rows_from.ensures.steps in
     omega (arith, took)
+
+pub returns-clause-before : goal.returns-clause-before
+returns-clause-before g c =
+    GoesOn-appended (children_of_each c.args.self.now c.args.table (reference_by c.args.column c.args.reference.now) c.args.unit c.args.parents.now) c.args.children.now.items c.put_rows_from.new.rows.items
+    (returns-clause-children g c)
+
+pub returns-in_err-push_places_of-clause-before : goal.returns-in_err-push_places_of-clause-before
+returns-in_err-push_places_of-clause-before g c =
+    GoesOn-more c.args.children.now.items c.loop-parent.children.items c.push_places_of.new.places.items (record { behind = _; is = c.loop-parent.invariant }) c.in_err-push_places_of.ensures.before
