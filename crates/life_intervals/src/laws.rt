@@ -11,7 +11,7 @@ ghost use Rattle.schema_plan.specs.Dictionaries.{Project};
 ghost use Rattle.schema_plan.specs.Layout.{TableLayout, layout_of, table_at};
 ghost use Rattle.schema_plan.specs.Limits.{IsInLimits};
 ghost use Rattle.schema_plan.specs.Lineage.{death_cost, longest_life, sure_life};
-ghost use Rattle.life_intervals.specs.Blocks.{block_of, places_of};
+ghost use Rattle.life_intervals.specs.Blocks.{block_of, places_choosing, places_of};
 ghost use Rattle.life_intervals.specs.Changes.{IsLastChange, IsLastDue, due_by, first_due};
 ghost use Rattle.life_intervals.specs.Children.{IsCandidate, IsInWindow, child_at, child_block, children};
 ghost use Rattle.life_intervals.specs.CohortParents.{asked_for_change, asked_for_death};
@@ -278,8 +278,12 @@ pub fn worked_choices()
         ≡ 0 ∷ 1 ∷ 1 ∷ 2 ∷ 2 ∷ 2 ∷ 3 ∷ 0 ∷ 0 ∷ 1 ∷ 1 ∷ 1 ∷ 2 ∷ [] }
 {}
 
-/// The blocks of some of these candidates, turn by turn, and those of eleven places.
+/// The places at which each of these candidates is chosen, the blocks of two of them, turn by turn, and those of eleven places.
 pub fn worked_blocks()
+    ensures first_places { places_choosing (1 ∷ 2 ∷ 3 ∷ []) 13 4 0 ≡ 0 ∷ 7 ∷ 8 ∷ [] }
+    ensures second_places { places_choosing (1 ∷ 2 ∷ 3 ∷ []) 13 4 1 ≡ 1 ∷ 2 ∷ 9 ∷ 10 ∷ 11 ∷ [] }
+    ensures third_places { places_choosing (1 ∷ 2 ∷ 3 ∷ []) 13 4 2 ≡ 3 ∷ 4 ∷ 5 ∷ 12 ∷ [] }
+    ensures fourth_places { places_choosing (1 ∷ 2 ∷ 3 ∷ []) 13 4 3 ≡ 6 ∷ [] }
     ensures first_candidate { map (block_of (1 ∷ 2 ∷ 3 ∷ []) 13 4 0) (range_with_len 0 3) ≡ block 0 1 ∷ block 7 2 ∷ None ∷ [] }
     ensures third_candidate { map (block_of (1 ∷ 2 ∷ 3 ∷ []) 13 4 2) (range_with_len 0 3) ≡ block 3 3 ∷ block 12 1 ∷ None ∷ [] }
     ensures second_of_eleven { map (block_of (1 ∷ 2 ∷ 3 ∷ []) 11 4 1) (range_with_len 0 3) ≡ block 1 2 ∷ block 9 2 ∷ None ∷ [] }
