@@ -1,7 +1,7 @@
 -- The blocks of places that a spread gives out, and the candidates that it chooses there.
 use Rattle.std.proofs.Common.{◌≡◌, ℕ, zero, suc, ◌+◌, ◌-◌, ◌*◌, ◌/◌, ◌%◌, ◌<◌, ◌≤◌, min, Bool, false, List, [], ◌++◌, eq-eqb, filter, get_or, inl, inr, length, sum, Option, Some, None, refl, ap, ap₂, arith, subst, sym, ◌∙◌}
 use Rattle.std.specs.Prelude.{◌==◌, All, if◌then◌else◌}
-use Rattle.std.specs.List.{range_with_len}
+use Rattle.std.specs.List.{flat_map, range_with_len}
 use Rattle.std.proofs.Math.Nat.{add-mul}
 use Rattle.std.proofs.lemmas.Bool.{cases_lt, le-ltb, lt-ltb}
 use Rattle.std.proofs.lemmas.List.{append-nil, append_assoc}
@@ -13,10 +13,15 @@ use Rattle.weight_tables.proofs.PrefixSumLemmas.{prefix_sum-le-sum, prefix_sum-s
 use Rattle.weight_tables.proofs.SelectionLemmas.{Selects-place, Selects-selected}
 use Rattle.schema_plan.specs.References.{IsSpread}
 use Rattle.life_intervals.specs.declared.children.Block.{Block}
-use Rattle.life_intervals.specs.Blocks.{block_below, block_of, block_start, places_before, places_choosing, places_of, places_of_parent}
+use Rattle.life_intervals.specs.Blocks.{block_below, block_of, block_start, places_choosing, places_of, places_of_parent}
 use Rattle.life_intervals.specs.References.{choice}
 use Rattle.life_intervals.proofs.PermutationLemmas.{differs, filter-range_same, tests-same}
 use Rattle.life_intervals.proofs.Ranges.{filter-range_with_len_all, flat_map-range_with_len_more, range_with_len-add}
+
+-- the places of a candidate's blocks in the turns before one
+abbrev pub places_before : List ℕ → ℕ → ℕ → ℕ → ℕ → List ℕ
+places_before spread size count candidate turns =
+    flat_map (λ turn. places_of (block_of spread size count candidate turn)) (range_with_len 0 turns)
 
 -- what passes a test that no number of a range passes
 pub filter-range_none : (p : ℕ → Bool) (a n : ℕ) → ((i : ℕ) → a ≤ i → i < a + n → p i ≡ false) → filter p (range_with_len a n) ≡ []

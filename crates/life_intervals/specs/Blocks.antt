@@ -1,6 +1,6 @@
 -- The places at which a spread chooses one of some candidates, block by block.
 use Rattle.std.specs.Prelude.{ℕ, ◌+◌, ◌-◌, ◌*◌, ◌/◌, ◌%◌, ◌==◌, List, [], filter, if◌then◌else◌, length, min, nat_lt, slice_index, sum, Option, Some, None}
-use Rattle.std.specs.List.{flat_map, range_with_len}
+use Rattle.std.specs.List.{range_with_len}
 use Rattle.weight_tables.specs.Weights.{weight_before}
 use Rattle.life_intervals.specs.declared.children.Block.{Block}
 use Rattle.life_intervals.specs.References.{choice}
@@ -26,11 +26,6 @@ block_of spread size count candidate turn = block_below spread size (candidate +
 abbrev pub places_of : Option Block → List ℕ
 places_of None = []
 places_of (Some block) = range_with_len block.first block.size
-
--- the places of a candidate's blocks in the turns before one
-abbrev pub places_before : List ℕ → ℕ → ℕ → ℕ → ℕ → List ℕ
-places_before spread size count candidate turns =
-    flat_map (λ turn. places_of (block_of spread size count candidate turn)) (range_with_len 0 turns)
 
 -- the places below a size at which a spread chooses the candidate
 abbrev pub places_choosing : List ℕ → ℕ → ℕ → ℕ → List ℕ

@@ -8,7 +8,7 @@
 //! its parents and what outlives them.
 //!
 //! A table is named by its place in the schema, counted from 0. `Rows` are a plan's rows, found with the orders that are kept for a job,
-//! or with none; only `JobOrders::new` takes memory.
+//! or with none; only `JobOrders::new` takes memory, and the lists that rows are put behind.
 #![tactic(auto)]
 
 mod asked;
