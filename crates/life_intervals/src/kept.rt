@@ -46,8 +46,8 @@ pub(crate) struct TableOrders {
     parents: Vec<ParentOrders>,
 }
 
-/// Whether the tables of an order pay, by how many of its places are asked for: they are made in about the time of as many places as they
-/// have entries.
+/// Whether the tables of an order pay, by how many of its places are asked for: two of their entries are made in about the time that they
+/// save at a place.
 fn do_tables_pay(
     plan: &Plan,
     table: u32,
@@ -63,7 +63,7 @@ fn do_tables_pay(
     } else {
         size
     };
-    table_entries(size) <= asked
+    table_entries(size) / 2 <= asked
 }
 
 /// How many entries the tables of an order may have: none where the cohort is smaller than those that have tables, or nothing or too
