@@ -39,7 +39,7 @@ fn push_places_leaving(size: u64, residue: Residue, places: &mut Vec<u64>) -> Re
     ensures places { OnOk result (places.new.items ≡ places.old.items ++ places_leaving residue.modulus residue.remainder size) }
     ensures before { GoesOn places.old.items places.new.items }
 {
-    places.try_reserve(count_below(size, residue) as usize)?;
+    places.reserve(count_below(size, residue) as usize)?;
     let mut place = residue.remainder;
     while place < size {
         places.push(place)?;

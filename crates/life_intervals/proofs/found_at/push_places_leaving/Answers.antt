@@ -9,7 +9,7 @@ pub loop-place-init : goal.loop-place-init
 loop-place-init c = record {
   own = mod-smaller c.args.residue.modulus c.args.residue.remainder c.requires.remainder;
   so_far =
-      c.try_reserve.ensures.items
+      c.reserve.ensures.items
       ∙ sym (append-nil c.args.places.now.items)
       ∙ ap (λ (xs : List ℕ). c.args.places.now.items ++ xs) (leaving-first c.args.residue.modulus c.args.residue.remainder c.requires.remainder c.args.size);
 }
@@ -31,8 +31,8 @@ returns-clause-places c =
 pub returns-clause-before : goal.returns-clause-before
 returns-clause-before c = record { behind = _; is = c.loop-place.invariant.so_far }
 
-pub returns-in_err-try_reserve-clause-before : goal.returns-in_err-try_reserve-clause-before
-returns-in_err-try_reserve-clause-before c = GoesOn-same c.args.places.now.items c.try_reserve.new.self.items c.try_reserve.ensures.items
+pub returns-in_err-reserve-clause-before : goal.returns-in_err-reserve-clause-before
+returns-in_err-reserve-clause-before c = GoesOn-same c.args.places.now.items c.reserve.new.self.items c.reserve.ensures.items
 
 pub returns-in_err-push-clause-before : goal.returns-in_err-push-clause-before
 returns-in_err-push-clause-before c = record { behind = _; is = c.in_err-push.ensures.items ∙ c.loop-place.invariant.so_far }
