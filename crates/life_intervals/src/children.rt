@@ -1,12 +1,12 @@
 //! The children of rows: the rows of a cohort that have one of them as their parent, found by the places at which they choose it.
 
-ghost use Rattle.std.specs.Prelude.{◌≡◌, ◌+◌, ◌*◌, ◌-◌, ◌<◌, ◌≤◌, ◌++◌, ◌^◌, OnErr, OnOk, Some, is_some, length, sum, true};
-ghost use Rattle.std.specs.List.{flat_map, range_with_len};
+ghost use Rattle.std.specs.Prelude.{◌≡◌, ◌+◌, ◌-◌, ◌<◌, ◌≤◌, ◌++◌, ◌^◌, OnErr, OnOk, Some, is_some, length, sum, true};
+ghost use Rattle.std.specs.List.{range_with_len};
 ghost use Rattle.cohort_sizes.specs.Births.{LiesIn, cohort_size, first_ordinal};
 ghost use Rattle.schema_plan.specs.References.{IsSpread, Reference, reference_at};
 ghost use Rattle.life_intervals.specs.Blocks.{block_below, places_choosing, places_of_parent};
 ghost use Rattle.life_intervals.specs.Children.{IsCandidate, child_at, child_block, children_of_each};
-ghost use Rattle.life_intervals.specs.CohortParents.{IsReferenceOf, reference_by, window_by};
+ghost use Rattle.life_intervals.specs.CohortParents.{IsReferenceOf, reference_by};
 ghost use Rattle.life_intervals.specs.FoundAt.{AreAppended, GoesOn};
 ghost use Rattle.life_intervals.specs.Generator.{generator_of, last_unit, table_of};
 
