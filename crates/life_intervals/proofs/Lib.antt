@@ -27,3 +27,9 @@ pub mod ParentsLiveLemmas
 pub mod RunLemmas
 pub mod KeptLemmas
 pub mod PartLemmas
+pub mod PermutationLemmas
+pub mod BlockLemmas
+pub mod ChildLemmas
+pub mod AppendLemmas
+pub mod ResidueLemmas
+pub mod FoundAtLemmas

@@ -14,4 +14,7 @@ pub mod Runs
 pub mod CohortParents
 pub mod CohortLives
 pub mod JobOrders
+pub mod Blocks
+pub mod Children
+pub mod FoundAt
 pub mod Worked

@@ -4,6 +4,7 @@ use Rattle.std.specs.Prelude.{ℕ, [], ◌∷◌, Option, Some, None}
 use Rattle.philox_seeds.specs.SeedTree.{field_draw}
 use Rattle.schema_plan.specs.Layout.{layout_of}
 use Rattle.schema_plan.specs.Worked.{sales, talks}
+use Rattle.life_intervals.specs.declared.children.Block.{Block}
 use Rattle.life_intervals.specs.Generator.{Generator, in_place}
 use Rattle.life_intervals.specs.Rows.{Row}
 
@@ -36,3 +37,7 @@ talks_in_place = record { tables = (layout_of talks).tables; order = in_place; d
 abbrev pub remark_row : ℕ → ℕ → Option ℕ → Row
 remark_row unit changed customer =
     record { ordinal = unit; born = unit; changed = changed; left = None; wait = None; parents = customer ∷ [] }
+
+-- the block of so many places from a first one on
+abbrev pub block : ℕ → ℕ → Option Block
+block first size = Some (record { first = first; size = size })

@@ -124,8 +124,24 @@ fn wish_of(plan: &Plan, table: u32, asked: Asked) -> Wish
     }
 }
 
+/// Of about how many rows of an older cohort a unit asks for the place of one, for what it changes: as many as rows may be due at
+/// different units, or as lives of the table differ in.
+pub(crate) fn rows_to_one_change(plan: &Plan, table: u32, purpose: Purpose) -> u64
+    requires { table < length plan.now.schema.tables }
+    ensures { 1 ≤ result }
+{
+    let lengths = match plan.life(table) {
+        Some(life) => life.most - life.least + 1,
+        None => 1,
+    };
+    match purpose {
+        Purpose::Lives => lengths,
+        _ => plan.update(table).unwrap_or(lengths),
+    }
+}
+
 /// How many entries the tables of an order of so many rows have at most; none where they don't pay for as many.
-fn table_entries(size: u64) -> u64 {
+pub(crate) fn table_entries(size: u64) -> u64 {
     let entries = 6 * (size.isqrt() + 1);
     if size <= 1 << 32 && entries <= size {
         entries

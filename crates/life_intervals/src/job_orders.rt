@@ -56,12 +56,46 @@ impl JobOrders {
         ensures orders { IfOk result (λ orders. AreOrdersOf plan.now orders) }
         ensures entries { IfOk result (λ orders. entries_of orders ≤ 2 ^ 23) }
     {
+        JobOrders::of_job(alloc, plan, from, count, last, false)
+    }
+
+    /// The same, for a job that asks for what the unit changes alone: it asks for few rows of an older cohort, so that tables pay for the greatest
+    /// cohorts only. At `Memory` none are kept.
+    pub fn for_changes(
+        alloc: Global,
+        plan: &Plan,
+        from: u32,
+        count: u32,
+        last: u64,
+    ) -> Result<JobOrders, Memory>
+        requires tables { from + count ≤ length plan.now.schema.tables }
+        requires unit { last ≤ last_unit plan.now }
+        ensures orders { IfOk result (λ orders. AreOrdersOf plan.now orders) }
+        ensures entries { IfOk result (λ orders. entries_of orders ≤ 2 ^ 23) }
+    {
+        JobOrders::of_job(alloc, plan, from, count, last, true)
+    }
+
+    fn of_job(
+        alloc: Global,
+        plan: &Plan,
+        from: u32,
+        count: u32,
+        last: u64,
+        changes: bool,
+    ) -> Result<JobOrders, Memory>
+        requires tables { from + count ≤ length plan.now.schema.tables }
+        requires unit { last ≤ last_unit plan.now }
+        ensures orders { IfOk result (λ orders. AreOrdersOf plan.now orders) }
+        ensures entries { IfOk result (λ orders. entries_of orders ≤ 2 ^ 23) }
+    {
         let _limits = plan.schema(); // there are at most 64 tables
         let asked = asked_tables(alloc, plan, from, count)?;
         let mut room = Room {
             entries: MOST_ENTRIES,
             orders: MOST_ORDERS,
             least: least_size(plan, &asked, last, MOST_ENTRIES),
+            changes,
         };
         let mut tables = Vec::new(alloc);
         for table in 0..from + count {

@@ -7,7 +7,7 @@ ghost use Rattle.life_intervals.specs.Generator.{last_unit};
 ghost use Rattle.life_intervals.specs.JobOrders.{AreAllParentOrders, AreParentOrders, AreTableOrders, IsKeptByUnit, entries_of_parent, entries_of_table};
 ghost use Rattle.schema_plan.specs.Dictionaries.{Project};
 
-use crate::asked::{Asked, are_places_asked};
+use crate::asked::{Asked, are_places_asked, rows_to_one_change, table_entries};
 use crate::memory::Memory;
 use crate::orders::{Purpose, is_drawn, wanted};
 use crate::wanted::Wanted;
@@ -25,6 +25,8 @@ pub(crate) struct Room {
     pub(crate) orders: u64,
     /// The least size of a cohort whose orders have tables.
     pub(crate) least: u64,
+    /// Whether the job asks for what a unit changes alone, so for few rows of an older cohort.
+    pub(crate) changes: bool,
 }
 
 /// The orders in which a table's cohorts choose parents by a reference, unit by unit from 0, and the windows of these.
@@ -44,8 +46,28 @@ pub(crate) struct TableOrders {
     parents: Vec<ParentOrders>,
 }
 
-/// How many entries the tables of an order may have: none where the cohort is smaller than those that have tables, or nothing asks
-/// for places of its rows at unit `last`.
+/// Whether the tables of an order pay, by how many of its places are asked for: two of their entries are made in about the time that they
+/// save at a place.
+fn do_tables_pay(
+    plan: &Plan,
+    table: u32,
+    purpose: Purpose,
+    older: bool,
+    size: u64,
+    room: &Room,
+) -> bool
+    requires { table < length plan.now.schema.tables }
+{
+    let asked = if room.changes && older {
+        size / rows_to_one_change(plan, table, purpose)
+    } else {
+        size
+    };
+    table_entries(size) / 2 <= asked
+}
+
+/// How many entries the tables of an order may have: none where the cohort is smaller than those that have tables, or nothing or too
+/// little asks for places of its rows at unit `last`.
 fn entries_for(
     plan: &Plan,
     table: u32,
@@ -59,7 +81,10 @@ fn entries_for(
     requires unit { unit ≤ last_unit plan.now }
     ensures { result ≤ room.now.entries }
 {
-    if size >= room.least && are_places_asked(plan, table, purpose, unit, last) {
+    if size >= room.least
+        && do_tables_pay(plan, table, purpose, unit < last, size, room)
+        && are_places_asked(plan, table, purpose, unit, last)
+    {
         room.entries
     } else {
         0

@@ -4,25 +4,28 @@
 //! cohort's rows.
 
 ghost use Rattle.std.specs.Prelude.{◌≡◌, ℕ, ◌+◌, ◌*◌, ◌/◌, ◌-◌, ◌<◌, ◌≤◌, All, IfSome, ◌&&◌, ◌||◌, not, if◌then◌else◌, length, map, nat_lt, take, false, true, List, [], ◌∷◌, Some, None};
-ghost use Rattle.std.specs.List.{list_all, range_with_len};
+ghost use Rattle.std.specs.List.{flat_map, list_all, range_with_len};
+ghost use Rattle.std.specs.List.Sorted.{IsPermutation};
 ghost use Rattle.cohort_sizes.specs.Births.{Births, LiesIn, birth, born_count, cohort_size, first_ordinal, index_at};
 ghost use Rattle.schema_plan.specs.Dictionaries.{Project};
 ghost use Rattle.schema_plan.specs.Layout.{TableLayout, layout_of, table_at};
 ghost use Rattle.schema_plan.specs.Limits.{IsInLimits};
 ghost use Rattle.schema_plan.specs.Lineage.{death_cost, longest_life, sure_life};
+ghost use Rattle.life_intervals.specs.Blocks.{block_of, places_choosing, places_of};
 ghost use Rattle.life_intervals.specs.Changes.{IsLastChange, IsLastDue, due_by, first_due};
+ghost use Rattle.life_intervals.specs.Children.{IsCandidate, IsInWindow, child_at, child_block, children};
 ghost use Rattle.life_intervals.specs.CohortParents.{asked_for_change, asked_for_death};
 ghost use Rattle.life_intervals.specs.Generator.{Generator, Order, generator_of, last_unit, table_of};
 ghost use Rattle.life_intervals.specs.Intervals.{change_unit, changing, death, dying, first_death, held_parent, interval_state, is_after, is_live, known_of, loss_of, newborn, own_death, parent_of, row_at, rows_of};
 ghost use Rattle.life_intervals.specs.Keys.{OrdersCohorts, key_in_cohort, key_of};
 ghost use Rattle.schema_plan.specs.TableFacts.{change_cost};
-ghost use Rattle.schema_plan.specs.References.{cascades_of, count_in_window, first_in_window, references_of};
+ghost use Rattle.schema_plan.specs.References.{Reference, cascades_of, count_in_window, first_in_window, reference_at, references_of};
 ghost use Rattle.life_intervals.specs.References.{choice};
 ghost use Rattle.life_intervals.specs.Rows.{candidates, cohort};
 ghost use Rattle.life_intervals.specs.Simulation.{holds_row, rows_at, simulation};
 ghost use Rattle.life_intervals.specs.Sound.{AreSound};
 ghost use Rattle.life_intervals.specs.Streams.{deleted, inserted, updated};
-ghost use Rattle.life_intervals.specs.Worked.{customer_row, line_row, order_row, remark_row, sales_in_place, talks_in_place};
+ghost use Rattle.life_intervals.specs.Worked.{block, customer_row, line_row, order_row, remark_row, sales_in_place, talks_in_place};
 
 /// The permutations that the seed of a schema gives its cohorts are bijections, for each purpose.
 pub fn seeds_order_each_cohort()
@@ -188,6 +191,51 @@ pub fn death_is_for_good()
         own_death generator place last ordinal ≡ own_death generator place unit ordinal }
 {}
 
+/// A row's parent is the same, whatever the unit by which it is born.
+pub fn parents_are_for_good()
+    ensures { (generator : Generator) (place unit last ordinal : ℕ) (reference : Reference) →
+        ordinal < born_count (table_at generator.tables place).births unit → unit ≤ last →
+        parent_of generator place last ordinal reference ≡ parent_of generator place unit ordinal reference }
+{}
+
+/// The parents of a cohort's rows are among those of which it chooses: they are born in the window of the reference, which ends at the
+/// unit of the cohort.
+pub fn parents_are_born_in_the_window()
+    ensures candidate { (project : Project) → IsInLimits project → (table : ℕ) → table < length project.schema.tables → (unit : ℕ) → unit ≤ last_unit project →
+        (column : ℕ) (reference : Reference) → reference_at (table_of project table) column ≡ Some reference →
+        (ordinal : ℕ) → LiesIn (table_of project table).births unit ordinal →
+        IsCandidate project reference unit (parent_of (generator_of project) table unit ordinal reference) }
+    ensures window { (project : Project) (reference : Reference) (unit parent : ℕ) → IsCandidate project reference unit parent →
+        IsInWindow reference.window unit (birth (table_of project reference.parent).births unit parent) }
+{}
+
+/// A cohort's rows that have a row as their parent are those at the places of its blocks, turn by turn up to the first that has none, each
+/// once. From then on no turn has one, and there are no more turns that have one than rows.
+pub fn blocks_have_the_children()
+    ensures children { (project : Project) → IsInLimits project → (table : ℕ) → table < length project.schema.tables → (unit : ℕ) → unit ≤ last_unit project →
+        (column : ℕ) (reference : Reference) → reference_at (table_of project table) column ≡ Some reference →
+        (parent : ℕ) → IsCandidate project reference unit parent →
+        (turns : ℕ) → child_block project table reference parent unit turns ≡ None →
+        IsPermutation (children project table reference unit parent)
+        (map (child_at project table column unit) (flat_map (λ turn. places_of (child_block project table reference parent unit turn)) (range_with_len 0 turns))) }
+    ensures ends { (project : Project) → IsInLimits project → (table : ℕ) → table < length project.schema.tables → (unit : ℕ) → unit ≤ last_unit project →
+        (column : ℕ) (reference : Reference) → reference_at (table_of project table) column ≡ Some reference →
+        (parent : ℕ) → IsCandidate project reference unit parent →
+        child_block project table reference parent unit (cohort_size (table_of project table).births unit) ≡ None }
+    ensures over { (project : Project) → IsInLimits project → (table : ℕ) → table < length project.schema.tables → (unit : ℕ) → unit ≤ last_unit project →
+        (column : ℕ) (reference : Reference) → reference_at (table_of project table) column ≡ Some reference →
+        (parent turn later : ℕ) → turn ≤ later → child_block project table reference parent unit turn ≡ None →
+        child_block project table reference parent unit later ≡ None }
+{}
+
+/// A row's own life ends as many units after its birth as the table's lives say.
+pub fn own_lives_end_in_their_span()
+    ensures { (project : Project) → IsInLimits project → (place : ℕ) → place < length project.schema.tables →
+        (unit ordinal death : ℕ) → own_death (generator_of project) place unit ordinal ≡ Some death →
+        let born = birth (table_of project place).births unit ordinal in
+        IfSome (table_of project place).life (λ span. (born + span.least ≤ death) × (death ≤ born + span.most)) }
+{}
+
 /// The change unit of a row is the last of its due units, or of its birth where it has none, and of those at which it loses a parent.
 pub fn change_unit_is_the_last_due_or_loss()
     ensures due { (order : Order) (place : ℕ) (table : TableLayout) (born index unit period : ℕ) → table.update ≡ Some period → 1 ≤ period →
@@ -228,6 +276,18 @@ pub fn data_do_not_depend_on_the_last_unit()
 pub fn worked_choices()
     ensures { map (choice (1 ∷ 2 ∷ 3 ∷ []) 4) (range_with_len 0 13)
         ≡ 0 ∷ 1 ∷ 1 ∷ 2 ∷ 2 ∷ 2 ∷ 3 ∷ 0 ∷ 0 ∷ 1 ∷ 1 ∷ 1 ∷ 2 ∷ [] }
+{}
+
+/// The places at which each of these candidates is chosen, the blocks of two of them, turn by turn, and those of eleven places.
+pub fn worked_blocks()
+    ensures first_places { places_choosing (1 ∷ 2 ∷ 3 ∷ []) 13 4 0 ≡ 0 ∷ 7 ∷ 8 ∷ [] }
+    ensures second_places { places_choosing (1 ∷ 2 ∷ 3 ∷ []) 13 4 1 ≡ 1 ∷ 2 ∷ 9 ∷ 10 ∷ 11 ∷ [] }
+    ensures third_places { places_choosing (1 ∷ 2 ∷ 3 ∷ []) 13 4 2 ≡ 3 ∷ 4 ∷ 5 ∷ 12 ∷ [] }
+    ensures fourth_places { places_choosing (1 ∷ 2 ∷ 3 ∷ []) 13 4 3 ≡ 6 ∷ [] }
+    ensures first_candidate { map (block_of (1 ∷ 2 ∷ 3 ∷ []) 13 4 0) (range_with_len 0 3) ≡ block 0 1 ∷ block 7 2 ∷ None ∷ [] }
+    ensures third_candidate { map (block_of (1 ∷ 2 ∷ 3 ∷ []) 13 4 2) (range_with_len 0 3) ≡ block 3 3 ∷ block 12 1 ∷ None ∷ [] }
+    ensures second_of_eleven { map (block_of (1 ∷ 2 ∷ 3 ∷ []) 11 4 1) (range_with_len 0 3) ≡ block 1 2 ∷ block 9 2 ∷ None ∷ [] }
+    ensures third_of_eleven { map (block_of (1 ∷ 2 ∷ 3 ∷ []) 11 4 2) (range_with_len 0 2) ≡ block 3 3 ∷ None ∷ [] }
 {}
 
 /// The tables of customers, orders and lines are sound up to the last unit of their schema, and so are those of customers and remarks.

@@ -8,12 +8,14 @@
 //! its parents and what outlives them.
 //!
 //! A table is named by its place in the schema, counted from 0. `Rows` are a plan's rows, found with the orders that are kept for a job,
-//! or with none; only `JobOrders::new` takes memory.
+//! or with none; only `JobOrders::new` takes memory, and the lists that rows are put behind.
 #![tactic(auto)]
 
 mod asked;
 mod births;
+mod children;
 mod found;
+mod found_at;
 mod job_orders;
 mod kept;
 mod keys;
@@ -28,6 +30,7 @@ mod wanted;
 mod window;
 
 pub use births::{birth, born, cohort};
+pub use children::{Block, child_block, child_of_place};
 pub use cohort_sizes::Cohort;
 pub use found::{FoundRow, find, row_of_cohort};
 pub use job_orders::JobOrders;

@@ -1,7 +1,7 @@
 //! A list of weights, kept so that the group of a number is found at once, or by a short search.
 
-ghost use Rattle.std.specs.Prelude.{◌≡◌, ℕ, ◌+◌, ◌<◌, ◌≤◌, ◌^◌, All, IfOk, length, map, sum};
-ghost use Rattle.weight_tables.specs.Weights.{Selects, prefix_sum, selected};
+ghost use Rattle.std.specs.Prelude.{◌≡◌, ℕ, ◌+◌, ◌<◌, ◌≤◌, ◌^◌, All, IfOk, length, map, slice_index, sum};
+ghost use Rattle.weight_tables.specs.Weights.{Selects, prefix_sum, selected, weight_before};
 ghost use Rattle.weight_tables.specs.PrefixSums.{prefix_sums};
 ghost use Rattle.weight_tables.specs.Harmonic.{harmonic_weight, harmonic_weights};
 
@@ -80,6 +80,28 @@ impl Weights {
         ensures small { result ≤ 2 ^ 40 }
     {
         last_sum(&self.prefix_sums)
+    }
+
+    /// The sum of the weights of the groups before one.
+    #[inline]
+    pub fn weight_before(&self, group: usize) -> u64
+        requires { group ≤ length self.now }
+        ensures exact { result ≡ weight_before self.now group }
+        ensures within { result ≤ sum self.now }
+    {
+        if group == 0 {
+            return 0;
+        }
+        self.prefix_sums[group - 1]
+    }
+
+    /// The weight of a group.
+    #[inline]
+    pub fn weight(&self, group: usize) -> u64
+        requires { group < length self.now }
+        ensures { result ≡ slice_index self.now group }
+    {
+        self.prefix_sums[group] - self.weight_before(group)
     }
 
     /// The group that `x` selects, with `x` from 0 to the total - 1: the first one whose prefix sum exceeds `x`, where the

@@ -1,6 +1,6 @@
 use Rattle.std.proofs.Common.{◌≡◌, ◌+◌, ◌^◌, length}
 use Rattle.life_intervals.specs.JobOrders.{AreOrdersOf, entries_of}
-use Rattle.life_intervals.proofs.job_orders.JobOrders.new.Given as goal
+use Rattle.life_intervals.proofs.job_orders.JobOrders.of_job.Given as goal
 
 -- the orders of the tables before one, and the room that they have taken
 abbrev pub invariant-loop-table : goal.invariant-loop-table

@@ -1,7 +1,7 @@
 use Rattle.std.proofs.Common.{arith}
 use Rattle.life_intervals.specs.JobOrders.{AreTableOrders, entries_of_table}
 use Rattle.life_intervals.proofs.KeptLemmas.{each-more, sum_by-more}
-use Rattle.life_intervals.proofs.job_orders.JobOrders.new.Goals as goal
+use Rattle.life_intervals.proofs.job_orders.JobOrders.of_job.Goals as goal
 
 pub loop-table-preserved : goal.loop-table-preserved
 loop-table-preserved c = record {

@@ -1,0 +1,86 @@
+use Rattle.std.proofs.Common.{◌≡◌, ◌<◌, ◌++◌, ℕ, List, ap, arith, subst, sym, take, ◌∙◌}
+use Rattle.std.specs.Prelude.{All}
+use Rattle.std.specs.List.{flat_map}
+use Rattle.std.proofs.lemmas.List.{take_all}
+use Rattle.cohort_sizes.specs.Births.{cohort_size}
+use Rattle.schema_plan.specs.Dictionaries.{Project}
+use Rattle.schema_plan.specs.Limits.{IsInLimits}
+use Rattle.life_intervals.specs.declared.window.Window.{Window}
+use Rattle.life_intervals.specs.Blocks.{places_of_parent}
+use Rattle.life_intervals.specs.Children.{child_at, children_of_each}
+use Rattle.life_intervals.specs.CohortParents.{reference_by}
+use Rattle.life_intervals.specs.Generator.{table_of}
+use Rattle.life_intervals.proofs.AppendLemmas.{AreAppended-places, GoesOn-appended, GoesOn-more, drop-behind, steps-places}
+use Rattle.life_intervals.proofs.ChildLemmas.{All-places, children-ready, window-count}
+use Rattle.life_intervals.proofs.CohortParentLemmas.{limits_of, parent_below}
+use Rattle.life_intervals.proofs.rows.Rows.push_children.Goals as goal
+
+pub window-window-requires-clause-parent : goal.window-window-requires-clause-parent
+window-window-requires-clause-parent g c =
+    parent_below c.args.self.now (subst IsInLimits c.plan.ensures c.schema-limits.ensures.limits) c.args.table c.args.column c.args.reference.now c.requires.table c.requires.reference
+
+pub push_places_of-requires-clause-count : goal.push_places_of-requires-clause-count
+push_places_of-requires-clause-count g c =
+    omega (
+      arith,
+      window-count c.args.self.now (subst IsInLimits c.plan.ensures c.schema-limits.ensures.limits) c.args.table c.args.unit c.args.column c.args.reference.now c.requires.table c.requires.unit c.requires.reference,
+      ap (λ (w : Window). w.count) c.window-window.ensures,
+    )
+
+pub push_places_of-requires-clause-spread : goal.push_places_of-requires-clause-spread
+push_places_of-requires-clause-spread g c =
+    (limits_of c.args.self.now (subst IsInLimits c.plan.ensures c.schema-limits.ensures.limits) c.args.table c.args.column c.args.reference.now c.requires.table c.requires.reference).spread
+
+pub put_rows_from-requires-clause-below : goal.put_rows_from-requires-clause-below
+put_rows_from-requires-clause-below g c =
+    let plan : Project = c.args.self.now in
+    let window : Window = c.window-window.result in
+    let places : List ℕ → List ℕ = flat_map (places_of_parent c.args.reference.now.spread window.first window.count c.cohort-size.result.size) in
+    let size_is : c.cohort-size.result.size ≡ cohort_size (table_of plan c.args.table).births c.args.unit =
+    c.cohort-size.ensures.size ∙ ap (λ (p : Project). cohort_size (table_of p c.args.table).births c.args.unit) c.plan-2.ensures in
+    subst (All (λ place. place < cohort_size (table_of plan c.args.table).births c.args.unit))
+    (sym (
+    drop-behind c.args.children.now.items c.loop-parent.children.items (places (take c.loop-parent.parent-index c.args.parents.now)) c.len-from.result
+    (omega (arith, c.len-from.ensures, c.args.children.now.ok.0)) c.loop-parent.invariant))
+    (All-places c.args.reference.now.spread window.first window.count c.cohort-size.result.size (cohort_size (table_of plan c.args.table).births c.args.unit) (omega (arith, size_is))
+    (take c.loop-parent.parent-index c.args.parents.now))
+
+pub returns-clause-children : goal.returns-clause-children
+returns-clause-children g c =
+    let plan : Project = c.args.self.now in
+    let window : Window = c.window-window.result in
+    let places : List ℕ → List ℕ = flat_map (places_of_parent c.args.reference.now.spread window.first window.count c.cohort-size.result.size) in
+    let size_is : c.cohort-size.result.size ≡ cohort_size (table_of plan c.args.table).births c.args.unit =
+    c.cohort-size.ensures.size ∙ ap (λ (p : Project). cohort_size (table_of p c.args.table).births c.args.unit) c.plan-2.ensures in
+    AreAppended-places (child_at plan c.args.table c.args.column c.args.unit)
+    (children_of_each plan c.args.table (reference_by c.args.column c.args.reference.now) c.args.unit c.args.parents.now) c.args.children.now.items c.loop-parent.children.items c.put_rows_from.new.rows.items
+    (places c.args.parents.now) c.len-from.result
+    (omega (arith, c.len-from.ensures, c.args.children.now.ok.0))
+    (c.loop-parent.invariant ∙ ap (λ (parents : List ℕ). c.args.children.now.items ++ places parents) (take_all c.loop-parent.parent-index c.args.parents.now c.loop-parent-test.false))
+    c.put_rows_from.ensures.rows
+    (children-ready plan (subst IsInLimits c.plan.ensures c.schema-limits.ensures.limits) c.args.table c.requires.table c.args.unit c.requires.unit c.args.column c.args.reference.now c.requires.reference window c.window-window.ensures c.cohort-size.result.size size_is c.args.parents.now)
+
+pub returns-clause-steps : goal.returns-clause-steps
+returns-clause-steps g c =
+    let plan : Project = c.args.self.now in
+    let window : Window = c.window-window.result in
+    let places : List ℕ → List ℕ = flat_map (places_of_parent c.args.reference.now.spread window.first window.count c.cohort-size.result.size) in
+    let size_is : c.cohort-size.result.size ≡ cohort_size (table_of plan c.args.table).births c.args.unit =
+    c.cohort-size.ensures.size ∙ ap (λ (p : Project). cohort_size (table_of p c.args.table).births c.args.unit) c.plan-2.ensures in
+    let took = steps-places (child_at plan c.args.table c.args.column c.args.unit)
+    (children_of_each plan c.args.table (reference_by c.args.column c.args.reference.now) c.args.unit c.args.parents.now) c.args.children.now.items c.loop-parent.children.items
+    (places c.args.parents.now) c.len-from.result 1 c.put_rows_from.new.steps c.args.steps.now
+    (omega (arith, c.len-from.ensures, c.args.children.now.ok.0))
+    (c.loop-parent.invariant ∙ ap (λ (parents : List ℕ). c.args.children.now.items ++ places parents) (take_all c.loop-parent.parent-index c.args.parents.now c.loop-parent-test.false))
+    (children-ready plan (subst IsInLimits c.plan.ensures c.schema-limits.ensures.limits) c.args.table c.requires.table c.args.unit c.requires.unit c.args.column c.args.reference.now c.requires.reference window c.window-window.ensures c.cohort-size.result.size size_is c.args.parents.now)
+    c.put_rows_from.ensures.steps in
+    omega (arith, took)
+
+pub returns-clause-before : goal.returns-clause-before
+returns-clause-before g c =
+    GoesOn-appended (children_of_each c.args.self.now c.args.table (reference_by c.args.column c.args.reference.now) c.args.unit c.args.parents.now) c.args.children.now.items c.put_rows_from.new.rows.items
+    (returns-clause-children g c)
+
+pub returns-in_err-push_places_of-clause-before : goal.returns-in_err-push_places_of-clause-before
+returns-in_err-push_places_of-clause-before g c =
+    GoesOn-more c.args.children.now.items c.loop-parent.children.items c.push_places_of.new.places.items (record { behind = _; is = c.loop-parent.invariant }) c.in_err-push_places_of.ensures.before

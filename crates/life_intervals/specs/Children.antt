@@ -1,0 +1,47 @@
+-- The rows of a cohort that have a row as their parent.
+use Rattle.std.specs.Prelude.{ℕ, ◌+◌, ◌-◌, ◌<◌, ◌≤◌, ◌==◌, IfSome, List, filter, Option}
+use Rattle.std.specs.List.{flat_map}
+use Rattle.id_permutation.specs.Order.{number_at}
+use Rattle.cohort_sizes.specs.Births.{born_count, cohort_size, first_ordinal}
+use Rattle.schema_plan.specs.Dictionaries.{Project}
+use Rattle.schema_plan.specs.References.{Reference, count_in_window, first_in_window}
+use Rattle.life_intervals.specs.declared.children.Block.{Block}
+use Rattle.life_intervals.specs.Blocks.{block_of}
+use Rattle.life_intervals.specs.CohortOrders.{parent_order}
+use Rattle.life_intervals.specs.Generator.{generator_of, table_of}
+use Rattle.life_intervals.specs.Intervals.{newborn, parent_of}
+
+-- a row of a reference's parent table is among those of which a unit's cohort chooses its parents: it is born in the window
+pub record IsCandidate (plan : Project) (reference : Reference) (unit parent : ℕ) : Type 0 where
+  pub begun : first_in_window (table_of plan reference.parent).births reference.window unit ≤ parent
+  pub born : parent < born_count (table_of plan reference.parent).births unit
+
+-- a birth lies in a window that ends at a unit
+pub record IsInWindow (window : Option ℕ) (unit birth : ℕ) : Type 0 where
+  pub begun : IfSome window (λ units. unit ≤ birth + units)
+  pub by : birth ≤ unit
+
+-- the number of such a row among them
+abbrev pub candidate_number : Project → Reference → ℕ → ℕ → ℕ
+candidate_number plan reference unit parent =
+    parent - first_in_window (table_of plan reference.parent).births reference.window unit
+
+-- the block of places at which rows of the cohort choose it, in a turn
+abbrev pub child_block : Project → ℕ → Reference → ℕ → ℕ → ℕ → Option Block
+child_block plan table reference parent unit turn =
+    block_of reference.spread (cohort_size (table_of plan table).births unit)
+    (count_in_window (table_of plan reference.parent).births reference.window unit) (candidate_number plan reference unit parent) turn
+
+-- the row of the cohort that has a place among those at which they choose their parents by the reference in the column at a place
+abbrev pub child_at : Project → ℕ → ℕ → ℕ → ℕ → ℕ
+child_at plan table column unit place =
+    first_ordinal (table_of plan table).births unit + number_at (parent_order plan table column unit) place
+
+-- the rows of the cohort whose parent by a reference is a row, in rising order
+abbrev pub children : Project → ℕ → Reference → ℕ → ℕ → List ℕ
+children plan table reference unit parent =
+    filter (λ ordinal. parent_of (generator_of plan) table unit ordinal reference == parent) (newborn (generator_of plan) table unit)
+
+-- those of each of some rows
+abbrev pub children_of_each : Project → ℕ → Reference → ℕ → List ℕ → List ℕ
+children_of_each plan table reference unit parents = flat_map (children plan table reference unit) parents

@@ -1,0 +1,200 @@
+//! The children of rows: the rows of a cohort that have one of them as their parent, found by the places at which they choose it.
+
+ghost use Rattle.std.specs.Prelude.{◌≡◌, ◌+◌, ◌-◌, ◌<◌, ◌≤◌, ◌++◌, ◌^◌, OnErr, OnOk, Some, is_some, length, sum, true};
+ghost use Rattle.std.specs.List.{range_with_len};
+ghost use Rattle.cohort_sizes.specs.Births.{LiesIn, cohort_size, first_ordinal};
+ghost use Rattle.schema_plan.specs.References.{IsSpread, Reference, reference_at};
+ghost use Rattle.life_intervals.specs.Blocks.{block_below, places_choosing, places_of_parent};
+ghost use Rattle.life_intervals.specs.Children.{IsCandidate, child_at, child_block, children_of_each};
+ghost use Rattle.life_intervals.specs.CohortParents.{IsReferenceOf, reference_by};
+ghost use Rattle.life_intervals.specs.FoundAt.{AreAppended, GoesOn};
+ghost use Rattle.life_intervals.specs.Generator.{generator_of, last_unit, table_of};
+
+use crate::births::cohort;
+use crate::memory::Memory;
+use crate::orders::{Purpose, wanted};
+use crate::rows::Rows;
+use crate::window::Window;
+use schema_plan::{Plan, ReadyKind, ReadyReference};
+use std::sync::ledger::Ledger;
+use step_count::Steps;
+
+/// Places of a cohort that lie beside one another.
+#[derive(Clone, Copy, Debug, PartialEq, Eq)]
+pub struct Block {
+    /// The first of them.
+    pub first: u64,
+    /// How many they are.
+    pub size: u64,
+}
+
+/// The block of a spread with a number, of the places below `size`; None exactly where it would begin at or past the size.
+fn block_below(reference: &ReadyReference, size: u64, number: u64) -> Option<Block>
+    requires size { size ≤ 2 ^ 40 }
+    requires groups { reference.now.groups ≡ length reference.now.spread }
+    requires total { reference.now.total ≡ sum reference.now.spread }
+    requires spread { IsSpread reference.now.spread }
+    ensures { result ≡ block_below reference.now.spread size number }
+{
+    if number >= size {
+        return None; // each block before it has a place
+    }
+    let turn = number / reference.groups;
+    let group = (number % reference.groups) as usize;
+    let first = turn * reference.total.number() + reference.spread.weight_before(group);
+    if first >= size {
+        return None;
+    }
+    Some(Block {
+        first,
+        size: reference.spread.weight(group).min(size - first),
+    })
+}
+
+/// The block of places, among those of the cohort that is born at `unit`, at which its rows choose a row as their parent by the
+/// reference in the column at a place, in a turn from 0 on; the parent is born in the reference's window. None exactly where the
+/// block would begin at or past the cohort's size, and so in all turns after the first None.
+pub fn child_block(
+    plan: &Plan,
+    table: u32,
+    column: u32,
+    parent: u64,
+    unit: u64,
+    turn: u64,
+) -> Option<Block>
+    requires table { table < length plan.now.schema.tables }
+    requires unit { unit ≤ last_unit plan.now }
+    requires reference { is_some (reference_at (table_of plan.now table) column) ≡ true }
+    requires parent { (reference : Reference) → reference_at (table_of plan.now table) column ≡ Some reference → IsCandidate plan.now reference unit parent }
+    ensures { (reference : Reference) → reference_at (table_of plan.now table) column ≡ Some reference →
+        result ≡ child_block plan.now table reference parent unit turn }
+{
+    let _limits = plan.schema(); // the reference is within its limits
+    let ReadyKind::Reference(reference) = &plan.columns(table)[column as usize].kind else {
+        unreachable!()
+    };
+    let window = Window::of_cohort(plan, reference, unit);
+    let before = turn.saturating_mul(window.count.number()); // no cohort has as many rows as what saturates
+    let number = before.saturating_add(parent - window.first);
+    block_below(reference, cohort(plan, table, unit).size, number)
+}
+
+/// The ordinal of the row of the cohort that is born at `unit` whose place among those at which they choose their parents by the
+/// reference in the column at a place is `place`, which is below the cohort's size. It takes one step.
+pub fn child_of_place<L: Ledger>(
+    plan: &Plan,
+    table: u32,
+    column: u32,
+    unit: u64,
+    place: u64,
+    steps: &mut Steps<L>,
+) -> u64
+    requires table { table < length plan.now.schema.tables }
+    requires unit { unit ≤ last_unit plan.now }
+    requires reference { is_some (reference_at (table_of plan.now table) column) ≡ true }
+    requires place { place < cohort_size (table_of plan.now table).births unit }
+    ensures child { result ≡ child_at plan.now table column unit place }
+    ensures lies { LiesIn (table_of plan.now table).births unit result }
+    ensures place { (generator_of plan.now).order table column unit (result - first_ordinal (table_of plan.now table).births unit) ≡ place }
+    ensures one_step { steps.new ≡ steps.old + 1 }
+{
+    let order = wanted(plan, table, Purpose::Parents(column), unit).by_rounds();
+    cohort(plan, table, unit).first + order.unplace(place, steps)
+}
+
+/// Puts the places of a block behind a list.
+fn push_block(block: Block, places: &mut Vec<u64>) -> Result<(), Memory>
+    requires first { block.first ≤ 2 ^ 40 }
+    requires size { block.size ≤ 2 ^ 40 }
+    ensures places { OnOk result (places.new.items ≡ places.old.items ++ range_with_len block.first block.size) }
+    ensures before { GoesOn places.old.items places.new.items }
+{
+    for i in 0..block.size {
+        places.push(block.first + i)?;
+    }
+    Ok(())
+}
+
+/// Puts the places below `size` at which a spread chooses a candidate, by its number among so many, behind a list.
+fn push_choosing(
+    reference: &ReadyReference,
+    size: u64,
+    count: u64,
+    candidate: u64,
+    places: &mut Vec<u64>,
+) -> Result<(), Memory>
+    requires size { size ≤ 2 ^ 40 }
+    requires count { count ≤ 2 ^ 40 }
+    requires candidate { candidate < count }
+    requires groups { reference.now.groups ≡ length reference.now.spread }
+    requires total { reference.now.total ≡ sum reference.now.spread }
+    requires spread { IsSpread reference.now.spread }
+    ensures places { OnOk result (places.new.items ≡ places.old.items ++ places_choosing reference.now.spread size count candidate) }
+    ensures before { GoesOn places.old.items places.new.items }
+{
+    let mut number = candidate;
+    while let Some(block) = block_below(reference, size, number) {
+        push_block(block, places)?;
+        number += count;
+    }
+    Ok(())
+}
+
+/// Puts the places below `size` at which a row is chosen as a parent of those that are born in a window, behind a list.
+fn push_places_of(
+    reference: &ReadyReference,
+    window: &Window,
+    size: u64,
+    parent: u64,
+    places: &mut Vec<u64>,
+) -> Result<(), Memory>
+    requires size { size ≤ 2 ^ 40 }
+    requires count { window.now.count ≤ 2 ^ 40 }
+    requires groups { reference.now.groups ≡ length reference.now.spread }
+    requires total { reference.now.total ≡ sum reference.now.spread }
+    requires spread { IsSpread reference.now.spread }
+    ensures places { OnOk result (places.new.items ≡ places.old.items ++ places_of_parent reference.now.spread window.now.first window.now.count size parent) }
+    ensures before { GoesOn places.old.items places.new.items }
+{
+    let count = window.count.number();
+    if parent < window.first || parent - window.first >= count {
+        return Ok(());
+    }
+    push_choosing(reference, size, count, parent - window.first, places)
+}
+
+impl<'a> Rows<'a> {
+    /// Puts the ordinals of the children that some rows have by a reference, which is ready in the column at a place, in the cohort that
+    /// is born at `unit` behind a list: those of one row after those of another, and those of each in no special order. A row that isn't
+    /// born in the reference's window has none. It takes one step for each child. At `Memory` what the list held still begins it, whatever
+    /// stands behind, and no step is taken.
+    pub fn push_children<L: Ledger>(
+        &self,
+        table: u32,
+        column: u32,
+        reference: &ReadyReference,
+        unit: u64,
+        parents: &[u64],
+        children: &mut Vec<u64>,
+        steps: &mut Steps<L>,
+    ) -> Result<(), Memory>
+        requires table { table < length self.now.schema.tables }
+        requires reference { IsReferenceOf self.now table column reference.now }
+        requires unit { unit ≤ last_unit self.now }
+        ensures children { OnOk result (AreAppended (children_of_each self.now table (reference_by column reference.now) unit parents.now) children.old.items children.new.items) }
+        ensures before { GoesOn children.old.items children.new.items }
+        ensures memory { OnErr result (steps.new ≡ steps.old) }
+        ensures least { steps.old ≤ steps.new }
+        ensures steps { steps.new ≤ steps.old + length (children_of_each self.now table (reference_by column reference.now) unit parents.now) }
+    {
+        let _limits = self.plan().schema(); // the reference is within its limits
+        let window = self.window(table, column, reference, unit);
+        let size = cohort(self.plan(), table, unit).size;
+        let from = children.len();
+        for parent in parents {
+            push_places_of(reference, &window, size, *parent, children)?;
+        }
+        self.put_rows_from(table, Purpose::Parents(column), unit, from, children, steps);
+        Ok(())
+    }
+}
