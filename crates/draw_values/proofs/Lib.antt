@@ -13,5 +13,7 @@ pub mod CohortLemmas
 pub mod PieceLemmas
 pub mod RunLemmas
 pub mod KeptLemmas
+pub mod ItemLemmas
+pub mod ItemFieldLemmas
 pub mod ShortNumberLemmas
 pub mod GroupLemmas

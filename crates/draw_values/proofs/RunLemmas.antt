@@ -94,12 +94,12 @@ run_draws plan run column rows i of is =
     ∙ ap (λ (found : ReadyColumn). draw (run_seed (column_seed (table_seed (layout_of plan).seed run.table) run.column) found.changes rows i)) is
 
 -- what is written for a field as it is kept, null where it is None
-abbrev or_null : Option (List ℕ) → List ℕ
+abbrev pub or_null : Option (List ℕ) → List ℕ
 or_null None = codes "\\N"
 or_null (Some text) = text
 
 -- a field that is known as it is kept
-field_text-kept : (delimiter : ℕ) (value held : Option (List ℕ)) → option_map (written_text delimiter) value ≡ held → field_text delimiter value ≡ or_null held
+pub field_text-kept : (delimiter : ℕ) (value held : Option (List ℕ)) → option_map (written_text delimiter) value ≡ held → field_text delimiter value ≡ or_null held
 field_text-kept delimiter None held is = ap or_null is
 field_text-kept delimiter (Some text) held is = ap or_null is
 
@@ -148,7 +148,7 @@ greatest_from_most : (most : ℕ) (entries : List (List ℕ)) → most ≤ fold 
 greatest_from_most most [] = omega arith
 greatest_from_most most (entry ∷ entries) = omega (arith, greatest_from_most (max most (length entry)) entries)
 
-entry_size : (most : ℕ) (entries : List (List ℕ)) (i : ℕ) → length (get_or entries i []) ≤ fold (λ m text. max m (length text)) most entries
+pub entry_size : (most : ℕ) (entries : List (List ℕ)) (i : ℕ) → length (get_or entries i []) ≤ fold (λ m text. max m (length text)) most entries
 entry_size most [] i = omega arith
 entry_size most (entry ∷ entries) zero = omega (arith, greatest_from_most (max most (length entry)) entries)
 entry_size most (entry ∷ entries) (suc i) = entry_size (max most (length entry)) entries i

@@ -6,4 +6,5 @@ pub mod WrittenUnits
 pub mod ReadyValues
 pub mod ColumnSeeds
 pub mod Runs
+pub mod Items
 pub mod CohortValues

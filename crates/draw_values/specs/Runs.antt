@@ -1,5 +1,5 @@
 -- The fields of a column over a run of rows, each with the byte behind it, and what is kept of the column so that they are made fast.
-use Rattle.std.specs.Prelude.{◌≡◌, ◌<◌, ◌≤◌, ℕ, ℤ, pos, ◌^◌, ◌+ℤ◌, ◌&&◌, List, [], ◌∷◌, ◌++◌, Bool, true, false, ⊤, if◌then◌else◌, codes, decimal, length, map, nat_lt, slice_index, unsigned_abs}
+use Rattle.std.specs.Prelude.{◌≡◌, ◌<◌, ◌≤◌, ℕ, ℤ, pos, ◌^◌, ◌+ℤ◌, ◌&&◌, List, [], ◌∷◌, ◌++◌, Bool, true, false, ⊤, if◌then◌else◌, codes, decimal, length, map, nat_le, nat_lt, slice_index, unsigned_abs}
 use Rattle.std.specs.List.{list_all, range_with_len}
 use Rattle.philox_seeds.specs.SeedTree.{column_seed, draw, row_seed, table_seed, unit_seed}
 use Rattle.row_text.specs.Fields.{field_text}
@@ -61,6 +61,23 @@ is_short kind.Changed = true
 is_short (kind.Drawn drawn) = is_short_leaf drawn
 is_short _ = false
 
+-- a drawn value of several items, each of which is known to be short: characters, or words of a list of at most 65,536
+abbrev pub is_itemized_leaf : ReadyLeaf → Bool
+is_itemized_leaf (leaf.Chars lo lengths characters count) = list_all is_short_text characters
+is_itemized_leaf (leaf.Words lo lengths words) = nat_le (length words.entries) 65536 && list_all is_short_text words.entries
+is_itemized_leaf _ = false
+
+-- the same of what a column holds
+abbrev pub is_itemized : ReadyKind → Bool
+is_itemized (kind.Drawn drawn) = is_itemized_leaf drawn
+is_itemized _ = false
+
+-- the items of which each draw of such a value chooses one, by its number
+abbrev pub items_of : ReadyLeaf → List (List ℕ)
+items_of (leaf.Chars lo lengths characters count) = characters
+items_of (leaf.Words lo lengths words) = words.entries
+items_of _ = []
+
 -- the texts of which a draw chooses one, by its number, where they are kept: those of at most 4,096 days or 65,536 words
 abbrev pub choices_kept : ReadyLeaf → List (List ℕ)
 choices_kept (leaf.Date lo hi count) =
@@ -73,22 +90,24 @@ choices_kept _ = []
 abbrev pub with_behind : ℕ → List ℕ → List ℕ
 with_behind behind text = text ++ behind ∷ []
 
--- what is kept of a drawn value, and of a column: such texts with the byte behind them, where all are short
+-- what is kept of a drawn value, and of a column: such texts with the byte behind them, where all are short, or the items of several
 abbrev pub leaf_texts : ℕ → ReadyLeaf → List (List ℕ)
-leaf_texts behind drawn = if is_short_leaf drawn then map (with_behind behind) (choices_kept drawn) else []
+leaf_texts behind drawn =
+    if is_short_leaf drawn then map (with_behind behind) (choices_kept drawn) else (if is_itemized_leaf drawn then items_of drawn else [])
 
 abbrev pub kept_texts : ℕ → ReadyKind → List (List ℕ)
 kept_texts behind (kind.Drawn drawn) = leaf_texts behind drawn
 kept_texts behind _ = []
 
--- a column that is prepared for runs: its seed, its place, the byte behind its fields, whether they are known to be short, and
--- the texts that are kept of it
+-- a column that is prepared for runs: its seed, its place, the byte behind its fields, whether they are known to be short or to be of
+-- several short items, and the texts that are kept of it
 pub record RunColumnOf : Type 0 where
   pub seed : ℕ
   pub table : ℕ
   pub column : ℕ
   pub behind : ℕ
   pub short : Bool
+  pub itemized : Bool
   pub texts : List (List ℕ)
 
 -- the column at a place of a table of a plan, as it is kept ready
@@ -103,6 +122,7 @@ run_column plan table column behind = record {
   column = column;
   behind = behind;
   short = is_short (ready_at plan table column).kind;
+  itemized = is_itemized (ready_at plan table column).kind;
   texts = kept_texts behind (ready_at plan table column).kind;
 }
 

@@ -11,7 +11,7 @@ ghost use Rattle.draw_values.specs.Values.{is_null, size_at, value_at};
 
 use crate::column_seeds::ColumnSeeds;
 use crate::fields::{NULL_DRAW, is_null};
-use crate::kept::{is_short, kept_pieces, text_piece};
+use crate::kept::{is_itemized, is_short, kept_pieces, text_piece};
 use crate::leaves::FIRST_DRAW;
 use crate::run_loops::{put_draws, put_nulls, put_row_seeds, put_unit_seeds};
 use crate::run_pieces::{fill_leaf, fill_units};
@@ -29,12 +29,13 @@ const SEED_ROOM: u64 = 4096;
 /// these, and the column's place.
 #[derive(Drop)]
 pub struct RunColumn {
-    table: u32,
-    column: u32,
-    behind: u8,
+    pub(crate) table: u32,
+    pub(crate) column: u32,
+    pub(crate) behind: u8,
     seeds: ColumnSeeds,
     short: bool,
-    kept: Vec<Piece>,
+    pub(crate) itemized: bool,
+    pub(crate) kept: Vec<Piece>,
 }
 
 impl Model for RunColumn {
@@ -44,7 +45,7 @@ impl Model for RunColumn {
 
     ghost Value = { RunColumnOf };
 
-    ghost view = { λ c. record { seed = c.seeds; table = c.table; column = c.column; behind = c.behind; short = c.short; texts = map piece_text c.kept.items } };
+    ghost view = { λ c. record { seed = c.seeds; table = c.table; column = c.column; behind = c.behind; short = c.short; itemized = c.itemized; texts = map piece_text c.kept.items } };
 }
 
 impl RunColumn {
@@ -66,6 +67,7 @@ impl RunColumn {
         let columns = plan.columns(table);
         let own = &columns[column as usize];
         let short = is_short(&own.kind);
+        let itemized = is_itemized(&own.kind);
         let kept = kept_pieces(alloc, &own.kind, behind)?;
         Ok(RunColumn {
             table,
@@ -73,6 +75,7 @@ impl RunColumn {
             behind,
             seeds,
             short,
+            itemized,
             kept,
         })
     }
@@ -178,7 +181,7 @@ impl RunColumn {
 
     /// The seeds of the rows of a run, for fields that are drawn anew where a row changes, or aren't.
     #[inline(always)]
-    fn put_seeds(&self, changes: bool, rows: RunRows<'_>, seeds: &mut [u64])
+    pub(crate) fn put_seeds(&self, changes: bool, rows: RunRows<'_>, seeds: &mut [u64])
         requires { AreOfLength (length seeds.old) rows }
         ensures { (i : ℕ) → i < length seeds.old → slice_index seeds.new i ≡ run_seed self.now.seed changes rows.entry i }
     {
