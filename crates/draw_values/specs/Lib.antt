@@ -7,4 +7,5 @@ pub mod ReadyValues
 pub mod ColumnSeeds
 pub mod Runs
 pub mod Items
+pub mod Cases
 pub mod CohortValues

@@ -33,8 +33,21 @@ pub(crate) fn is_short(kind: &ReadyKind) -> bool
         ReadyKind::Born => true,
         ReadyKind::Changed => true,
         ReadyKind::Drawn(leaf) => is_short_leaf(leaf),
+        ReadyKind::Case { branches, .. } => are_short_leaves(branches.as_slice()),
         _ => false,
     }
+}
+
+/// The same of some drawn values.
+fn are_short_leaves(leaves: &[ReadyLeaf]) -> bool
+    ensures { result ≡ list_all is_short_leaf leaves.now }
+{
+    for leaf in leaves {
+        if !is_short_leaf(leaf) {
+            return false;
+        }
+    }
+    true
 }
 
 /// The same of a drawn value.

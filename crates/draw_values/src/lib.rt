@@ -21,6 +21,7 @@ mod kept;
 pub mod laws;
 mod leaves;
 mod numbers;
+mod run_cases;
 mod run_column;
 mod run_items;
 mod run_loops;
