@@ -13,5 +13,8 @@ pub mod CohortLemmas
 pub mod PieceLemmas
 pub mod RunLemmas
 pub mod KeptLemmas
+pub mod CaseLemmas
+pub mod ItemLemmas
+pub mod ItemFieldLemmas
 pub mod ShortNumberLemmas
 pub mod GroupLemmas

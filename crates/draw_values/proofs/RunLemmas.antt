@@ -1,5 +1,5 @@
 -- The fields of a column over a run of rows, by what a plan keeps ready for the column.
-use Rattle.std.proofs.Common.{◌≡◌, ◌<◌, ◌≤◌, ◌+ℤ◌, pos, ℕ, ℤ, Bool, true, false, zero, suc, max, List, [], ◌∷◌, if◌then◌else◌, get_or, length, map, option_map, Option, None, Some, refl, ap, sym, ◌∙◌, length-append, arith}
+use Rattle.std.proofs.Common.{◌≡◌, ◌<◌, ◌≤◌, ◌^◌, ◌+ℤ◌, pos, ℕ, ℤ, Bool, true, false, zero, suc, max, List, [], ◌∷◌, if◌then◌else◌, get_or, length, map, option_map, Option, None, Some, refl, ap, sym, ◌∙◌, length-append, arith}
 use Rattle.std.specs.Prelude.{codes, unwrap_or}
 use Rattle.std.specs.List.{fold, range_with_len}
 use Rattle.std.proofs.lemmas.Bool.{le-ltb}
@@ -22,7 +22,7 @@ use Rattle.schema_plan.specs.Ready.{ready_columns, ready_kind}
 use Rattle.draw_values.specs.declared.runs.RunRows.{RunRows}
 use Rattle.draw_values.specs.Dates.{date_text}
 use Rattle.draw_values.specs.ReadyValues.{chooser_of, ready_held_entry, ready_kind_size, ready_size, ready_text, ready_value}
-use Rattle.draw_values.specs.Runs.{IsReadyDrawn, IsRunColumn, RunColumnOf, is_null_in, is_short, is_short_leaf, leaf_texts, ready_at, run_row, run_seed, run_field, short_value, text_by, with_behind}
+use Rattle.draw_values.specs.Runs.{IsReadyDrawn, IsRunColumn, RunColumnOf, is_null_in, is_short, is_short_alone, is_short_leaf, leaf_texts, ready_at, run_row, run_seed, run_field, short_value, text_by, with_behind}
 use Rattle.draw_values.specs.Values.{Draws, chosen, chosen_group, draws_at, is_null, is_own, size_at, unless_null, value_at}
 use Rattle.draw_values.proofs.RowUnits.{units_at}
 use Rattle.draw_values.proofs.ColumnLemmas.{length-decimal-unit, ready_column-at}
@@ -32,7 +32,7 @@ use Rattle.draw_values.proofs.ReadyLemmas.{leaf_is_ready}
 
 -- ---- the kinds of short columns
 
-short_own : (delimiter : ℕ) (held : KindLayout) → is_short (ready_kind delimiter held) ≡ true → is_own held ≡ true
+short_own : (delimiter : ℕ) (held : KindLayout) → is_short_alone (ready_kind delimiter held) ≡ true → is_own held ≡ true
 short_own delimiter key_kind short = short
 short_own delimiter born_kind short = refl
 short_own delimiter changed_kind short = refl
@@ -42,7 +42,7 @@ short_own delimiter (case_kind on branches) short = absurd (cc)
 short_own delimiter (reference_kind parent window spread nulls) short = short
 short_own delimiter (lookup_kind via parent name) short = short
 
-short_chooser : (place : ℕ) (held : ReadyKind) → is_short held ≡ true → place ≡ chooser_of place held
+short_chooser : (place : ℕ) (held : ReadyKind) → is_short_alone held ≡ true → place ≡ chooser_of place held
 short_chooser place kind.Key short = refl
 short_chooser place kind.Born short = refl
 short_chooser place kind.Changed short = refl
@@ -65,7 +65,7 @@ drawn_is_ready delimiter columns place (lookup_kind via parent name) limits = tt
 
 -- ---- values
 
-text_by-ready : (drawn : ReadyLeaf) (draws : Draws) → is_short_leaf drawn ≡ true → ready_text drawn draws ≡ text_by drawn (draws 1)
+pub text_by-ready : (drawn : ReadyLeaf) (draws : Draws) → is_short_leaf drawn ≡ true → ready_text drawn draws ≡ text_by drawn (draws 1)
 text_by-ready (leaf.Int lo hi step count) draws short = refl
 text_by-ready (leaf.Fixed lo hi count decimals unit) draws short = refl
 text_by-ready (leaf.Date lo hi count) draws short = refl
@@ -75,7 +75,7 @@ text_by-ready (leaf.Chars lo lengths characters count) draws short = absurd (cc)
 text_by-ready (leaf.Dict words) draws short = refl
 text_by-ready (leaf.Words lo lengths words) draws short = absurd (cc)
 
-short_value-ready : (seed : ℕ) (changes : Bool) (held : ReadyKind) (rows : RunRows) (i : ℕ) (entry : Option ℕ) → is_short held ≡ true →
+short_value-ready : (seed : ℕ) (changes : Bool) (held : ReadyKind) (rows : RunRows) (i : ℕ) (entry : Option ℕ) → is_short_alone held ≡ true →
     ready_value (units_at (run_row rows i)) entry (draw (run_seed seed changes rows i)) held ≡ Some (short_value seed changes held rows i)
 short_value-ready seed changes kind.Key rows i entry short = absurd (cc)
 short_value-ready seed changes kind.Born rows i entry short = refl
@@ -94,12 +94,12 @@ run_draws plan run column rows i of is =
     ∙ ap (λ (found : ReadyColumn). draw (run_seed (column_seed (table_seed (layout_of plan).seed run.table) run.column) found.changes rows i)) is
 
 -- what is written for a field as it is kept, null where it is None
-abbrev or_null : Option (List ℕ) → List ℕ
+abbrev pub or_null : Option (List ℕ) → List ℕ
 or_null None = codes "\\N"
 or_null (Some text) = text
 
 -- a field that is known as it is kept
-field_text-kept : (delimiter : ℕ) (value held : Option (List ℕ)) → option_map (written_text delimiter) value ≡ held → field_text delimiter value ≡ or_null held
+pub field_text-kept : (delimiter : ℕ) (value held : Option (List ℕ)) → option_map (written_text delimiter) value ≡ held → field_text delimiter value ≡ or_null held
 field_text-kept delimiter None held is = ap or_null is
 field_text-kept delimiter (Some text) held is = ap or_null is
 
@@ -111,16 +111,16 @@ nulled false behind text before after before_is after_is = after_is ∙ before_i
 
 -- the column that is kept for a short one
 pub kept_short : (plan : Project) (run : RunColumnOf) (kept : List ReadyColumn) (column : ReadyColumn) (units : ℕ) → IsRunColumn plan run → kept ≡ ready_columns (layout_of plan) run.table →
-    IsTableInLimits units (table_at (layout_of plan).tables run.table) → column ≡ get_or kept run.column column → column ≡ ready_at plan run.table run.column → is_short column.kind ≡ true →
+    IsTableInLimits units (table_at (layout_of plan).tables run.table) → column ≡ get_or kept run.column column → column ≡ ready_at plan run.table run.column → is_short_alone column.kind ≡ true →
     IsKeptField (layout_of plan) run.table run.column run.column column column
 kept_short plan run kept column units of kept_is limits at is short =
     let held : KindLayout = (column_at (table_at (layout_of plan).tables run.table).columns run.column).kind in
-    let own : is_own held ≡ true = short_own (layout_of plan).delimiter held (ap (λ (found : ReadyColumn). is_short found.kind) (sym is) ∙ short) in
+    let own : is_own held ≡ true = short_own (layout_of plan).delimiter held (ap (λ (found : ReadyColumn). is_short_alone found.kind) (sym is) ∙ short) in
     kept_field (layout_of plan) run.table run.column run.column units kept column column kept_is limits of.column_within own at (short_chooser run.column column.kind short) at
 
 -- the texts that a run is filled with
 pub run_field-filled : (plan : Project) (run : RunColumnOf) (column : ReadyColumn) (rows : RunRows) (i : ℕ) (before after : List ℕ) → IsRunColumn plan run →
-    IsKeptField (layout_of plan) run.table run.column run.column column column → column ≡ ready_at plan run.table run.column → is_short column.kind ≡ true →
+    IsKeptField (layout_of plan) run.table run.column run.column column column → column ≡ ready_at plan run.table run.column → is_short_alone column.kind ≡ true →
     before ≡ with_behind run.behind (short_value run.seed column.changes column.kind rows i) →
     after ≡ (if is_null column.null (draw (run_seed run.seed column.changes rows i)) then with_behind run.behind (codes "\\N") else before) →
     after ≡ run_field plan run rows i
@@ -148,7 +148,7 @@ greatest_from_most : (most : ℕ) (entries : List (List ℕ)) → most ≤ fold 
 greatest_from_most most [] = omega arith
 greatest_from_most most (entry ∷ entries) = omega (arith, greatest_from_most (max most (length entry)) entries)
 
-entry_size : (most : ℕ) (entries : List (List ℕ)) (i : ℕ) → length (get_or entries i []) ≤ fold (λ m text. max m (length text)) most entries
+pub entry_size : (most : ℕ) (entries : List (List ℕ)) (i : ℕ) → length (get_or entries i []) ≤ fold (λ m text. max m (length text)) most entries
 entry_size most [] i = omega arith
 entry_size most (entry ∷ entries) zero = omega (arith, greatest_from_most (max most (length entry)) entries)
 entry_size most (entry ∷ entries) (suc i) = entry_size (max most (length entry)) entries i
@@ -158,7 +158,7 @@ unfolding date_text
 length-date_text day = length-date_digits _ _ _
 
 -- a short text of a leaf is no longer than its greatest size
-leaf_text_size : (drawn : ReadyLeaf) (number : ℕ) → is_short_leaf drawn ≡ true → length (text_by drawn number) ≤ 15 → length (text_by drawn number) ≤ ready_size drawn
+pub leaf_text_size : (drawn : ReadyLeaf) (number : ℕ) → is_short_leaf drawn ≡ true → length (text_by drawn number) ≤ 15 → length (text_by drawn number) ≤ ready_size drawn
 leaf_text_size (leaf.Int lo hi step count) number short few = omega arith
 leaf_text_size (leaf.Fixed lo hi count decimals unit) number short few = omega arith
 leaf_text_size (leaf.Date lo hi count) number short few = omega (arith, length-date_text (chosen lo hi 1 number))
@@ -168,7 +168,7 @@ leaf_text_size (leaf.Chars lo lengths characters count) number short few = absur
 leaf_text_size (leaf.Dict words) number short few = entry_size 0 words.entries (chosen_group words.weights number)
 leaf_text_size (leaf.Words lo lengths words) number short few = absurd (cc)
 
-short_value_size : (seed : ℕ) (changes : Bool) (held : ReadyKind) (rows : RunRows) (i : ℕ) → is_short held ≡ true → (run_row rows i).born ≤ 10000 → (run_row rows i).changed ≤ 10000 →
+short_value_size : (seed : ℕ) (changes : Bool) (held : ReadyKind) (rows : RunRows) (i : ℕ) → is_short_alone held ≡ true → (run_row rows i).born ≤ 10000 → (run_row rows i).changed ≤ 10000 →
     length (short_value seed changes held rows i) ≤ 15 → length (short_value seed changes held rows i) ≤ ready_kind_size held
 short_value_size seed changes kind.Key rows i short born changed few = absurd (cc)
 short_value_size seed changes kind.Born rows i short born changed few = length-decimal-unit (run_row rows i).born born
@@ -185,7 +185,7 @@ unless_null_size false value size fits = fits
 
 -- a field of a short column is no longer than the greatest size of its fields
 pub run_text_size : (plan : Project) (run : RunColumnOf) (column : ReadyColumn) (rows : RunRows) (i : ℕ) (before : List Piece) → IsRunColumn plan run →
-    IsKeptField (layout_of plan) run.table run.column run.column column column → column ≡ ready_at plan run.table run.column → is_short column.kind ≡ true →
+    IsKeptField (layout_of plan) run.table run.column run.column column column → column ≡ ready_at plan run.table run.column → is_short_alone column.kind ≡ true →
     (run_row rows i).born ≤ 10000 → (run_row rows i).changed ≤ 10000 → get_or (map piece_text before) i [] ≡ with_behind run.behind (short_value run.seed column.changes column.kind rows i) →
     length (field_text (layout_of plan).delimiter (value_at (layout_of plan) run.table run.column (run_row rows i))) ≤ size_at (layout_of plan) run.table run.column
 run_text_size plan run column rows i before of kept is short born changed before_is =
@@ -236,3 +236,25 @@ days_kept behind lo hi count texts day texts_are few within =
           ∙ get_or-map (with_behind behind) days day [] [] (omega (arith, long))
           ∙ ap (with_behind behind) (get_or-map-range_with_len text 0 count day day [] within (omega arith)),
     )
+
+-- what is short and no case goes by no other column
+pub alone_from_short : (held : ReadyKind) → is_short held ≡ true → ((on : ℕ) (branches : List ReadyLeaf) → held ≡ kind.Case on branches → ⊥) → is_short_alone held ≡ true
+alone_from_short kind.Key short no_case = short
+alone_from_short kind.Born short no_case = short
+alone_from_short kind.Changed short no_case = short
+alone_from_short (kind.Drawn drawn) short no_case = short
+alone_from_short (kind.Template parts) short no_case = short
+alone_from_short (kind.Case on branches) short no_case = absurd (no_case on branches refl)
+alone_from_short (kind.Reference reference) short no_case = short
+alone_from_short (kind.Lookup lookup) short no_case = short
+
+-- the place of the column that cases go by is a number of 32 bits
+pub chooser_small : (delimiter : ℕ) (columns : List ColumnLayout) (place : ℕ) (held : KindLayout) → IsKindInLimits columns place held → place < 2 ^ 32 → chooser_of 0 (ready_kind delimiter held) < 2 ^ 32
+chooser_small delimiter columns place key_kind limits small = omega arith
+chooser_small delimiter columns place born_kind limits small = omega arith
+chooser_small delimiter columns place changed_kind limits small = omega arith
+chooser_small delimiter columns place (leaf_kind drawn) limits small = omega arith
+chooser_small delimiter columns place (template_kind parts) limits small = omega arith
+chooser_small delimiter columns place (case_kind on branches) limits small = omega (arith, limits.earlier)
+chooser_small delimiter columns place (reference_kind parent window spread nulls) limits small = omega arith
+chooser_small delimiter columns place (lookup_kind via parent name) limits small = omega arith

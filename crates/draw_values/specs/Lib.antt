@@ -6,4 +6,6 @@ pub mod WrittenUnits
 pub mod ReadyValues
 pub mod ColumnSeeds
 pub mod Runs
+pub mod Items
+pub mod Cases
 pub mod CohortValues

@@ -1,5 +1,5 @@
 -- The fields of a column over a run of rows, each with the byte behind it, and what is kept of the column so that they are made fast.
-use Rattle.std.specs.Prelude.{◌≡◌, ◌<◌, ◌≤◌, ℕ, ℤ, pos, ◌^◌, ◌+ℤ◌, ◌&&◌, List, [], ◌∷◌, ◌++◌, Bool, true, false, ⊤, if◌then◌else◌, codes, decimal, length, map, nat_lt, slice_index, unsigned_abs}
+use Rattle.std.specs.Prelude.{◌≡◌, ◌<◌, ◌≤◌, ℕ, ℤ, pos, ◌^◌, ◌+ℤ◌, ◌&&◌, List, [], ◌∷◌, ◌++◌, Bool, true, false, Option, None, Some, ⊤, if◌then◌else◌, codes, decimal, length, map, nat_le, nat_lt, slice_index, unsigned_abs}
 use Rattle.std.specs.List.{list_all, range_with_len}
 use Rattle.philox_seeds.specs.SeedTree.{column_seed, draw, row_seed, table_seed, unit_seed}
 use Rattle.row_text.specs.Fields.{field_text}
@@ -54,12 +54,39 @@ is_short_leaf (leaf.Chars lo lengths characters count) = false
 is_short_leaf (leaf.Dict words) = list_all is_short_text words.entries
 is_short_leaf (leaf.Words lo lengths words) = false
 
--- the same of what a column holds; what takes from other columns or rows is never known to be
+-- the same of what a column holds that goes by no other; what takes from other columns or rows is never known to be
+abbrev pub is_short_alone : ReadyKind → Bool
+is_short_alone kind.Born = true
+is_short_alone kind.Changed = true
+is_short_alone (kind.Drawn drawn) = is_short_leaf drawn
+is_short_alone _ = false
+
+-- whether a column holds cases
+abbrev pub is_case : ReadyKind → Bool
+is_case (kind.Case on branches) = true
+is_case _ = false
+
+-- the same of what a column holds: cases are short where all their branches are
 abbrev pub is_short : ReadyKind → Bool
-is_short kind.Born = true
-is_short kind.Changed = true
-is_short (kind.Drawn drawn) = is_short_leaf drawn
-is_short _ = false
+is_short (kind.Case on branches) = list_all is_short_leaf branches
+is_short held = is_short_alone held
+
+-- a drawn value of several items, each of which is known to be short: characters, or words of a list of at most 65,536
+abbrev pub is_itemized_leaf : ReadyLeaf → Bool
+is_itemized_leaf (leaf.Chars lo lengths characters count) = list_all is_short_text characters
+is_itemized_leaf (leaf.Words lo lengths words) = nat_le (length words.entries) 65536 && list_all is_short_text words.entries
+is_itemized_leaf _ = false
+
+-- the same of what a column holds
+abbrev pub is_itemized : ReadyKind → Bool
+is_itemized (kind.Drawn drawn) = is_itemized_leaf drawn
+is_itemized _ = false
+
+-- the items of which each draw of such a value chooses one, by its number
+abbrev pub items_of : ReadyLeaf → List (List ℕ)
+items_of (leaf.Chars lo lengths characters count) = characters
+items_of (leaf.Words lo lengths words) = words.entries
+items_of _ = []
 
 -- the texts of which a draw chooses one, by its number, where they are kept: those of at most 4,096 days or 65,536 words
 abbrev pub choices_kept : ReadyLeaf → List (List ℕ)
@@ -73,22 +100,30 @@ choices_kept _ = []
 abbrev pub with_behind : ℕ → List ℕ → List ℕ
 with_behind behind text = text ++ behind ∷ []
 
--- what is kept of a drawn value, and of a column: such texts with the byte behind them, where all are short
+-- what is kept of a drawn value, and of a column: such texts with the byte behind them, where all are short, or the items of several
 abbrev pub leaf_texts : ℕ → ReadyLeaf → List (List ℕ)
-leaf_texts behind drawn = if is_short_leaf drawn then map (with_behind behind) (choices_kept drawn) else []
+leaf_texts behind drawn =
+    if is_short_leaf drawn then map (with_behind behind) (choices_kept drawn) else (if is_itemized_leaf drawn then items_of drawn else [])
 
 abbrev pub kept_texts : ℕ → ReadyKind → List (List ℕ)
 kept_texts behind (kind.Drawn drawn) = leaf_texts behind drawn
 kept_texts behind _ = []
 
--- a column that is prepared for runs: its seed, its place, the byte behind its fields, whether they are known to be short, and
--- the texts that are kept of it
+-- the seed of the column that cases go by, below their table's; None of what goes by no other column
+abbrev pub chooser_seed : ℕ → ReadyKind → Option ℕ
+chooser_seed seed (kind.Case on branches) = Some (column_seed seed on)
+chooser_seed seed _ = None
+
+-- a column that is prepared for runs: its seed and that of the column that its cases go by, its place, the byte behind its fields, whether they are known to be short or to be of
+-- several short items, and the texts that are kept of it
 pub record RunColumnOf : Type 0 where
   pub seed : ℕ
+  pub chooser : Option ℕ
   pub table : ℕ
   pub column : ℕ
   pub behind : ℕ
   pub short : Bool
+  pub itemized : Bool
   pub texts : List (List ℕ)
 
 -- the column at a place of a table of a plan, as it is kept ready
@@ -99,10 +134,12 @@ ready_at plan table column = ready_column (layout_of plan).delimiter (column_at 
 abbrev pub run_column : Project → ℕ → ℕ → ℕ → RunColumnOf
 run_column plan table column behind = record {
   seed = column_seed (table_seed (layout_of plan).seed table) column;
+  chooser = chooser_seed (table_seed (layout_of plan).seed table) (ready_at plan table column).kind;
   table = table;
   column = column;
   behind = behind;
   short = is_short (ready_at plan table column).kind;
+  itemized = is_itemized (ready_at plan table column).kind;
   texts = kept_texts behind (ready_at plan table column).kind;
 }
 

@@ -5,7 +5,7 @@ ghost use Rattle.std.specs.List.{list_all, range_with_len};
 ghost use Rattle.line_pages.specs.Pieces.{piece_text};
 ghost use Rattle.draw_values.specs.Dates.{date_text};
 ghost use Rattle.draw_values.specs.ReadyValues.{IsReady};
-ghost use Rattle.draw_values.specs.Runs.{IsReadyDrawn, choices_kept, is_short, is_short_leaf, is_short_number, is_short_text, kept_texts, with_behind};
+ghost use Rattle.draw_values.specs.Runs.{IsReadyDrawn, choices_kept, is_itemized, is_itemized_leaf, is_short, is_short_leaf, is_short_number, is_short_text, items_of, kept_texts, with_behind};
 
 use crate::dates::day_piece;
 use line_pages::{Memory, Piece};
@@ -33,8 +33,21 @@ pub(crate) fn is_short(kind: &ReadyKind) -> bool
         ReadyKind::Born => true,
         ReadyKind::Changed => true,
         ReadyKind::Drawn(leaf) => is_short_leaf(leaf),
+        ReadyKind::Case { branches, .. } => are_short_leaves(branches.as_slice()),
         _ => false,
     }
+}
+
+/// The same of some drawn values.
+fn are_short_leaves(leaves: &[ReadyLeaf]) -> bool
+    ensures { result ≡ list_all is_short_leaf leaves.now }
+{
+    for leaf in leaves {
+        if !is_short_leaf(leaf) {
+            return false;
+        }
+    }
+    true
 }
 
 /// The same of a drawn value.
@@ -50,6 +63,27 @@ fn is_short_leaf(leaf: &ReadyLeaf) -> bool
         ReadyLeaf::Chars { .. } => false,
         ReadyLeaf::Dict(words) => are_short_words(words),
         ReadyLeaf::Words { .. } => false,
+    }
+}
+
+/// Whether the texts of a column are of several items, each of which is known to be short.
+pub(crate) fn is_itemized(kind: &ReadyKind) -> bool
+    ensures { result ≡ is_itemized kind.now }
+{
+    match kind {
+        ReadyKind::Drawn(leaf) => is_itemized_leaf(leaf),
+        _ => false,
+    }
+}
+
+/// The same of a drawn value.
+fn is_itemized_leaf(leaf: &ReadyLeaf) -> bool
+    ensures { result ≡ is_itemized_leaf leaf.now }
+{
+    match leaf {
+        ReadyLeaf::Chars { characters, .. } => are_short(characters),
+        ReadyLeaf::Words { words, .. } => words.len() <= WORD_ROOM && are_short_words(words),
+        _ => false,
     }
 }
 
@@ -104,6 +138,7 @@ pub(crate) fn kept_pieces(alloc: Global, kind: &ReadyKind, behind: u8) -> Result
 {
     match kind {
         ReadyKind::Drawn(leaf) if is_short_leaf(leaf) => leaf_pieces(alloc, leaf, behind),
+        ReadyKind::Drawn(leaf) if is_itemized_leaf(leaf) => item_pieces(alloc, leaf),
         _ => Ok(Vec::new(alloc)),
     }
 }
@@ -168,6 +203,42 @@ fn word_pieces(alloc: Global, words: &ReadyWords, behind: u8) -> Result<Vec<Piec
     let mut pieces = Vec::new(alloc);
     for i in 0..words.len() {
         pieces.push(text_piece(words.entry(i), behind))?;
+    }
+    Ok(pieces)
+}
+
+/// The items of a value of several, with no byte behind them.
+fn item_pieces(alloc: Global, leaf: &ReadyLeaf) -> Result<Vec<Piece>, Memory>
+    requires { is_itemized_leaf leaf.now ≡ true }
+    ensures { IfOk result (λ pieces. map piece_text pieces.items ≡ items_of leaf.now) }
+{
+    match leaf {
+        ReadyLeaf::Chars { characters, .. } => bare_entries(alloc, characters),
+        ReadyLeaf::Words { words, .. } => bare_words(alloc, words),
+        _ => Ok(Vec::new(alloc)),
+    }
+}
+
+/// Some texts, with no byte behind them.
+fn bare_entries(alloc: Global, entries: &WrittenTexts) -> Result<Vec<Piece>, Memory>
+    requires { list_all is_short_text entries.now ≡ true }
+    ensures { IfOk result (λ pieces. map piece_text pieces.items ≡ entries.now) }
+{
+    let mut pieces = Vec::new(alloc);
+    for i in 0..entries.len() {
+        pieces.push(Piece::of(entries.get(i)))?;
+    }
+    Ok(pieces)
+}
+
+/// Some words, with no byte behind them.
+fn bare_words(alloc: Global, words: &ReadyWords) -> Result<Vec<Piece>, Memory>
+    requires { list_all is_short_text words.now.entries ≡ true }
+    ensures { IfOk result (λ pieces. map piece_text pieces.items ≡ words.now.entries) }
+{
+    let mut pieces = Vec::new(alloc);
+    for i in 0..words.len() {
+        pieces.push(Piece::of(words.entry(i)))?;
     }
     Ok(pieces)
 }

@@ -1,19 +1,19 @@
 //! A column, prepared for runs: its fields for many rows at once, as pieces.
 
-ghost use Rattle.std.specs.Prelude.{◌≡◌, ℕ, ◌<◌, ◌≤◌, IfOk, if◌then◌else◌, length, map, slice_index, slice_index_or, [], true};
-ghost use Rattle.philox_seeds.specs.SeedTree.{draw as draw_of};
+ghost use Rattle.std.specs.Prelude.{◌≡◌, ℕ, ◌<◌, ◌≤◌, ◌^◌, IfOk, if◌then◌else◌, length, map, slice_index, slice_index_or, [], true};
+ghost use Rattle.philox_seeds.specs.SeedTree.{draw as draw_of, table_seed as table_seed_of};
 ghost use Rattle.line_pages.specs.Pieces.{piece_text};
 ghost use Rattle.row_text.specs.Fields.{field_text};
 ghost use Rattle.schema_plan.specs.Layout.{layout_of, table_at};
-ghost use Rattle.draw_values.specs.Runs.{AreOfLength, AreRunRows, IsReadyDrawn, IsRunColumn, is_null_in, is_short, is_short_leaf, kept_texts, leaf_texts, null_text, run_column, run_row, run_seed, run_field, short_value, text_by, with_behind};
-ghost use Rattle.draw_values.specs.ReadyValues.{IsReady};
+ghost use Rattle.draw_values.specs.Runs.{AreOfLength, AreRunRows, IsReadyDrawn, IsRunColumn, chooser_seed, is_null_in, is_short_alone, is_short_leaf, kept_texts, leaf_texts, null_text, ready_at, run_column, run_row, run_seed, run_field, short_value, text_by, with_behind};
+ghost use Rattle.draw_values.specs.ReadyValues.{IsReady, chooser_of};
 ghost use Rattle.draw_values.specs.Values.{is_null, size_at, value_at};
 
 use crate::column_seeds::ColumnSeeds;
 use crate::fields::{NULL_DRAW, is_null};
-use crate::kept::{is_short, kept_pieces, text_piece};
+use crate::kept::{is_itemized, is_short, kept_pieces, text_piece};
 use crate::leaves::FIRST_DRAW;
-use crate::run_loops::{put_draws, put_nulls, put_row_seeds, put_unit_seeds};
+use crate::run_loops::{put_draws, put_nulls, put_run_seeds};
 use crate::run_pieces::{fill_leaf, fill_units};
 use crate::runs::{RunNumbers, RunRows};
 use crate::values::RowAt;
@@ -29,12 +29,14 @@ const SEED_ROOM: u64 = 4096;
 /// these, and the column's place.
 #[derive(Drop)]
 pub struct RunColumn {
-    table: u32,
-    column: u32,
-    behind: u8,
+    pub(crate) table: u32,
+    pub(crate) column: u32,
+    pub(crate) behind: u8,
     seeds: ColumnSeeds,
+    pub(crate) chooser: Option<ColumnSeeds>,
     short: bool,
-    kept: Vec<Piece>,
+    pub(crate) itemized: bool,
+    pub(crate) kept: Vec<Piece>,
 }
 
 impl Model for RunColumn {
@@ -44,7 +46,7 @@ impl Model for RunColumn {
 
     ghost Value = { RunColumnOf };
 
-    ghost view = { λ c. record { seed = c.seeds; table = c.table; column = c.column; behind = c.behind; short = c.short; texts = map piece_text c.kept.items } };
+    ghost view = { λ c. record { seed = c.seeds; chooser = c.chooser; table = c.table; column = c.column; behind = c.behind; short = c.short; itemized = c.itemized; texts = map piece_text c.kept.items } };
 }
 
 impl RunColumn {
@@ -65,14 +67,18 @@ impl RunColumn {
         let seeds = ColumnSeeds::new(alloc, plan, table, column, last, SEED_ROOM)?;
         let columns = plan.columns(table);
         let own = &columns[column as usize];
+        let chooser = chooser_seeds(alloc, plan, table, &own.kind, last)?;
         let short = is_short(&own.kind);
+        let itemized = is_itemized(&own.kind);
         let kept = kept_pieces(alloc, &own.kind, behind)?;
         Ok(RunColumn {
             table,
             column,
             behind,
             seeds,
+            chooser,
             short,
+            itemized,
             kept,
         })
     }
@@ -109,6 +115,28 @@ impl RunColumn {
         ensures size { (i : ℕ) → i < length pieces.old → length (field_text (layout_of plan.now).delimiter (value_at (layout_of plan.now) self.now.table self.now.column (run_row rows.entry i))) ≤ size_at (layout_of plan.now) self.now.table self.now.column }
     {
         let columns = plan.columns(self.table);
+        match &columns[self.column as usize].kind {
+            ReadyKind::Case { .. } => self.fill_cases(plan, digits, rows, numbers, pieces),
+            _ => self.fill_alone(plan, digits, rows, numbers, pieces),
+        }
+    }
+
+    /// The same in a column that goes by no other.
+    fn fill_alone(
+        &self,
+        plan: &Plan,
+        digits: &Digits,
+        rows: RunRows<'_>,
+        numbers: &mut RunNumbers,
+        pieces: &mut [Piece],
+    )
+        requires column { IsRunColumn plan.now self.now }
+        requires short { is_short_alone (ready_at plan.now self.now.table self.now.column).kind ≡ true }
+        requires rows { AreRunRows (layout_of plan.now).units (length pieces.old) rows }
+        ensures text { (i : ℕ) → i < length pieces.old → slice_index_or (map piece_text pieces.new) i [] ≡ run_field plan.now self.now rows.entry i }
+        ensures size { (i : ℕ) → i < length pieces.old → length (field_text (layout_of plan.now).delimiter (value_at (layout_of plan.now) self.now.table self.now.column (run_row rows.entry i))) ≤ size_at (layout_of plan.now) self.now.table self.now.column }
+    {
+        let columns = plan.columns(self.table);
         let own = &columns[self.column as usize];
         self.fill_values(digits, own, rows, numbers, pieces);
         self.null_ready(own, rows, numbers, pieces);
@@ -125,7 +153,7 @@ impl RunColumn {
         pieces: &mut [Piece],
     )
         requires ready { IsReadyDrawn own.now.kind }
-        requires short { is_short own.now.kind ≡ true }
+        requires short { is_short_alone own.now.kind ≡ true }
         requires kept { self.now.texts ≡ kept_texts self.now.behind own.now.kind }
         requires rows { AreRunRows 10000 (length pieces.old) rows }
         ensures { (i : ℕ) → i < length pieces.old → slice_index_or (map piece_text pieces.new) i [] ≡ with_behind self.now.behind (short_value self.now.seed own.now.changes own.now.kind rows.entry i) }
@@ -178,17 +206,16 @@ impl RunColumn {
 
     /// The seeds of the rows of a run, for fields that are drawn anew where a row changes, or aren't.
     #[inline(always)]
-    fn put_seeds(&self, changes: bool, rows: RunRows<'_>, seeds: &mut [u64])
+    pub(crate) fn put_seeds(&self, changes: bool, rows: RunRows<'_>, seeds: &mut [u64])
         requires { AreOfLength (length seeds.old) rows }
         ensures { (i : ℕ) → i < length seeds.old → slice_index seeds.new i ≡ run_seed self.now.seed changes rows.entry i }
     {
-        put_unit_seeds(&self.seeds, units_of(changes, rows), seeds);
-        put_row_seeds(rows.ordinals, seeds);
+        put_run_seeds(&self.seeds, changes, rows, seeds);
     }
 
     /// The draws of a number of the rows of a run, and the seeds that they are from.
     #[inline(always)]
-    fn put_run_draws(
+    pub(crate) fn put_run_draws(
         &self,
         n: u32,
         changes: bool,
@@ -206,7 +233,7 @@ impl RunColumn {
 
     /// Puts a null field with the byte behind it over the pieces of those rows of a run whose field is drawn to be null in the column,
     /// as it is kept ready, and leaves the others.
-    fn null_ready(
+    pub(crate) fn null_ready(
         &self,
         own: &ReadyColumn,
         rows: RunRows<'_>,
@@ -280,10 +307,20 @@ impl RunColumn {
     }
 }
 
-/// The units at which the fields of the rows of a run are drawn, in a column that is drawn anew where a row changes, or isn't.
-#[inline(always)]
-fn units_of<'a>(changes: bool, rows: RunRows<'a>) -> &'a [u64]
-    ensures { result.now ≡ (if changes then rows.entry.changes.now else rows.entry.births.now) }
+/// The seeds, at the units 0 to `last`, of the column that cases go by; None of what goes by no other column.
+fn chooser_seeds(
+    alloc: Global,
+    plan: &Plan,
+    table: u32,
+    kind: &ReadyKind,
+    last: u64,
+) -> Result<Option<ColumnSeeds>, Memory>
+    requires { chooser_of 0 kind.now < 2 ^ 32 }
+    ensures { IfOk result (λ seeds. seeds ≡ chooser_seed (table_seed_of (layout_of plan.now).seed table) kind.now) }
 {
-    if changes { rows.changes } else { rows.births }
+    let ReadyKind::Case { on, .. } = kind else {
+        return Ok(None);
+    };
+    let seeds = ColumnSeeds::new(alloc, plan, table, *on as u32, last, SEED_ROOM)?;
+    Ok(Some(seeds))
 }

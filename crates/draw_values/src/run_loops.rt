@@ -3,9 +3,11 @@
 ghost use Rattle.std.specs.Prelude.{◌≡◌, ℕ, ◌<◌, ◌≤◌, ◌%◌, [], if◌then◌else◌, length, map, nat_lt, slice_index, slice_index_or, sum};
 ghost use Rattle.philox_seeds.specs.SeedTree.{draw as draw_of, row_seed as row_seed_of, unit_seed as unit_seed_of};
 ghost use Rattle.line_pages.specs.Pieces.{piece_text};
+ghost use Rattle.draw_values.specs.Runs.{AreOfLength, run_seed};
 ghost use Rattle.draw_values.specs.Values.{chosen_group};
 
 use crate::column_seeds::ColumnSeeds;
+use crate::runs::RunRows;
 use fixed_divisors::FixedDivisor;
 use line_pages::Piece;
 use philox_seeds::{draws as make_draws, row_seed};
@@ -32,6 +34,29 @@ pub(crate) fn put_row_seeds(ordinals: &[u64], seeds: &mut [u64])
     for (i, seed) in seeds.iter_mut().enumerate() {
         *seed = row_seed(*seed, ordinals[i]);
     }
+}
+
+/// The seeds of the rows of a run in a column with these seeds, for fields that are drawn anew where a row changes, or aren't.
+#[inline(always)]
+pub(crate) fn put_run_seeds(
+    column: &ColumnSeeds,
+    changes: bool,
+    rows: RunRows<'_>,
+    seeds: &mut [u64],
+)
+    requires { AreOfLength (length seeds.old) rows }
+    ensures { (i : ℕ) → i < length seeds.old → slice_index seeds.new i ≡ run_seed column.now changes rows.entry i }
+{
+    put_unit_seeds(column, units_of(changes, rows), seeds);
+    put_row_seeds(rows.ordinals, seeds);
+}
+
+/// The units at which the fields of the rows of a run are drawn, in a column that is drawn anew where a row changes, or isn't.
+#[inline(always)]
+fn units_of<'a>(changes: bool, rows: RunRows<'a>) -> &'a [u64]
+    ensures { result.now ≡ (if changes then rows.entry.changes.now else rows.entry.births.now) }
+{
+    if changes { rows.changes } else { rows.births }
 }
 
 /// Makes each number the draw of a number from the seed of the same place.

@@ -107,7 +107,7 @@ pub(crate) fn fill_leaf(
 
 /// Whole numbers.
 #[inline(always)]
-fn fill_whole(
+pub(crate) fn fill_whole(
     digits: &Digits,
     lo: i64,
     hi: i64,
@@ -135,7 +135,7 @@ fn fill_whole(
 
 /// Numbers with a point.
 #[inline(always)]
-fn fill_fixed(
+pub(crate) fn fill_fixed(
     digits: &Digits,
     lo: i64,
     hi: i64,
@@ -190,7 +190,7 @@ fn fill_dates(
 
 /// Days whose pieces aren't kept.
 #[inline(always)]
-fn fill_days(
+pub(crate) fn fill_days(
     lo: i64,
     hi: i64,
     choices: &FixedDivisor,
@@ -214,7 +214,7 @@ fn fill_days(
 
 /// Skewed numbers.
 #[inline(always)]
-fn fill_skewed(
+pub(crate) fn fill_skewed(
     digits: &Digits,
     lo: i64,
     weights: &Weights,
@@ -238,7 +238,7 @@ fn fill_skewed(
 
 /// Words at places, whose pieces aren't kept.
 #[inline(always)]
-fn fill_words(words: &ReadyWords, places: &[u64], behind: u8, pieces: &mut [Piece])
+pub(crate) fn fill_words(words: &ReadyWords, places: &[u64], behind: u8, pieces: &mut [Piece])
     requires short { list_all is_short_text words.now.entries ≡ true }
     requires within { (i : ℕ) → i < length places.now → slice_index places.now i < length words.now.entries }
     requires lengths { length places.now ≡ length pieces.old }

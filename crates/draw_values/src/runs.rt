@@ -19,6 +19,7 @@ pub struct RunRows<'a> {
 pub struct RunNumbers {
     pub(crate) seeds: [u64; RUN_LIMIT],
     pub(crate) draws: [u64; RUN_LIMIT],
+    pub(crate) entries: [u64; RUN_LIMIT],
 }
 
 impl RunNumbers {
@@ -27,6 +28,7 @@ impl RunNumbers {
         RunNumbers {
             seeds: [0; RUN_LIMIT],
             draws: [0; RUN_LIMIT],
+            entries: [0; RUN_LIMIT],
         }
     }
 }

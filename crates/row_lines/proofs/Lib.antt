@@ -23,3 +23,4 @@ mod RunLookupLemmas
 mod RunParentLemmas
 mod RunKeyLemmas
 mod RowOfRunLemmas
+mod ItemizedLemmas

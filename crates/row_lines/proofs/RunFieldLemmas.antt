@@ -1,5 +1,5 @@
 -- What the rows of a run hold in a column, by their ordinals, and how it is written.
-use Rattle.std.proofs.Common.{◌≡◌, ◌<◌, ◌≤◌, ◌^◌, ℕ, zero, suc, ◌+◌, ◌-◌, ◌*◌, Bool, true, false, List, [], ◌∷◌, ◌++◌, length, take, sum_by, flat_map, get_or, codes, decimal, Option, Some, None, option_map, if◌then◌else◌, refl, ap, sym, ◌∙◌, arith, length-append}
+use Rattle.std.proofs.Common.{◌≡◌, ◌<◌, ◌≤◌, ◌^◌, ℕ, zero, suc, ◌+◌, ◌*◌, Bool, true, false, List, [], ◌∷◌, ◌++◌, length, take, sum_by, flat_map, get_or, codes, decimal, Option, Some, None, option_map, if◌then◌else◌, refl, ap, sym, ◌∙◌, arith, length-append}
 use Rattle.std.specs.List.{range_with_len}
 use Rattle.std.proofs.lemmas.Bool.{leb-true}
 use Rattle.std.proofs.lemmas.List.{take_all}
@@ -35,7 +35,7 @@ use Rattle.life_intervals.proofs.KeyLemmas.{OrdersCohorts-generator_of, key_of-w
 use Rattle.life_intervals.proofs.LifeLemmas.{change_unit-le, loss_of-death}
 use Rattle.life_intervals.proofs.Ranges.{flat_map-range_with_len_more, range_with_len-add}
 use Rattle.life_intervals.proofs.ReferenceLemmas.{at_column, reference_at-within}
-use Rattle.row_lines.specs.CohortLines.{LinesOf, line_in_cohort, ordinal_of, text_in_cohort}
+use Rattle.row_lines.specs.CohortLines.{LinesOf}
 use Rattle.row_lines.specs.RunFields.{AreRowsOf, asked_for, asked_long, asked_short, size_for}
 use Rattle.row_lines.specs.Kept.{kept_by}
 use Rattle.row_lines.specs.Runs.{AreLiving, RunLinesOf, behind, layout_for, line_for, living_from, text_at, text_behind}
@@ -331,35 +331,34 @@ sum_by-same f g (suc k) same =
       sum_by-same f g k (λ i below. same i (omega (arith, below))),
     )
 
--- ---- a line of a cohort, field by field
+-- ---- a line, field by field
 
 -- there is room for the field behind those before
-pub mixed-room : (lines : LinesOf) (index column : ℕ) (old before : Page) → column < length (layout_for (run_of lines)).columns →
-    before ≡ record { text = old.text ++ flat_map (text_behind (run_of lines) (ordinal_of lines index)) (range_with_len 0 column); room = old.room } →
-    ((k : ℕ) → k < column → length (text_in_cohort lines index k) ≤ size_for (run_of lines) k) → length old.text + max_line (layout_of lines.plan) lines.table ≤ old.room →
-    length before.text + (size_for (run_of lines) column + 1) ≤ before.room
-mixed-room lines index column old before below before_is sizes room =
-    let run : RunLinesOf = run_of lines in
-    let text : List ℕ = flat_map (text_behind run (ordinal_of lines index)) (range_with_len 0 column) in
+pub mixed-room : (lines : RunLinesOf) (ordinal column : ℕ) (old before : Page) → column < length (layout_for lines).columns →
+    before ≡ record { text = old.text ++ flat_map (text_behind lines ordinal) (range_with_len 0 column); room = old.room } →
+    ((k : ℕ) → k < column → length (text_at lines ordinal k) ≤ size_for lines k) → length old.text + max_line (layout_of lines.plan) lines.table ≤ old.room →
+    length before.text + (size_for lines column + 1) ≤ before.room
+mixed-room lines ordinal column old before below before_is sizes room =
+    let text : List ℕ = flat_map (text_behind lines ordinal) (range_with_len 0 column) in
     omega (
       arith,
       ap (λ (page : Page). length page.text) before_is,
       ap (λ (page : Page). page.room) before_is,
       length-append old.text text,
-      fields-size run (ordinal_of lines index) column (omega (arith, below)) sizes,
-      sum_by_more_le (room_in (lines_of run)) (layout_for run).columns column no_column below,
-      max_line-columns (lines_of run),
+      fields-size lines ordinal column (omega (arith, below)) sizes,
+      sum_by_more_le (room_in (lines_of lines)) (layout_for lines).columns column no_column below,
+      max_line-columns (lines_of lines),
       room,
     )
 
 -- the fields are the line
-pub mixed-line : (lines : LinesOf) (index count : ℕ) → count ≡ length (layout_for (run_of lines)).columns → 1 ≤ length (layout_for (run_of lines)).columns →
-    flat_map (text_behind (run_of lines) (ordinal_of lines index)) (range_with_len 0 count) ≡ line_in_cohort lines index
-mixed-line lines index count all some =
-    ap (λ (n : ℕ). flat_map (text_behind (run_of lines) (ordinal_of lines index)) (range_with_len 0 n)) all ∙ line_for-fields (run_of lines) (ordinal_of lines index) some
+pub mixed-line : (lines : RunLinesOf) (ordinal count : ℕ) → count ≡ length (layout_for lines).columns → 1 ≤ length (layout_for lines).columns →
+    flat_map (text_behind lines ordinal) (range_with_len 0 count) ≡ line_for lines ordinal
+mixed-line lines ordinal count all some =
+    ap (λ (n : ℕ). flat_map (text_behind lines ordinal) (range_with_len 0 n)) all ∙ line_for-fields lines ordinal some
 
 -- which has no more bytes than it may
-pub mixed-size : (lines : LinesOf) (index count : ℕ) → count ≡ length (layout_for (run_of lines)).columns → 1 ≤ length (layout_for (run_of lines)).columns →
-    ((k : ℕ) → k < count → length (text_in_cohort lines index k) ≤ size_for (run_of lines) k) → length (line_in_cohort lines index) ≤ max_line (layout_of lines.plan) lines.table
-mixed-size lines index count all some sizes =
-    line_for-size (run_of lines) (ordinal_of lines index) some (λ column below. sizes column (omega (arith, below, all)))
+pub mixed-size : (lines : RunLinesOf) (ordinal count : ℕ) → count ≡ length (layout_for lines).columns → 1 ≤ length (layout_for lines).columns →
+    ((k : ℕ) → k < count → length (text_at lines ordinal k) ≤ size_for lines k) → length (line_for lines ordinal) ≤ max_line (layout_of lines.plan) lines.table
+mixed-size lines ordinal count all some sizes =
+    line_for-size lines ordinal some (λ column below. sizes column (omega (arith, below, all)))

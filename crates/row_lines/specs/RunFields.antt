@@ -5,11 +5,14 @@ use Rattle.line_pages.specs.Rows.{piece_text_at}
 use Rattle.schema_plan.specs.FieldBounds.{bounds_of}
 use Rattle.schema_plan.specs.Layout.{column_at, layout_of}
 use Rattle.schema_plan.specs.Limits.{IsInLimits, IsTableInLimits}
+use Rattle.draw_values.specs.declared.items.ItemizedField.{ItemizedField}
 use Rattle.draw_values.specs.declared.runs.RunRows.{RunRows}
+use Rattle.draw_values.specs.Items.{itemized_field}
+use Rattle.draw_values.specs.Runs.{run_row}
 use Rattle.life_intervals.specs.Generator.{last_unit}
 use Rattle.row_lines.specs.CohortLines.{LinesOf, asked_by}
 use Rattle.row_lines.specs.Runs.{AreChanges, AreLiving, RunLinesOf, layout_for, text_at, text_behind}
-use Rattle.row_lines.specs.TableLines.{AreTableLines, TableLinesOf, is_short_at}
+use Rattle.row_lines.specs.TableLines.{AreTableLines, TableLinesOf, column_of, is_short_at}
 
 -- what is kept of the lines of a table is of a plan's table, at one of its units
 pub record AreRunLines (lines : RunLinesOf) (kept : TableLinesOf) : Type 0 where
@@ -53,3 +56,7 @@ asked_long lines column = if is_short_at lines.plan lines.table column then 0 el
 pub record AreMade (lines : RunLinesOf) (ordinals : List ℕ) (pieces : List Piece) (start column : ℕ) : Type 0 where
   pub text : (i : ℕ) → i < length ordinals → piece_text_at pieces (start + i) ≡ text_behind lines (get_or ordinals i 0) column
   pub size : (i : ℕ) → i < length ordinals → length (text_at lines (get_or ordinals i 0) column) ≤ size_for lines column
+
+-- what is drawn of the fields of the rows of a run in the column at a place, before their items, stands from a place of a list on
+pub record AreItemized (lines : RunLinesOf) (rows : RunRows) (items : List ItemizedField) (start column : ℕ) : Type 0 where
+  pub each : (i : ℕ) (d : ItemizedField) → i < length rows.ordinals.now → get_or items (start + i) d ≡ itemized_field lines.plan (column_of lines.plan lines.table column) (run_row rows i)

@@ -71,6 +71,14 @@ impl<'a> CohortLines<'a> {
         }
     }
 
+    /// The unit of the rows' birth.
+    #[inline(always)]
+    pub(crate) fn born(&self) -> u64
+        ensures { result ≡ self.now.born }
+    {
+        self.born
+    }
+
     /// The key of the row with this index in the cohort. It takes one step where the keys are scrambled, else none; the cost
     /// of a line has it in.
     #[inline]
@@ -194,78 +202,9 @@ impl<'a> CohortLines<'a> {
         }
     }
 
-    /// Appends the line of a row of which some fields are kept as pieces, each with the byte behind it: those of the columns whose flags
-    /// are true. The pieces of a column stand behind those of the one before, one for each of `stride` rows, of which it is the one at a
-    /// place.
-    pub(crate) fn put_mixed_line<L: Ledger>(
-        &self,
-        index: u64,
-        key: u64,
-        values: &CohortValues<'_>,
-        short: &[bool],
-        pieces: &[Piece],
-        stride: usize,
-        place: usize,
-        buf: &mut PageBuf,
-        steps: &mut Steps<L>,
-    )
-        requires row { index < cohort_size (layout_for self.now).births self.now.born }
-        requires alive { is_live_for self.now index ≡ true }
-        requires key { key ≡ key_for self.now index }
-        requires values { values.now ≡ values_at self.now (change_for self.now index) }
-        requires short { length short.now ≡ length (layout_for self.now).columns }
-        requires pieces { length (layout_for self.now).columns * stride ≤ length pieces.now }
-        requires place { place < stride }
-        requires texts { (column : ℕ) → column < length short.now → get_or short.now column false ≡ true →
-            piece_text_at pieces.now (column * stride + place) ≡ text_in_cohort self.now index column ++ behind_of self.now.plan self.now.table column ∷ [] }
-        requires sizes { (column : ℕ) → column < length short.now → get_or short.now column false ≡ true → length (text_in_cohort self.now index column) ≤ size_for self.now column }
-        requires room { length buf.old.text + max_line (layout_of self.now.plan) self.now.table ≤ buf.old.room }
-        ensures line { buf.new ≡ record buf.old { text = buf.old.text ++ line_in_cohort self.now index } }
-        ensures size { length (line_in_cohort self.now index) ≤ max_line (layout_of self.now.plan) self.now.table }
-        ensures steps { steps.new ≤ steps.old + sum_by (asked_where short.now self.now) (range_with_len 0 (length short.now)) }
-    {
-        let _limits = self.rows.plan().schema(); // each table has a column
-        for column in 0..short.len() {
-            let piece = &pieces[column * stride + place];
-            self.put_mixed_field(column, index, key, values, short[column], piece, buf, steps);
-        }
-    }
-
-    /// Appends the field of the column at a place, with the byte behind it: the piece, where there is one of it.
-    #[inline(always)]
-    fn put_mixed_field<L: Ledger>(
-        &self,
-        column: usize,
-        index: u64,
-        key: u64,
-        values: &CohortValues<'_>,
-        is_short: bool,
-        piece: &Piece,
-        buf: &mut PageBuf,
-        steps: &mut Steps<L>,
-    )
-        requires column { column < length (layout_for self.now).columns }
-        requires row { index < cohort_size (layout_for self.now).births self.now.born }
-        requires alive { is_live_for self.now index ≡ true }
-        requires values { values.now ≡ values_at self.now (change_for self.now index) }
-        requires key { key ≡ key_for self.now index }
-        requires piece { is_short ≡ true → piece_text piece.now ≡ text_in_cohort self.now index column ++ behind_of self.now.plan self.now.table column ∷ [] }
-        requires short { is_short ≡ true → length (text_in_cohort self.now index column) ≤ size_for self.now column }
-        requires room { length buf.old.text + (size_for self.now column + 1) ≤ buf.old.room }
-        ensures text { buf.new ≡ record buf.old { text = buf.old.text ++ (text_in_cohort self.now index column ++ behind_of self.now.plan self.now.table column ∷ []) } }
-        ensures size { length (text_in_cohort self.now index column) ≤ size_for self.now column }
-        ensures steps { steps.new ≤ steps.old + (if is_short then 0 else asked_for true self.now column) }
-    {
-        if is_short {
-            buf.put_piece(piece);
-        } else {
-            self.put_field_behind(column, index, key, values, buf, steps);
-        }
-    }
-
     /// Appends the field of the column at a place, with the byte behind it.
     #[inline(always)]
-    fn put_field_behind<L: Ledger>(
+    pub(crate) fn put_field_behind<L: Ledger>(
         &self,
         column: usize,
         index: u64,

@@ -1,6 +1,6 @@
 //! What the loops of a run work on.
 
-use draw_values::RunNumbers;
+use draw_values::{ItemizedField, RunNumbers};
 use line_pages::Piece;
 
 /// The most rows of a run: more of them at once are no faster.
@@ -28,7 +28,7 @@ impl RowBuf {
 }
 
 /// What the fields of rows are made of: the units of their last changes, their keys, their parents by one reference, with the keys of
-/// these, and a piece for each field.
+/// these, a piece for each field, and what is drawn of those of several items.
 #[derive(Drop)]
 pub(crate) struct FieldBuf {
     pub(crate) changes: [u64; MOST_ROWS],
@@ -37,6 +37,7 @@ pub(crate) struct FieldBuf {
     pub(crate) parent_keys: [u64; MOST_ROWS],
     pub(crate) numbers: RunNumbers,
     pub(crate) pieces: [Piece; PIECES],
+    pub(crate) items: [ItemizedField; PIECES],
 }
 
 /// What the loops of a run work on: its rows, and what their fields are made of. It is made once for many runs, and holds nothing from
@@ -59,6 +60,7 @@ impl RunBuf {
                 parent_keys: [0; MOST_ROWS],
                 numbers: RunNumbers::new(),
                 pieces: [Piece::new(); PIECES],
+                items: [ItemizedField::new(); PIECES],
             },
         }
     }

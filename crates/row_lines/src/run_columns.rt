@@ -9,7 +9,7 @@ ghost use Rattle.schema_plan.specs.Lineage.{one_if};
 ghost use Rattle.life_intervals.specs.CohortParents.{IsReferenceOf, held_cost, reference_by};
 ghost use Rattle.life_intervals.specs.Generator.{table_of};
 ghost use Rattle.row_lines.specs.Runs.{AreKeys, layout_for};
-ghost use Rattle.row_lines.specs.RunFields.{AreMade, AreRowsOf, asked_short};
+ghost use Rattle.row_lines.specs.RunFields.{AreItemized, AreMade, AreRowsOf, asked_short};
 ghost use Rattle.row_lines.specs.RunParents.{AreKnown};
 ghost use Rattle.row_lines.specs.TableLines.{behind_of, column_of, has_short_keys, is_short_at};
 
@@ -17,7 +17,7 @@ use crate::bytes::byte_behind;
 use crate::run_buf::{MOST_ROWS, RowBuf};
 use crate::run_parents::Parents;
 use crate::runs::RunLines;
-use draw_values::{RunNumbers, RunRows};
+use draw_values::{ItemizedField, RunNumbers, RunRows};
 use line_pages::Piece;
 use schema_plan::{ReadyKind, ReadyReference};
 use std::sync::ledger::Ledger;
@@ -66,6 +66,45 @@ impl<'a> RunLines<'a> {
                 fields,
                 steps,
             );
+        }
+    }
+
+    /// What is drawn of the fields of the rows of a run before their items, column by column, where they are of several. The columns stand
+    /// one after the other, each over as many places as there are rows.
+    pub(crate) fn itemize_columns(
+        &self,
+        rows: RunRows<'_>,
+        numbers: &mut RunNumbers,
+        items: &mut [ItemizedField],
+    )
+        requires rows { AreRowsOf self.now rows }
+        requires items { length rows.ordinals.now * length (layout_for self.now).columns ≤ length items.old }
+        ensures { (column : ℕ) → column < length (layout_for self.now).columns → (column_of self.now.plan self.now.table column).itemized ≡ true → AreItemized self.now rows.entry items.new (column * length rows.entry.ordinals.now) column }
+    {
+        let count = rows.ordinals.len();
+        for column in 0..self.column_count() {
+            let start = column * count;
+            self.itemize_column(column, rows, numbers, &mut items[start..start + count]);
+        }
+    }
+
+    /// The same of the column at a place.
+    fn itemize_column(
+        &self,
+        column: usize,
+        rows: RunRows<'_>,
+        numbers: &mut RunNumbers,
+        fields: &mut [ItemizedField],
+    )
+        requires column { column < length (layout_for self.now).columns }
+        requires rows { AreRowsOf self.now rows }
+        requires fields { length fields.old ≡ length rows.ordinals.now }
+        ensures { (column_of self.now.plan self.now.table column).itemized ≡ true → AreItemized self.now rows.entry fields.new 0 column }
+    {
+        let columns = self.lines.columns();
+        let own = &columns[column];
+        if own.is_itemized() {
+            own.itemize(self.rows.plan(), rows, numbers, fields);
         }
     }
 

@@ -274,6 +274,7 @@ impl<'a> RunLines<'a> {
             changes,
         };
         let pieces = &mut fields.pieces[..];
+        let items = &mut fields.items[..];
         let (parents, parent_keys) = (&mut fields.parents, &mut fields.parent_keys[..]);
         self.put_columns(
             rows,
@@ -284,6 +285,7 @@ impl<'a> RunLines<'a> {
             pieces,
             steps,
         );
-        self.put_lines(rows, keys, pieces, page, steps);
+        self.itemize_columns(rows, &mut fields.numbers, items);
+        self.put_lines(rows, keys, pieces, items, page, steps);
     }
 }

@@ -11,6 +11,9 @@ use std::alloc::Global;
 /// The greatest total whose numbers stand in a table.
 const TABLE: u64 = 1024;
 
+/// How many slices there may be at least: where groups are few, most slices are within one, so that a search hardly goes on.
+const SLICES: u64 = 2048;
+
 /// The shift at which all numbers, which are below 2^40, are one slice.
 const ONE_SLICE: u32 = 40;
 
@@ -58,8 +61,8 @@ pub(crate) fn group_table(alloc: Global, sums: &[u64]) -> Result<Vec<u16>, Memor
     Ok(table)
 }
 
-/// The least shift at which there are no more slices than groups; where a table knows the group of each number, one slice is
-/// enough.
+/// The least shift at which there are no more slices than groups, or than there may be at least; where a table knows the group of each
+/// number, one slice is enough.
 pub(crate) fn slice_shift(sums: &[u64], searched: bool) -> u32
     requires { ArePrefixSums sums.now }
     ensures { result ≤ 40 }
@@ -68,8 +71,9 @@ pub(crate) fn slice_shift(sums: &[u64], searched: bool) -> u32
         return ONE_SLICE;
     }
     let last = last_sum(sums) - 1;
+    let most = SLICES.max(sums.len() as u64);
     for shift in 0..ONE_SLICE {
-        if last >> shift < sums.len() as u64 {
+        if last >> shift < most {
             return shift;
         }
     }

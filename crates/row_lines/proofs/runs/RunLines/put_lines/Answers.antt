@@ -3,9 +3,11 @@ use Rattle.std.specs.List.{range_with_len}
 use Rattle.std.proofs.lemmas.List.{take_all}
 use Rattle.schema_plan.specs.Layout.{layout_of}
 use Rattle.schema_plan.specs.TableFacts.{max_line}
+use Rattle.row_lines.specs.CohortLines.{LinesOf}
 use Rattle.row_lines.specs.RunFields.{AreMade, asked_long}
 use Rattle.row_lines.specs.Runs.{RunLinesOf, layout_for, line_for, listed_text}
 use Rattle.row_lines.specs.TableLines.{TableLinesOf, table_lines}
+use Rattle.row_lines.proofs.RowOfRunLemmas.{of_unit}
 use Rattle.row_lines.proofs.RunPieceLemmas.{AreRunLines-view, length-short, made-size, rows-lines, short-at}
 use Rattle.row_lines.proofs.RunTextLemmas.{appended-more, listed_text-more, room-more, sizes-more}
 use Rattle.row_lines.proofs.runs.RunLines.put_lines.Goals as goal
@@ -63,6 +65,7 @@ loop-row-preserved g c =
     let line : List ℕ = line_for lines (get_or ordinals row 0) in
     let more = listed_text-more lines ordinals row (omega arith) in
     record {
+      lines = c.turn_to.ensures ∙ ap (of_unit lines) (sym (ap (λ (of : LinesOf). of.born) c.turn_to.ensures));
       text = appended-more c.args.page.now c.loop-row.page c.put_mixed_line.new.page (listed_text lines (take row ordinals)) line (listed_text lines (take (row + 1) ordinals))
           c.loop-row.invariant.text c.put_mixed_line.ensures.text more;
       size = sizes-more (listed_text lines (take row ordinals)) line (listed_text lines (take (row + 1) ordinals)) row 1 (max_line (layout_of lines.plan) lines.table) more c.loop-row.invariant.size

@@ -1,7 +1,6 @@
 use Rattle.std.proofs.Common.{◌≡◌, ℕ, Bool, true, false, List, if◌then◌else◌, get_or, refl, ap, ◌∙◌, arith}
 use Rattle.philox_seeds.specs.SeedTree.{row_seed, unit_seed}
-use Rattle.draw_values.specs.Runs.{RunColumnOf}
-use Rattle.draw_values.proofs.run_column.RunColumn.put_seeds.Goals as goal
+use Rattle.draw_values.proofs.run_loops.put_run_seeds.Goals as goal
 
 get_or-if : (changes : Bool) (xs ys : List ℕ) (i : ℕ) → get_or (if changes then xs else ys) i 0 ≡ (if changes then get_or xs i 0 else get_or ys i 0)
 get_or-if true xs ys i = refl
@@ -13,5 +12,4 @@ returns c = λ i within.
     c.put_row_seeds.ensures i (omega (arith, c.put_unit_seeds.auto.seeds))
     ∙ ap (λ (seed : ℕ). row_seed seed (get_or rows.ordinals.now i 0))
     (c.put_unit_seeds.ensures i within
-    ∙ ap (λ (seed : ℕ). unit_seed seed (get_or c.units_of.result.now i 0)) (ap (λ (run : RunColumnOf). run.seed) c.self.view_is)
-    ∙ ap (unit_seed c.args.self.now.seed) (ap (λ (units : List ℕ). get_or units i 0) c.units_of.ensures ∙ get_or-if c.args.changes rows.changes.now rows.births.now i))
+    ∙ ap (unit_seed c.args.column.now) (ap (λ (units : List ℕ). get_or units i 0) c.units_of.ensures ∙ get_or-if c.args.changes rows.changes.now rows.births.now i))

@@ -4,11 +4,11 @@ use Rattle.schema_plan.specs.declared.ready.ReadyColumn.{ReadyColumn}
 use Rattle.schema_plan.specs.Layout.{column_at, layout_of, table_at}
 use Rattle.schema_plan.specs.Limits.{IsTableInLimits}
 use Rattle.schema_plan.specs.Ready.{ready_columns}
-use Rattle.draw_values.specs.Runs.{IsReadyDrawn, RunColumnOf, is_short, ready_at}
+use Rattle.draw_values.specs.Runs.{IsReadyDrawn, RunColumnOf, is_short_alone, ready_at}
 use Rattle.draw_values.proofs.FieldLemmas.{IsKeptField}
 use Rattle.draw_values.proofs.RunLemmas.{drawn_is_ready, kept_short, own_ready, run_field-filled, run_text_size}
-use Rattle.draw_values.proofs.run_column.RunColumn.fill.Goals as goal
-use Rattle.draw_values.proofs.run_column.RunColumn.fill.Goals.{After-index-columns-self}
+use Rattle.draw_values.proofs.run_column.RunColumn.fill_alone.Goals as goal
+use Rattle.draw_values.proofs.run_column.RunColumn.fill_alone.Goals.{After-index-columns-self}
 
 table_is : (c : After-index-columns-self) → c.self.inside.table ≡ c.args.self.now.table
 table_is c = ap (λ (r : RunColumnOf). r.table) c.self.view_is
@@ -21,10 +21,9 @@ own_is c =
     own_ready c.args.plan.now c.args.self.now c.columns-columns.result.now c.index-columns-self.result c.self.inside.table c.self.inside.column c.requires.column c.columns-columns.ensures.columns
     (table_is c) (column_is c) c.index-columns-self.is
 
-short : (c : After-index-columns-self) → is_short c.index-columns-self.result.kind ≡ true
+short : (c : After-index-columns-self) → is_short_alone c.index-columns-self.result.kind ≡ true
 short c =
-    ap (λ (found : ReadyColumn). is_short found.kind) (own_is c)
-    ∙ sym (ap (λ (r : RunColumnOf). r.short) c.requires.column.is)
+    ap (λ (found : ReadyColumn). is_short_alone found.kind) (own_is c)
     ∙ c.requires.short
 
 limits : (c : After-index-columns-self) → IsTableInLimits (layout_of c.args.plan.now).units (table_at (layout_of c.args.plan.now).tables c.args.self.now.table)

@@ -1,0 +1,6 @@
+use Rattle.std.proofs.Common.{◌≡◌, map, take}
+use Rattle.line_pages.specs.Pieces.{piece_text}
+use Rattle.draw_values.proofs.kept.bare_entries.Given as goal
+
+abbrev pub invariant-loop-i : goal.invariant-loop-i
+invariant-loop-i l = map piece_text l.pieces.items ≡ take l.i l.entries

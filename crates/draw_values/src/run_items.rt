@@ -1,0 +1,115 @@
+//! The fields of a column over a run, where they are of several items.
+
+ghost use Rattle.std.specs.Prelude.{◌≡◌, ℕ, ◌<◌, ◌≤◌, ◌+◌, ◌++◌, IfSome, slice_index, length, max, slice_index_or, true};
+ghost use Rattle.philox_seeds.specs.SeedTree.{draw as draw_of};
+ghost use Rattle.row_text.specs.Fields.{field_text};
+ghost use Rattle.schema_plan.specs.Layout.{layout_of};
+ghost use Rattle.draw_values.specs.Items.{field_behind, item_count, itemized_by, itemized_field, items_or_null};
+ghost use Rattle.draw_values.specs.ReadyValues.{IsReady, ready_size};
+ghost use Rattle.draw_values.specs.Runs.{AreOfLength, AreRunRows, IsReadyDrawn, IsRunColumn, is_itemized, is_itemized_leaf, items_of, kept_texts, run_row, run_seed, with_behind};
+ghost use Rattle.draw_values.specs.Values.{size_at, value_at};
+
+use crate::fields::NULL_DRAW;
+use crate::items::{ItemizedField, put_counts, put_items, put_null_counts};
+use crate::leaves::FIRST_DRAW;
+use crate::run_column::RunColumn;
+use crate::run_loops::put_draws;
+use crate::runs::{RunNumbers, RunRows};
+use crate::values::RowAt;
+use line_pages::{PageBuf, Piece};
+use row_text::put_null;
+use schema_plan::{Plan, ReadyColumn, ReadyKind, ReadyLeaf};
+
+impl RunColumn {
+    /// Whether every field is null or of several items, each of which makes a piece, so that `itemize` and `put_itemized` may be called.
+    #[inline(always)]
+    pub fn is_itemized(&self) -> bool
+        ensures { result ≡ self.now.itemized }
+    {
+        self.itemized
+    }
+
+    /// What is drawn of the fields of the rows of a run before their items.
+    pub fn itemize(
+        &self,
+        plan: &Plan,
+        rows: RunRows<'_>,
+        numbers: &mut RunNumbers,
+        fields: &mut [ItemizedField],
+    )
+        requires column { IsRunColumn plan.now self.now }
+        requires itemized { self.now.itemized ≡ true }
+        requires rows { AreRunRows (layout_of plan.now).units (length fields.old) rows }
+        ensures { (i : ℕ) (d : ItemizedField) → i < length fields.old → slice_index_or fields.new i d ≡ itemized_field plan.now self.now (run_row rows.entry i) }
+    {
+        let columns = plan.columns(self.table);
+        let own = &columns[self.column as usize];
+        let count = fields.len();
+        let all_seeds = &mut numbers.seeds[..];
+        let all_draws = &mut numbers.draws[..];
+        let seeds = &mut all_seeds[..count];
+        let draws = &mut all_draws[..count];
+        self.put_seeds(own.changes, rows, seeds);
+        itemize_seeds(own, seeds, draws, fields);
+    }
+
+    /// Appends the field of a row, with the byte behind it, by what is drawn of it before its items. The greatest size of the column's
+    /// fields and a byte have to be free.
+    pub fn put_itemized(&self, plan: &Plan, field: ItemizedField, page: &mut PageBuf)
+        requires column { IsRunColumn plan.now self.now }
+        requires itemized { self.now.itemized ≡ true }
+        requires field { (at : RowAt) × (field ≡ itemized_field plan.now self.now at) }
+        requires room { length page.old.text + (size_at (layout_of plan.now) self.now.table self.now.column + 1) ≤ page.old.room }
+        ensures text { (at : RowAt) → field ≡ itemized_field plan.now self.now at → page.new ≡ record page.old { text = page.old.text ++ field_behind plan.now self.now at } }
+        ensures size { (at : RowAt) → field ≡ itemized_field plan.now self.now at → length (field_text (layout_of plan.now).delimiter (value_at (layout_of plan.now) self.now.table self.now.column at)) ≤ size_at (layout_of plan.now) self.now.table self.now.column }
+    {
+        let columns = plan.columns(self.table);
+        match &columns[self.column as usize].kind {
+            ReadyKind::Drawn(leaf) => self.put_drawn_items(leaf, field, page),
+            _ => unreachable!(),
+        }
+    }
+
+    /// The same by what is drawn of a leaf.
+    #[inline(always)]
+    fn put_drawn_items(&self, leaf: &ReadyLeaf, field: ItemizedField, page: &mut PageBuf)
+        requires ready { IsReady leaf.now }
+        requires itemized { is_itemized_leaf leaf.now ≡ true }
+        requires kept { self.now.texts ≡ items_of leaf.now }
+        requires count { IfSome field.count (λ count. (number : ℕ) × (count ≡ item_count leaf.now number)) }
+        requires room { length page.old.text + (max 2 (ready_size leaf.now) + 1) ≤ page.old.room }
+        ensures text { page.new ≡ record page.old { text = page.old.text ++ with_behind self.now.behind (items_or_null leaf.now (draw_of field.seed) field.count) } }
+        ensures size { length (items_or_null leaf.now (draw_of field.seed) field.count) ≤ max 2 (ready_size leaf.now) }
+    {
+        match field.count {
+            Some(count) => put_items(leaf, self.kept.as_slice(), count, field.seed, page),
+            None => put_null(page),
+        }
+        page.put_piece(&Piece::of_byte(self.behind));
+    }
+}
+
+/// What is drawn of the fields of rows with these seeds, in a column as it is kept ready, before their items.
+#[inline(always)]
+fn itemize_seeds(own: &ReadyColumn, seeds: &[u64], draws: &mut [u64], fields: &mut [ItemizedField])
+    requires ready { IsReadyDrawn own.now.kind }
+    requires itemized { is_itemized own.now.kind ≡ true }
+    requires seeds { length seeds.now ≡ length fields.old }
+    requires draws { length draws.old ≡ length fields.old }
+    ensures { (i : ℕ) (d : ItemizedField) → i < length fields.old → slice_index_or fields.new i d ≡ itemized_by own.now (slice_index seeds.now i) }
+{
+    put_draws(FIRST_DRAW, seeds, draws);
+    match &own.kind {
+        ReadyKind::Drawn(ReadyLeaf::Chars { lo, lengths, .. }) => {
+            put_counts(*lo, lengths, seeds, draws, fields);
+        }
+        ReadyKind::Drawn(ReadyLeaf::Words { lo, lengths, .. }) => {
+            put_counts(*lo, lengths, seeds, draws, fields);
+        }
+        _ => unreachable!(),
+    }
+    if own.null > 0 {
+        put_draws(NULL_DRAW, seeds, draws);
+        put_null_counts(own.null, draws, fields);
+    }
+}
