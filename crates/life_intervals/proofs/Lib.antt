@@ -27,3 +27,4 @@ pub mod ParentsLiveLemmas
 pub mod RunLemmas
 pub mod KeptLemmas
 pub mod PartLemmas
+pub mod EndLemmas

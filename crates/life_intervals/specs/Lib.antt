@@ -13,5 +13,6 @@ pub mod Found
 pub mod Runs
 pub mod CohortParents
 pub mod CohortLives
+pub mod Ends
 pub mod JobOrders
 pub mod Worked

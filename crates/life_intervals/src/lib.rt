@@ -23,6 +23,7 @@ mod memory;
 mod orders;
 mod parents;
 mod rows;
+mod run_ends;
 mod runs;
 mod wanted;
 mod window;
