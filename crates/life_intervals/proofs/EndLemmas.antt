@@ -3,7 +3,7 @@ use Rattle.std.proofs.Common.{◌≡◌, ◌<◌, ◌≤◌, ℕ, ◌+◌, ◌-�
 use Rattle.std.specs.Prelude.{nat_le, nat_lt}
 use Rattle.std.proofs.Math.Nat.{mul-add, mul-le-mul_left}
 use Rattle.std.proofs.lemmas.Bool.Decides.{nat_tests}
-use Rattle.std.proofs.lemmas.List.{get_or-append_right, get_or-drop, get_or-take}
+use Rattle.std.proofs.lemmas.List.{ext_get_or, get_or-append_right, get_or-drop, get_or-map, get_or-take, length-map}
 use Rattle.std.proofs.lemmas.Slice.{drop-put_mid, take-put_mid, take-put_mid_below}
 use Rattle.cohort_sizes.specs.Births.{LiesIn, birth, born_count, first_ordinal, index_at}
 use Rattle.cohort_sizes.proofs.CohortLemmas.{born_count-le}
@@ -281,3 +281,17 @@ steps-more n b c d s a e first second sum = omega (arith, first, second, ap (λ 
 pub steps-parents : (n m asked cost s a e : ℕ) → m ≡ n → a ≡ s + n → e ≤ a + m * asked → asked ≤ cost → e ≤ s + n * (1 + cost)
 steps-parents n m asked cost s a e same first second few =
     omega (arith, first, second, ap (λ k. k * asked) same, mul-le-mul_left n few, mul-add n 1 cost)
+
+-- ---- lists of one length
+
+pub map-beside : (f g : ℕ → Bool) (xs ys : List ℕ) → length xs ≡ length ys → ((i : ℕ) → i < length ys → f (get_or xs i 0) ≡ g (get_or ys i 0)) → map f xs ≡ map g ys
+map-beside f g xs ys same_length each =
+    ext_get_or false (map f xs) (map g ys) (length-map xs f ∙ same_length ∙ sym (length-map ys g)) (λ i below.
+    let inside : i < length xs = omega (arith, below, length-map xs f) in
+    get_or-map f xs i 0 false inside ∙ each i (omega (arith, inside, same_length)) ∙ sym (get_or-map g ys i 0 false (omega (arith, inside, same_length))))
+
+pub map-each : (f : ℕ → ℕ) (xs ys : List ℕ) → length ys ≡ length xs → ((i : ℕ) → i < length xs → get_or ys i 0 ≡ f (get_or xs i 0)) → ys ≡ map f xs
+map-each f xs ys same_length each =
+    ext_get_or 0 ys (map f xs) (same_length ∙ sym (length-map xs f)) (λ i below.
+    let inside : i < length xs = omega (arith, below, same_length) in
+    each i inside ∙ sym (get_or-map f xs i 0 0 inside))

@@ -373,6 +373,7 @@ impl<'a> Rows<'a> {
         requires born { born ≤ t }
         requires unit { t ≤ last_unit self.now }
         requires some { 1 ≤ length ordinals.now }
+        requires few { length ordinals.now ≤ MOST_ROWS }
         requires lie { All (λ j. LiesIn (table_of self.now table).births born j) ordinals.now }
         requires same_length { length changes.old ≡ length ordinals.now }
         ensures changes { changes.new ≡ map (λ j. change_unit (generator_of self.now) table t j) ordinals.now }
