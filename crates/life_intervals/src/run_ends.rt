@@ -129,7 +129,9 @@ impl<'a> Rows<'a> {
             if let ReadyKind::Reference(reference) = &ready.kind {
                 if !reference.nulls {
                     let column = column as u32;
-                    self.put_parents_ends(table, column, reference, t, ordinals, births, ends, steps);
+                    self.put_parents_ends(
+                        table, column, reference, t, ordinals, births, ends, steps,
+                    );
                 }
             }
         }

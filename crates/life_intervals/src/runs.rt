@@ -413,7 +413,9 @@ impl<'a> Rows<'a> {
             if let ReadyKind::Reference(reference) = &ready.kind {
                 if reference.nulls {
                     let column = column as u32;
-                    self.put_losses_by(table, column, reference, t, ordinals, births, changes, steps);
+                    self.put_losses_by(
+                        table, column, reference, t, ordinals, births, changes, steps,
+                    );
                 }
             }
         }

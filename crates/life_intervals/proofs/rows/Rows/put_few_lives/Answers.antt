@@ -1,9 +1,9 @@
-use Rattle.std.proofs.Common.{◌≡◌, ◌≤◌, ◌<◌, ℕ, true, false, get_or, length, ap, arith, subst, sym, ◌∙◌}
+use Rattle.std.proofs.Common.{◌≤◌, ℕ, true, false, get_or, ap, arith, subst, sym, ◌∙◌}
 use Rattle.std.proofs.lemmas.List.{get_or_default}
 use Rattle.schema_plan.specs.Dictionaries.{Project}
 use Rattle.schema_plan.specs.Limits.{IsInLimits}
 use Rattle.life_intervals.specs.CohortLives.{survival_at}
-use Rattle.life_intervals.specs.Generator.{generator_of, last_unit}
+use Rattle.life_intervals.specs.Generator.{generator_of}
 use Rattle.life_intervals.specs.Intervals.{is_live}
 use Rattle.life_intervals.proofs.PartLemmas.{lies-over, lies-sure}
 use Rattle.life_intervals.proofs.RunLemmas.{map-same_value}

@@ -1,4 +1,4 @@
-use Rattle.std.proofs.Common.{◌≤◌, ◌+◌, ◌-◌, ℕ, length, arith}
+use Rattle.std.proofs.Common.{◌≤◌, ◌+◌, ℕ, length, arith}
 use Rattle.life_intervals.specs.CohortParents.{asked_for_death}
 use Rattle.life_intervals.specs.Generator.{generator_of}
 use Rattle.life_intervals.specs.Intervals.{is_live}

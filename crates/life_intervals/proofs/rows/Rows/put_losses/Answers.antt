@@ -1,4 +1,4 @@
-use Rattle.std.proofs.Common.{◌≡◌, ◌≤◌, ◌<◌, ◌+◌, ◌-◌, ◌*◌, ℕ, Option, List, filter, get_or, length, map, sum_by, ap, ap₂, arith, subst, sym, ◌∙◌}
+use Rattle.std.proofs.Common.{◌≡◌, ◌≤◌, ◌+◌, ◌-◌, ◌*◌, ℕ, List, filter, get_or, length, map, sum_by, ap, ap₂, arith, subst, sym, ◌∙◌}
 use Rattle.std.proofs.lemmas.List.{get_or-map, length-map}
 use Rattle.cohort_sizes.specs.Births.{first_ordinal}
 use Rattle.schema_plan.specs.declared.ready.ReadyColumn.{ReadyColumn}
@@ -13,10 +13,10 @@ use Rattle.life_intervals.specs.declared.found.FoundRow.{FoundRow}
 use Rattle.life_intervals.specs.Changes.{last_change, later_change}
 use Rattle.life_intervals.specs.CohortKeys.{CohortOf}
 use Rattle.life_intervals.specs.CohortOrders.{due_for}
-use Rattle.life_intervals.specs.CohortParents.{loss_in, reference_by}
+use Rattle.life_intervals.specs.CohortParents.{loss_in}
 use Rattle.life_intervals.specs.Generator.{generator_of, last_unit, table_of}
 use Rattle.life_intervals.specs.Intervals.{change_unit, death}
-use Rattle.life_intervals.proofs.CohortParentLemmas.{before-none, change_before, change_before-nulls, change_before-other, cost_of_reference, length-ready_columns, loss_before, loss_before-nulls, loss_before-other, loss_cost-parts, none_from_columns, reference_from_columns, references_before-all}
+use Rattle.life_intervals.proofs.CohortParentLemmas.{before-none, change_before-nulls, change_before-other, cost_of_reference, length-ready_columns, loss_before, loss_before-nulls, loss_before-other, loss_cost-parts, none_from_columns, reference_from_columns, references_before-all}
 use Rattle.life_intervals.proofs.EndLemmas.{map-each, steps-more}
 use Rattle.life_intervals.proofs.FoundLemmas.{found-parent}
 use Rattle.life_intervals.proofs.PartLemmas.{due_for-losses, found-lies}

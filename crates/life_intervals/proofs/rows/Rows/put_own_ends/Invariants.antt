@@ -1,4 +1,4 @@
-use Rattle.std.proofs.Common.{◌≡◌, ◌≤◌, ◌+◌, ◌-◌, ◌*◌, length}
+use Rattle.std.proofs.Common.{◌≤◌, ◌+◌, ◌-◌, ◌*◌, length}
 use Rattle.schema_plan.specs.Lineage.{one_if}
 use Rattle.life_intervals.specs.CohortOrders.{do_lives_differ}
 use Rattle.life_intervals.specs.Generator.{generator_of, last_unit, table_of}

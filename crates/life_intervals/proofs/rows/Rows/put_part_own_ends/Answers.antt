@@ -1,4 +1,4 @@
-use Rattle.std.proofs.Common.{◌≡◌, ◌<◌, ◌+◌, ◌-◌, ◌%◌, ℕ, List, Option, Some, get_or, length, option_map, ap, ap₂, arith, sym, ◌∙◌}
+use Rattle.std.proofs.Common.{◌≡◌, ◌+◌, ◌-◌, ◌%◌, ℕ, List, Option, Some, get_or, length, option_map, ap, ap₂, arith, sym, ◌∙◌}
 use Rattle.std.proofs.lemmas.List.{get_or-map, length-map}
 use Rattle.schema_plan.specs.declared.layout.Span.{Span}
 use Rattle.schema_plan.specs.Dictionaries.{Project}
