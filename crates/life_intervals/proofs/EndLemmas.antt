@@ -23,6 +23,7 @@ use Rattle.life_intervals.specs.Ends.{AreEarlier, AreEnds, earlier_end}
 use Rattle.life_intervals.specs.Generator.{generator_of, last_unit, rows_in_all, table_of}
 use Rattle.life_intervals.specs.Intervals.{death, first_death, is_after, is_live, own_death, parent_of}
 use Rattle.life_intervals.specs.Rows.{life_by}
+use Rattle.life_intervals.specs.RunParents.{AreKnownOf}
 use Rattle.life_intervals.specs.Runs.{IsRun}
 use Rattle.life_intervals.proofs.CascadeLemmas.{is_cascading}
 use Rattle.life_intervals.proofs.CohortParentLemmas.{before-none, death-parents, first_before, first_before-nulls, first_before-some, parent_below, references_before-all}
@@ -281,6 +282,13 @@ steps-more n b c d s a e first second sum = omega (arith, first, second, ap (λ 
 pub steps-parents : (n m asked cost s a e : ℕ) → m ≡ n → a ≡ s + n → e ≤ a + m * asked → asked ≤ cost → e ≤ s + n * (1 + cost)
 steps-parents n m asked cost s a e same first second few =
     omega (arith, first, second, ap (λ k. k * asked) same, mul-le-mul_left n few, mul-add n 1 cost)
+
+-- parents that are known, under other names
+pub AreKnownOf-same : (plan : Project) (table unit : ℕ) (ordinals : List ℕ) (by known_by : Option ℕ) (parents known births known_births : List ℕ) → by ≡ known_by → parents ≡ known → births ≡ known_births →
+    AreKnownOf plan table unit ordinals known_by known known_births → AreKnownOf plan table unit ordinals by parents births
+AreKnownOf-same plan table unit ordinals by known_by parents known births known_births by_is parents_is births_is are =
+    subst (λ (b : Option ℕ). AreKnownOf plan table unit ordinals b parents births) (sym by_is)
+    (subst (λ (p : List ℕ). AreKnownOf plan table unit ordinals known_by p births) (sym parents_is) (subst (AreKnownOf plan table unit ordinals known_by known) (sym births_is) are))
 
 -- ---- lists of one length
 

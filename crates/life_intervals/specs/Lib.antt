@@ -14,5 +14,6 @@ pub mod Runs
 pub mod CohortParents
 pub mod CohortLives
 pub mod Ends
+pub mod RunParents
 pub mod JobOrders
 pub mod Worked

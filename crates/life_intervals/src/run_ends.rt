@@ -12,6 +12,7 @@ ghost use Rattle.life_intervals.specs.CohortParents.{IsReferenceOf, asked_for_de
 ghost use Rattle.life_intervals.specs.Ends.{AreEarlier, AreEnds, earlier_end};
 ghost use Rattle.life_intervals.specs.Generator.{generator_of, last_unit, table_of};
 ghost use Rattle.life_intervals.specs.Intervals.{death, own_death, parent_of};
+ghost use Rattle.life_intervals.specs.RunParents.{AreKnownOf};
 ghost use Rattle.life_intervals.specs.Runs.{IsRun};
 
 use crate::lives::{Survival, survival_at};
@@ -25,7 +26,7 @@ use std::sync::ledger::Ledger;
 use step_count::Steps;
 
 /// The most rows whose parents are found side by side.
-pub(crate) const MOST_ROWS: usize = 256;
+pub const MOST_ROWS: usize = 256;
 
 /// Whether all rows that are born at some units are sure to be alive at unit `t`.
 pub(crate) fn are_sure(plan: &Plan, table: u32, births: &[u64], t: u64) -> bool
@@ -99,70 +100,7 @@ impl<'a> Rows<'a> {
         ensures steps { steps.new ≤ steps.old + length ordinals.now * asked_for_death self.now table }
     {
         let _sound = self.plan().schema(); // so lives say of all rows of a cohort
-        if !are_sure(self.plan(), table, births, t) {
-            self.put_drawn_ends(table, t, ordinals, births, ends, steps);
-        }
-    }
-
-    /// The same by the own life of each row and those of its parents.
-    #[cycle(ends)]
-    pub(crate) fn put_drawn_ends<L: Ledger>(
-        &self,
-        table: u32,
-        t: u64,
-        ordinals: &[u64],
-        births: &[u64],
-        ends: &mut [u64],
-        steps: &mut Steps<L>,
-    )
-        requires table { table < length self.now.schema.tables }
-        requires unit { t ≤ last_unit self.now }
-        requires few { length ordinals.now ≤ MOST_ROWS }
-        requires run { IsRun self.now table t ordinals.now births.now }
-        requires ends { AreEnds t ordinals.now ends.old }
-        ensures ends { AreEarlier (death (generator_of self.now) table (last_unit self.now)) ordinals.now ends.old ends.new }
-        ensures steps { steps.new ≤ steps.old + length ordinals.now * asked_for_death self.now table }
-    {
-        let _sound = self.plan().schema(); // so a row dies with its parents
-        self.put_own_ends(table, t, ordinals, births, ends, steps);
-        for (column, ready) in self.plan().columns(table).iter().enumerate() {
-            if let ReadyKind::Reference(reference) = &ready.kind {
-                if !reference.nulls {
-                    let column = column as u32;
-                    self.put_parents_ends(
-                        table, column, reference, t, ordinals, births, ends, steps,
-                    );
-                }
-            }
-        }
-    }
-
-    /// Makes each end the earlier of it and of the death of the parent that its row is born with by a reference, which is ready in the
-    /// column at a place. Each row takes one step and at most as many as the cost of that death says, and none where no row of the
-    /// parent's table ever dies.
-    #[cycle(ends)]
-    pub(crate) fn put_parents_ends<L: Ledger>(
-        &self,
-        table: u32,
-        column: u32,
-        reference: &ReadyReference,
-        t: u64,
-        ordinals: &[u64],
-        births: &[u64],
-        ends: &mut [u64],
-        steps: &mut Steps<L>,
-    )
-        requires table { table < length self.now.schema.tables }
-        requires reference { IsReferenceOf self.now table column reference.now }
-        requires unit { t ≤ last_unit self.now }
-        requires few { length ordinals.now ≤ MOST_ROWS }
-        requires run { IsRun self.now table t ordinals.now births.now }
-        requires ends { AreEnds t ordinals.now ends.old }
-        ensures ends { AreEarlier (λ j. death (generator_of self.now) reference.now.parent (last_unit self.now) (parent_of (generator_of self.now) table (last_unit self.now) j (reference_by column reference.now))) ordinals.now ends.old ends.new }
-        ensures steps { steps.new ≤ steps.old + length ordinals.now * parent_cost (layout_of self.now).tables (reference_by column reference.now) }
-    {
-        let _limits = self.plan().schema(); // the parent's table is an earlier one
-        if never_dies(self.plan(), reference.parent) {
+        if are_sure(self.plan(), table, births, t) {
             return;
         }
         let mut all_parents = [0; MOST_ROWS];
@@ -171,9 +109,114 @@ impl<'a> Rows<'a> {
         let mut all_births = [0; MOST_ROWS];
         let all = &mut all_births[..];
         let parents_births = &mut all[..ordinals.len()];
-        self.put_parents(table, column, reference, ordinals, births, parents, steps);
-        self.put_births(reference.parent, t, parents, parents_births);
+        self.put_drawn_ends(
+            table,
+            t,
+            ordinals,
+            births,
+            ends,
+            parents,
+            parents_births,
+            steps,
+        );
+    }
+
+    /// The same by the own life of each row and those of its parents. It keeps the parents that were found last, with the units of their
+    /// births, and tells the column of their reference; None where no parents had to be found.
+    #[cycle(ends)]
+    pub(crate) fn put_drawn_ends<L: Ledger>(
+        &self,
+        table: u32,
+        t: u64,
+        ordinals: &[u64],
+        births: &[u64],
+        ends: &mut [u64],
+        parents: &mut [u64],
+        parents_births: &mut [u64],
+        steps: &mut Steps<L>,
+    ) -> Option<usize>
+        requires table { table < length self.now.schema.tables }
+        requires unit { t ≤ last_unit self.now }
+        requires few { length ordinals.now ≤ MOST_ROWS }
+        requires run { IsRun self.now table t ordinals.now births.now }
+        requires ends { AreEnds t ordinals.now ends.old }
+        requires parents_many { length parents.old ≡ length ordinals.now }
+        requires births_many { length parents_births.old ≡ length ordinals.now }
+        ensures ends { AreEarlier (death (generator_of self.now) table (last_unit self.now)) ordinals.now ends.old ends.new }
+        ensures known { AreKnownOf self.now table t ordinals.now result parents.new parents_births.new }
+        ensures steps { steps.new ≤ steps.old + length ordinals.now * asked_for_death self.now table }
+    {
+        let _sound = self.plan().schema(); // so a row dies with its parents
+        self.put_own_ends(table, t, ordinals, births, ends, steps);
+        let mut by = None;
+        for (column, ready) in self.plan().columns(table).iter().enumerate() {
+            if let ReadyKind::Reference(reference) = &ready.kind {
+                if !reference.nulls {
+                    by = self.put_parents_ends(
+                        table,
+                        column,
+                        reference,
+                        t,
+                        ordinals,
+                        births,
+                        ends,
+                        by,
+                        parents,
+                        parents_births,
+                        steps,
+                    );
+                }
+            }
+        }
+        by
+    }
+
+    /// Makes each end the earlier of it and of the death of the parent that its row is born with by a reference, which is ready in the
+    /// column at a place, and keeps these parents, where it finds them. Each row takes one step and at most as many as the cost of that
+    /// death says, and none where no row of the parent's table ever dies: then no parents are found, and those by `by` stay.
+    #[cycle(ends)]
+    pub(crate) fn put_parents_ends<L: Ledger>(
+        &self,
+        table: u32,
+        column: usize,
+        reference: &ReadyReference,
+        t: u64,
+        ordinals: &[u64],
+        births: &[u64],
+        ends: &mut [u64],
+        by: Option<usize>,
+        parents: &mut [u64],
+        parents_births: &mut [u64],
+        steps: &mut Steps<L>,
+    ) -> Option<usize>
+        requires table { table < length self.now.schema.tables }
+        requires reference { IsReferenceOf self.now table column reference.now }
+        requires unit { t ≤ last_unit self.now }
+        requires few { length ordinals.now ≤ MOST_ROWS }
+        requires run { IsRun self.now table t ordinals.now births.now }
+        requires ends { AreEnds t ordinals.now ends.old }
+        requires known { AreKnownOf self.now table t ordinals.now by parents.old parents_births.old }
+        ensures ends { AreEarlier (λ j. death (generator_of self.now) reference.now.parent (last_unit self.now) (parent_of (generator_of self.now) table (last_unit self.now) j (reference_by column reference.now))) ordinals.now ends.old ends.new }
+        ensures known { AreKnownOf self.now table t ordinals.now result parents.new parents_births.new }
+        ensures steps { steps.new ≤ steps.old + length ordinals.now * parent_cost (layout_of self.now).tables (reference_by column reference.now) }
+    {
+        let _limits = self.plan().schema(); // the parent's table is an earlier one
+        if never_dies(self.plan(), reference.parent) {
+            return by;
+        }
+        self.find_parents(
+            table,
+            column,
+            reference,
+            t,
+            ordinals,
+            births,
+            parents,
+            parents_births,
+            steps,
+        );
         self.put_ends(reference.parent, t, parents, parents_births, ends, steps);
+        Some(column)
     }
 
     /// Makes each end the earlier of it and of the end of its row's own life. Each takes at most one step where lives of the table differ,

@@ -11,6 +11,7 @@ ghost use Rattle.life_intervals.specs.CohortParents.{IsReferenceOf, asked_for_ch
 ghost use Rattle.life_intervals.specs.Generator.{generator_of, last_unit, table_of};
 ghost use Rattle.life_intervals.specs.Intervals.{change_unit, death, is_after, is_live, own_death, parent_of};
 ghost use Rattle.life_intervals.specs.Keys.{key_of};
+ghost use Rattle.life_intervals.specs.RunParents.{AreKnownOf};
 ghost use Rattle.life_intervals.specs.Runs.{IsRun};
 
 use crate::births::{birth, cohort};
@@ -409,12 +410,26 @@ impl<'a> Rows<'a> {
         let all = &mut all_births[..];
         let births = &mut all[..ordinals.len()];
         put_unit(births, born);
+        let mut all_parents = [0; MOST_ROWS];
+        let all = &mut all_parents[..];
+        let parents = &mut all[..ordinals.len()];
+        let mut all_parents_births = [0; MOST_ROWS];
+        let all = &mut all_parents_births[..];
+        let parents_births = &mut all[..ordinals.len()];
         for (column, ready) in self.plan().columns(table).iter().enumerate() {
             if let ReadyKind::Reference(reference) = &ready.kind {
                 if reference.nulls {
-                    let column = column as u32;
                     self.put_losses_by(
-                        table, column, reference, t, ordinals, births, changes, steps,
+                        table,
+                        column,
+                        reference,
+                        t,
+                        ordinals,
+                        births,
+                        changes,
+                        parents,
+                        parents_births,
+                        steps,
                     );
                 }
             }
@@ -426,12 +441,14 @@ impl<'a> Rows<'a> {
     fn put_losses_by<L: Ledger>(
         &self,
         table: u32,
-        column: u32,
+        column: usize,
         reference: &ReadyReference,
         t: u64,
         ordinals: &[u64],
         births: &[u64],
         changes: &mut [u64],
+        parents: &mut [u64],
+        parents_births: &mut [u64],
         steps: &mut Steps<L>,
     )
         requires table { table < length self.now.schema.tables }
@@ -440,6 +457,8 @@ impl<'a> Rows<'a> {
         requires few { length ordinals.now ≤ MOST_ROWS }
         requires run { IsRun self.now table t ordinals.now births.now }
         requires same_length { length changes.old ≡ length ordinals.now }
+        requires parents_many { length parents.old ≡ length ordinals.now }
+        requires births_many { length parents_births.old ≡ length ordinals.now }
         ensures same_length { length changes.new ≡ length ordinals.now }
         ensures each { (i : ℕ) → i < length ordinals.now → get_or changes.new i 0 ≡ later_change t (get_or changes.old i 0) (death (generator_of self.now) reference.now.parent (last_unit self.now) (parent_of (generator_of self.now) table (last_unit self.now) (get_or ordinals.now i 0) (reference_by column reference.now))) }
         ensures steps { steps.new ≤ steps.old + length ordinals.now * parent_cost (layout_of self.now).tables (reference_by column reference.now) }
@@ -449,7 +468,19 @@ impl<'a> Rows<'a> {
         let all = &mut all_ends[..];
         let ends = &mut all[..ordinals.len()];
         put_unit(ends, t + 1);
-        self.put_parents_ends(table, column, reference, t, ordinals, births, ends, steps);
+        self.put_parents_ends(
+            table,
+            column,
+            reference,
+            t,
+            ordinals,
+            births,
+            ends,
+            None,
+            parents,
+            parents_births,
+            steps,
+        );
         put_later(ends, t, changes);
     }
 
@@ -494,32 +525,50 @@ impl<'a> Rows<'a> {
         }
     }
 
-    /// Puts which of a run's rows are alive at unit `t`, which are born by it.
-    fn put_few_lives<L: Ledger>(
+    /// Puts which of a run's rows are alive at unit `t`, which are born by it. It keeps the parents that were found last on the way, with
+    /// the units of their births, and tells the column of their reference; None where no parents had to be found. Each row takes at most as
+    /// many steps as in `put_lives`.
+    pub fn put_run_lives<L: Ledger>(
         &self,
         table: u32,
         t: u64,
         ordinals: &[u64],
         births: &[u64],
         live: &mut [bool],
+        parents: &mut [u64],
+        parents_births: &mut [u64],
         steps: &mut Steps<L>,
-    )
+    ) -> Option<usize>
         requires table { table < length self.now.schema.tables }
         requires unit { t ≤ last_unit self.now }
         requires few { length ordinals.now ≤ MOST_ROWS }
         requires run { IsRun self.now table t ordinals.now births.now }
         requires same_length { length live.old ≡ length ordinals.now }
+        requires parents_many { length parents.old ≡ length ordinals.now }
+        requires births_many { length parents_births.old ≡ length ordinals.now }
         ensures live { live.new ≡ map (λ j. is_live (generator_of self.now) table t j) ordinals.now }
+        ensures known { AreKnownOf self.now table t ordinals.now result parents.new parents_births.new }
         ensures steps { steps.new ≤ steps.old + length ordinals.now * asked_for_death self.now table }
     {
         let _sound = self.plan().schema(); // so lives say of all rows of a cohort
         let plan = self.plan();
         if are_sure(plan, table, births, t) {
             put_live(live, true);
+            None
         } else if are_over(plan, table, births, t) {
             put_live(live, false);
+            None
         } else {
-            self.put_drawn_lives(table, t, ordinals, births, live, steps);
+            self.put_drawn_lives(
+                table,
+                t,
+                ordinals,
+                births,
+                live,
+                parents,
+                parents_births,
+                steps,
+            )
         }
     }
 
@@ -531,14 +580,19 @@ impl<'a> Rows<'a> {
         ordinals: &[u64],
         births: &[u64],
         live: &mut [bool],
+        parents: &mut [u64],
+        parents_births: &mut [u64],
         steps: &mut Steps<L>,
-    )
+    ) -> Option<usize>
         requires table { table < length self.now.schema.tables }
         requires unit { t ≤ last_unit self.now }
         requires few { length ordinals.now ≤ MOST_ROWS }
         requires run { IsRun self.now table t ordinals.now births.now }
         requires same_length { length live.old ≡ length ordinals.now }
+        requires parents_many { length parents.old ≡ length ordinals.now }
+        requires births_many { length parents_births.old ≡ length ordinals.now }
         ensures live { live.new ≡ map (λ j. is_live (generator_of self.now) table t j) ordinals.now }
+        ensures known { AreKnownOf self.now table t ordinals.now result parents.new parents_births.new }
         ensures steps { steps.new ≤ steps.old + length ordinals.now * asked_for_death self.now table }
     {
         let _sound = self.plan().schema(); // so a death is for good
@@ -546,8 +600,18 @@ impl<'a> Rows<'a> {
         let all = &mut all_ends[..];
         let ends = &mut all[..ordinals.len()];
         put_unit(ends, t + 1);
-        self.put_drawn_ends(table, t, ordinals, births, ends, steps);
+        let by = self.put_drawn_ends(
+            table,
+            t,
+            ordinals,
+            births,
+            ends,
+            parents,
+            parents_births,
+            steps,
+        );
         put_lasting(ends, t, live);
+        by
     }
 
     /// Puts whether the own lives last past unit `t` of rows that are born at unit `born`.
@@ -603,15 +667,22 @@ impl<'a> Rows<'a> {
         ensures same_length { length live.new ≡ length ordinals.now }
         ensures steps { steps.new ≤ steps.old + length ordinals.now * asked_for_death self.now table }
     {
+        let mut all_parents = [0; MOST_ROWS];
+        let parents = &mut all_parents[..];
+        let mut all_parents_births = [0; MOST_ROWS];
+        let parents_births = &mut all_parents_births[..];
         let mut from = 0;
         while from < births.len() {
-            let until = from + (births.len() - from).min(MOST_ROWS);
-            self.put_few_lives(
+            let count = (births.len() - from).min(MOST_ROWS);
+            let until = from + count;
+            self.put_run_lives(
                 table,
                 t,
                 &ordinals[from..until],
                 &births[from..until],
                 &mut live[from..until],
+                &mut parents[..count],
+                &mut parents_births[..count],
                 steps,
             );
             from = until;

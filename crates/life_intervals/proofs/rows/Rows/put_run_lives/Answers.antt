@@ -7,7 +7,7 @@ use Rattle.life_intervals.specs.Generator.{generator_of}
 use Rattle.life_intervals.specs.Intervals.{is_live}
 use Rattle.life_intervals.proofs.PartLemmas.{lies-over, lies-sure}
 use Rattle.life_intervals.proofs.RunLemmas.{map-same_value}
-use Rattle.life_intervals.proofs.rows.Rows.put_few_lives.Goals as goal
+use Rattle.life_intervals.proofs.rows.Rows.put_run_lives.Goals as goal
 
 pub returns-then-are_sure-clause-live : goal.returns-then-are_sure-clause-live
 returns-then-are_sure-clause-live g c =
