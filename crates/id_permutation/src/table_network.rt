@@ -50,8 +50,13 @@ impl<'a> TableNetwork<'a> {
         ensures { numbers.new ≡ map (λ x. place self.now.network.size self.now.network.seed x) numbers.old }
     {
         let tables = self.copied(); // so that no write to the numbers can change it
-        for number in numbers.iter_mut() {
-            *number = tables.place(*number);
+        let mut done = 0;
+        while numbers.len() - done >= 8 {
+            tables.place_eight(&mut numbers[done..done + 8]);
+            done += 8;
+        }
+        for i in done..numbers.len() {
+            numbers[i] = tables.place(numbers[i]);
         }
     }
 
@@ -104,7 +109,7 @@ impl<'a> TableNetwork<'a> {
 
     /// The even round of a pair, and the odd one after it.
     #[inline(always)]
-    fn mix_pair(&self, pair: u64, halves: Halves) -> Halves
+    pub(crate) fn mix_pair(&self, pair: u64, halves: Halves) -> Halves
         requires few { pair < 3 }
         requires within { IsWithin self.now.network.height self.now.network.width halves }
         ensures exact { result ≡
@@ -186,7 +191,7 @@ impl<'a> TableNetwork<'a> {
 /// order whose places are found needs no place in memory.
 #[cold]
 #[inline(never)]
-fn walk_on(network: Network, tables: &[u16], number: u64, mixed: u64) -> u64
+pub(crate) fn walk_on(network: Network, tables: &[u16], number: u64, mixed: u64) -> u64
     requires tables { tables.now ≡ tables_of network.height network.width network.seed }
     requires below { number < network.size }
     requires mixed { mixed ≡ mix network.size network.seed number }
