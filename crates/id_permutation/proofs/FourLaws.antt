@@ -1,7 +1,8 @@
 -- Four numbers side by side, and parts of a list whose places are put.
 use Rattle.std.proofs.Common.{◌≡◌, ◌≤◌, ℕ, ◌+◌, List, [], ◌∷◌, ◌++◌, append_assoc, drop, drop-drop, drop_at, get_or, length, length-take, map, set, take, take-add, take_at, refl, ap, ap₂, arith, sym, ◌∙◌}
 use Rattle.std.proofs.lemmas.List.{length-map, map-append}
-use Rattle.id_permutation.specs.Fours.{four_by, four_of}
+use Rattle.id_permutation.specs.declared.fours.Four.{Four}
+use Rattle.id_permutation.specs.Fours.{four_after, four_by, four_of}
 use Rattle.id_permutation.specs.Placement.{round_count, rounds}
 use borrow.Rule.Slice.PartMut.{put_mid}
 
@@ -10,6 +11,10 @@ pub four_of-six : (a b seed : ℕ) (numbers : List ℕ) →
     four_by a b seed 2 (four_by a b seed 1 (four_by a b seed 0 (four_of a b seed 0 numbers))) ≡ four_of a b seed round_count numbers
 unfolding rounds
 four_of-six a b seed numbers = refl
+
+pub four_after-six : (a b seed : ℕ) (four : Four) → four_after a b seed four ≡ four_by a b seed 2 (four_by a b seed 1 (four_by a b seed 0 four))
+unfolding rounds
+four_after-six a b seed four = refl
 
 -- what four writes make of four numbers
 pub four_sets : (f : ℕ → ℕ) (xs : List ℕ) (first second third fourth : ℕ) → length xs ≡ 4 →

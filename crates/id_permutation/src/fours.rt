@@ -1,11 +1,11 @@
-//! Places of numbers side by side: none waits for the entries of another's rounds.
+//! Places of numbers side by side, and numbers of places: none waits for the entries of another's rounds.
 
 ghost use Rattle.std.specs.Prelude.{◌≡◌, ◌<◌, All, length, map};
-ghost use Rattle.id_permutation.specs.Fours.{AreWithin, four_by, four_of};
-ghost use Rattle.id_permutation.specs.Placement.{IsWithin, halves_of, place, round_count, rounds};
+ghost use Rattle.id_permutation.specs.Fours.{AreWithin, four_after, four_by, four_of};
+ghost use Rattle.id_permutation.specs.Placement.{IsWithin, halves_of, place, round_count, rounds, unplace};
 
 use crate::halves::Halves;
-use crate::table_network::{TableNetwork, walk_on};
+use crate::table_network::{TableNetwork, walk_back, walk_on};
 
 /// The halves of four numbers.
 #[derive(Clone, Copy)]
@@ -98,6 +98,75 @@ impl<'a> TableNetwork<'a> {
             place
         } else {
             walk_on(self.network, self.tables, number, place)
+        }
+    }
+
+    /// Puts the numbers over eight places that are their own.
+    #[inline(always)]
+    pub fn number_eight(&self, places: &mut [u64])
+        requires eight { length places.old ≡ 8 }
+        requires below { All (λ y. y < self.now.network.size) places.old }
+        ensures { places.new ≡ map (λ y. unplace self.now.network.size self.now.network.seed y) places.old }
+    {
+        let (low, high) = places.split_at_mut(4);
+        let first = self.split_four(low);
+        let second = self.split_four(high);
+        let first = self.unmix_four(2, first);
+        let second = self.unmix_four(2, second);
+        let first = self.unmix_four(1, first);
+        let second = self.unmix_four(1, second);
+        let first = self.unmix_four(0, first);
+        let second = self.unmix_four(0, second);
+        self.put_four_numbers(first, low);
+        self.put_four_numbers(second, high);
+    }
+
+    /// The halves that the rounds of a pair make `four` of.
+    #[inline(always)]
+    fn unmix_four(&self, pair: u64, four: Four) -> Four
+        requires few { pair < 3 }
+        requires within { AreWithin self.now.network.height self.now.network.width four }
+        ensures undone { four_by self.now.network.height self.now.network.width self.now.network.seed pair result ≡ four }
+        ensures within { AreWithin self.now.network.height self.now.network.width result }
+    {
+        Four {
+            first: self.unmix_pair(pair, four.first),
+            second: self.unmix_pair(pair, four.second),
+            third: self.unmix_pair(pair, four.third),
+            fourth: self.unmix_pair(pair, four.fourth),
+        }
+    }
+
+    /// Puts the numbers over four places, by the halves of which all rounds make those of the places.
+    #[inline(always)]
+    fn put_four_numbers(&self, four: Four, places: &mut [u64])
+        requires four { length places.old ≡ 4 }
+        requires below { All (λ y. y < self.now.network.size) places.old }
+        requires unmixed { four_after self.now.network.height self.now.network.width self.now.network.seed four ≡ four_of self.now.network.height self.now.network.width self.now.network.seed 0 places.old }
+        requires within { AreWithin self.now.network.height self.now.network.width four }
+        ensures { places.new ≡ map (λ y. unplace self.now.network.size self.now.network.seed y) places.old }
+    {
+        let (first, second) = (places[0], places[1]);
+        let (third, fourth) = (places[2], places[3]);
+        places[0] = self.settled_back(first, four.first);
+        places[1] = self.settled_back(second, four.second);
+        places[2] = self.settled_back(third, four.third);
+        places[3] = self.settled_back(fourth, four.fourth);
+    }
+
+    /// The number of a place, by the halves of which all rounds make those of the place.
+    #[inline(always)]
+    fn settled_back(&self, place: u64, halves: Halves) -> u64
+        requires below { place < self.now.network.size }
+        requires unmixed { rounds self.now.network.height self.now.network.width self.now.network.seed round_count halves ≡ halves_of self.now.network.width place }
+        requires within { IsWithin self.now.network.height self.now.network.width halves }
+        ensures { result ≡ unplace self.now.network.size self.now.network.seed place }
+    {
+        let number = self.network.join(halves);
+        if number < self.network.size {
+            number
+        } else {
+            walk_back(self.network, self.tables, place, number)
         }
     }
 }

@@ -66,8 +66,13 @@ impl<'a> TableNetwork<'a> {
         ensures { places.new ≡ map (λ y. unplace self.now.network.size self.now.network.seed y) places.old }
     {
         let tables = self.copied();
-        for place in places.iter_mut() {
-            *place = tables.unplace(*place);
+        let mut done = 0;
+        while places.len() - done >= 8 {
+            tables.number_eight(&mut places[done..done + 8]);
+            done += 8;
+        }
+        for i in done..places.len() {
+            places[i] = tables.unplace(places[i]);
         }
     }
 
@@ -128,7 +133,7 @@ impl<'a> TableNetwork<'a> {
 
     /// The halves that the rounds of a pair make `halves` of.
     #[inline(always)]
-    fn unmix_pair(&self, pair: u64, halves: Halves) -> Halves
+    pub(crate) fn unmix_pair(&self, pair: u64, halves: Halves) -> Halves
         requires few { pair < 3 }
         requires within { IsWithin self.now.network.height self.now.network.width halves }
         ensures undone { round self.now.network.height self.now.network.width self.now.network.seed (2 * pair + 1)
@@ -209,7 +214,7 @@ pub(crate) fn walk_on(network: Network, tables: &[u16], number: u64, mixed: u64)
 /// The rest of the walk back from `place`, after its first step led to `unmixed`. Few places walk so far.
 #[cold]
 #[inline(never)]
-fn walk_back(network: Network, tables: &[u16], place: u64, unmixed: u64) -> u64
+pub(crate) fn walk_back(network: Network, tables: &[u16], place: u64, unmixed: u64) -> u64
     requires tables { tables.now ≡ tables_of network.height network.width network.seed }
     requires below { place < network.size }
     requires unmixed { mix network.size network.seed unmixed ≡ place }
