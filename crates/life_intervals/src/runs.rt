@@ -648,8 +648,8 @@ impl<'a> Rows<'a> {
     }
 
     /// Puts which rows are alive at unit `t` that are born by it. Each takes at most one step where lives of the table differ, and for each
-    /// reference with whose parent the row is deleted one and at most as many as the cost of the parent's death says; none does where
-    /// all of its cohort are alive, or none.
+    /// reference with whose parent the row is deleted one and at most as many as the cost of the parent's death says; none does of up
+    /// to 256 rows beside one another that are sure to be alive, or of which none is.
     pub fn put_lives<L: Ledger>(
         &self,
         table: u32,
