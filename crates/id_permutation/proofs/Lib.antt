@@ -9,4 +9,5 @@ pub mod OrderLaws
 pub mod TableLaws
 pub mod KeptLaws
 pub mod LoopLaws
+pub mod FourLaws
 pub mod WorkedValues

@@ -3,6 +3,7 @@ pub mod Walk
 pub mod Placement
 pub mod Sides
 pub mod Tables
+pub mod Fours
 pub mod Order
 pub mod Way
 pub mod OrderList

@@ -6,6 +6,7 @@
 #![tactic(auto)]
 
 mod forms;
+mod fours;
 mod halves;
 mod kept;
 pub mod laws;

@@ -50,8 +50,13 @@ impl<'a> TableNetwork<'a> {
         ensures { numbers.new ≡ map (λ x. place self.now.network.size self.now.network.seed x) numbers.old }
     {
         let tables = self.copied(); // so that no write to the numbers can change it
-        for number in numbers.iter_mut() {
-            *number = tables.place(*number);
+        let mut done = 0;
+        while numbers.len() - done >= 8 {
+            tables.place_eight(&mut numbers[done..done + 8]);
+            done += 8;
+        }
+        for i in done..numbers.len() {
+            numbers[i] = tables.place(numbers[i]);
         }
     }
 
@@ -61,8 +66,13 @@ impl<'a> TableNetwork<'a> {
         ensures { places.new ≡ map (λ y. unplace self.now.network.size self.now.network.seed y) places.old }
     {
         let tables = self.copied();
-        for place in places.iter_mut() {
-            *place = tables.unplace(*place);
+        let mut done = 0;
+        while places.len() - done >= 8 {
+            tables.number_eight(&mut places[done..done + 8]);
+            done += 8;
+        }
+        for i in done..places.len() {
+            places[i] = tables.unplace(places[i]);
         }
     }
 
@@ -104,7 +114,7 @@ impl<'a> TableNetwork<'a> {
 
     /// The even round of a pair, and the odd one after it.
     #[inline(always)]
-    fn mix_pair(&self, pair: u64, halves: Halves) -> Halves
+    pub(crate) fn mix_pair(&self, pair: u64, halves: Halves) -> Halves
         requires few { pair < 3 }
         requires within { IsWithin self.now.network.height self.now.network.width halves }
         ensures exact { result ≡
@@ -123,7 +133,7 @@ impl<'a> TableNetwork<'a> {
 
     /// The halves that the rounds of a pair make `halves` of.
     #[inline(always)]
-    fn unmix_pair(&self, pair: u64, halves: Halves) -> Halves
+    pub(crate) fn unmix_pair(&self, pair: u64, halves: Halves) -> Halves
         requires few { pair < 3 }
         requires within { IsWithin self.now.network.height self.now.network.width halves }
         ensures undone { round self.now.network.height self.now.network.width self.now.network.seed (2 * pair + 1)
@@ -186,7 +196,7 @@ impl<'a> TableNetwork<'a> {
 /// order whose places are found needs no place in memory.
 #[cold]
 #[inline(never)]
-fn walk_on(network: Network, tables: &[u16], number: u64, mixed: u64) -> u64
+pub(crate) fn walk_on(network: Network, tables: &[u16], number: u64, mixed: u64) -> u64
     requires tables { tables.now ≡ tables_of network.height network.width network.seed }
     requires below { number < network.size }
     requires mixed { mixed ≡ mix network.size network.seed number }
@@ -204,7 +214,7 @@ fn walk_on(network: Network, tables: &[u16], number: u64, mixed: u64) -> u64
 /// The rest of the walk back from `place`, after its first step led to `unmixed`. Few places walk so far.
 #[cold]
 #[inline(never)]
-fn walk_back(network: Network, tables: &[u16], place: u64, unmixed: u64) -> u64
+pub(crate) fn walk_back(network: Network, tables: &[u16], place: u64, unmixed: u64) -> u64
     requires tables { tables.now ≡ tables_of network.height network.width network.seed }
     requires below { place < network.size }
     requires unmixed { mix network.size network.seed unmixed ≡ place }

@@ -24,6 +24,7 @@ pub mod CohortAt
 pub mod CohortAtLemmas
 pub mod FoundLemmas
 pub mod ParentsLiveLemmas
+pub mod EndLemmas
 pub mod RunLemmas
 pub mod KeptLemmas
 pub mod PartLemmas

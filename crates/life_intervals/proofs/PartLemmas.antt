@@ -1,18 +1,13 @@
 -- Rows that are born at one unit, by their ordinals and their places.
-use Rattle.std.proofs.Common.{◌≡◌, ◌<◌, ◌≤◌, ℕ, ◌+◌, ◌-◌, ◌%◌, ◌^◌, Bool, true, false, ◌&&◌, List, [], ◌∷◌, filter, ◌⊎◌, length, map, Option, Some, None, option_map, refl, ap, arith, subst, sym, ◌∙◌}
-use Rattle.std.specs.List.{list_any}
-use Rattle.std.proofs.lemmas.Bool.{true≢false}
+use Rattle.std.proofs.Common.{◌≡◌, ◌<◌, ◌≤◌, ℕ, ◌+◌, ◌-◌, ◌%◌, ◌^◌, true, false, ◌⊎◌, length, Some, None, option_map, refl, ap, arith, subst, sym, ◌∙◌}
 use Rattle.id_permutation.specs.Order.{order_steps}
 use Rattle.id_permutation.proofs.OrderLaws.{IsBijectionBelow-place_in}
 use Rattle.cohort_sizes.specs.Births.{Births, LiesIn, born_count, cohort_size, first_ordinal}
 use Rattle.cohort_sizes.proofs.CohortLemmas.{cohort-within}
 use Rattle.schema_plan.specs.declared.ready.ReadyReference.{ReadyReference}
 use Rattle.schema_plan.specs.Dictionaries.{Project}
-use Rattle.schema_plan.specs.Layout.{KindLayout, reference_kind, ColumnLayout, layout_of}
 use Rattle.schema_plan.specs.Limits.{IsInLimits}
 use Rattle.schema_plan.specs.Lineage.{one_if}
-use Rattle.schema_plan.specs.Ready.{ready_column, ready_columns}
-use Rattle.schema_plan.specs.References.{Reference}
 use Rattle.life_intervals.specs.declared.found.FoundRow.{FoundRow}
 use Rattle.life_intervals.specs.declared.lives.Survival.TheVariants.{Over, Sure}
 use Rattle.life_intervals.specs.declared.orders.Purpose.{Purpose}
@@ -20,49 +15,24 @@ use Rattle.life_intervals.specs.declared.orders.Purpose.TheVariants.{Keys, Lives
 use Rattle.life_intervals.specs.Changes.{change_span, has_nullings, last_change, last_due}
 use Rattle.life_intervals.specs.CohortLives.{survival_at}
 use Rattle.life_intervals.specs.CohortOrders.{due_for, is_drawn, order_for, order_seed, place_for}
-use Rattle.life_intervals.specs.CohortParents.{IsReferenceOf, is_cascade, losses_in, parent_death_in, parents_death_in, reference_by, window_by}
+use Rattle.life_intervals.specs.CohortParents.{IsReferenceOf, losses_in, reference_by, window_by}
 use Rattle.life_intervals.specs.Found.{IsFound, cohort_of_row}
 use Rattle.life_intervals.specs.Generator.{generator_of, last_unit, table_of}
-use Rattle.life_intervals.specs.Intervals.{change_unit, first_death, is_after, is_live, own_death, parent_of}
+use Rattle.life_intervals.specs.Intervals.{change_unit, is_live, own_death, parent_of}
 use Rattle.life_intervals.specs.Keys.{key_of}
 use Rattle.life_intervals.specs.References.{choice}
 use Rattle.life_intervals.specs.Rows.{life_by}
 use Rattle.life_intervals.proofs.CohortAt.{CohortAt}
-use Rattle.life_intervals.proofs.CascadeLemmas.{is_cascading}
 use Rattle.life_intervals.proofs.CohortAtLemmas.{change_in-due, change_in-from, change_in-le, due_in-birth, due_in-none, due_in-some, is_live_in-over, is_live_in-sure, own_death_in-place}
 use Rattle.life_intervals.proofs.CohortParentLemmas.{parent_in-born, parent_in-choice, row_limit}
-use Rattle.life_intervals.proofs.FoundLemmas.{IsFound-birth, found-change, found-change_from, found-change_le, found-change_recent, found-key, found-lives, found-parent, found-period}
+use Rattle.life_intervals.proofs.FoundLemmas.{IsFound-birth, found-change, found-change_from, found-change_le, found-change_recent, found-key, found-parent, found-period}
 use Rattle.life_intervals.proofs.OrderLemmas.{place_in-key_order, steps_by-if}
-use Rattle.life_intervals.proofs.ReferenceLemmas.{references_in}
 
 -- what a place costs
 pub steps_for : (plan : Project) (table : ℕ) (purpose : Purpose) (born : ℕ) → 0 < cohort_size (table_of plan table).births born →
     order_steps (order_for plan table purpose born) ≡ one_if (is_drawn (table_of plan table) purpose)
 steps_for plan table purpose born some =
     steps_by-if (is_drawn (table_of plan table) purpose) (cohort_size (table_of plan table).births born) (order_seed plan table purpose born) some
-
--- where no reference takes its rows along, none of their parents does
-none-cascades : (delimiter start : ℕ) (columns : List ColumnLayout) → list_any is_cascade (map (ready_column delimiter) columns) ≡ false → filter is_cascading (references_in start columns) ≡ []
-none-cascades delimiter start [] none = refl
-none-cascades delimiter start (column ∷ others) none =
-    none-kind delimiter start column.kind column.changes column.null others (none-cascades delimiter (start + 1) others) none
-  where
-    none-kind : (delimiter start : ℕ) (held : KindLayout) (changes : Bool) (null : ℕ) (others : List ColumnLayout) →
-        (list_any is_cascade (map (ready_column delimiter) others) ≡ false → filter is_cascading (references_in (start + 1) others) ≡ []) →
-        list_any is_cascade (map (ready_column delimiter) (record { kind = held; changes = changes; null = null } ∷ others)) ≡ false →
-        filter is_cascading (references_in start (record { kind = held; changes = changes; null = null } ∷ others)) ≡ []
-    none-kind delimiter start (reference_kind parent window spread true) changes null others rest none = rest none
-    none-kind delimiter start (reference_kind parent window spread false) changes null others rest none = absurd (true≢false none)
-    none-kind delimiter start _ changes null others rest none = rest none
-
-pub parents_death_in-none : (plan : Project) (table born index : ℕ) → list_any is_cascade (ready_columns (layout_of plan) table) ≡ false →
-    parents_death_in (record { plan = plan; table = table; unit = born }) index ≡ None
-parents_death_in-none plan table born index none =
-    ap (λ (references : List Reference). first_death (map (parent_death_in (record { plan = plan; table = table; unit = born }) index) references)) (none-cascades (layout_of plan).delimiter 0 (table_of plan table).columns none)
-
-and-true : (b : Bool) → (b && true) ≡ b
-and-true true = refl
-and-true false = refl
 
 module _ (plan : Project) (table born : ℕ) (within : born ≤ last_unit plan) (j : ℕ) (lies : LiesIn (table_of plan table).births born j) where
   abbrev births : Births
@@ -173,12 +143,3 @@ module _ (plan : Project) (table born : ℕ) (within : born ≤ last_unit plan) 
         sym (
         ap (is_live (generator_of plan) table t) found-lies.ordinal
         ∙ is_live_in-over (record { plan = plan; table = table; born = born; unit = t }) limits below last early over (j - first_ordinal births born) found-lies.index)
-
-    -- it is alive where its own life lasts and no parent takes it along
-    pub lies-live : (t : ℕ) → born ≤ t → t ≤ last_unit plan → list_any is_cascade (ready_columns (layout_of plan) table) ≡ false →
-        is_after (own_death (generator_of plan) table t j) t ≡ is_live (generator_of plan) table t j
-    lies-live t early last none =
-        let own : Bool = is_after (own_death (generator_of plan) table t j) t in
-        sym (and-true own)
-        ∙ ap (λ (death : Option ℕ). own && is_after death t) (sym (parents_death_in-none plan table born (j - first_ordinal births born) none))
-        ∙ found-lives plan table row found-lies limits below t early last

@@ -1,5 +1,5 @@
 -- The parents of a cohort's rows, and the rows among which they are chosen.
-use Rattle.std.specs.Prelude.{◌≡◌, ◌<◌, ℕ, ◌+◌, max, Bool, false, not, if◌then◌else◌, List, length, map, sum_by, Option, None, take}
+use Rattle.std.specs.Prelude.{◌≡◌, ◌<◌, ℕ, ◌+◌, max, Bool, false, if◌then◌else◌, List, length, map, sum_by, Option, None, take}
 use Rattle.schema_plan.specs.declared.ready.ReadyColumn.{ReadyColumn}
 use Rattle.schema_plan.specs.declared.ready.ReadyReference.{ReadyReference}
 use Rattle.schema_plan.specs.declared.ready.ReadyKind.{ReadyKind}
@@ -39,14 +39,6 @@ is_nulling_kind _ = false
 -- a column that is ready as a reference that may become null
 abbrev pub is_nulling : ReadyColumn → Bool
 is_nulling column = is_nulling_kind column.kind
-
-abbrev pub is_cascade_kind : ReadyKind → Bool
-is_cascade_kind (kind.Reference ready) = not ready.nulls
-is_cascade_kind _ = false
-
--- a column that is ready as a reference with whose parent a row is deleted
-abbrev pub is_cascade : ReadyColumn → Bool
-is_cascade column = is_cascade_kind column.kind
 
 -- the ordinal of the parent that the row with an index in the cohort has by a reference
 abbrev pub parent_in : CohortOf → ℕ → Reference → ℕ

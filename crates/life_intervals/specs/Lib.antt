@@ -13,6 +13,8 @@ pub mod Found
 pub mod Runs
 pub mod CohortParents
 pub mod CohortLives
+pub mod Ends
+pub mod RunParents
 pub mod JobOrders
 pub mod Blocks
 pub mod Children

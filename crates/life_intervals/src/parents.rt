@@ -8,7 +8,7 @@ ghost use Rattle.schema_plan.specs.Lineage.{death_cost, lesser_life, loss_cost, 
 ghost use Rattle.schema_plan.specs.Ready.{ready_columns};
 ghost use Rattle.schema_plan.specs.References.{Reference, reference_at};
 ghost use Rattle.life_intervals.specs.Changes.{has_nullings, last_change, later_change};
-ghost use Rattle.life_intervals.specs.CohortParents.{IsReferenceOf, asked_for_death, cascades_cost, held_cost, held_in, is_cascade, is_nulling, losses_in, parent_cost, parent_death_in, parent_in, parents_death_in, reference_by};
+ghost use Rattle.life_intervals.specs.CohortParents.{IsReferenceOf, asked_for_death, cascades_cost, held_cost, held_in, is_nulling, losses_in, parent_cost, parent_death_in, parent_in, parents_death_in, reference_by};
 ghost use Rattle.life_intervals.specs.Found.{IsFound, cohort_of_row};
 ghost use Rattle.life_intervals.specs.Generator.{generator_of, last_unit, rows_in_all, table_of};
 ghost use Rattle.life_intervals.specs.Intervals.{death, held_parent, held_until, is_after, is_live, parent_of};
@@ -212,25 +212,6 @@ impl<'a> Rows<'a> {
         is_past(self.found_death(table, row, steps), t)
     }
 
-    /// Whether the parents of a row that is found, which is born by unit `t`, are alive then, of those that take it along. It takes for
-    /// each of them at most one step and as many as the cost of its death says.
-    pub(crate) fn do_parents_live<L: Ledger>(
-        &self,
-        table: u32,
-        row: FoundRow,
-        t: u64,
-        steps: &mut Steps<L>,
-    ) -> bool
-        requires table { table < length self.now.schema.tables }
-        requires row { IsFound self.now table row }
-        requires born { row.born ≤ t }
-        requires unit { t ≤ last_unit self.now }
-        ensures live { result ≡ is_after (parents_death_in (cohort_of_row self.now table row) row.index) t }
-        ensures steps { steps.new ≤ steps.old + cascades_cost (layout_of self.now).tables table }
-    {
-        is_past(self.first_death(table, row, steps), t)
-    }
-
     /// The ordinal of the parent that the row of ordinal `j` is born with by the reference in the column at a place. It takes one
     /// step.
     pub fn parent<L: Ledger>(&self, table: u32, j: u64, column: u32, steps: &mut Steps<L>) -> u64
@@ -349,29 +330,6 @@ fn has_nulling_column(columns: &[ReadyColumn]) -> bool
     ensures { result ≡ list_any is_nulling columns.now }
 {
     columns.iter().any(|column| is_nulling(column))
-}
-
-/// Whether a table has references with whose parents its rows are deleted.
-pub(crate) fn has_cascades(plan: &Plan, table: u32) -> bool
-    requires table { table < length plan.now.schema.tables }
-    ensures { result ≡ list_any is_cascade (ready_columns (layout_of plan.now) table) }
-{
-    has_cascading_column(plan.columns(table))
-}
-
-fn has_cascading_column(columns: &[ReadyColumn]) -> bool
-    ensures { result ≡ list_any is_cascade columns.now }
-{
-    columns.iter().any(|column| is_cascade(column))
-}
-
-fn is_cascade(column: &ReadyColumn) -> bool
-    ensures { result ≡ is_cascade column.now }
-{
-    match &column.kind {
-        ReadyKind::Reference(reference) => !reference.nulls,
-        _ => false,
-    }
 }
 
 fn is_nulling(column: &ReadyColumn) -> bool

@@ -1,41 +1,42 @@
 //! Runs of rows: what is told of each row of a table stands in slices of one length. Rows beside one another that are born at one unit
 //! are taken together.
 
-ghost use Rattle.std.specs.Prelude.{◌≡◌, ◌+◌, ◌-◌, ◌*◌, ◌%◌, ◌<◌, ◌≤◌, ◌^◌, ◌⊎◌, ℕ, All, false, get_or, length, map, nat_lt};
+ghost use Rattle.std.specs.Prelude.{◌≡◌, ◌+◌, ◌-◌, ◌*◌, ◌%◌, ◌<◌, ◌≤◌, ◌^◌, ◌⊎◌, ℕ, All, Some, false, get_or, length, map, nat_lt};
 ghost use Rattle.cohort_sizes.specs.Births.{LiesIn, born_count};
 ghost use Rattle.schema_plan.specs.Layout.{layout_of};
 ghost use Rattle.schema_plan.specs.Lineage.{loss_cost, one_if};
-ghost use Rattle.life_intervals.specs.Changes.{change_span, last_due};
+ghost use Rattle.life_intervals.specs.Changes.{change_span, last_due, later_change};
 ghost use Rattle.life_intervals.specs.CohortOrders.{do_lives_differ, do_updates_differ, due_for, is_drawn, place_for};
-ghost use Rattle.life_intervals.specs.CohortParents.{IsReferenceOf, asked_for_change, asked_for_death, cascades_cost, reference_by};
-ghost use Rattle.life_intervals.specs.Found.{IsFound};
+ghost use Rattle.life_intervals.specs.CohortParents.{IsReferenceOf, asked_for_change, asked_for_death, parent_cost, reference_by};
 ghost use Rattle.life_intervals.specs.Generator.{generator_of, last_unit, table_of};
-ghost use Rattle.life_intervals.specs.Intervals.{change_unit, is_after, is_live, own_death, parent_of};
+ghost use Rattle.life_intervals.specs.Intervals.{change_unit, death, is_after, is_live, own_death, parent_of};
 ghost use Rattle.life_intervals.specs.Keys.{key_of};
+ghost use Rattle.life_intervals.specs.RunParents.{AreKnownOf};
 ghost use Rattle.life_intervals.specs.Runs.{IsRun};
 
 use crate::births::{birth, cohort};
-use crate::found::FoundRow;
-use crate::lives::{Survival, survival_at};
 use crate::orders::Purpose;
-use crate::parents::{has_cascades, has_nullings};
+use crate::parents::has_nullings;
 use crate::rows::Rows;
+use crate::run_ends::{MOST_ROWS, are_over, are_sure};
 use fixed_divisors::FixedDivisor;
-use schema_plan::ReadyReference;
+use schema_plan::{ReadyKind, ReadyReference};
 use std::sync::ledger::Ledger;
 use step_count::Steps;
 
-/// Where the rows end that are born at the same unit as the one at `from`.
+/// Where the rows end that are born at the same unit as the one at `from`, or so many of them that their parents are found side by side.
 #[inline]
-fn end_of_part(births: &[u64], from: usize) -> usize
+pub(crate) fn end_of_part(births: &[u64], from: usize) -> usize
     requires { from < length births.now }
     ensures after { from < result }
     ensures within { result ≤ length births.now }
+    ensures few { result ≤ from + MOST_ROWS }
     ensures same { (i : ℕ) → from ≤ i → i < result → get_or births.now i 0 ≡ get_or births.now from 0 }
 {
     let born = births[from];
+    let end = from + (births.len() - from).min(MOST_ROWS);
     let mut until = from + 1;
-    while until < births.len() && births[until] == born {
+    while until < end && births[until] == born {
         until += 1;
     }
     until
@@ -49,19 +50,6 @@ fn put_indices(ordinals: &[u64], first: u64, indices: &mut [u64])
 {
     for i in 0..ordinals.len() {
         indices[i] = ordinals[i] - first;
-    }
-}
-
-/// The row of an ordinal in the cohort of unit `born`, which begins with the ordinal `first`.
-#[inline(always)]
-fn row_at(first: u64, born: u64, ordinal: u64) -> FoundRow
-    requires { first ≤ ordinal }
-    ensures { result ≡ record { ordinal = ordinal; born = born; index = ordinal - first } }
-{
-    FoundRow {
-        ordinal,
-        born,
-        index: ordinal - first,
     }
 }
 
@@ -111,6 +99,35 @@ fn put_live(live: &mut [bool], all: bool)
     for i in 0..live.len() {
         live[i] = all;
     }
+}
+
+/// Puts whether each end comes after unit `t`.
+fn put_lasting(ends: &[u64], t: u64, live: &mut [bool])
+    requires { length live.old ≡ length ends.now }
+    ensures { live.new ≡ map (λ end. nat_lt t end) ends.now }
+{
+    for i in 0..ends.len() {
+        live[i] = t < ends[i];
+    }
+}
+
+/// Makes each change the later of it and of the end beside it, where that comes by unit `t`.
+fn put_later(ends: &[u64], t: u64, changes: &mut [u64])
+    requires { length changes.old ≡ length ends.now }
+    ensures same_length { length changes.new ≡ length ends.now }
+    ensures each { (i : ℕ) → i < length ends.now → get_or changes.new i 0 ≡ later_change t (get_or changes.old i 0) (Some (get_or ends.now i 0)) }
+{
+    for i in 0..ends.len() {
+        changes[i] = later(changes[i], ends[i], t);
+    }
+}
+
+/// The later of a change and an end, where that comes by unit `t`.
+#[inline(always)]
+fn later(change: u64, end: u64, t: u64) -> u64
+    ensures { result ≡ later_change t change (Some end) }
+{
+    if end <= t { change.max(end) } else { change }
 }
 
 /// Puts over places the last units up to `t` at which the rows are due that have them, or unit `born`, at which they are born.
@@ -164,7 +181,7 @@ impl<'a> Rows<'a> {
     }
 
     /// Puts the places in an order of rows that are born at unit `born`.
-    fn put_places<L: Ledger>(
+    pub(crate) fn put_places<L: Ledger>(
         &self,
         table: u32,
         purpose: Purpose,
@@ -357,6 +374,7 @@ impl<'a> Rows<'a> {
         requires born { born ≤ t }
         requires unit { t ≤ last_unit self.now }
         requires some { 1 ≤ length ordinals.now }
+        requires few { length ordinals.now ≤ MOST_ROWS }
         requires lie { All (λ j. LiesIn (table_of self.now table).births born j) ordinals.now }
         requires same_length { length changes.old ≡ length ordinals.now }
         ensures changes { changes.new ≡ map (λ j. change_unit (generator_of self.now) table t j) ordinals.now }
@@ -366,28 +384,6 @@ impl<'a> Rows<'a> {
         if born < t && has_nullings(self.plan(), table) {
             self.put_losses(table, t, born, ordinals, changes, steps);
         }
-    }
-
-    /// The unit at which a row that is found changed last by unit `t`, by the one at which it was due last.
-    #[inline(always)]
-    fn change_from<L: Ledger>(
-        &self,
-        table: u32,
-        row: FoundRow,
-        t: u64,
-        due: u64,
-        steps: &mut Steps<L>,
-    ) -> u64
-        requires table { table < length self.now.schema.tables }
-        requires row { IsFound self.now table row }
-        requires born { row.born ≤ t }
-        requires unit { t ≤ last_unit self.now }
-        requires due { due ≡ due_for self.now table t row.born row.ordinal }
-        ensures change { result ≡ change_unit (generator_of self.now) table t row.ordinal }
-        ensures steps { steps.new ≤ steps.old + loss_cost (layout_of self.now).tables table }
-    {
-        let _sound = self.plan().schema(); // so a row loses a parent when that dies
-        self.last_loss(table, row, due, t, steps)
     }
 
     /// Puts the last of the due units and of the losses over the due units.
@@ -403,16 +399,89 @@ impl<'a> Rows<'a> {
         requires table { table < length self.now.schema.tables }
         requires born { born ≤ t }
         requires unit { t ≤ last_unit self.now }
+        requires few { length ordinals.now ≤ MOST_ROWS }
         requires lie { All (λ j. LiesIn (table_of self.now table).births born j) ordinals.now }
         requires due { changes.old ≡ map (λ j. due_for self.now table t born j) ordinals.now }
         ensures changes { changes.new ≡ map (λ j. change_unit (generator_of self.now) table t j) ordinals.now }
         ensures steps { steps.new ≤ steps.old + length ordinals.now * loss_cost (layout_of self.now).tables table }
     {
-        let first = cohort(self.plan(), table, born).first;
-        for i in 0..ordinals.len() {
-            let row = row_at(first, born, ordinals[i]);
-            changes[i] = self.change_from(table, row, t, changes[i], steps);
+        let _sound = self.plan().schema(); // so a row loses a parent when that dies
+        let mut all_births = [0; MOST_ROWS];
+        let all = &mut all_births[..];
+        let births = &mut all[..ordinals.len()];
+        put_unit(births, born);
+        let mut all_parents = [0; MOST_ROWS];
+        let all = &mut all_parents[..];
+        let parents = &mut all[..ordinals.len()];
+        let mut all_parents_births = [0; MOST_ROWS];
+        let all = &mut all_parents_births[..];
+        let parents_births = &mut all[..ordinals.len()];
+        for (column, ready) in self.plan().columns(table).iter().enumerate() {
+            if let ReadyKind::Reference(reference) = &ready.kind {
+                if reference.nulls {
+                    self.put_losses_by(
+                        table,
+                        column,
+                        reference,
+                        t,
+                        ordinals,
+                        births,
+                        changes,
+                        parents,
+                        parents_births,
+                        steps,
+                    );
+                }
+            }
         }
+    }
+
+    /// Puts the losses of the parents by a reference, which is ready in the column at a place, over changes that come before them, where
+    /// they come by unit `t`.
+    fn put_losses_by<L: Ledger>(
+        &self,
+        table: u32,
+        column: usize,
+        reference: &ReadyReference,
+        t: u64,
+        ordinals: &[u64],
+        births: &[u64],
+        changes: &mut [u64],
+        parents: &mut [u64],
+        parents_births: &mut [u64],
+        steps: &mut Steps<L>,
+    )
+        requires table { table < length self.now.schema.tables }
+        requires reference { IsReferenceOf self.now table column reference.now }
+        requires unit { t ≤ last_unit self.now }
+        requires few { length ordinals.now ≤ MOST_ROWS }
+        requires run { IsRun self.now table t ordinals.now births.now }
+        requires same_length { length changes.old ≡ length ordinals.now }
+        requires parents_many { length parents.old ≡ length ordinals.now }
+        requires births_many { length parents_births.old ≡ length ordinals.now }
+        ensures same_length { length changes.new ≡ length ordinals.now }
+        ensures each { (i : ℕ) → i < length ordinals.now → get_or changes.new i 0 ≡ later_change t (get_or changes.old i 0) (death (generator_of self.now) reference.now.parent (last_unit self.now) (parent_of (generator_of self.now) table (last_unit self.now) (get_or ordinals.now i 0) (reference_by column reference.now))) }
+        ensures steps { steps.new ≤ steps.old + length ordinals.now * parent_cost (layout_of self.now).tables (reference_by column reference.now) }
+    {
+        let _limits = self.plan().schema(); // there are at most 10,000 units
+        let mut all_ends = [0; MOST_ROWS];
+        let all = &mut all_ends[..];
+        let ends = &mut all[..ordinals.len()];
+        put_unit(ends, t + 1);
+        self.put_parents_ends(
+            table,
+            column,
+            reference,
+            t,
+            ordinals,
+            births,
+            ends,
+            None,
+            parents,
+            parents_births,
+            steps,
+        );
+        put_later(ends, t, changes);
     }
 
     /// Puts the units at which rows changed last that are born by unit `t`: their births where they didn't change yet. They change
@@ -456,30 +525,50 @@ impl<'a> Rows<'a> {
         }
     }
 
-    /// Puts which rows are alive at unit `t` that are born at unit `born`.
-    fn put_part_lives<L: Ledger>(
+    /// Puts which of a run's rows are alive at unit `t`, which are born by it. It keeps the parents that were found last on the way, with
+    /// the units of their births, and tells the column of their reference; None where no parents had to be found. Each row takes at most as
+    /// many steps as in `put_lives`.
+    pub fn put_run_lives<L: Ledger>(
         &self,
         table: u32,
         t: u64,
-        born: u64,
         ordinals: &[u64],
+        births: &[u64],
         live: &mut [bool],
+        parents: &mut [u64],
+        parents_births: &mut [u64],
         steps: &mut Steps<L>,
-    )
+    ) -> Option<usize>
         requires table { table < length self.now.schema.tables }
-        requires born { born ≤ t }
         requires unit { t ≤ last_unit self.now }
-        requires some { 1 ≤ length ordinals.now }
-        requires lie { All (λ j. LiesIn (table_of self.now table).births born j) ordinals.now }
+        requires few { length ordinals.now ≤ MOST_ROWS }
+        requires run { IsRun self.now table t ordinals.now births.now }
         requires same_length { length live.old ≡ length ordinals.now }
+        requires parents_many { length parents.old ≡ length ordinals.now }
+        requires births_many { length parents_births.old ≡ length ordinals.now }
         ensures live { live.new ≡ map (λ j. is_live (generator_of self.now) table t j) ordinals.now }
+        ensures known { AreKnownOf self.now table t ordinals.now result parents.new parents_births.new }
         ensures steps { steps.new ≤ steps.old + length ordinals.now * asked_for_death self.now table }
     {
         let _sound = self.plan().schema(); // so lives say of all rows of a cohort
-        match survival_at(self.plan(), table, born, t) {
-            Survival::Sure => put_live(live, true),
-            Survival::Over => put_live(live, false),
-            Survival::Drawn => self.put_drawn_lives(table, t, born, ordinals, live, steps),
+        let plan = self.plan();
+        if are_sure(plan, table, births, t) {
+            put_live(live, true);
+            None
+        } else if are_over(plan, table, births, t) {
+            put_live(live, false);
+            None
+        } else {
+            self.put_drawn_lives(
+                table,
+                t,
+                ordinals,
+                births,
+                live,
+                parents,
+                parents_births,
+                steps,
+            )
         }
     }
 
@@ -488,25 +577,41 @@ impl<'a> Rows<'a> {
         &self,
         table: u32,
         t: u64,
-        born: u64,
         ordinals: &[u64],
+        births: &[u64],
         live: &mut [bool],
+        parents: &mut [u64],
+        parents_births: &mut [u64],
         steps: &mut Steps<L>,
-    )
+    ) -> Option<usize>
         requires table { table < length self.now.schema.tables }
-        requires born { born ≤ t }
         requires unit { t ≤ last_unit self.now }
-        requires some { 1 ≤ length ordinals.now }
-        requires lie { All (λ j. LiesIn (table_of self.now table).births born j) ordinals.now }
+        requires few { length ordinals.now ≤ MOST_ROWS }
+        requires run { IsRun self.now table t ordinals.now births.now }
         requires same_length { length live.old ≡ length ordinals.now }
+        requires parents_many { length parents.old ≡ length ordinals.now }
+        requires births_many { length parents_births.old ≡ length ordinals.now }
         ensures live { live.new ≡ map (λ j. is_live (generator_of self.now) table t j) ordinals.now }
+        ensures known { AreKnownOf self.now table t ordinals.now result parents.new parents_births.new }
         ensures steps { steps.new ≤ steps.old + length ordinals.now * asked_for_death self.now table }
     {
-        let _sound = self.plan().schema(); // so a row dies with its parents
-        self.put_part_own_lives(table, t, born, ordinals, live, steps);
-        if has_cascades(self.plan(), table) {
-            self.and_parents_lives(table, t, born, ordinals, live, steps);
-        }
+        let _sound = self.plan().schema(); // so a death is for good
+        let mut all_ends = [0; MOST_ROWS];
+        let all = &mut all_ends[..];
+        let ends = &mut all[..ordinals.len()];
+        put_unit(ends, t + 1);
+        let by = self.put_drawn_ends(
+            table,
+            t,
+            ordinals,
+            births,
+            ends,
+            parents,
+            parents_births,
+            steps,
+        );
+        put_lasting(ends, t, live);
+        by
     }
 
     /// Puts whether the own lives last past unit `t` of rows that are born at unit `born`.
@@ -542,56 +647,9 @@ impl<'a> Rows<'a> {
         }
     }
 
-    /// Whether a row that is found is alive at unit `t`, by whether its own life lasts past it: no parent is asked of one whose life doesn't.
-    #[inline(always)]
-    fn does_live_on<L: Ledger>(
-        &self,
-        table: u32,
-        row: FoundRow,
-        t: u64,
-        own: bool,
-        steps: &mut Steps<L>,
-    ) -> bool
-        requires table { table < length self.now.schema.tables }
-        requires row { IsFound self.now table row }
-        requires born { row.born ≤ t }
-        requires unit { t ≤ last_unit self.now }
-        requires own { own ≡ is_after (own_death (generator_of self.now) table t row.ordinal) t }
-        ensures live { result ≡ is_live (generator_of self.now) table t row.ordinal }
-        ensures steps { steps.new ≤ steps.old + cascades_cost (layout_of self.now).tables table }
-    {
-        let _sound = self.plan().schema(); // so a row dies with its parents
-        own && self.do_parents_live(table, row, t, steps)
-    }
-
-    /// Puts which rows are alive at unit `t` that are born at unit `born`, over whether their own lives last past it.
-    fn and_parents_lives<L: Ledger>(
-        &self,
-        table: u32,
-        t: u64,
-        born: u64,
-        ordinals: &[u64],
-        live: &mut [bool],
-        steps: &mut Steps<L>,
-    )
-        requires table { table < length self.now.schema.tables }
-        requires born { born ≤ t }
-        requires unit { t ≤ last_unit self.now }
-        requires lie { All (λ j. LiesIn (table_of self.now table).births born j) ordinals.now }
-        requires own { live.old ≡ map (λ j. is_after (own_death (generator_of self.now) table t j) t) ordinals.now }
-        ensures live { live.new ≡ map (λ j. is_live (generator_of self.now) table t j) ordinals.now }
-        ensures steps { steps.new ≤ steps.old + length ordinals.now * cascades_cost (layout_of self.now).tables table }
-    {
-        let first = cohort(self.plan(), table, born).first;
-        for i in 0..ordinals.len() {
-            let row = row_at(first, born, ordinals[i]);
-            live[i] = self.does_live_on(table, row, t, live[i], steps);
-        }
-    }
-
     /// Puts which rows are alive at unit `t` that are born by it. Each takes at most one step where lives of the table differ, and for each
-    /// reference with whose parent the row is deleted one and at most as many as the cost of the parent's death says; none does where
-    /// all of its cohort are alive, or none.
+    /// reference with whose parent the row is deleted one and at most as many as the cost of the parent's death says; none does of up
+    /// to 256 rows beside one another that are sure to be alive, or of which none is.
     pub fn put_lives<L: Ledger>(
         &self,
         table: u32,
@@ -609,15 +667,22 @@ impl<'a> Rows<'a> {
         ensures same_length { length live.new ≡ length ordinals.now }
         ensures steps { steps.new ≤ steps.old + length ordinals.now * asked_for_death self.now table }
     {
+        let mut all_parents = [0; MOST_ROWS];
+        let parents = &mut all_parents[..];
+        let mut all_parents_births = [0; MOST_ROWS];
+        let parents_births = &mut all_parents_births[..];
         let mut from = 0;
         while from < births.len() {
-            let until = end_of_part(births, from);
-            self.put_part_lives(
+            let count = (births.len() - from).min(MOST_ROWS);
+            let until = from + count;
+            self.put_run_lives(
                 table,
                 t,
-                births[from],
                 &ordinals[from..until],
+                &births[from..until],
                 &mut live[from..until],
+                &mut parents[..count],
+                &mut parents_births[..count],
                 steps,
             );
             from = until;

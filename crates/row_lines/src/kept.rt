@@ -1,6 +1,6 @@
 //! Numbers in order, and what is kept of them.
 
-ghost use Rattle.std.specs.Prelude.{◌≡◌, ◌+◌, ◌<◌, ◌≤◌, ◌^◌, length, take};
+ghost use Rattle.std.specs.Prelude.{◌≡◌, ◌+◌, ◌<◌, ◌≤◌, ◌^◌, is_some, length, take, true};
 ghost use Rattle.std.specs.List.{range_with_len};
 ghost use Rattle.schema_plan.specs.Lineage.{one_if};
 ghost use Rattle.row_lines.specs.Kept.{kept_by};
@@ -28,6 +28,17 @@ pub(crate) fn keep(list: &mut [u64], flags: &[bool]) -> usize
         kept += one_if(flags[index]);
     }
     kept
+}
+
+/// The same of what is found where a column is told; else the list stays.
+pub(crate) fn keep_found(by: Option<usize>, list: &mut [u64], flags: &[bool])
+    requires { length flags.now ≡ length list.old }
+    ensures kept { is_some by ≡ true → take (length (kept_by flags.now list.old)) list.new ≡ kept_by flags.now list.old }
+    ensures same_length { length list.new ≡ length list.old }
+{
+    if by.is_some() {
+        keep(list, flags);
+    }
 }
 
 /// 1 where a flag is true, else 0.

@@ -27,24 +27,24 @@ impl RowBuf {
     }
 }
 
-/// What the fields of rows are made of: the units of their last changes, their keys, their parents by one reference, with the keys of
-/// these, a piece for each field, and what is drawn of those of several items.
+/// What the fields of rows are made of: the units of their last changes, their keys, the keys of their parents by one reference, a piece for
+/// each field, and what is drawn of those of several items.
 #[derive(Drop)]
 pub(crate) struct FieldBuf {
     pub(crate) changes: [u64; MOST_ROWS],
     pub(crate) keys: [u64; MOST_ROWS],
-    pub(crate) parents: RowBuf,
     pub(crate) parent_keys: [u64; MOST_ROWS],
     pub(crate) numbers: RunNumbers,
     pub(crate) pieces: [Piece; PIECES],
     pub(crate) items: [ItemizedField; PIECES],
 }
 
-/// What the loops of a run work on: its rows, and what their fields are made of. It is made once for many runs, and holds nothing from
+/// What the loops of a run work on: its rows, their parents by one reference, and what their fields are made of. It is made once for many runs, and holds nothing from
 /// one to the next.
 #[derive(Drop)]
 pub struct RunBuf {
     pub(crate) rows: RowBuf,
+    pub(crate) parents: RowBuf,
     pub(crate) fields: FieldBuf,
 }
 
@@ -53,10 +53,10 @@ impl RunBuf {
     pub fn new() -> RunBuf {
         RunBuf {
             rows: RowBuf::new(),
+            parents: RowBuf::new(),
             fields: FieldBuf {
                 changes: [0; MOST_ROWS],
                 keys: [0; MOST_ROWS],
-                parents: RowBuf::new(),
                 parent_keys: [0; MOST_ROWS],
                 numbers: RunNumbers::new(),
                 pieces: [Piece::new(); PIECES],

@@ -14,7 +14,7 @@ ghost use Rattle.row_lines.specs.RunParents.{AreKnown};
 ghost use Rattle.row_lines.specs.TableLines.{behind_of, column_of, has_short_keys, is_short_at};
 
 use crate::bytes::byte_behind;
-use crate::run_buf::{MOST_ROWS, RowBuf};
+use crate::run_buf::MOST_ROWS;
 use crate::run_parents::Parents;
 use crate::runs::RunLines;
 use draw_values::{ItemizedField, RunNumbers, RunRows};
@@ -30,7 +30,8 @@ impl<'a> RunLines<'a> {
         &self,
         rows: RunRows<'_>,
         keys: &[u64],
-        work: &mut RowBuf,
+        parents: &mut Parents<'_>,
+        live: &mut [bool],
         parent_keys: &mut [u64],
         numbers: &mut RunNumbers,
         pieces: &mut [Piece],
@@ -38,20 +39,14 @@ impl<'a> RunLines<'a> {
     )
         requires rows { AreRowsOf self.now rows }
         requires keys { AreKeys self.now rows.ordinals.now keys.now }
+        requires known { AreKnown self.now rows.ordinals.now parents.old }
+        requires live { length live.old ≡ length rows.ordinals.now }
         requires parent_keys { length parent_keys.old ≡ MOST_ROWS }
         requires pieces { length rows.ordinals.now * length (layout_for self.now).columns ≤ length pieces.old }
         ensures made { (column : ℕ) → column < length (layout_for self.now).columns → is_short_at self.now.plan self.now.table column ≡ true → AreMade self.now rows.entry.ordinals.now pieces.new (column * length rows.entry.ordinals.now) column }
         ensures steps { steps.new ≤ steps.old + length rows.entry.ordinals.now * sum_by (asked_short self.now) (range_with_len 0 (length (layout_for self.now).columns)) }
     {
         let count = rows.ordinals.len();
-        let (all_ordinals, all_births) = (&mut work.ordinals[..], &mut work.births[..]);
-        let mut parents = Parents {
-            by: None,
-            ordinals: &mut all_ordinals[..count],
-            births: &mut all_births[..count],
-        };
-        let all_live = &mut work.live[..];
-        let live = &mut all_live[..count];
         for column in 0..self.column_count() {
             let start = column * count;
             let fields = &mut pieces[start..start + count];
@@ -59,7 +54,7 @@ impl<'a> RunLines<'a> {
                 column,
                 rows,
                 keys,
-                &mut parents,
+                parents,
                 parent_keys,
                 live,
                 numbers,

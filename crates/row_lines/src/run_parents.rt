@@ -75,40 +75,20 @@ impl<'a> RunLines<'a> {
         ensures steps { steps.new ≤ steps.old + length rows.entry.ordinals.now }
     {
         if !parents.is_by(column) {
-            self.put_parents(column, reference, rows, parents, steps);
+            let ordinals = &mut *parents.ordinals;
+            let births = &mut *parents.births;
+            self.rows.find_parents(
+                self.table,
+                column,
+                reference,
+                self.unit,
+                rows.ordinals,
+                rows.births,
+                ordinals,
+                births,
+                steps,
+            );
+            parents.by = Some(column);
         }
-    }
-
-    /// Finds them.
-    fn put_parents<L: Ledger>(
-        &self,
-        column: usize,
-        reference: &ReadyReference,
-        rows: RunRows<'_>,
-        parents: &mut Parents<'_>,
-        steps: &mut Steps<L>,
-    )
-        requires reference { IsReferenceOf self.now.plan self.now.table column reference.now }
-        requires rows { AreRowsOf self.now rows }
-        requires ordinals { length parents.old.ordinals ≡ length rows.ordinals.now }
-        requires births { length parents.old.births ≡ length rows.ordinals.now }
-        ensures by { parents.new.by ≡ Some column }
-        ensures found { AreParents self.now rows.entry.ordinals.now column reference.now parents.new }
-        ensures steps { steps.new ≤ steps.old + length rows.entry.ordinals.now }
-    {
-        let ordinals = &mut *parents.ordinals;
-        self.rows.put_parents(
-            self.table,
-            column as u32,
-            reference,
-            rows.ordinals,
-            rows.births,
-            ordinals,
-            steps,
-        );
-        let births = &mut *parents.births;
-        self.rows
-            .put_births(reference.parent, self.unit, ordinals, births);
-        parents.by = Some(column);
     }
 }

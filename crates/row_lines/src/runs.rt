@@ -9,11 +9,13 @@ ghost use Rattle.life_intervals.specs.CohortLives.{survival_at};
 ghost use Rattle.life_intervals.specs.CohortParents.{asked_for_death};
 ghost use Rattle.life_intervals.specs.Generator.{generator_of, last_unit, table_of};
 ghost use Rattle.life_intervals.specs.Intervals.{is_live};
+ghost use Rattle.row_lines.specs.RunParents.{AreKnown};
 ghost use Rattle.row_lines.specs.Runs.{AreLiving, listed_text, living_from, run_text};
 ghost use Rattle.row_lines.specs.TableLines.{AreTableLines};
 
-use crate::kept::{keep, put_range};
+use crate::kept::{keep, keep_found, put_range};
 use crate::run_buf::{FieldBuf, MOST_ROWS, PIECES, RunBuf};
+use crate::run_parents::Parents;
 use crate::table_lines::TableLines;
 use draw_values::RunRows;
 use life_intervals::{Rows, Survival, cohort, survival_at};
@@ -21,6 +23,15 @@ use line_pages::{Digits, PageBuf};
 use std::marker::Model;
 use std::sync::ledger::Ledger;
 use step_count::Steps;
+
+/// Of the rows of a run the living.
+#[derive(Clone, Copy)]
+struct Living {
+    /// How many they are.
+    count: usize,
+    /// The column of the reference by which their parents are found; None where they aren't.
+    by: Option<usize>,
+}
 
 /// The lines at a unit of a table's rows, by the orders that are kept for a job. A contract sees the plan, the table and the unit.
 #[derive(Drop)]
@@ -182,7 +193,26 @@ impl<'a> RunLines<'a> {
         let all = &mut work.rows.births[..];
         let births = &mut all[..listed.len()];
         self.rows.put_births(self.table, self.unit, listed, births);
-        self.put_living(listed, births, &mut work.fields, page, steps);
+        let all = &mut work.parents.ordinals[..];
+        let parents_ordinals = &mut all[..listed.len()];
+        let all = &mut work.parents.births[..];
+        let parents_births = &mut all[..listed.len()];
+        let mut parents = Parents {
+            by: None,
+            ordinals: parents_ordinals,
+            births: parents_births,
+        };
+        let all = &mut work.parents.live[..];
+        let live = &mut all[..listed.len()];
+        self.put_living(
+            listed,
+            births,
+            &mut parents,
+            live,
+            &mut work.fields,
+            page,
+            steps,
+        );
     }
 
     /// The same of no more rows than a run has.
@@ -209,44 +239,93 @@ impl<'a> RunLines<'a> {
         let births = &mut all[..count];
         let all = &mut work.rows.live[..];
         let live = &mut all[..count];
-        let living = self.find_living(first, ordinals, births, live, steps);
-        let (ordinals, births) = (&ordinals[..living], &births[..living]);
-        self.put_living(ordinals, births, &mut work.fields, page, steps);
+        let all = &mut work.parents.ordinals[..];
+        let parents_ordinals = &mut all[..count];
+        let all = &mut work.parents.births[..];
+        let parents_births = &mut all[..count];
+        let living = self.find_living(
+            first,
+            ordinals,
+            births,
+            live,
+            parents_ordinals,
+            parents_births,
+            steps,
+        );
+        let count = living.count;
+        let (ordinals, births) = (&ordinals[..count], &births[..count]);
+        let mut parents = Parents {
+            by: living.by,
+            ordinals: &mut parents_ordinals[..count],
+            births: &mut parents_births[..count],
+        };
+        let all = &mut work.parents.live[..];
+        let live = &mut all[..count];
+        self.put_living(
+            ordinals,
+            births,
+            &mut parents,
+            live,
+            &mut work.fields,
+            page,
+            steps,
+        );
     }
 
     /// Puts the ordinals of the living among the rows from the one of ordinal `first` on, as many as the lists are long, and the units of
-    /// their births, to the begin of the lists, and tells how many they are.
+    /// their births, to the begin of the lists, and those of their parents where these were found.
     fn find_living<L: Ledger>(
         &self,
         first: u64,
         ordinals: &mut [u64],
         births: &mut [u64],
         live: &mut [bool],
+        parents: &mut [u64],
+        parents_births: &mut [u64],
         steps: &mut Steps<L>,
-    ) -> usize
+    ) -> Living
+        requires few { length ordinals.old ≤ MOST_ROWS }
         requires births { length births.old ≡ length ordinals.old }
         requires live { length live.old ≡ length ordinals.old }
+        requires parents { length parents.old ≡ length ordinals.old }
+        requires parents_births { length parents_births.old ≡ length ordinals.old }
         requires rows { first + length ordinals.old ≤ born_count (table_of self.now.plan self.now.table).births self.now.unit }
-        ensures few { result ≤ length ordinals.old }
-        ensures ordinals { take result ordinals.new ≡ living_from self.now first (length ordinals.old) }
-        ensures living { AreLiving self.now (take result ordinals.new) (take result births.new) }
+        ensures few { result.count ≤ length ordinals.old }
+        ensures ordinals { take result.count ordinals.new ≡ living_from self.now first (length ordinals.old) }
+        ensures living { AreLiving self.now (take result.count ordinals.new) (take result.count births.new) }
+        ensures known { AreKnown self.now (take result.count ordinals.new) (record { by = result.by; ordinals = take result.count parents.new; births = take result.count parents_births.new }) }
         ensures steps { steps.new ≤ steps.old + length ordinals.old * asked_for_death self.now.plan self.now.table }
     {
         let _limits = self.rows.plan().table(self.table); // it has at most 2^40 rows
         put_range(ordinals, first);
         self.rows
             .put_births(self.table, self.unit, ordinals, births);
-        self.rows
-            .put_lives(self.table, self.unit, ordinals, births, live, steps);
+        let by = self.rows.put_run_lives(
+            self.table,
+            self.unit,
+            ordinals,
+            births,
+            live,
+            parents,
+            parents_births,
+            steps,
+        );
+        keep_found(by, parents, live);
+        keep_found(by, parents_births, live);
         keep(births, live);
-        keep(ordinals, live)
+        Living {
+            count: keep(ordinals, live),
+            by,
+        }
     }
 
-    /// Appends the lines of living rows, with the units of their births.
+    /// Appends the lines of living rows, with the units of their births, and their parents, where these were found.
     fn put_living<L: Ledger>(
         &self,
         ordinals: &[u64],
         births: &[u64],
+        parents: &mut Parents<'_>,
+        live: &mut [bool],
         fields: &mut FieldBuf,
         page: &mut PageBuf,
         steps: &mut Steps<L>,
@@ -254,6 +333,8 @@ impl<'a> RunLines<'a> {
         requires few { length ordinals.now ≤ MOST_ROWS }
         requires pieces { length ordinals.now * length (table_of self.now.plan self.now.table).columns ≤ PIECES }
         requires living { AreLiving self.now ordinals.now births.now }
+        requires known { AreKnown self.now ordinals.now parents.old }
+        requires live { length live.old ≡ length ordinals.now }
         requires room { length page.old.text + length ordinals.now * max_line (layout_of self.now.plan) self.now.table ≤ page.old.room }
         ensures text { page.new ≡ record page.old { text = page.old.text ++ listed_text self.now ordinals.now } }
         ensures size { length (listed_text self.now ordinals.now) ≤ length ordinals.now * max_line (layout_of self.now.plan) self.now.table }
@@ -275,11 +356,12 @@ impl<'a> RunLines<'a> {
         };
         let pieces = &mut fields.pieces[..];
         let items = &mut fields.items[..];
-        let (parents, parent_keys) = (&mut fields.parents, &mut fields.parent_keys[..]);
+        let parent_keys = &mut fields.parent_keys[..];
         self.put_columns(
             rows,
             keys,
             parents,
+            live,
             parent_keys,
             &mut fields.numbers,
             pieces,

@@ -6,7 +6,7 @@ use Rattle.life_intervals.specs.CohortParents.{asked_for_change}
 use Rattle.life_intervals.specs.Generator.{generator_of, table_of}
 use Rattle.life_intervals.specs.Intervals.{change_unit}
 use Rattle.life_intervals.proofs.PartLemmas.{lies-change_from, lies-change_le, lies-change_recent}
-use Rattle.life_intervals.proofs.RunLemmas.{next-part, put-all, steps-next_le}
+use Rattle.life_intervals.proofs.RunLemmas.{length-part, next-part, put-all, steps-next_le}
 use Rattle.life_intervals.proofs.rows.Rows.put_changes.Goals as goal
 
 pub loop-from-preserved : goal.loop-from-preserved
@@ -58,3 +58,11 @@ returns-clause-recent g c = λ i inside.
     subst (λ (change : ℕ). (change ≡ born) ⊎ (c.args.t < change + change_span (table_of plan c.args.table) c.args.t)) (sym (returns-clause-changes g c i inside))
     (lies-change_recent plan c.args.table born (omega (arith, early, c.requires.unit)) (get_or c.args.ordinals.now i 0) (c.requires.run.lies i inside)
     (subst IsInLimits c.plan.ensures c.schema-sound.ensures.limits) c.requires.table c.args.t early)
+
+pub put_part_changes-requires-clause-few : goal.put_part_changes-requires-clause-few
+put_part_changes-requires-clause-few g c =
+    omega (
+      arith,
+      length-part c.args.ordinals.now c.loop-from.from c.end_of_part-until.result (omega (arith, c.end_of_part-until.ensures.after)) (omega (arith, c.end_of_part-until.ensures.within, c.requires.run.same_length)),
+      c.end_of_part-until.ensures.few,
+    )

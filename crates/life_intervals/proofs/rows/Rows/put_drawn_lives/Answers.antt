@@ -1,22 +1,25 @@
-use Rattle.std.proofs.Common.{◌≡◌, false, get_or, ap, arith, subst, sym, ◌∙◌}
-use Rattle.std.specs.List.{list_any}
+use Rattle.std.proofs.Common.{◌≤◌, ℕ, Option, get_or, ap, arith, subst, ◌∙◌}
+use Rattle.std.specs.Prelude.{nat_lt}
 use Rattle.schema_plan.specs.Dictionaries.{Project}
-use Rattle.schema_plan.specs.Layout.{layout_of}
 use Rattle.schema_plan.specs.Limits.{IsInLimits}
-use Rattle.schema_plan.specs.Ready.{ready_columns}
-use Rattle.life_intervals.specs.CohortParents.{is_cascade}
-use Rattle.life_intervals.specs.Generator.{generator_of}
-use Rattle.life_intervals.specs.Intervals.{is_after, is_live, own_death}
-use Rattle.life_intervals.proofs.PartLemmas.{lies-live}
-use Rattle.life_intervals.proofs.RunLemmas.{map-all}
+use Rattle.life_intervals.specs.Ends.{earlier_end}
+use Rattle.life_intervals.specs.Generator.{generator_of, last_unit}
+use Rattle.life_intervals.specs.Intervals.{death, is_live}
+use Rattle.life_intervals.proofs.EndLemmas.{death-live, map-beside, nat_lt-earlier_end}
 use Rattle.life_intervals.proofs.rows.Rows.put_drawn_lives.Goals as goal
 
-pub returns-else-has_cascades-clause-live : goal.returns-else-has_cascades-clause-live
-returns-else-has_cascades-clause-live g c =
+pub returns-clause-live : goal.returns-clause-live
+returns-clause-live g c =
     let plan : Project = c.args.self.now in
+    let ordinals = c.args.ordinals.now in
+    let ends = c.put_drawn_ends-by.new.ends in
     let limits : IsInLimits plan = subst IsInLimits c.plan.ensures c.schema-sound.ensures.limits in
-    let none : list_any is_cascade (ready_columns (layout_of plan) c.args.table) ≡ false =
-    ap (λ (p : Project). list_any is_cascade (ready_columns (layout_of p) c.args.table)) (sym c.plan-2.ensures) ∙ sym c.has_cascades.ensures ∙ c.if-has_cascades.false in
-    c.put_part_own_lives.ensures.live
-    ∙ map-all (λ j. is_after (own_death (generator_of plan) c.args.table c.args.t j) c.args.t) (is_live (generator_of plan) c.args.table c.args.t) c.args.ordinals.now (λ k d inside.
-    lies-live plan c.args.table c.args.born (omega (arith, c.requires.born, c.requires.unit)) (get_or c.args.ordinals.now k d) (c.requires.lie k d inside) limits c.requires.table c.args.t c.requires.born c.requires.unit none)
+    c.put_lasting.ensures
+    ∙ map-beside (λ end. nat_lt c.args.t end) (is_live (generator_of plan) c.args.table c.args.t) ends ordinals c.put_drawn_ends-by.ensures.ends.same_length (λ i below.
+    let j : ℕ = get_or ordinals i 0 in
+    let born : ℕ = get_or c.args.births.now i 0 in
+    let early : born ≤ c.args.t = c.requires.run.born i below in
+    let d : Option ℕ = death (generator_of plan) c.args.table (last_unit plan) j in
+    ap (λ (end : ℕ). nat_lt c.args.t end) (c.put_drawn_ends-by.ensures.ends.each i below ∙ ap (λ (end : ℕ). earlier_end end d) (c.put_unit.ensures.same i (omega (arith, below, c.requires.few))))
+    ∙ nat_lt-earlier_end c.args.t d
+    ∙ death-live plan c.args.table born (omega (arith, early, c.requires.unit)) j (c.requires.run.lies i below) limits c.requires.table c.args.t early c.requires.unit)

@@ -1,15 +1,16 @@
-use Rattle.std.proofs.Common.{◌≡◌, ◌≤◌, ◌+◌, ◌*◌, ℕ, get_or, length, map, take}
-use Rattle.schema_plan.specs.Layout.{layout_of}
-use Rattle.schema_plan.specs.Lineage.{loss_cost}
-use Rattle.life_intervals.specs.Generator.{generator_of}
-use Rattle.life_intervals.specs.Intervals.{change_unit}
+use Rattle.std.proofs.Common.{◌≡◌, ◌≤◌, ◌<◌, ◌+◌, ◌-◌, ◌*◌, ℕ, get_or, length}
+use Rattle.cohort_sizes.specs.Births.{first_ordinal}
+use Rattle.life_intervals.specs.CohortOrders.{due_for}
+use Rattle.life_intervals.specs.Generator.{table_of}
+use Rattle.life_intervals.proofs.CohortParentLemmas.{change_before, loss_before}
 use Rattle.life_intervals.proofs.rows.Rows.put_losses.Given as goal
 
--- what has been put of the rows before one
-abbrev pub invariant-loop-i : goal.invariant-loop-i
-invariant-loop-i g l = record {
+-- the last of the due units and of the losses by the references before a column, and what these have cost
+abbrev pub invariant-loop-column : goal.invariant-loop-column
+invariant-loop-column g l = record {
   same_length : length l.changes ≡ length l.ordinals;
-  so_far : take l.i l.changes ≡ map (λ j. change_unit (generator_of l.self) l.table l.t j) (take l.i l.ordinals);
-  rest : (k : ℕ) → l.i ≤ k → get_or l.changes k 0 ≡ get_or l.fn.changes k 0;
-  steps : l.steps ≤ l.fn.steps + l.i * loss_cost (layout_of l.self).tables l.table;
+  changes : (i : ℕ) → i < length l.ordinals →
+      get_or l.changes i 0
+      ≡ change_before (record { plan = l.self; table = l.table; unit = l.born }) (get_or l.ordinals i 0 - first_ordinal (table_of l.self l.table).births l.born) (due_for l.self l.table l.t l.born (get_or l.ordinals i 0)) l.t l.column;
+  steps : l.steps ≤ l.fn.steps + length l.ordinals * loss_before (record { plan = l.self; table = l.table; unit = l.born }) l.column;
 }

@@ -14,8 +14,8 @@ returns-clause-steps g c =
     let known = AreRunLines-view _ lines c.self.inside.lines.now c.self.view_is c.self.invariant in
     let rows : List ℕ = take c.args.count c.args.work.now.rows.ordinals in
     let all : length rows ≤ c.args.count = omega (arith, length-take c.args.count c.args.work.now.rows.ordinals) in
-    let living : List ℕ = take c.find_living-living.result c.find_living-living.new.ordinals in
-    let some : length living ≤ c.args.count = omega (arith, all, c.find_living-living.ensures.few, length-take c.find_living-living.result c.find_living-living.new.ordinals) in
+    let living : List ℕ = take c.find_living-living.result.count c.find_living-living.new.ordinals in
+    let some : length living ≤ c.args.count = omega (arith, all, c.find_living-living.ensures.few, length-take c.find_living-living.result.count c.find_living-living.new.ordinals) in
     omega (
       arith,
       c.find_living-living.ensures.steps,
