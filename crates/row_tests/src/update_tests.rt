@@ -1,17 +1,19 @@
 //! Values from outside: the lists of small tables worked out by hand, and those of a larger one that an independent program gave,
 //! written in Python from the rules of the simulation, with no shared code (docs/SECOND_PROGRAM.md).
 
-ghost use Rattle.std.specs.Prelude.{◌<◌, length};
+ghost use Rattle.std.specs.Prelude.{◌≡◌, ◌<◌, ◌≤◌, length};
+ghost use Rattle.life_intervals.specs.Generator.{last_unit};
 
-use crate::fixtures::{SALES, with_number};
+use crate::fixtures::{SALES, is_row, plan_of, with_number};
 use crate::told::{Ordinals, Told, assert_all};
-use life_intervals::Cohort;
+use life_intervals::{Cohort, birth, born, death, last_change};
 use schema_plan::Plan;
-use std::alloc::Global;
+use std::alloc::{AllocError, Global};
 use std::marker::Brand;
 use std::sync::ledger::{Blank, Ledger};
+use std::test::Fail;
 use step_count::Steps;
-use update_box::{UnitRows, unit_rows};
+use update_box::{Memory, UnitRows, unit_rows};
 
 fn are(rows: &[u64], told: Ordinals<'_>) -> bool {
     match told {
@@ -100,6 +102,56 @@ update = 3
 column = [{ name = "id", kind = "key", base = 1, scramble = true }]
 "#;
 
+/// A table of 2^40 rows in all that nothing ends or changes, and a small one that refers to it.
+const HUGE: &str = r#"
+seed = 1
+units = 1
+[[table]]
+name = "p"
+rows = 1099511627775
+insert = 1
+column = [{ name = "id", kind = "key", base = 1 }]
+[[table]]
+name = "c"
+rows = 1
+insert = 1
+column = [
+    { name = "id", kind = "key", base = 1 },
+    { name = "p", kind = "ref", table = "p", window = "all" },
+]
+"#;
+
+/// Customers and orders as in a shop of fewer rows, where an order goes with its customer, and remarks on orders that outlive these.
+const SHOP: &str = r#"
+seed = 2024
+units = 24
+[[table]]
+name = "customer"
+rows = 3000
+insert = 30
+life = [10, 19]
+update = 6
+column = [{ name = "id", kind = "key", base = 1, scramble = true }]
+[[table]]
+name = "orders"
+rows = 6000
+insert = 60
+life = [12, 30]
+column = [
+    { name = "id", kind = "key", base = 1 },
+    { name = "customer", kind = "ref", table = "customer", window = 9, spread = [1, 1, 2, 5] },
+]
+[[table]]
+name = "remark"
+rows = 4000
+insert = 40
+update = 5
+column = [
+    { name = "id", kind = "key", base = 1 },
+    { name = "orders", kind = "ref", table = "orders", window = 0, spread = [3, 1], on_delete = "null" },
+]
+"#;
+
 // By hand: rows live for two units; or for four, and change at the ages 1 and 3. An order is of the oldest customer that is born in its
 // window, so orders 0 to 2 are of customer 0, who dies at unit 3, and order 3 is of customer 1. A line is of the order of its unit. The
 // numbers of the larger table are from the Python program.
@@ -185,6 +237,21 @@ const TABLES: &[(&[&str], &[(u32, u64, Told<'static>)])] = &[
         ],
     ),
     (
+        &[HUGE],
+        &[
+            (
+                0,
+                1,
+                Told::Changes(Ordinals::Are(&[]), Ordinals::Are(&[]), 1_099_511_627_775, 1),
+            ),
+            (
+                1,
+                1,
+                Told::Changes(Ordinals::Are(&[]), Ordinals::Are(&[]), 1, 1),
+            ),
+        ],
+    ),
+    (
         &[LARGER],
         &[
             (
@@ -254,4 +321,68 @@ const TABLES: &[(&[&str], &[(u32, u64, Told<'static>)])] = &[
 #[test]
 fn units_change_tables(rt: HostRuntime) {
     assert_all::<Brand>(&rt, rt.alloc(), TABLES, Blank::new(1));
+}
+
+/// Whether a unit's lists of a table are those that one finds who asks each row that is born before the unit.
+fn are_as_asked<L: Ledger>(
+    alloc: Global,
+    plan: &Plan,
+    rows: &UnitRows,
+    table: u32,
+    unit: u64,
+    steps: &mut Steps<L>,
+) -> Result<bool, AllocError>
+    requires table { table < length rows.now.tables }
+    requires unit { unit ≤ last_unit plan.now }
+    requires some { 1 ≤ unit }
+{
+    let mut deleted = Vec::new(alloc);
+    let mut updated = Vec::new(alloc);
+    if table >= plan.tables() {
+        return Ok(false);
+    }
+    for row in 0..born(plan, table, unit) {
+        if !is_row(plan, table, row) || birth(plan, table, row) == unit {
+            continue;
+        }
+        match death(plan, table, row, steps) {
+            Some(death) if death < unit => {}
+            Some(death) if death == unit => deleted.push(row)?,
+            _ if last_change(plan, table, row, unit, steps) == unit => updated.push(row)?,
+            _ => {}
+        }
+    }
+    Ok(rows.dels(table) == deleted.as_slice() && rows.upds(table) == updated.as_slice())
+}
+
+/// Whether unit 12 changes in each table what one finds who asks each row, and deletes so many rows of the first one.
+fn changes_as_asked<L: Ledger>(
+    alloc: Global,
+    plan: &Plan,
+    deleted: usize,
+    blank: Blank,
+) -> Result<bool, Memory>
+    requires name { blank.name ≡ L.name }
+    requires parts { blank.parts ≡ L.parts }
+    requires some { 0 < blank.parts }
+{
+    if plan.units() < 12 {
+        return Ok(false);
+    }
+    let mut steps = Steps::<L>::new(blank);
+    let rows = unit_rows(alloc, plan, 12, &mut steps)?;
+    for table in 0..plan.tables() {
+        if !are_as_asked(alloc, plan, &rows, table, 12, &mut steps)? {
+            return Ok(false);
+        }
+    }
+    Ok(plan.tables() > 0 && rows.dels(0).len() == deleted)
+}
+
+// By hand: of the customers of unit 0 one in ten lives for 12 units, of those of unit 1 one in ten for 11, and of those of unit 2 for 10.
+#[test]
+fn lists_are_those_that_are_asked_for(rt: HostRuntime) -> Result<(), Fail> {
+    let plan = plan_of(&rt, rt.alloc(), &[SHOP]);
+    assert!(rt; changes_as_asked::<Brand>(rt.alloc(), &plan, 306, Blank::new(1))?);
+    Ok(())
 }

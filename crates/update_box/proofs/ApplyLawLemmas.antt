@@ -15,7 +15,7 @@ use Rattle.stream_apply.specs.InTurn.{IsAppliedText}
 use Rattle.stream_apply.specs.KeyedLines.{KeyedLine}
 use Rattle.stream_apply.proofs.NumberedLineLemmas.{lines_in}
 use Rattle.stream_apply.proofs.UnitLemmas.{IsMadeByUnits, applied-units, made-unit}
-use Rattle.update_box.specs.Fates.{changes_at, dies_at}
+use Rattle.update_box.specs.Candidates.{changes_at, dies_at}
 use Rattle.update_box.specs.TextLaws.{unit_streams}
 use Rattle.update_box.proofs.KeyedTextLemmas.{body_text, key_text, keyed-text, keys-apart, live_lines, table_text-rows, unit_streams-lines}
 
@@ -76,18 +76,18 @@ module _ (plan : Project) (limits : IsInLimits plan) (place : ℕ) (below : plac
       let small : first_ordinal births t + cohort_size births t ≤ born_count births (last_unit plan) = omega (arith, all, born_count-le births t (last_unit plan) within) in
       let same_death : (j : ℕ) → j < born_count births unit → death generator place t j ≡ death generator place unit j =
       λ j born. death-later generator place unit t j born (omega arith) in
-      let was_alive : (j : ℕ) → j < born_count births unit → (is_live generator place unit j && not (dies_at plan t place j)) ≡ is_live generator place t j =
+      let was_alive : (j : ℕ) → j < born_count births unit → (is_live generator place unit j && not (dies_at plan place t j)) ≡ is_live generator place t j =
       λ j born.
-      ap (λ (d : Option ℕ). is_after d unit && not (dies_at plan t place j)) (sym (same_death j born)) ∙ after_next-alive (death generator place t j) unit in
+      ap (λ (d : Option ℕ). is_after d unit && not (dies_at plan place t j)) (sym (same_death j born)) ∙ after_next-alive (death generator place t j) unit in
       subst (λ (of_unit : List (List ℕ)). IsMadeByUnits generator.delimiter (of_unit ++ streams) (rows unit) last) (sym (unit_streams-lines plan limits place below t within))
       (made-unit generator.delimiter key (born_count births (last_unit plan)) (keys-apart plan limits place below) (text unit) (text t)
-      (is_live generator place unit) (dies_at plan t place) (changes_at plan t place) (is_live generator place t) (first_ordinal births t) (cohort_size births t) streams last small
+      (is_live generator place unit) (dies_at plan place t) (changes_at plan place t) (is_live generator place t) (first_ordinal births t) (cohort_size births t) streams last small
       (λ j born. keyed-text plan limits place below t within j (omega (arith, born, all)))
       (λ j born at. ap (λ (d : Option ℕ). is_after d unit) (sym (same_death j born)) ∙ at_next-alive (death generator place t j) unit at)
       was_alive
       (λ j born at. (and_parts (is_live generator place t j) (change_unit generator place t j == t) at).0)
       (λ j born alive rests.
-      text-rested unit t refl within j born (and_parts (is_live generator place unit j) (not (dies_at plan t place j)) (was_alive j born ∙ alive)).0 alive
+      text-rested unit t refl within j born (and_parts (is_live generator place unit j) (not (dies_at plan place t j)) (was_alive j born ∙ alive)).0 alive
       (λ same. true≢false (sym (and_from (is_live generator place t j) (change_unit generator place t j == t) alive (eq-eqb (change_unit generator place t j) t same)) ∙ rests)))
       (subst (λ (n : ℕ). IsMadeByUnits generator.delimiter streams (lines_in key (text t) (is_live generator place t) 0 n) last) (sym all) made))
 

@@ -35,7 +35,7 @@ use Rattle.row_lines.specs.Lines.{field, parent_of_row}
 use Rattle.row_lines.proofs.FieldLemmas.{field-key}
 use Rattle.life_intervals.proofs.HeldParentLemmas.{held_parent-cascades}
 use Rattle.row_lines.proofs.ReferenceFieldLemmas.{field-reference, parent_of_row-by, parents-held_parent}
-use Rattle.update_box.proofs.FateLemmas.{not-true}
+use Rattle.update_box.proofs.OrdinalLemmas.{not-true}
 use Rattle.update_box.specs.TextLaws.{field_of_line, lines_with_key}
 use Rattle.update_box.proofs.RangeLemmas.{count_by-filter_one, count_by-map}
 

@@ -24,7 +24,7 @@ use Rattle.stream_apply.specs.KeyedLines.{KeyedLine, keyed, lines_text}
 use Rattle.stream_apply.proofs.KeyedLineLemmas.{join_with_byte-by}
 use Rattle.stream_apply.proofs.NumberedLineLemmas.{AreKeys, lines_in}
 use Rattle.stream_apply.proofs.UnitLemmas.{IsKeyedText}
-use Rattle.update_box.specs.Fates.{changes_at, dies_at}
+use Rattle.update_box.specs.Candidates.{changes_at, dies_at}
 use Rattle.update_box.specs.TextLaws.{unit_streams}
 use Rattle.update_box.proofs.KeyLineLemmas.{key-small}
 use Rattle.update_box.proofs.RangeLemmas.{flat_map-filter_same}
@@ -48,8 +48,8 @@ live_lines plan place unit =
 -- what a unit changes: the keys of the rows that it deletes, the lines of those that it updates, and those of the cohort that it inserts
 abbrev pub stream_lines : Project → ℕ → ℕ → List (List KeyedLine)
 stream_lines plan place unit =
-    lines_in (key_text plan place) (key_text plan place) (dies_at plan unit place) 0 (first_ordinal (table_of plan place).births unit)
-    ∷ lines_in (key_text plan place) (body_text plan place unit) (changes_at plan unit place) 0 (first_ordinal (table_of plan place).births unit)
+    lines_in (key_text plan place) (key_text plan place) (dies_at plan place unit) 0 (first_ordinal (table_of plan place).births unit)
+    ∷ lines_in (key_text plan place) (body_text plan place unit) (changes_at plan place unit) 0 (first_ordinal (table_of plan place).births unit)
     ∷ lines_in (key_text plan place) (body_text plan place unit) (is_live (generator_of plan) place unit) (first_ordinal (table_of plan place).births unit)
     (cohort_size (table_of plan place).births unit) ∷ []
 
@@ -113,24 +113,24 @@ module _ (plan : Project) (limits : IsInLimits plan) (place : ℕ) (below : plac
   -- ---- what a unit changes
 
   deleted_text-lines : (unit : ℕ) → unit ≤ last_unit plan →
-      deleted_text plan unit place ≡ lines_text (lines_in key key (dies_at plan unit place) 0 (first_ordinal births unit))
+      deleted_text plan unit place ≡ lines_text (lines_in key key (dies_at plan place unit) 0 (first_ordinal births unit))
   deleted_text-lines unit within =
       deleted_text-ordinals plan unit place
       ∙ ap (flat_map (key_line_of generator (last_unit plan) place)) (deleted-ordinals plan limits place below unit within)
-      ∙ flat_map-filter_same (key_line_of generator (last_unit plan) place) (λ (j : ℕ). key j ++ 10 ∷ []) (dies_at plan unit place) 0 (first_ordinal births unit)
+      ∙ flat_map-filter_same (key_line_of generator (last_unit plan) place) (λ (j : ℕ). key j ++ 10 ∷ []) (dies_at plan place unit) 0 (first_ordinal births unit)
       (λ j low high.
       let born : j < born_count births (last_unit plan) = omega (arith, high, born_count-next births unit, born_count-le births unit (last_unit plan) within) in
       ap (λ (written : List ℕ). written ++ 10 ∷ [])
       (escaped_text-decimal generator.delimiter (key_of generator place (last_unit plan) j) (key-small plan limits (last_unit plan) (omega arith) place below j born)))
-      ∙ sym (lines_text-lines_in key key (dies_at plan unit place) 0 (first_ordinal births unit))
+      ∙ sym (lines_text-lines_in key key (dies_at plan place unit) 0 (first_ordinal births unit))
 
   updated_text-lines : (unit : ℕ) → unit ≤ last_unit plan →
-      updated_text plan unit place ≡ lines_text (lines_in key (text unit) (changes_at plan unit place) 0 (first_ordinal births unit))
+      updated_text plan unit place ≡ lines_text (lines_in key (text unit) (changes_at plan place unit) 0 (first_ordinal births unit))
   unfolding line
   updated_text-lines unit within =
       updated_text-ordinals plan limits place below unit within
       ∙ ap (flat_map (line_of generator unit place)) (updated-ordinals plan limits place below unit within)
-      ∙ sym (lines_text-lines_in key (text unit) (changes_at plan unit place) 0 (first_ordinal births unit))
+      ∙ sym (lines_text-lines_in key (text unit) (changes_at plan place unit) 0 (first_ordinal births unit))
 
   inserted_text-lines : (unit : ℕ) → unit ≤ last_unit plan →
       inserted_text plan unit place ≡ lines_text (lines_in key (text unit) (is_live generator place unit) (first_ordinal births unit) (cohort_size births unit))

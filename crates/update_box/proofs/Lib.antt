@@ -1,5 +1,15 @@
 pub mod RangeLemmas
-pub mod FateLemmas
+pub mod OrdinalLemmas
+pub mod AppendedLemmas
+pub mod BornLemmas
+pub mod CandidateLemmas
+pub mod ChildLemmas
+pub mod ReferenceFilterLemmas
+pub mod DeletionLemmas
+pub mod UpdateLemmas
+pub mod CostLemmas
+pub mod NeededLemmas
+pub mod UnitLemmas
 pub mod StepLemmas
 pub mod KeyLineLemmas
 pub mod LastUnitLemmas

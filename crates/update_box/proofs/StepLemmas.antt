@@ -17,8 +17,7 @@ use Rattle.life_intervals.proofs.LifeLemmas.{death-later}
 use Rattle.life_intervals.proofs.LiveLemmas.{holds_row-live}
 use Rattle.life_intervals.proofs.SimulationLemmas.{rows_at-rows_of}
 use Rattle.life_intervals.proofs.StreamLemmas.{deleted-dying, updated-changing}
-use Rattle.update_box.specs.Fates.{lists_before}
-use Rattle.update_box.specs.UnitLists.{ordinals, table_lists}
+use Rattle.update_box.specs.UnitLists.{ordinals}
 use Rattle.update_box.proofs.RangeLemmas.{filter-filter, filter-range_same}
 
 -- ---- by the closed form
@@ -39,13 +38,6 @@ pub updated-ordinals : (plan : Project) → IsInLimits plan → (place : ℕ) �
 updated-ordinals plan limits place below unit within =
     ap ordinals (updated-changing (last_unit plan) (generator_of plan) (AreSound-accepted plan limits) place (place-below plan place below) unit within)
     ∙ ordinals-rows (generator_of plan) place unit (changing (generator_of plan) place unit)
-
--- a scan of the rows that are born before the unit finds the lists of the simulation
-pub lists_before-all : (plan : Project) → IsInLimits plan → (place : ℕ) → place < length plan.schema.tables → (unit : ℕ) → unit ≤ last_unit plan →
-    lists_before plan unit place (first_ordinal (table_of plan place).births unit) ≡ table_lists plan unit place
-lists_before-all plan limits place below unit within =
-    ap₂ (λ (xs ys : List ℕ). record { deleted = xs; updated = ys; inserted = (table_lists plan unit place).inserted })
-    (sym (deleted-ordinals plan limits place below unit within)) (sym (updated-ordinals plan limits place below unit within))
 
 -- ---- by the rows that the tables hold
 

@@ -1,5 +1,8 @@
 pub mod UnitLists
+pub mod Candidates
 pub mod Fates
+pub mod Ordinals
+pub mod Found
 pub mod TableLists
 pub mod TextLaws
 pub mod Cuts

@@ -2,7 +2,7 @@
 use Rattle.std.specs.Prelude.{◌≡◌, ◌<◌, ◌==◌, ℕ, Bool, true, [], Option, Some, None, if◌then◌else◌, length, map, slice_index_or}
 use Rattle.std.specs.List.{range_with_len}
 use Rattle.schema_plan.specs.Dictionaries.{Project}
-use Rattle.update_box.specs.declared.scan.TableRows.{TableRows}
+use Rattle.update_box.specs.declared.table_rows.TableRows.{TableRows}
 use Rattle.update_box.specs.UnitLists.{TableLists, UnitLists, table_lists}
 
 -- the lists that are kept of a table

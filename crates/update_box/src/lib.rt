@@ -7,23 +7,27 @@
 //! these into packages, which the two packers make: each alone, from what is prepared once for the job (`PreparedTables`).
 #![tactic(auto)]
 
+mod candidates;
+mod deletions;
+mod fates;
 pub mod laws;
 mod list_packer;
 mod memory;
 mod names;
+mod needed;
 mod parts;
 mod prepared;
-mod scan;
 mod shares;
 mod snapshot_packer;
 mod spare;
+mod table_rows;
 mod units;
+mod updates;
 
 pub use list_packer::ListPacker;
 pub use memory::Memory;
 pub use names::push_file_name;
 pub use parts::{Content, Job, Places, places_of};
 pub use prepared::PreparedTables;
-pub use scan::{TableRows, table_rows};
 pub use snapshot_packer::SnapshotPacker;
 pub use units::{UnitRows, rows_of_unit, unit_rows};

@@ -23,3 +23,9 @@ impl From<line_pages::Memory> for Memory {
         Memory
     }
 }
+
+impl From<life_intervals::Memory> for Memory {
+    fn from(_error: life_intervals::Memory) -> Memory {
+        Memory
+    }
+}

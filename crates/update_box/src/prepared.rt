@@ -16,7 +16,7 @@ use std::alloc::Global;
 use std::marker::Model;
 
 /// What the lines at a unit of the rows of a job's tables are made from: the orders of these tables and of those that they refer to,
-/// and of each table the columns prepared for runs. It is made once for a job, for the scan of what a unit changes and for all packages. A
+/// and of each table the columns prepared for runs. It is made once for a job, to find what a unit changes and for all packages. A
 /// contract sees the place of the first table, the orders and the lines.
 #[derive(Drop)]
 pub struct PreparedTables {

@@ -1,12 +1,20 @@
 //! The rows that a unit changes, table by table.
 
-ghost use Rattle.std.specs.Prelude.{◌≡◌, ◌<◌, ◌≤◌, IfOk, length};
-ghost use Rattle.life_intervals.specs.Generator.{last_unit};
-ghost use Rattle.update_box.specs.TableLists.{HoldLists, chosen_lists, is_chosen, lists_if_chosen, lists_of, table_lists_at};
+ghost use Rattle.std.specs.Prelude.{◌≡◌, ◌+◌, ◌*◌, ◌<◌, ◌≤◌, All, IfOk, length, map, slice_index_or, true, ℕ};
+ghost use Rattle.std.specs.List.{range_with_len};
+ghost use Rattle.schema_plan.specs.Layout.{layout_of};
+ghost use Rattle.schema_plan.specs.References.{references_of};
+ghost use Rattle.schema_plan.specs.TableFacts.{cost};
+ghost use Rattle.life_intervals.specs.Generator.{last_unit, table_of};
+ghost use Rattle.update_box.specs.Candidates.{candidates, cost_of_unit};
+ghost use Rattle.update_box.specs.Found.{AreNeeded, HasDying, is_something, kept_if_chosen, lists_as_needed, lists_sought, sought_of};
+ghost use Rattle.update_box.specs.TableLists.{HoldLists, chosen_lists, is_chosen, lists_of, table_lists_at};
 ghost use Rattle.update_box.specs.UnitLists.{unit_lists};
+ghost use Rattle.update_box.specs.declared.table_rows.TableRows.{TableRows};
 
 use crate::Memory;
-use crate::scan::{TableRows, table_rows};
+use crate::needed::needed_tables;
+use crate::table_rows::TableRows;
 use life_intervals::{Cohort, JobOrders, Rows};
 use schema_plan::Plan;
 use std::alloc::Global;
@@ -65,7 +73,8 @@ impl UnitRows {
     }
 }
 
-/// The rows that the step to unit `t` deletes, updates and inserts, table by table. At `Memory` none are told.
+/// The rows that the step to unit `t` deletes, updates and inserts, table by table. At `Memory` none are told. It takes at most as many steps as
+/// the cost of the unit says: for each candidate of each table as many as a row of it costs.
 pub fn unit_rows<L: Ledger>(
     alloc: Global,
     plan: &Plan,
@@ -74,17 +83,18 @@ pub fn unit_rows<L: Ledger>(
 ) -> Result<UnitRows, Memory>
     requires some { 1 ≤ t }
     requires unit { t ≤ last_unit plan.now }
-    ensures { IfOk result (λ rows. rows ≡ unit_lists plan.now t) }
+    ensures lists { IfOk result (λ rows. rows ≡ unit_lists plan.now t) }
+    ensures steps { steps.new ≤ steps.old + cost_of_unit plan.now t }
 {
-    let Ok(orders) = JobOrders::new(alloc, plan, 0, plan.tables(), t) else {
+    let Ok(orders) = JobOrders::for_changes(alloc, plan, 0, plan.tables(), t) else {
         return Err(Memory);
     };
     let rows = Rows::with(plan, &orders);
     rows_of_unit(alloc, &rows, None, t, steps)
 }
 
-/// The same with the orders that are kept for the plan, or with none, and of the one table at a place alone, where one is chosen: no
-/// other table is scanned, and its lists stay empty.
+/// The same with the orders that are kept for the plan, or with none, and of the one table at a place alone, where one is chosen: of the
+/// others no more is looked for than what deletions it needs, and their lists stay empty.
 pub fn rows_of_unit<L: Ledger>(
     alloc: Global,
     rows: &Rows<'_>,
@@ -96,12 +106,12 @@ pub fn rows_of_unit<L: Ledger>(
     requires unit { t ≤ last_unit rows.now }
     ensures lists { IfOk result (λ lists. lists ≡ chosen_lists rows.now t table) }
     ensures held { IfOk result (HoldLists rows.now t table) }
+    ensures steps { steps.new ≤ steps.old + cost_of_unit rows.now t }
 {
     let _limits = rows.plan().schema(); // there are at most 64 tables
-    let mut tables = Vec::new(alloc);
-    for place in 0..rows.plan().tables() {
-        tables.push(rows_if_chosen(alloc, rows, table, place, t, steps)?)?;
-    }
+    let needed = needed_tables(alloc, rows.plan(), table)?;
+    let mut tables = all_sought(alloc, rows, table, needed.as_slice(), t, steps)?;
+    leave_chosen(alloc, table, &mut tables);
     Ok(UnitRows { unit: t, tables })
 }
 
@@ -115,26 +125,87 @@ fn is_chosen(table: Option<u32>, place: u32) -> bool
     }
 }
 
-/// The rows that the step to unit `t` deletes, updates and inserts in the table at a place, where the table is chosen, and else none.
-fn rows_if_chosen<L: Ledger>(
+/// What is looked for of a table.
+#[derive(Clone, Copy)]
+enum Sought {
+    /// All that a unit changes.
+    Changes,
+    /// What it deletes, since this is needed for tables that refer to it.
+    Deletions,
+    /// Nothing.
+    Nothing,
+}
+
+/// What is looked for of the table at a place, which is needed or isn't.
+fn what_is_sought(table: Option<u32>, needed: bool, place: u32) -> Sought
+    ensures { result ≡ sought_of table needed place }
+{
+    if is_chosen(table, place) {
+        Sought::Changes
+    } else if needed {
+        Sought::Deletions
+    } else {
+        Sought::Nothing
+    }
+}
+
+/// What is looked for of the table at a place. What dies in the tables to which it refers is found, where anything is looked for.
+fn rows_sought<L: Ledger>(
     alloc: Global,
     rows: &Rows<'_>,
-    table: Option<u32>,
+    sought: Sought,
     place: u32,
     t: u64,
+    before: &[TableRows],
     steps: &mut Steps<L>,
 ) -> Result<TableRows, Memory>
     requires place { place < length rows.now.schema.tables }
     requires some { 1 ≤ t }
     requires unit { t ≤ last_unit rows.now }
-    ensures { IfOk result (λ lists. lists_of lists ≡ lists_if_chosen rows.now t table place) }
+    requires parents { is_something sought ≡ true → All (λ reference. HasDying rows.now t before.now reference.parent) (references_of (table_of rows.now place)) }
+    ensures rows { IfOk result (λ lists. lists_of lists ≡ lists_sought rows.now t place sought) }
+    ensures steps { steps.new ≤ steps.old + cost (layout_of rows.now) place * candidates rows.now place t }
 {
-    if is_chosen(table, place) {
-        return table_rows(alloc, rows, place, t, steps);
+    match sought {
+        Sought::Changes => TableRows::changed_at(alloc, rows, place, t, before, steps),
+        Sought::Deletions => TableRows::deleted_at(alloc, rows, place, t, before, steps),
+        Sought::Nothing => Ok(TableRows::none(alloc)),
     }
-    Ok(TableRows {
-        deleted: Vec::new(alloc),
-        updated: Vec::new(alloc),
-        inserted: Cohort { first: 0, size: 0 },
-    })
+}
+
+/// What is looked for of each table, in order, where these are needed.
+fn all_sought<L: Ledger>(
+    alloc: Global,
+    rows: &Rows<'_>,
+    table: Option<u32>,
+    needed: &[bool],
+    t: u64,
+    steps: &mut Steps<L>,
+) -> Result<Vec<TableRows>, Memory>
+    requires needed { AreNeeded rows.now table needed.now }
+    requires some { 1 ≤ t }
+    requires unit { t ≤ last_unit rows.now }
+    ensures lists { IfOk result (λ tables. map lists_of tables.items ≡ map (lists_as_needed rows.now t table needed.now) (range_with_len 0 (length rows.now.schema.tables))) }
+    ensures steps { steps.new ≤ steps.old + cost_of_unit rows.now t }
+{
+    let _limits = rows.plan().schema(); // a parent's table is an earlier one
+    let mut tables = Vec::new(alloc);
+    for place in 0..rows.plan().tables() {
+        let sought = what_is_sought(table, needed[place as usize], place);
+        tables.push(rows_sought(alloc, rows, sought, place, t, tables.as_slice(), steps)?)?;
+    }
+    Ok(tables)
+}
+
+/// Leaves the tables that aren't chosen no rows.
+fn leave_chosen(alloc: Global, table: Option<u32>, tables: &mut Vec<TableRows>)
+    requires { length tables.old.items ≤ 64 }
+    ensures all { length tables.new.items ≡ length tables.old.items }
+    ensures each { (place : ℕ) (d : TableRows) → place < length tables.old.items → lists_of (slice_index_or tables.new.items place d) ≡ kept_if_chosen table place (lists_of (slice_index_or tables.old.items place d)) }
+{
+    for place in 0..tables.len() {
+        if !is_chosen(table, place as u32) {
+            tables[place] = TableRows::none(alloc);
+        }
+    }
 }

@@ -1,0 +1,106 @@
+-- The rows that a unit may delete or update, as they are looked for.
+use Rattle.std.specs.Prelude.{ℕ, ◌+◌, ◌*◌, ◌==◌, Bool, not, ◌&&◌, List, count_by, filter, is_some, length, sum_by}
+use Rattle.std.specs.List.{flat_map, range_with_len}
+use Rattle.std.specs.Option.{option_map}
+use Rattle.cohort_sizes.specs.Births.{birth, first_ordinal}
+use Rattle.schema_model.specs.declared.column.OnDelete.{OnDelete}
+use Rattle.schema_model.specs.declared.column.OnDelete.TheVariants.{Cascade, Null}
+use Rattle.schema_plan.specs.Dictionaries.{Project}
+use Rattle.schema_plan.specs.Layout.{TableLayout, layout_of}
+use Rattle.schema_plan.specs.Lineage.{longest_life, one_if}
+use Rattle.schema_plan.specs.declared.ready.ReadyReference.{ReadyReference}
+use Rattle.schema_plan.specs.References.{Reference, cascades_of, references_of}
+use Rattle.schema_plan.specs.TableFacts.{cost}
+use Rattle.life_intervals.specs.Generator.{generator_of, table_of}
+use Rattle.life_intervals.specs.Intervals.{change_unit, death, is_after, is_at, is_live, own_death, parent_of}
+use Rattle.life_intervals.specs.FoundAt.{due_unit}
+
+-- the ordinals of the rows of the table at a place that are born before a unit
+abbrev pub born_before : Project → ℕ → ℕ → List ℕ
+born_before plan place unit = range_with_len 0 (first_ordinal (table_of plan place).births unit)
+
+-- ---- what comes to a row that is born before a unit
+
+-- its own life ends at the unit
+abbrev pub ends_at : Project → ℕ → ℕ → ℕ → Bool
+ends_at plan place unit ordinal = is_at (own_death (generator_of plan) place unit ordinal) unit
+
+-- its parent by a reference dies at it
+abbrev pub loses_at : Project → ℕ → ℕ → Reference → ℕ → Bool
+loses_at plan place unit reference ordinal =
+    is_at (death (generator_of plan) reference.parent unit (parent_of (generator_of plan) place unit ordinal reference)) unit
+
+-- a row that is born at one unit is young at another while the longest life of its table hasn't ended
+abbrev pub is_young : Project → ℕ → ℕ → ℕ → Bool
+is_young plan place born unit = is_after (option_map (λ life. born + life) (longest_life (layout_of plan).tables place)) unit
+
+-- it is due at the unit, in a table with updates, and young
+abbrev pub is_due_at : Project → ℕ → ℕ → ℕ → Bool
+is_due_at plan place unit ordinal =
+    is_young plan place (birth (table_of plan place).births unit ordinal) unit && due_unit (generator_of plan) place unit ordinal == unit
+
+-- it dies at the unit, and it is alive at it
+abbrev pub dies_at : Project → ℕ → ℕ → ℕ → Bool
+dies_at plan place unit ordinal = is_at (death (generator_of plan) place unit ordinal) unit
+
+abbrev pub lives_at : Project → ℕ → ℕ → ℕ → Bool
+lives_at plan place unit ordinal = is_live (generator_of plan) place unit ordinal
+
+-- it is alive at it, and the unit is its change unit
+abbrev pub changes_at : Project → ℕ → ℕ → ℕ → Bool
+changes_at plan place unit ordinal = lives_at plan place unit ordinal && change_unit (generator_of plan) place unit ordinal == unit
+
+-- ---- the rows that are looked at
+
+-- whether a reference does this to a row whose parent is deleted, in the table's layout and as it is ready
+abbrev pub is_on : OnDelete → Reference → Bool
+is_on Cascade reference = not reference.nulls
+is_on Null reference = reference.nulls
+
+abbrev pub is_on_ready : OnDelete → ReadyReference → Bool
+is_on_ready Cascade ready = not ready.nulls
+is_on_ready Null ready = ready.nulls
+
+-- those of a table that do
+abbrev pub references_on : OnDelete → TableLayout → List Reference
+references_on on_delete table = filter (is_on on_delete) (references_of table)
+
+-- how many things may end a row of a table: its own life, and a parent's by each reference that takes its rows along
+abbrev pub endings : TableLayout → ℕ
+endings table = one_if (is_some table.life) + length (cascades_of table)
+
+-- the rows whose own lives end at a unit, those that are due at it, and those whose parents by a reference die at it
+abbrev pub ending : Project → ℕ → ℕ → List ℕ
+ending plan place unit = filter (ends_at plan place unit) (born_before plan place unit)
+
+abbrev pub due : Project → ℕ → ℕ → List ℕ
+due plan place unit = filter (is_due_at plan place unit) (born_before plan place unit)
+
+abbrev pub losing : Project → ℕ → ℕ → Reference → List ℕ
+losing plan place unit reference = filter (loses_at plan place unit reference) (born_before plan place unit)
+
+-- of those whose parents die by some references each, reference by reference
+abbrev pub losing_by : Project → ℕ → ℕ → List Reference → List ℕ
+losing_by plan place unit references = flat_map (losing plan place unit) references
+
+-- how many rows are looked at for what a unit deletes in the table at a place, and for what it updates, each as often as it is found
+abbrev pub looked_at_to_delete : Project → ℕ → ℕ → ℕ
+looked_at_to_delete plan place unit =
+    length (ending plan place unit) + length (losing_by plan place unit (references_on Cascade (table_of plan place)))
+
+abbrev pub looked_at_to_update : Project → ℕ → ℕ → ℕ
+looked_at_to_update plan place unit =
+    length (due plan place unit) + length (losing_by plan place unit (references_on Null (table_of plan place)))
+
+-- the candidates of a unit: the rows whose own lives end at it, for each reference those whose parents die at it, and those that are due at
+-- it. A row counts once for each of these
+abbrev pub candidates : Project → ℕ → ℕ → ℕ
+candidates plan place unit =
+    count_by (ends_at plan place unit) (born_before plan place unit)
+    + sum_by (λ reference. count_by (loses_at plan place unit reference) (born_before plan place unit)) (references_of (table_of plan place))
+    + count_by (is_due_at plan place unit) (born_before plan place unit)
+
+-- how many permutations it takes at most to tell what a unit changes: for each candidate of each table as many as a row of it costs
+abbrev pub cost_of_unit : Project → ℕ → ℕ
+cost_of_unit plan unit =
+    sum_by (λ place. cost (layout_of plan) place * candidates plan place unit) (range_with_len 0 (length plan.schema.tables))
