@@ -16,7 +16,6 @@ use Rattle.schema_plan.specs.Dictionaries.{Project}
 use Rattle.schema_plan.specs.Limits.{IsInLimits}
 use Rattle.schema_plan.specs.Lineage.{lesser_life, one_if}
 use Rattle.schema_plan.specs.References.{Reference, cascades_of}
-use Rattle.life_intervals.specs.CohortParents.{is_cascade}
 use Rattle.life_intervals.proofs.CascadeLemmas.{is_cascading}
 use Rattle.life_intervals.proofs.ReferenceLemmas.{references_in}
 use Rattle.life_intervals.specs.Generator.{generator_of, last_unit, table_of}
@@ -25,7 +24,7 @@ use Rattle.life_intervals.specs.Rows.{life_by}
 use Rattle.philox_seeds.specs.SeedTree.{life_column}
 use Rattle.life_intervals.proofs.AcceptedLemmas.{AreSound-accepted, length-tables}
 use Rattle.life_intervals.proofs.LifeLemmas.{death-first}
-use Rattle.update_box.specs.Candidates.{dies_at, endings, ends_at}
+use Rattle.update_box.specs.Candidates.{dies_at, endings, ends_at, is_cascade}
 use Rattle.update_box.proofs.BornLemmas.{born-by}
 use Rattle.update_box.proofs.CandidateLemmas.{AreLookedAt, is_looked_at, kept-all, kept-filter}
 

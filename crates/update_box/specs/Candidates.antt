@@ -1,5 +1,5 @@
 -- The rows that a unit may delete or update, as they are looked for.
-use Rattle.std.specs.Prelude.{ℕ, ◌+◌, ◌*◌, ◌==◌, Bool, not, ◌&&◌, List, count_by, filter, is_some, length, sum_by}
+use Rattle.std.specs.Prelude.{ℕ, ◌+◌, ◌*◌, ◌==◌, Bool, false, not, ◌&&◌, List, count_by, filter, is_some, length, sum_by}
 use Rattle.std.specs.List.{flat_map, range_with_len}
 use Rattle.std.specs.Option.{option_map}
 use Rattle.cohort_sizes.specs.Births.{birth, first_ordinal}
@@ -8,6 +8,9 @@ use Rattle.schema_model.specs.declared.column.OnDelete.TheVariants.{Cascade, Nul
 use Rattle.schema_plan.specs.Dictionaries.{Project}
 use Rattle.schema_plan.specs.Layout.{TableLayout, layout_of}
 use Rattle.schema_plan.specs.Lineage.{longest_life, one_if}
+use Rattle.schema_plan.specs.declared.ready.ReadyColumn.{ReadyColumn}
+use Rattle.schema_plan.specs.declared.ready.ReadyKind.{ReadyKind}
+use Rattle.schema_plan.specs.declared.ready.ReadyKind.TheVariants as kind
 use Rattle.schema_plan.specs.declared.ready.ReadyReference.{ReadyReference}
 use Rattle.schema_plan.specs.References.{Reference, cascades_of, references_of}
 use Rattle.schema_plan.specs.TableFacts.{cost}
@@ -60,6 +63,14 @@ is_on Null reference = reference.nulls
 abbrev pub is_on_ready : OnDelete → ReadyReference → Bool
 is_on_ready Cascade ready = not ready.nulls
 is_on_ready Null ready = ready.nulls
+
+-- a column that is ready as a reference whose parents take their rows along
+abbrev pub is_cascade_kind : ReadyKind → Bool
+is_cascade_kind (kind.Reference ready) = is_on_ready Cascade ready
+is_cascade_kind _ = false
+
+abbrev pub is_cascade : ReadyColumn → Bool
+is_cascade column = is_cascade_kind column.kind
 
 -- those of a table that do
 abbrev pub references_on : OnDelete → TableLayout → List Reference

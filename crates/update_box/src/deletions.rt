@@ -4,10 +4,9 @@ ghost use Rattle.std.specs.Prelude.{◌≡◌, ◌+◌, ◌*◌, ◌<◌, ◌≤
 ghost use Rattle.schema_plan.specs.Layout.{layout_of};
 ghost use Rattle.schema_plan.specs.Lineage.{death_cost};
 ghost use Rattle.schema_plan.specs.References.{references_of};
-ghost use Rattle.life_intervals.specs.CohortParents.{is_cascade};
 ghost use Rattle.life_intervals.specs.Generator.{generator_of, last_unit, table_of};
 ghost use Rattle.life_intervals.specs.Intervals.{dying};
-ghost use Rattle.update_box.specs.Candidates.{ending, endings, looked_at_to_delete};
+ghost use Rattle.update_box.specs.Candidates.{ending, endings, is_cascade, looked_at_to_delete};
 ghost use Rattle.update_box.specs.Found.{HasDying};
 ghost use Rattle.life_intervals.specs.FoundAt.{AreAppended};
 

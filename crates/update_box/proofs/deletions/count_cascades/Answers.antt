@@ -1,6 +1,6 @@
 use Rattle.std.proofs.Common.{◌+◌, ℕ, ap, sym, ◌∙◌}
 use Rattle.std.proofs.lemmas.List.Sums.{count_by_more_no, count_by_more_yes}
-use Rattle.life_intervals.specs.CohortParents.{is_cascade}
+use Rattle.update_box.specs.Candidates.{is_cascade}
 use Rattle.update_box.proofs.deletions.count_cascades.Goals as goal
 use Rattle.update_box.proofs.deletions.count_cascades.Goals.{then-is_cascade, else-is_cascade}
 

@@ -1,5 +1,5 @@
 use Rattle.std.proofs.Common.{◌≡◌, count_by, take}
-use Rattle.life_intervals.specs.CohortParents.{is_cascade}
+use Rattle.update_box.specs.Candidates.{is_cascade}
 use Rattle.update_box.proofs.deletions.count_cascades.Given as goal
 
 abbrev pub invariant-loop-column : goal.invariant-loop-column

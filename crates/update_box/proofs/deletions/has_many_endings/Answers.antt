@@ -3,7 +3,7 @@ use Rattle.std.specs.Prelude.{is_some, nat_lt}
 use Rattle.schema_plan.specs.declared.layout.Span.{Span}
 use Rattle.schema_plan.specs.Lineage.{one_if}
 use Rattle.schema_plan.specs.References.{cascades_of}
-use Rattle.life_intervals.specs.CohortParents.{is_cascade}
+use Rattle.update_box.specs.Candidates.{is_cascade}
 use Rattle.life_intervals.specs.Generator.{table_of}
 use Rattle.update_box.proofs.DeletionLemmas.{count-cascades, many-with_life}
 use Rattle.update_box.proofs.deletions.has_many_endings.Goals as goal
