@@ -1,5 +1,6 @@
 -- What is found of the tables before one, and of which tables it is needed.
-use Rattle.std.specs.Prelude.{◌≡◌, ◌<◌, ℕ, Bool, true, false, ◌&&◌, if◌then◌else◌, All, List, length, nat_le, nat_lt, Option, slice_index_or}
+use Rattle.std.specs.Prelude.{◌≡◌, ◌<◌, ℕ, Bool, true, false, ◌&&◌, ◌==◌, ◌⊎◌, if◌then◌else◌, All, List, length, nat_le, nat_lt, Option, slice_index_or}
+use Rattle.std.specs.List.{list_any}
 use Rattle.schema_plan.specs.Dictionaries.{Project}
 use Rattle.schema_plan.specs.References.{references_of}
 use Rattle.life_intervals.specs.Generator.{generator_of, table_of}
@@ -27,12 +28,18 @@ deletions_alone plan unit place = record no_lists { deleted = dying (generator_o
 abbrev pub is_needed : List Bool → ℕ → Bool
 is_needed marks place = slice_index_or marks place false
 
--- the tables that are chosen are marked, and with each all to which it refers
+-- whether the table at a place refers to that at another
+abbrev pub refers_to : Project → ℕ → ℕ → Bool
+refers_to plan place other = list_any (λ reference. reference.parent == other) (references_of (table_of plan place))
+
+-- the tables that are chosen are marked, and with each all to which it refers, and no others
 pub record AreNeeded (plan : Project) (table : Option ℕ) (marks : List Bool) : Type 0 where
   pub all : length marks ≡ length plan.schema.tables
   pub chosen : (place : ℕ) → place < length plan.schema.tables → is_chosen table place ≡ true → is_needed marks place ≡ true
   pub parents : (place : ℕ) → place < length plan.schema.tables → is_needed marks place ≡ true →
       All (λ reference. is_needed marks reference.parent ≡ true) (references_of (table_of plan place))
+  pub no_others : (place : ℕ) → is_needed marks place ≡ true →
+      (is_chosen table place ≡ true) ⊎ ((from : ℕ) × (is_needed marks from ≡ true) × (refers_to plan from place ≡ true))
 
 -- what is looked for of the table at a place, which is needed or isn't
 abbrev pub sought_of : Option ℕ → Bool → ℕ → Sought

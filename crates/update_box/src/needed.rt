@@ -1,9 +1,9 @@
 //! The tables whose deletions are looked for.
 
-ghost use Rattle.std.specs.Prelude.{◌≡◌, ℕ, ◌<◌, ◌≤◌, All, IfOk, Some, length, true};
+ghost use Rattle.std.specs.Prelude.{◌≡◌, ℕ, ◌<◌, ◌≤◌, ◌⊎◌, All, IfOk, Some, length, true};
 ghost use Rattle.schema_plan.specs.References.{references_of};
 ghost use Rattle.life_intervals.specs.Generator.{table_of};
-ghost use Rattle.update_box.specs.Found.{AreNeeded, is_needed};
+ghost use Rattle.update_box.specs.Found.{AreNeeded, is_needed, refers_to};
 
 use crate::Memory;
 use schema_plan::{Plan, ReadyKind};
@@ -16,6 +16,7 @@ fn mark_parents(plan: &Plan, place: u32, marks: &mut Vec<bool>)
     ensures all { length marks.new.items ≡ length marks.old.items }
     ensures kept { (other : ℕ) → is_needed marks.old.items other ≡ true → is_needed marks.new.items other ≡ true }
     ensures later { (other : ℕ) → place ≤ other → is_needed marks.new.items other ≡ is_needed marks.old.items other }
+    ensures no_others { (other : ℕ) → is_needed marks.new.items other ≡ true → (is_needed marks.old.items other ≡ true) ⊎ ((is_needed marks.old.items place ≡ true) × (refers_to plan.now place other ≡ true)) }
     ensures parents { is_needed marks.old.items place ≡ true → All (λ reference. is_needed marks.new.items reference.parent ≡ true) (references_of (table_of plan.now place)) }
 {
     let _limits = plan.schema(); // a parent's table is an earlier one

@@ -1,9 +1,10 @@
-use Rattle.std.proofs.Common.{◌<◌, ℕ, true, length, length-set, arith, ap, refl, ◌∙◌}
+use Rattle.std.proofs.Common.{inl, inr, ◌<◌, ℕ, true, false, length, length-set, arith, ap, refl, sym, ◌∙◌}
+use Rattle.std.proofs.lemmas.List.{get_or_default}
 use Rattle.schema_plan.specs.declared.ready.ReadyReference.{ReadyReference}
 use Rattle.schema_plan.specs.Dictionaries.{Project}
 use Rattle.life_intervals.specs.CohortParents.{IsReferenceOf}
 use Rattle.life_intervals.proofs.CohortParentLemmas.{length-ready_columns, limits_of, none_from_columns, reference_from_columns}
-use Rattle.update_box.proofs.NeededLemmas.{marked-all, marked-next, marked-none, marked-other}
+use Rattle.update_box.proofs.NeededLemmas.{marked-all, marked-no_others, marked-next, marked-none, marked-other}
 use Rattle.update_box.proofs.needed.mark_parents.Goals as goal
 use Rattle.update_box.proofs.needed.mark_parents.Goals.{in-Reference, in_default}
 
@@ -47,3 +48,11 @@ pub returns-clause-parents : goal.returns-clause-parents
 returns-clause-parents c = λ marked.
     marked-all c.args.plan.now c.args.place c.loop-ready.ready-index c.loop-ready.marks.items
     (omega (arith, c.loop-ready-test.false, ap length c.columns-ready-items.ensures.columns, length-ready_columns c.args.plan.now c.args.place)) c.loop-ready.invariant.marked.parents
+
+pub returns-clause-no_others : goal.returns-clause-no_others
+returns-clause-no_others c = λ other at.
+    elim (marked-no_others c.args.plan.now c.args.place c.loop-ready.ready-index c.args.marks.now.items c.loop-ready.marks.items
+    (omega (arith, c.loop-ready-test.false, ap length c.columns-ready-items.ensures.columns, length-ready_columns c.args.plan.now c.args.place)) c.loop-ready.invariant.marked other at) [
+      | inl old ↦ inl old
+      | inr refers ↦ inr (get_or_default c.args.marks.now.items c.args.place false c.index.result.now (omega (arith, c.requires.place, c.requires.marks)) ∙ sym c.index.ensures ∙ c.if-not-index.false, refers)
+    ]
