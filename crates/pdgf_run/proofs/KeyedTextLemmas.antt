@@ -24,7 +24,7 @@ use Rattle.schema_plan.specs.Layout.{layout_of}
 use Rattle.schema_plan.specs.Limits.{IsInLimits}
 use Rattle.stream_apply.specs.KeyedLines.{lines_text}
 use Rattle.stream_apply.proofs.NumberedLineLemmas.{lines_in}
-use Rattle.update_box.specs.Fates.{changes_at, dies_at}
+use Rattle.update_box.specs.Candidates.{changes_at, dies_at}
 use Rattle.update_box.specs.Packages.{chosen_places}
 use Rattle.update_box.specs.TextLaws.{unit_streams}
 use Rattle.update_box.proofs.KeyLineLemmas.{key-small}
@@ -107,8 +107,8 @@ module _ (plan : Project) (limits : IsInLimits plan) (place : ℕ) (below : plac
   unit-keyed unit within =
       let births = (table_of plan place).births in
       let same = unit_streams-lines plan limits place below unit within in
-      let deletes : deleted_text plan unit place ≡ lines_text (lines_in (key_text plan place) (key_text plan place) (dies_at plan unit place) 0 (first_ordinal births unit)) = cc same in
-      let updates : updated_text plan unit place ≡ lines_text (lines_in (key_text plan place) (body_text plan place unit) (changes_at plan unit place) 0 (first_ordinal births unit)) = cc same in
+      let deletes : deleted_text plan unit place ≡ lines_text (lines_in (key_text plan place) (key_text plan place) (dies_at plan place unit) 0 (first_ordinal births unit)) = cc same in
+      let updates : updated_text plan unit place ≡ lines_text (lines_in (key_text plan place) (body_text plan place unit) (changes_at plan place unit) 0 (first_ordinal births unit)) = cc same in
       let inserts : inserted_text plan unit place
       ≡ lines_text (lines_in (key_text plan place) (body_text plan place unit) (is_live (generator_of plan) place unit) (first_ordinal births unit) (cohort_size births unit)) = cc same in
       let next = born_count-next births unit in
@@ -116,14 +116,14 @@ module _ (plan : Project) (limits : IsInLimits plan) (place : ℕ) (below : plac
         (
           keys-copy (generator_of plan) (last_unit plan) place _,
           subst BeginsWithDigit (sym deletes)
-              (lines-begin (key_text plan place) (key_text plan place) (dies_at plan unit place) 0 (first_ordinal births unit)
+              (lines-begin (key_text plan place) (key_text plan place) (dies_at plan place unit) 0 (first_ordinal births unit)
               (λ j low high. key-starts j (by_last unit j within (omega (arith, high, next))))),
         ),
         (
           (
             lines-copy (generator_of plan) unit place _ some,
             subst BeginsWithDigit (sym updates)
-                (lines-begin (key_text plan place) (body_text plan place unit) (changes_at plan unit place) 0 (first_ordinal births unit)
+                (lines-begin (key_text plan place) (body_text plan place unit) (changes_at plan place unit) 0 (first_ordinal births unit)
                 (λ j low high. body-starts unit j within (omega (arith, high, next)))),
           ),
           (
