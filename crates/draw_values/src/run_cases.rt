@@ -16,11 +16,10 @@ use crate::fields::NULL_DRAW;
 use crate::kept::text_piece;
 use crate::leaves::FIRST_DRAW;
 use crate::run_column::RunColumn;
-use crate::run_loops::{choose_groups, choose_words, put_draws, put_nulls, put_run_seeds};
-use crate::run_pieces::{fill_days, fill_fixed, fill_skewed, fill_whole, fill_words};
+use crate::run_loops::{choose_groups, put_draws, put_nulls, put_run_seeds};
+use crate::run_pieces::fill_leaf;
 use crate::runs::{RunNumbers, RunRows};
 use line_pages::{Digits, Piece};
-use row_text::WrittenTexts;
 use schema_plan::{Plan, ReadyColumn, ReadyKind, ReadyLeaf};
 
 impl RunColumn {
@@ -166,78 +165,6 @@ fn branch_piece(digits: &Digits, leaf: &ReadyLeaf, draw: u64, behind: u8) -> Pie
 {
     let mut draws = [draw];
     let mut pieces = [Piece::new()];
-    fill_branch(digits, leaf, &mut draws, behind, &mut pieces);
+    fill_leaf(digits, leaf, None, &mut draws, behind, &mut pieces);
     pieces[0]
-}
-
-/// The values that draws give of a leaf whose texts are short, of which none are kept.
-#[inline(always)]
-fn fill_branch(
-    digits: &Digits,
-    leaf: &ReadyLeaf,
-    draws: &mut [u64],
-    behind: u8,
-    pieces: &mut [Piece],
-)
-    requires ready { IsReady leaf.now }
-    requires short { is_short_leaf leaf.now ≡ true }
-    requires lengths { length draws.old ≡ length pieces.old }
-    ensures { (i : ℕ) → i < length pieces.old → slice_index_or (map piece_text pieces.new) i [] ≡ with_behind behind (text_by leaf.now (slice_index draws.old i)) }
-{
-    match leaf {
-        ReadyLeaf::Int {
-            lo,
-            hi,
-            step,
-            choices,
-        } => fill_whole(digits, *lo, *hi, *step, choices, draws, behind, pieces),
-        ReadyLeaf::Fixed {
-            lo,
-            hi,
-            choices,
-            decimals,
-            unit,
-        } => fill_fixed(
-            digits, *lo, *hi, choices, *decimals, unit, draws, behind, pieces,
-        ),
-        ReadyLeaf::Date { lo, hi, choices } => {
-            fill_days(
-                i64::from(*lo),
-                i64::from(*hi),
-                choices,
-                draws,
-                behind,
-                pieces,
-            );
-        }
-        ReadyLeaf::Pick {
-            entries,
-            weights,
-            total,
-        } => {
-            choose_groups(weights, total, draws);
-            fill_entries(entries, draws, behind, pieces);
-        }
-        ReadyLeaf::Skew { lo, weights, total } => {
-            fill_skewed(digits, *lo, weights, total, draws, behind, pieces);
-        }
-        ReadyLeaf::Dict(words) => {
-            choose_words(words, draws);
-            fill_words(words, draws, behind, pieces);
-        }
-        _ => unreachable!(),
-    }
-}
-
-/// Texts at places.
-#[inline(always)]
-fn fill_entries(entries: &WrittenTexts, places: &[u64], behind: u8, pieces: &mut [Piece])
-    requires short { list_all is_short_text entries.now ≡ true }
-    requires within { (i : ℕ) → i < length places.now → slice_index places.now i < length entries.now }
-    requires lengths { length places.now ≡ length pieces.old }
-    ensures { (i : ℕ) → i < length pieces.old → slice_index_or (map piece_text pieces.new) i [] ≡ with_behind behind (slice_index_or entries.now (slice_index places.now i) []) }
-{
-    for (i, piece) in pieces.iter_mut().enumerate() {
-        *piece = text_piece(entries.get(places[i] as usize), behind);
-    }
 }

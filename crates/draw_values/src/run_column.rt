@@ -197,7 +197,7 @@ impl RunColumn {
         fill_leaf(
             digits,
             leaf,
-            self.kept.as_slice(),
+            Some(self.kept.as_slice()),
             draws,
             self.behind,
             pieces,

@@ -1,6 +1,6 @@
 //! The pieces of drawn values over a run, by their draws: one loop for each kind, each piece with the byte behind it.
 
-ghost use Rattle.std.specs.Prelude.{◌≡◌, ℕ, ◌<◌, ◌≤◌, ◌+◌, ◌-◌, ◌^◌, [], decimal, length, map, neg_ℤ, pos, slice_index, slice_index_or, sum, true, ◌+ℤ◌, ◌-ℤ◌, ◌<ℤ◌, ◌≤ℤ◌};
+ghost use Rattle.std.specs.Prelude.{◌≡◌, ℕ, ◌<◌, ◌≤◌, ◌+◌, ◌-◌, ◌^◌, [], IfSome, decimal, length, map, neg_ℤ, pos, slice_index, slice_index_or, sum, true, ◌+ℤ◌, ◌-ℤ◌, ◌<ℤ◌, ◌≤ℤ◌};
 ghost use Rattle.std.specs.Fmt.{signed_decimal};
 ghost use Rattle.std.specs.List.{list_all};
 ghost use Rattle.line_pages.specs.Pieces.{piece_text};
@@ -19,6 +19,7 @@ use crate::run_loops::{choose_groups, choose_words, fill_kept};
 use crate::weighted::skewed;
 use fixed_divisors::FixedDivisor;
 use line_pages::{Digits, Piece};
+use row_text::WrittenTexts;
 use schema_plan::{ReadyLeaf, ReadyWords};
 use weight_tables::Weights;
 
@@ -52,18 +53,19 @@ fn unit_piece(digits: &Digits, unit: u64, made_of: u64, made: Piece, behind: u8)
     }
 }
 
-/// The values that draws give of a leaf whose texts are short; `kept` are the pieces that are kept of it.
+/// The values that draws give of a leaf whose texts are short; `kept` are the pieces that are kept of it, if any are.
+#[inline(always)]
 pub(crate) fn fill_leaf(
     digits: &Digits,
     leaf: &ReadyLeaf,
-    kept: &[Piece],
+    kept: Option<&[Piece]>,
     draws: &mut [u64],
     behind: u8,
     pieces: &mut [Piece],
 )
     requires ready { IsReady leaf.now }
     requires short { is_short_leaf leaf.now ≡ true }
-    requires kept { map piece_text kept.now ≡ leaf_texts behind leaf.now }
+    requires kept { IfSome kept (λ kept. map piece_text kept.now ≡ leaf_texts behind leaf.now) }
     requires lengths { length draws.old ≡ length pieces.old }
     ensures { (i : ℕ) → i < length pieces.old → slice_index_or (map piece_text pieces.new) i [] ≡ with_behind behind (text_by leaf.now (slice_index draws.old i)) }
 {
@@ -86,28 +88,22 @@ pub(crate) fn fill_leaf(
         ReadyLeaf::Date { lo, hi, choices } => {
             fill_dates(*lo, *hi, choices, kept, draws, behind, pieces);
         }
-        ReadyLeaf::Pick { weights, total, .. } => {
-            choose_groups(weights, total, draws);
-            fill_kept(kept, draws, pieces);
-        }
+        ReadyLeaf::Pick {
+            entries,
+            weights,
+            total,
+        } => fill_picked(entries, weights, total, kept, draws, behind, pieces),
         ReadyLeaf::Skew { lo, weights, total } => {
             fill_skewed(digits, *lo, weights, total, draws, behind, pieces);
         }
-        ReadyLeaf::Dict(words) => {
-            choose_words(words, draws);
-            if words.len() <= WORD_ROOM {
-                fill_kept(kept, draws, pieces);
-            } else {
-                fill_words(words, draws, behind, pieces);
-            }
-        }
+        ReadyLeaf::Dict(words) => fill_chosen(words, kept, draws, behind, pieces),
         _ => unreachable!(),
     }
 }
 
 /// Whole numbers.
 #[inline(always)]
-pub(crate) fn fill_whole(
+fn fill_whole(
     digits: &Digits,
     lo: i64,
     hi: i64,
@@ -135,7 +131,7 @@ pub(crate) fn fill_whole(
 
 /// Numbers with a point.
 #[inline(always)]
-pub(crate) fn fill_fixed(
+fn fill_fixed(
     digits: &Digits,
     lo: i64,
     hi: i64,
@@ -164,9 +160,31 @@ pub(crate) fn fill_fixed(
     }
 }
 
-/// Dates; `kept` are the pieces that are kept of them.
+/// Dates.
 #[inline(always)]
 fn fill_dates(
+    lo: i32,
+    hi: i32,
+    choices: &FixedDivisor,
+    kept: Option<&[Piece]>,
+    draws: &mut [u64],
+    behind: u8,
+    pieces: &mut [Piece],
+)
+    requires ready { IsReady (ReadyLeaf.Date lo hi choices.now) }
+    requires kept { IfSome kept (λ kept. map piece_text kept.now ≡ leaf_texts behind (ReadyLeaf.Date lo hi choices.now)) }
+    requires lengths { length draws.old ≡ length pieces.old }
+    ensures { (i : ℕ) → i < length pieces.old → slice_index_or (map piece_text pieces.new) i [] ≡ with_behind behind (date_text (chosen_of lo hi 1 (slice_index draws.old i))) }
+{
+    match kept {
+        Some(kept) => fill_kept_dates(lo, hi, choices, kept, draws, behind, pieces),
+        None => fill_days(i64::from(lo), i64::from(hi), choices, draws, behind, pieces),
+    }
+}
+
+/// Dates of which so many days are kept as are few enough.
+#[inline(always)]
+fn fill_kept_dates(
     lo: i32,
     hi: i32,
     choices: &FixedDivisor,
@@ -190,7 +208,7 @@ fn fill_dates(
 
 /// Days whose pieces aren't kept.
 #[inline(always)]
-pub(crate) fn fill_days(
+fn fill_days(
     lo: i64,
     hi: i64,
     choices: &FixedDivisor,
@@ -214,7 +232,7 @@ pub(crate) fn fill_days(
 
 /// Skewed numbers.
 #[inline(always)]
-pub(crate) fn fill_skewed(
+fn fill_skewed(
     digits: &Digits,
     lo: i64,
     weights: &Weights,
@@ -236,9 +254,67 @@ pub(crate) fn fill_skewed(
     }
 }
 
+/// Entries that weights choose.
+#[inline(always)]
+fn fill_picked(
+    entries: &WrittenTexts,
+    weights: &Weights,
+    total: &FixedDivisor,
+    kept: Option<&[Piece]>,
+    draws: &mut [u64],
+    behind: u8,
+    pieces: &mut [Piece],
+)
+    requires ready { IsReady (ReadyLeaf.Pick entries.now weights.now total.now) }
+    requires short { list_all is_short_text entries.now ≡ true }
+    requires kept { IfSome kept (λ kept. map piece_text kept.now ≡ map (with_behind behind) entries.now) }
+    requires lengths { length draws.old ≡ length pieces.old }
+    ensures { (i : ℕ) → i < length pieces.old → slice_index_or (map piece_text pieces.new) i [] ≡ with_behind behind (slice_index_or entries.now (chosen_group weights.now (slice_index draws.old i)) []) }
+{
+    choose_groups(weights, total, draws);
+    match kept {
+        Some(kept) => fill_kept(kept, draws, pieces),
+        None => fill_entries(entries, draws, behind, pieces),
+    }
+}
+
+/// Entries at places, whose pieces aren't kept.
+#[inline(always)]
+fn fill_entries(entries: &WrittenTexts, places: &[u64], behind: u8, pieces: &mut [Piece])
+    requires short { list_all is_short_text entries.now ≡ true }
+    requires within { (i : ℕ) → i < length places.now → slice_index places.now i < length entries.now }
+    requires lengths { length places.now ≡ length pieces.old }
+    ensures { (i : ℕ) → i < length pieces.old → slice_index_or (map piece_text pieces.new) i [] ≡ with_behind behind (slice_index_or entries.now (slice_index places.now i) []) }
+{
+    for (i, piece) in pieces.iter_mut().enumerate() {
+        *piece = text_piece(entries.get(places[i] as usize), behind);
+    }
+}
+
+/// Words of a list; of a list of at most 65,536 all pieces are kept, if any are.
+#[inline(always)]
+fn fill_chosen(
+    words: &ReadyWords,
+    kept: Option<&[Piece]>,
+    draws: &mut [u64],
+    behind: u8,
+    pieces: &mut [Piece],
+)
+    requires short { list_all is_short_text words.now.entries ≡ true }
+    requires kept { IfSome kept (λ kept. map piece_text kept.now ≡ leaf_texts behind (ReadyLeaf.Dict words.now)) }
+    requires lengths { length draws.old ≡ length pieces.old }
+    ensures { (i : ℕ) → i < length pieces.old → slice_index_or (map piece_text pieces.new) i [] ≡ with_behind behind (slice_index_or words.now.entries (chosen_group words.now.weights (slice_index draws.old i)) []) }
+{
+    choose_words(words, draws);
+    match kept {
+        Some(kept) if words.len() <= WORD_ROOM => fill_kept(kept, draws, pieces),
+        _ => fill_words(words, draws, behind, pieces),
+    }
+}
+
 /// Words at places, whose pieces aren't kept.
 #[inline(always)]
-pub(crate) fn fill_words(words: &ReadyWords, places: &[u64], behind: u8, pieces: &mut [Piece])
+fn fill_words(words: &ReadyWords, places: &[u64], behind: u8, pieces: &mut [Piece])
     requires short { list_all is_short_text words.now.entries ≡ true }
     requires within { (i : ℕ) → i < length places.now → slice_index places.now i < length words.now.entries }
     requires lengths { length places.now ≡ length pieces.old }

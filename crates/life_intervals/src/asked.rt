@@ -140,14 +140,35 @@ pub(crate) fn rows_to_one_change(plan: &Plan, table: u32, purpose: Purpose) -> u
     }
 }
 
+/// The least size of a cohort that has tables: those of fewer rows have more entries than rows.
+const LEAST_SIZE: u64 = 42;
+
 /// How many entries the tables of an order of so many rows have at most; none where they don't pay for as many.
 pub(crate) fn table_entries(size: u64) -> u64 {
+    if size < LEAST_SIZE {
+        return 0;
+    }
     let entries = 6 * (size.isqrt() + 1);
     if size <= 1 << 32 && entries <= size {
         entries
     } else {
         0
     }
+}
+
+/// How many orders of a table's cohort are asked for at unit `last`, of those that are wished for.
+fn orders_asked(plan: &Plan, table: u32, wish: Wish, unit: u64, last: u64) -> u64
+    requires table { table < length plan.now.schema.tables }
+    requires unit { unit ≤ last_unit plan.now }
+{
+    let mut orders = 0u64;
+    if are_places_asked(plan, table, Purpose::Lives, unit, last) {
+        orders = wish.lives;
+    }
+    if are_places_asked(plan, table, Purpose::Keys, unit, last) {
+        orders = orders.saturating_add(wish.others);
+    }
+    orders
 }
 
 /// Adds how many entries the orders of a table's cohorts have for unit `last`, by the number of bits of the cohorts' sizes.
@@ -159,24 +180,18 @@ fn add_entries(plan: &Plan, table: u32, asked: Asked, last: u64, entries: &mut [
     let _limits = plan.schema(); // there are at most 10,000 units
     let wish = wish_of(plan, table, asked);
     for unit in 0..last + 1 {
-        let mut orders = 0u64;
-        if are_places_asked(plan, table, Purpose::Lives, unit, last) {
-            orders = wish.lives;
-        }
-        if are_places_asked(plan, table, Purpose::Keys, unit, last) {
-            orders = orders.saturating_add(wish.others);
-        }
         let size = cohort(plan, table, unit).size;
+        let each = table_entries(size);
         let bits = (64 - size.leading_zeros()) as usize;
-        if bits < entries.len() {
-            let more = orders.saturating_mul(table_entries(size));
-            entries[bits] = entries[bits].saturating_add(more);
+        if each > 0 && bits < entries.len() {
+            let orders = orders_asked(plan, table, wish, unit, last);
+            entries[bits] = entries[bits].saturating_add(orders.saturating_mul(each));
         }
     }
 }
 
-/// The least power of two, or 0, of which all cohorts of as many rows have no more than so many entries together, for the orders of
-/// some tables at unit `last`.
+/// The least size of a cohort that has tables, or a power of two past it, of which all cohorts of as many rows have no more than so
+/// many entries together, for the orders of some tables at unit `last`.
 pub(crate) fn least_size(plan: &Plan, asked: &[Asked], last: u64, most: u64) -> u64
     requires tables { length asked.now ≤ length plan.now.schema.tables }
     requires unit { last ≤ last_unit plan.now }
@@ -190,8 +205,8 @@ pub(crate) fn least_size(plan: &Plan, asked: &[Asked], last: u64, most: u64) -> 
     for bits in (0..64).rev() {
         sum = sum.saturating_add(entries[bits]);
         if sum > most {
-            return 1 << bits;
+            return (1 << bits).max(LEAST_SIZE);
         }
     }
-    0
+    LEAST_SIZE
 }

@@ -11,6 +11,7 @@ use crate::births::cohort;
 use crate::memory::Memory;
 use crate::orders::Purpose;
 use crate::rows::Rows;
+use crate::runs::add_start;
 use std::sync::ledger::Ledger;
 use step_count::Steps;
 
@@ -48,17 +49,6 @@ fn push_places_leaving(size: u64, residue: Residue, places: &mut Vec<u64>) -> Re
     Ok(())
 }
 
-/// Adds the first ordinal of a cohort to each index in it.
-fn add_first(indices: &mut [u64], first: u64)
-    requires first { first ≤ 2 ^ 40 }
-    requires limits { All (λ index. index < 2 ^ 40) indices.old }
-    ensures { indices.new ≡ map (λ index. first + index) indices.old }
-{
-    for i in 0..indices.len() {
-        indices[i] = first + indices[i];
-    }
-}
-
 impl<'a> Rows<'a> {
     /// Puts over places in an order of the cohort that is born at unit `born` the ordinals of the rows that have them.
     fn put_rows_at<L: Ledger>(
@@ -77,7 +67,7 @@ impl<'a> Rows<'a> {
     {
         let _limits = self.plan().schema(); // a table has at most 2^40 rows
         self.order(table, purpose, born).numbers(places, steps);
-        add_first(places, cohort(self.plan(), table, born).first);
+        add_start(places, cohort(self.plan(), table, born).first);
     }
 
     /// Puts over the places that stand in a list from `from` on the ordinals of the rows that have them.

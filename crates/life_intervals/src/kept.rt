@@ -46,24 +46,12 @@ pub(crate) struct TableOrders {
     parents: Vec<ParentOrders>,
 }
 
-/// Whether the tables of an order pay, by how many of its places are asked for: two of their entries are made in about the time that they
-/// save at a place.
-fn do_tables_pay(
-    plan: &Plan,
-    table: u32,
-    purpose: Purpose,
-    older: bool,
-    size: u64,
-    room: &Room,
-) -> bool
+/// Whether the tables of an order of an older cohort pay where a unit's changes alone are asked for, so few of its places: two of their
+/// entries are made in about the time that they save at a place.
+fn do_tables_pay(plan: &Plan, table: u32, purpose: Purpose, size: u64) -> bool
     requires { table < length plan.now.schema.tables }
 {
-    let asked = if room.changes && older {
-        size / rows_to_one_change(plan, table, purpose)
-    } else {
-        size
-    };
-    table_entries(size) / 2 <= asked
+    table_entries(size) / 2 <= size / rows_to_one_change(plan, table, purpose)
 }
 
 /// How many entries the tables of an order may have: none where the cohort is smaller than those that have tables, or nothing or too
@@ -81,8 +69,9 @@ fn entries_for(
     requires unit { unit ≤ last_unit plan.now }
     ensures { result ≤ room.now.entries }
 {
+    let few = room.changes && unit < last;
     if size >= room.least
-        && do_tables_pay(plan, table, purpose, unit < last, size, room)
+        && (!few || do_tables_pay(plan, table, purpose, size))
         && are_places_asked(plan, table, purpose, unit, last)
     {
         room.entries

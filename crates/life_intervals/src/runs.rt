@@ -144,7 +144,7 @@ fn put_due_units(places: &mut [u64], born: u64, period: u64, t: u64)
 }
 
 /// Adds `start` to each number.
-fn add_start(numbers: &mut [u64], start: u64)
+pub(crate) fn add_start(numbers: &mut [u64], start: u64)
     requires limit { start < 2 ^ 63 }
     requires limits { All (λ j. j < 2 ^ 40) numbers.old }
     ensures { numbers.new ≡ map (λ j. start + j) numbers.old }

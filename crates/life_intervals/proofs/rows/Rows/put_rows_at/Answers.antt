@@ -23,8 +23,8 @@ numbers_below order places numbers size size_is small are below =
     (All-map (λ x. x < 2 ^ 40) (number_at order) places (λ k d inside.
     omega (arith, (AreInversesBelow-number_at order).within_back (get_or places k d) (omega (arith, below k d inside, size_is)), size_is, small)))
 
-pub add_first-requires-clause-limits : goal.add_first-requires-clause-limits
-add_first-requires-clause-limits g c =
+pub add_start-requires-clause-limits : goal.add_start-requires-clause-limits
+add_start-requires-clause-limits g c =
     let births : Births = (table_of c.args.self.now c.args.table).births in
     numbers_below (order_for c.args.self.now c.args.table c.args.purpose c.args.born) c.args.places.now c.numbers.new.places (cohort_size births c.args.born) refl
     (omega (arith, cohort-within births c.args.born (last_unit c.args.self.now) c.requires.unit, row_limit c.args.self.now (subst IsInLimits c.plan.ensures c.schema-limits.ensures.limits) c.args.table c.requires.table))
@@ -35,7 +35,7 @@ pub returns-clause-rows : goal.returns-clause-rows
 returns-clause-rows g c =
     let plan : Project = c.args.self.now in
     let order : Arrangement = order_for plan c.args.table c.args.purpose c.args.born in
-    c.add_first.ensures
+    c.add_start.ensures
     ∙ ap (map (λ index. c.cohort.result.first + index)) (c.numbers.ensures.exact ∙ ap (λ (o : Arrangement). map (number_at o) c.args.places.now) c.order.ensures)
     ∙ map-map (λ index. c.cohort.result.first + index) (number_at order) c.args.places.now
     ∙ ap (λ (first : ℕ). map (λ place. first + number_at order place) c.args.places.now)

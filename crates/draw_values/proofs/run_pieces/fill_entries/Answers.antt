@@ -3,7 +3,7 @@ use Rattle.std.proofs.lemmas.Option.{get_or_from_slice_get}
 use Rattle.draw_values.specs.Runs.{with_behind}
 use Rattle.draw_values.proofs.KeptLemmas.{short_at}
 use Rattle.draw_values.proofs.PieceLemmas.{text-written}
-use Rattle.draw_values.proofs.run_cases.fill_entries.Goals as goal
+use Rattle.draw_values.proofs.run_pieces.fill_entries.Goals as goal
 
 pub text_piece-requires : goal.text_piece-requires
 text_piece-requires c = short_at c.args.entries.now (get_or c.args.places.now c.loop-i.i 0) c.get.result.now c.requires.short (c.requires.within c.loop-i.i (omega arith)) c.get.ensures

@@ -5,8 +5,8 @@ use Rattle.schema_plan.specs.Choices.{choices}
 use Rattle.draw_values.specs.Dates.{date_text}
 use Rattle.draw_values.specs.Runs.{with_behind}
 use Rattle.draw_values.proofs.RunLemmas.{days_kept}
-use Rattle.draw_values.proofs.run_pieces.fill_dates.Goals as goal
-use Rattle.draw_values.proofs.run_pieces.fill_dates.Goals.{After-remainders}
+use Rattle.draw_values.proofs.run_pieces.fill_kept_dates.Goals as goal
+use Rattle.draw_values.proofs.run_pieces.fill_kept_dates.Goals.{After-remainders}
 
 -- the day of a draw, counted from the first one
 day_is : (c : After-remainders) (i : ℕ) → i < length c.args.draws.now → get_or c.remainders.new.numbers i 0 ≡ get_or c.args.draws.now i 0 % c.args.choices.now
