@@ -10,7 +10,7 @@ use Rattle.pd_outside.specs.Library.{Content, left, start_file, take_bytes, read
 -- the file of this name was started and its first n bytes were taken
 abbrev pub read_up_to : List ℕ → ℕ → Content → Content
 read_up_to name n content =
-    record content { started = Some (record { name = name; bytes = drop n (bytes_of content.files name) }) }
+    record content { started = Some (drop n (bytes_of content.files name)) }
 
 -- these bytes were read of the file of this name
 pub record HasRead (name bytes : List ℕ) (before now : Option Content) : Type 0 where
@@ -47,7 +47,7 @@ read_more name bytes piece into n (Some c) now next sofar step prefix is len =
     record {
       content =
           step ∙ ap (option_map (take_bytes n)) sofar.content
-          ∙ ap (λ (rest : List ℕ). Some (record c { started = Some (record { name = name; bytes = rest }) }))
+          ∙ ap (λ (rest : List ℕ). Some (record c { started = Some rest }))
           (drop-drop n (length bytes) (bytes_of c.files name) ∙ ap (λ (k : ℕ). drop k (bytes_of c.files name)) (sym long));
       told =
           ap (λ (prefix' : List ℕ). prefix' ++ piece) sofar.told
@@ -59,7 +59,7 @@ read_more name bytes piece into n (Some c) now next sofar step prefix is len =
 -- a read that gave nothing was at the end of the file
 pub read_all : (name bytes into : List ℕ) (n : ℕ) (before now next : Option Content) → HasRead name bytes before now → n ≡ 0 →
     next ≡ option_map (take_bytes n) now → IfSome now (λ c. ReadsPrefix (left c) n into) →
-    IfSome before (λ c. bytes ≡ bytes_of c.files name) × (next ≡ option_map (read_out name) before)
+    IfSome before (λ c. bytes ≡ bytes_of c.files name) × (next ≡ option_map read_out before)
 read_all name bytes into n None now next sofar none step prefix = (tt, step ∙ ap (option_map (take_bytes n)) sofar.content)
 read_all name bytes into n (Some c) now next sofar none step prefix =
     let told_now : IfSome (Some (read_up_to name (length bytes) c)) (λ d. ReadsPrefix (left d) n into) =
@@ -68,7 +68,7 @@ read_all name bytes into n (Some c) now next sofar none step prefix =
     let ended : drop (length bytes) (bytes_of c.files name) ≡ [] = told_now.none_at_end none in (
       sofar.told ∙ take_all_of_ended (length bytes) (bytes_of c.files name) ended,
       step ∙ ap (option_map (take_bytes n)) sofar.content
-          ∙ ap (λ (rest : List ℕ). Some (record c { started = Some (record { name = name; bytes = rest }) }))
+          ∙ ap (λ (rest : List ℕ). Some (record c { started = Some rest }))
           (drop-drop n (length bytes) (bytes_of c.files name) ∙ drop_past_ended n (length bytes) (bytes_of c.files name) ended),
     )
 

@@ -1,16 +1,16 @@
 -- What a library and a shelf in memory hold and count.
-use Rattle.std.specs.Prelude.{◌≡◌, ℕ, Bool, ◌||◌, List, [], Result, unwrap_or, is_none}
-use Rattle.std.specs.Option.{option_map}
+use Rattle.std.specs.Prelude.{◌≡◌, ℕ, Bool, ◌||◌, List, Result, is_none}
 use Rattle.pd_outside.specs.Faults.{counted, faults_after}
-use Rattle.pd_outside.specs.Files.{File, file_named}
+use Rattle.pd_outside.specs.Files.{file_named}
 use Rattle.pd_outside.specs.Library.{Content}
 use Rattle.pd_outside.specs.Shelf.{Held}
 use Rattle.pd_outside.specs.StatedFails.{NameAndCall, states_call}
 use Rattle.pd_outside.specs.declared.fails.ShelfFail.{ShelfFail}
 
--- a library in memory: `calls` counts the calls on the started file, its start among them
+-- a library in memory: `name` is that of the started file, and `calls` counts the calls on it, its start among them
 pub record Reading : Type 0 where
   pub content : Content
+  pub name : List ℕ
   pub calls : ℕ
   pub fails : List NameAndCall
   pub asked : List (List ℕ)
@@ -21,13 +21,9 @@ pub record Reading : Type 0 where
 abbrev pub start_fails : Reading → List ℕ → Bool
 start_fails library name = states_call library.fails name 1 || is_none (file_named library.content.files name)
 
--- the name of the started file
-abbrev pub started_name : Content → List ℕ
-started_name content = unwrap_or (option_map (λ (file : File). file.name) content.started) []
-
 -- whether the next read of the started file is stated to fail
 abbrev pub read_fails : Reading → Bool
-read_fails library = states_call library.fails (started_name library.content) (counted library.calls)
+read_fails library = states_call library.fails library.name (counted library.calls)
 
 -- a shelf in memory: its calls of each kind are counted over its life
 pub record Writing : Type 0 where

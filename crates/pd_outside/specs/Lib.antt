@@ -8,3 +8,4 @@ pub mod MemShelf
 pub mod NamedCall
 pub mod Shelf
 pub mod StatedFails
+pub mod Sure

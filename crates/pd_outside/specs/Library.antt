@@ -3,32 +3,32 @@ use Rattle.std.specs.Prelude.{◌≡◌, ◌≤◌, ◌⊎◌, ℕ, List, [], �
 use Rattle.std.specs.Option.{option_map}
 use Rattle.pd_outside.specs.Files.{File, bytes_of}
 
--- the files, and the started one with the bytes that are left of it
+-- the files, and the bytes that are left of the started one
 pub record Content : Type 0 where
   pub files : List File
-  pub started : Option File
+  pub started : Option (List ℕ)
 
 -- the bytes left of the started file
 abbrev pub left : Content → List ℕ
-left content = unwrap_or (option_map (λ (file : File). file.bytes) content.started) []
+left content = unwrap_or content.started []
 
 -- the file of this name is started: all its bytes are left
 abbrev pub start_file : List ℕ → Content → Content
 start_file name content =
-    record content { started = Some (record { name = name; bytes = bytes_of content.files name }) }
+    record content { started = Some (bytes_of content.files name) }
 
 -- the first n bytes left are taken
 abbrev pub take_bytes : ℕ → Content → Content
 take_bytes n content =
-    record content { started = option_map (λ (file : File). record file { bytes = drop n file.bytes }) content.started }
+    record content { started = option_map (drop n) content.started }
 
 -- no file is started
 abbrev pub stop : Content → Content
 stop content = record content { started = None }
 
--- the file of this name was started and read to its end
-abbrev pub read_out : List ℕ → Content → Content
-read_out name content = record content { started = Some (record { name = name; bytes = [] }) }
+-- a file was started and read to its end
+abbrev pub read_out : Content → Content
+read_out content = record content { started = Some [] }
 
 -- a read gave the first n of the bytes left, and gave none at their end alone
 pub record ReadsPrefix (bytes : List ℕ) (n : ℕ) (into : List ℕ) : Type 0 where

@@ -11,6 +11,7 @@ mod mem_library;
 mod mem_shelf;
 mod message;
 mod shelf;
+mod sure;
 mod whole;
 
 pub use fails::{LibraryFails, ShelfFail, ShelfFails};
@@ -22,4 +23,5 @@ pub use mem_library::MemLibrary;
 pub use mem_shelf::MemShelf;
 pub use message::Message;
 pub use shelf::Shelf;
+pub use sure::{SureLibrary, SureShelf};
 pub use whole::{read_whole, write_all};

@@ -95,7 +95,7 @@ fn keep_name(asked: &mut Vec<String>, name: &str) -> Result<(), Memory>
 }
 
 /// The number of the first file of this name.
-fn number_of(files: &Files, name: &str) -> Option<usize>
+pub(crate) fn number_of(files: &Files, name: &str) -> Option<usize>
     ensures absent { IfNone result (file_named files.now name.now ≡ None) }
     ensures within { IfSome result (λ i. i < length files.now) }
     ensures name { IfSome result (λ i. (file_at files.now i).name ≡ name.now) }
@@ -204,14 +204,14 @@ impl Library for MemLibrary {
 /// The bytes that are left from this place on.
 fn bytes_from(files: &Files, started: Started) -> &[u8]
     requires { IsIn files.now started }
-    ensures rest { result.now ≡ (rest_of files.now started).bytes }
+    ensures rest { result.now ≡ rest_of files.now started }
     ensures countable { started.place + length result.now < 2 ^ 64 }
 {
     &files.bytes(started.file)[started.place..]
 }
 
 /// Copies what fits to the beginning of `into`, and tells how many bytes.
-fn copy_prefix(from: &[u8], into: &mut [u8]) -> usize
+pub(crate) fn copy_prefix(from: &[u8], into: &mut [u8]) -> usize
     ensures count { result ≡ min (length into.old) (length from.now) }
     ensures prefix { take result into.new ≡ take result from.now }
 {

@@ -27,7 +27,7 @@ pub fn read_whole<L: Library>(
     requires { limit < 2 ^ 32 }
 
     ensures whole { IfOk result (λ bytes. IfSome (L.content library.old) (λ c. bytes.items ≡ bytes_of c.files name.now)) }
-    ensures read_out { OnOk result (L.content library.new ≡ option_map (read_out name.now) (L.content library.old)) }
+    ensures read_out { OnOk result (L.content library.new ≡ option_map read_out (L.content library.old)) }
     ensures taken { IfOk result (λ bytes. L.taken library.new ≡ length bytes.items) }
     ensures within { OnOk result (L.taken library.new ≤ limit) }
     ensures at_most { L.taken library.new ≤ limit + 1 }

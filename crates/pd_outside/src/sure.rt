@@ -1,0 +1,138 @@
+//! An outside that never fails.
+
+ghost use Rattle.std.specs.Prelude.{◌≡◌, ◌<◌, ◌+◌, ◌^◌, None, Some, false, is_some, length};
+ghost use Rattle.std.proofs.Common.{rules};
+ghost use Rattle.pd_outside.specs.Sure.{IsOpened, left_of};
+
+use crate::mem_library::{copy_prefix, number_of};
+use crate::{Failed, Files, Library, Shelf};
+use std::marker::Model;
+
+/// A library over files in memory that never fails. Of a name that no file has it starts an empty file. It tells its files, and not what
+/// was asked, so that it takes no memory.
+#[derive(Drop)]
+pub struct SureLibrary {
+    files: Files,
+    started: Option<Opened>,
+    taken: u64,
+}
+
+/// The started file by its number, where a file has the name, and the place of the first byte that is left.
+#[derive(Clone, Copy)]
+struct Opened {
+    file: Option<usize>,
+    place: usize,
+}
+
+impl Model for SureLibrary {
+    ghost use Rattle.pd_outside.specs.Sure.{AreAtPlace, SureReading, sure_reading};
+
+    ghost Value = { SureReading };
+
+    ghost view = { sure_reading };
+
+    ghost invariant = { AreAtPlace };
+}
+
+impl SureLibrary {
+    /// A library that holds these files. Nothing was started or taken.
+    pub fn new(files: Files) -> Self
+        ensures files { result.content ≡ record { files = files; started = None } }
+        ensures taken { result.taken ≡ 0 }
+    {
+        SureLibrary {
+            files,
+            started: None,
+            taken: 0,
+        }
+    }
+}
+
+/// The bytes that are left of a file.
+fn bytes_left(files: &Files, opened: Opened) -> &[u8]
+    requires { IsOpened files.now opened }
+    ensures rest { result.now ≡ left_of files.now opened }
+    ensures countable { opened.place + length result.now < 2 ^ 64 }
+{
+    match opened.file {
+        Some(number) => &files.bytes(number)[opened.place..],
+        None => &[],
+    }
+}
+
+impl Library for SureLibrary {
+    ghost content = { λ m. Some m.content };
+
+    ghost asked = { λ m. None };
+
+    ghost is_started = { λ m. is_some m.content.started };
+
+    ghost taken = { λ m. m.taken };
+
+    ghost faults = { λ m. 0 };
+
+    ghost told_alike = { λ m. Prim.search rules };
+
+    fn start(&mut self, name: &str) -> Result<(), Failed> {
+        self.started = Some(Opened {
+            file: number_of(&self.files, name),
+            place: 0,
+        });
+        self.taken = 0;
+        Ok(())
+    }
+
+    fn read(&mut self, into: &mut [u8]) -> Result<usize, Failed> {
+        let Some(opened) = self.started else {
+            unreachable!()
+        };
+        let n = copy_prefix(bytes_left(&self.files, opened), into);
+        self.started = Some(Opened {
+            file: opened.file,
+            place: opened.place + n,
+        });
+        self.taken += n as u64;
+        Ok(n)
+    }
+}
+
+/// A shelf that never fails. It takes each piece whole, keeps nothing, and tells nothing of its files.
+#[derive(Clone, Copy, Debug, PartialEq, Eq)]
+pub struct SureShelf {
+    is_begun: bool,
+}
+
+impl SureShelf {
+    /// No file is begun.
+    pub fn new() -> Self
+        ensures { result.is_begun ≡ false }
+    {
+        SureShelf { is_begun: false }
+    }
+}
+
+impl Shelf for SureShelf {
+    ghost held = { λ m. None };
+
+    ghost is_begun = { λ m. m.is_begun };
+
+    ghost faults = { λ m. 0 };
+
+    ghost last_failed = { λ m. false };
+
+    ghost told_alike = { λ m. tt };
+
+    fn begin(&mut self, _name: &str) -> Result<(), Failed> {
+        self.is_begun = true;
+        Ok(())
+    }
+
+    fn write(&mut self, piece: &[u8]) -> Result<usize, Failed> {
+        Ok(piece.len())
+    }
+
+    fn end(&mut self) -> Result<(), Failed> {
+        self.is_begun = false;
+        Ok(())
+    }
+}
