@@ -15,9 +15,10 @@ use Rattle.stream_apply.specs.InTurn.{IsAppliedText}
 use Rattle.stream_apply.specs.KeyedLines.{KeyedLine}
 use Rattle.stream_apply.proofs.NumberedLineLemmas.{lines_in}
 use Rattle.stream_apply.proofs.UnitLemmas.{IsMadeByUnits, applied-units, made-unit}
-use Rattle.update_box.specs.Candidates.{changes_at, dies_at}
+use Rattle.update_box.specs.Candidates.{dies_at}
 use Rattle.update_box.specs.TextLaws.{unit_streams}
 use Rattle.update_box.proofs.KeyedTextLemmas.{body_text, key_text, keyed-text, keys-apart, live_lines, table_text-rows, unit_streams-lines}
+use Rattle.update_box.proofs.UpdateLemmas.{changes_at}
 
 -- ---- deaths
 

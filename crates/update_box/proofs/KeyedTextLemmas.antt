@@ -24,12 +24,13 @@ use Rattle.stream_apply.specs.KeyedLines.{KeyedLine, keyed, lines_text}
 use Rattle.stream_apply.proofs.KeyedLineLemmas.{join_with_byte-by}
 use Rattle.stream_apply.proofs.NumberedLineLemmas.{AreKeys, lines_in}
 use Rattle.stream_apply.proofs.UnitLemmas.{IsKeyedText}
-use Rattle.update_box.specs.Candidates.{changes_at, dies_at}
+use Rattle.update_box.specs.Candidates.{dies_at}
 use Rattle.update_box.specs.TextLaws.{unit_streams}
 use Rattle.update_box.proofs.KeyLineLemmas.{key-small}
 use Rattle.update_box.proofs.RangeLemmas.{flat_map-filter_same}
 use Rattle.update_box.proofs.StepLemmas.{deleted-ordinals, updated-ordinals}
 use Rattle.update_box.proofs.StreamTextLemmas.{deleted_text-ordinals, inserted_text-cohort, updated_text-ordinals}
+use Rattle.update_box.proofs.UpdateLemmas.{changes_at}
 
 -- the key of a row of the table at a place, as it is written
 abbrev pub key_text : Project → ℕ → ℕ → List ℕ

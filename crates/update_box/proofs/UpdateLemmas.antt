@@ -24,10 +24,14 @@ use Rattle.life_intervals.proofs.CohortAtLemmas.{is_live_in-sure}
 use Rattle.life_intervals.proofs.ChangeLemmas.{change-le, last_change-le, last_change-next, last_change-now}
 use Rattle.life_intervals.proofs.LifeLemmas.{loss_of-death}
 use Rattle.life_intervals.proofs.LongestLifeLemmas.{EndsBy-known_of}
-use Rattle.update_box.specs.Candidates.{changes_at, is_due_at, is_young, lives_at, loses_at, references_on}
+use Rattle.update_box.specs.Candidates.{is_due_at, is_young, lives_at, loses_at, references_on}
 use Rattle.life_intervals.specs.FoundAt.{due_unit}
 use Rattle.update_box.proofs.BornLemmas.{born-by}
 use Rattle.update_box.proofs.CandidateLemmas.{AreLookedAt, is_looked_at, kept-all, kept-filter}
+
+-- a row is alive at a unit, and the unit is its change unit
+abbrev pub changes_at : Project → ℕ → ℕ → ℕ → Bool
+changes_at plan place unit ordinal = lives_at plan place unit ordinal && change_unit (generator_of plan) place unit ordinal == unit
 
 -- ---- the last change comes at a unit where the change or a loss does
 

@@ -15,7 +15,7 @@ use Rattle.schema_plan.specs.declared.ready.ReadyReference.{ReadyReference}
 use Rattle.schema_plan.specs.References.{Reference, cascades_of, references_of}
 use Rattle.schema_plan.specs.TableFacts.{cost}
 use Rattle.life_intervals.specs.Generator.{generator_of, table_of}
-use Rattle.life_intervals.specs.Intervals.{change_unit, death, is_after, is_at, is_live, own_death, parent_of}
+use Rattle.life_intervals.specs.Intervals.{death, is_after, is_at, is_live, own_death, parent_of}
 use Rattle.life_intervals.specs.FoundAt.{due_unit}
 
 -- the ordinals of the rows of the table at a place that are born before a unit
@@ -48,10 +48,6 @@ dies_at plan place unit ordinal = is_at (death (generator_of plan) place unit or
 
 abbrev pub lives_at : Project → ℕ → ℕ → ℕ → Bool
 lives_at plan place unit ordinal = is_live (generator_of plan) place unit ordinal
-
--- it is alive at it, and the unit is its change unit
-abbrev pub changes_at : Project → ℕ → ℕ → ℕ → Bool
-changes_at plan place unit ordinal = lives_at plan place unit ordinal && change_unit (generator_of plan) place unit ordinal == unit
 
 -- ---- the rows that are looked at
 
