@@ -40,8 +40,9 @@ use Rattle.update_box.proofs.ApplyLawLemmas.{units-applied}
 use Rattle.update_box.specs.TextLaws.{unit_streams}
 use Rattle.pdgf_run.specs.DueFiles.{chosen_table}
 use Rattle.pdgf_run.specs.Jobs.{due_of}
+use Rattle.pdgf_run.specs.ReadingList.{reads_schema}
 use Rattle.pdgf_run.specs.TopCall.{Carries, GivesLater}
-use Rattle.pdgf_run.specs.Verdict.{IsDecided, IsInMode, IsPlanned, IsVerdict}
+use Rattle.pdgf_run.specs.Verdict.{IsDecided, IsInMode, IsJobOver, IsPlanned, IsVerdict, plan_by}
 use Rattle.pdgf_run.specs.declared.job.Job.{Job}
 use Rattle.pdgf_run.specs.declared.report.Report.{Report}
 use Rattle.update_box.specs.Packages.{chosen_places}
@@ -217,8 +218,10 @@ of_asked words files r plan (Ok table) verdict report before now given mode plan
     let found = later_due plan r files table (delimits plan) limits asked hold in
     let answer : Result (List File) JobFault = Ok found.0 in
     let due : IsInMode r.mode r plan files answer = subst (λ (m : Mode). IsInMode m r plan files answer) (sym mode) found.2 in
-    let over : IsPlanned r files (plan_in files r.schema) answer =
-    subst (λ (made : Result Project PlanFault). IsPlanned r files made answer) (sym planned) due in
+    let reads : reads_schema r.mode ≡ true = ap reads_schema mode in
+    let over : IsJobOver r files answer =
+    subst (λ (b : Bool). IsPlanned r files (plan_by b r files) answer) (sym reads)
+    (subst (λ (made : Result Project PlanFault). IsPlanned r files made answer) (sym planned) due) in
     let later : IsVerdict words files (Ok found.0) = of_words words files (Ok r) (Ok found.0) given (answer, over, refl) in
     (found.0, found.1, subst (λ (v : Result (List File) Refusal). Carries v report before now) (one_verdict words files verdict (Ok found.0) delimits is later) carries)
 
@@ -249,7 +252,7 @@ not_free status five seven = elim (cases_eq status 5) [
 
 -- a request that is refused
 pub applied_refused : (words : List (List ℕ)) (told : Option (List File)) (q : Result Request UsageFault) (r : Refusal) (report : Report) (before now : Option Held) → request words ≡ q →
-    IfOk q (λ asked. is_free (status_of r) ≡ false → IfSome told (λ files. IfOk (plan_in files asked.schema) IsInLimits)) →
+    IfOk q (λ asked. reads_schema asked.mode ≡ true → is_free (status_of r) ≡ false → IfSome told (λ files. IfOk (plan_in files asked.schema) IsInLimits)) →
     IfSome told (λ files. IsDecided status_of due_of (IsVerdict words files) (Err r)) → report ≡ record { status = status_of r; message = message_of r } → now ≡ before →
     report.status ≢ 5 → report.status ≢ 7 → IfOk q (λ asked. asked.mode ≡ Apply → IfSome told (λ files. GivesLater asked files report before now))
 applied_refused words told (Err fault) r report before now given limits decided is same five seven = tt
@@ -257,14 +260,14 @@ applied_refused words None (Ok asked) r report before now given limits decided i
 applied_refused words (Some files) (Ok asked) r report before now given limits decided is same five seven = λ mode.
     let status : report.status ≡ status_of r = ap (λ (t : Report). t.status) is in
     let free : is_free (status_of r) ≡ false = subst (λ (s : ℕ). is_free s ≡ false) status (not_free report.status five seven) in
-    gives_later words files asked (Err r) report before now given mode (limits free) (decided free) (is, same)
+    gives_later words files asked (Err r) report before now given mode (limits (ap reads_schema mode) free) (decided free) (is, same)
 
 -- a request that is carried out
 pub applied_done : (words : List (List ℕ)) (told : Option (List File)) (q : Result Request UsageFault) (job : Job) (report : Report) (before now : Option Held) → request words ≡ q →
-    IfOk q (λ asked. is_free 0 ≡ false → IfSome told (λ files. IfOk (plan_in files asked.schema) IsInLimits)) →
+    IfOk q (λ asked. reads_schema asked.mode ≡ true → is_free 0 ≡ false → IfSome told (λ files. IfOk (plan_in files asked.schema) IsInLimits)) →
     IfSome told (λ files. IsDecided status_of due_of (IsVerdict words files) (Ok job)) → report ≡ record { status = done_status; message = [] } →
     now ≡ option_map (finish_files (due_of job)) before → IfOk q (λ asked. asked.mode ≡ Apply → IfSome told (λ files. GivesLater asked files report before now))
 applied_done words told (Err fault) job report before now given limits decided is same = tt
 applied_done words None (Ok asked) job report before now given limits decided is same = λ mode. tt
 applied_done words (Some files) (Ok asked) job report before now given limits decided is same = λ mode.
-    gives_later words files asked (Ok (due_of job)) report before now given mode (limits refl) decided (is, same)
+    gives_later words files asked (Ok (due_of job)) report before now given mode (limits (ap reads_schema mode) refl) decided (is, same)

@@ -129,7 +129,7 @@ pub left_alone : (status : ℕ) (IsLimit : ℕ → Type 0) (content : Option Con
     LibraryLeft status IsLimit (told_files content) content taken is_started faults faults
 left_alone status IsLimit content taken is_started faults other long out = record {
   files = refl;
-  read_out = λ zero. out;
+  read_out = λ yes zero. out;
   too_long = λ ten. absurd (long ten);
   failed_once = λ five. absurd (other five);
   stopped = λ five. absurd (other five);
@@ -140,7 +140,7 @@ left_alone status IsLimit content taken is_started faults other long out = recor
 -- inputs were read, each to its end
 all_out : (names : List (List ℕ)) (content : Content) → left content ≡ [] → left (all_read_out names content) ≡ []
 all_out [] content out = out
-all_out (name ∷ names) content out = all_out names (read_out name content) refl
+all_out (name ∷ names) content out = all_out names (read_out content) refl
 
 all_out_told : (names : List (List ℕ)) (before now : Option Content) → IsReadOut before → now ≡ option_map (all_read_out names) before → IsReadOut now
 all_out_told names None now out is = subst IsReadOut (sym is) tt
@@ -151,7 +151,7 @@ pub left_by_inputs : (status : ℕ) (IsLimit : ℕ → Type 0) (inputs names : L
     LibraryLeft status IsLimit (told_files before) now taken_now is_started faults_before faults_now
 left_by_inputs status IsLimit inputs names limit before now taken_before taken_now is_started faults_before faults_now other long out read = record {
   files = files_stay names before now read.read_out;
-  read_out = λ zero. all_out_told names before now out read.read_out;
+  read_out = λ yes zero. all_out_told names before now out read.read_out;
   too_long = λ ten. absurd (long ten);
   failed_once = λ five. absurd (other five);
   stopped = λ five. absurd (other five);
@@ -165,7 +165,7 @@ pub left_by_unread : (fault : InputFault) (file : List ℕ) (names : List (List 
     LibraryLeft (reading_status fault.cause) (IsLimitOf (job.Input (record { file = file; cause = Reading fault.cause }))) (told_files before) now taken is_started faults_before faults_now
 left_by_unread fault file names before now taken is_started faults_before faults_now of = record {
   files = of.library.files;
-  read_out = of.library.read_out;
+  read_out = λ yes. of.library.read_out;
   too_long = λ ten. (of.own_limit, of.within, of.library.too_long ten);
   failed_once = of.library.failed_once;
   stopped = of.library.stopped;

@@ -1,12 +1,12 @@
 -- What words come to, as it is found.
-use Rattle.std.proofs.Common.{◌≡◌, ◌≢◌, ℕ, Bool, false, List, [], ◌++◌, append_assoc, drop, take, Option, None, Some, Result, Ok, Err, inl, inr, refl, ap, sym, subst, ◌∙◌, arith}
-use Rattle.std.specs.Prelude.{◌⊎◌, IfErr, IfOk, IfSome, IsErr, OnOk, ◌↔◌}
+use Rattle.std.proofs.Common.{◌≡◌, ◌≢◌, ℕ, Bool, false, true, List, [], ◌∷◌, ◌++◌, append-nil, append_assoc, drop, length, length-append, take, Option, None, Some, Result, Ok, Err, inl, inr, refl, ap, sym, subst, ◌∙◌, arith}
+use Rattle.std.specs.Prelude.{◌⊎◌, IfErr, IfOk, IfSome, IsErr, OnOk, if◌then◌else◌, ◌↔◌}
 use Rattle.std.specs.Option.{option_map}
 use Rattle.std.proofs.lemmas.List.{take-append-drop}
 use Rattle.pd_outside.specs.Faults.{Rose, counted}
 use Rattle.pd_outside.specs.Files.{File}
 use Rattle.pd_outside.specs.Library.{AskedPrefixOf, Content, left}
-use Rattle.plan_stages.specs.PlanNames.{AsksForPlan, PlanRead, plan_names, possible_names}
+use Rattle.plan_stages.specs.PlanNames.{AskedAlone, AsksForPlan, PlanRead, plan_names, possible_names}
 use Rattle.plan_stages.specs.Plans.{limit_at, plan_in}
 use Rattle.plan_stages.specs.Stages.{ended, in_stage, told_files, Decides, IsReadOut, LibraryAfter}
 use Rattle.plan_stages.proofs.DictionaryLemmas.{IfSome-same, asked_also, asked_first}
@@ -17,7 +17,7 @@ use Rattle.refusals.specs.declared.refusal.PlanFault.{PlanFault}
 use Rattle.refusals.specs.declared.refusal.Refusal.{Refusal}
 use Rattle.refusals.specs.declared.refusal.Refusal.TheVariants as refusal
 use Rattle.request_words.specs.Words.{request}
-use Rattle.request_words.specs.declared.usage.Mode.TheVariants.{Check, Snapshot, Unit, Row, Apply}
+use Rattle.request_words.specs.declared.usage.Mode.TheVariants.{Check, Snapshot, Unit, Row, Apply, Sample, Play, Details, DetailsUnit, DetailsApply, Undo, Revert}
 use Rattle.request_words.specs.declared.usage.Mode.{Mode}
 use Rattle.request_words.specs.declared.usage.Request.{Request}
 use Rattle.request_words.specs.declared.usage.UsageFault.{UsageFault}
@@ -26,9 +26,9 @@ use Rattle.schema_plan.specs.Dictionaries.{Project, project_of}
 use Rattle.schema_plan.specs.Limits.{IsInLimits}
 use Rattle.schema_read.specs.Schema.{schema_of}
 use Rattle.pdgf_run.specs.Jobs.{due_of}
-use Rattle.pdgf_run.specs.ReadingList.{AsksInMode, AsksInTurn, names_behind, names_in_mode, possible_behind, possible_in_mode}
-use Rattle.pdgf_run.specs.TopCall.{IsLimitOf, IsLimitRefused, IsLimitTold, LibraryLeft}
-use Rattle.pdgf_run.specs.Verdict.{IsDecided, IsInMode, IsJobOver, IsOfRequest, IsPlanned, IsVerdict}
+use Rattle.pdgf_run.specs.ReadingList.{AsksInMode, AsksInTurn, names_behind, names_in_mode, possible_behind, possible_in_mode, possible_list, reading_list, reads_schema}
+use Rattle.pdgf_run.specs.TopCall.{IsLimitOf, IsLimitRefused, IsLimitTold, LibraryDone, LibraryLeft, reads_for}
+use Rattle.pdgf_run.specs.Verdict.{IsDecided, IsInMode, IsJobOver, IsOfRequest, IsPlanned, IsVerdict, plan_by}
 use Rattle.pdgf_run.specs.declared.job.Job.{Job}
 
 -- ---- words that give no request
@@ -60,31 +60,29 @@ words_status (usage.EmptyDirectory name) = inl refl
 words_status usage.Format = inl refl
 
 -- nothing was done to the library
-unchanged : (status : ℕ) (IsLimit : ℕ → Type 0) (content : Option Content) (taken : ℕ) (is_started : Bool) (faults : ℕ) → (status ≡ 2) ⊎ (status ≡ 7) →
-    LibraryLeft status IsLimit (told_files content) content taken is_started faults faults
-unchanged status IsLimit content taken is_started faults (inl two) = record {
+pub untouched : (reads : Bool) (status : ℕ) (IsLimit : ℕ → Type 0) (content : Option Content) (taken : ℕ) (is_started : Bool) (faults : ℕ) →
+    (reads ≡ true → status ≢ 0) → status ≢ 5 → status ≢ 10 → LibraryDone reads status IsLimit (told_files content) content taken is_started faults faults
+untouched reads status IsLimit content taken is_started faults undone read short = record {
   files = refl;
-  read_out = λ zero. absurd (omega (arith, two, zero));
-  too_long = λ ten. absurd (omega (arith, two, ten));
-  failed_once = λ five. absurd (omega (arith, two, five));
-  stopped = λ five. absurd (omega (arith, two, five));
-  no_fault = λ other. refl;
-  never_falls = omega arith;
-}
-unchanged status IsLimit content taken is_started faults (inr seven) = record {
-  files = refl;
-  read_out = λ zero. absurd (omega (arith, seven, zero));
-  too_long = λ ten. absurd (omega (arith, seven, ten));
-  failed_once = λ five. absurd (omega (arith, seven, five));
-  stopped = λ five. absurd (omega (arith, seven, five));
+  read_out = λ yes zero. absurd (undone yes zero);
+  too_long = λ ten. absurd (short ten);
+  failed_once = λ five. absurd (read five);
+  stopped = λ five. absurd (read five);
   no_fault = λ other. refl;
   never_falls = omega arith;
 }
 
-pub left_by_words : (fault : UsageFault) (IsLimit : ℕ → Type 0) (content : Option Content) (taken : ℕ) (is_started : Bool) (faults : ℕ) →
-    LibraryLeft (status_of (refusal.Words fault)) IsLimit (told_files content) content taken is_started faults faults
-left_by_words fault IsLimit content taken is_started faults =
-    unchanged (status_of (refusal.Words fault)) IsLimit content taken is_started faults (words_status fault)
+pub left_by_words : (reads : Bool) (fault : UsageFault) (IsLimit : ℕ → Type 0) (content : Option Content) (taken : ℕ) (is_started : Bool) (faults : ℕ) →
+    LibraryDone reads (status_of (refusal.Words fault)) IsLimit (told_files content) content taken is_started faults faults
+left_by_words reads fault IsLimit content taken is_started faults =
+    let status : ℕ = status_of (refusal.Words fault) in
+    let known : (status ≡ 2) ⊎ (status ≡ 7) = words_status fault in
+    untouched reads status IsLimit content taken is_started faults (λ yes zero. none 0 known zero (omega arith) (omega arith)) (λ five. none 5 known five (omega arith) (omega arith))
+    (λ ten. none 10 known ten (omega arith) (omega arith))
+  where
+    none : {status : ℕ} (other : ℕ) → (status ≡ 2) ⊎ (status ≡ 7) → status ≡ other → other ≢ 2 → other ≢ 7 → ⊥
+    none other (inl two) is not_two not_seven = not_two (sym is ∙ two)
+    none other (inr seven) is not_two not_seven = not_seven (sym is ∙ seven)
 
 -- ---- words that give one
 
@@ -98,18 +96,45 @@ decided_for_request words (Some files) r (Ok job) is decided =
 decided_for_request words (Some files) r (Err fault) is decided = λ not_free.
     of_words words files (Ok r) (Err (refusal.Job fault)) is (Err fault, decided not_free, refl)
 
-pub left_by_request : (made : Result Job JobFault) (before : Option (List File)) (now : Option Content) (taken : ℕ) (is_started : Bool) (faults_before faults_now : ℕ) →
-    LibraryLeft (ended job_status made) (IsLimitTold made) before now taken is_started faults_before faults_now →
-    LibraryLeft (ended status_of (in_stage refusal.Job made)) (IsLimitRefused (in_stage refusal.Job made)) before now taken is_started faults_before faults_now
-left_by_request (Ok job) before now taken is_started faults_before faults_now left = left
-left_by_request (Err fault) before now taken is_started faults_before faults_now left = left
+in_job : (reads : Bool) (made : Result Job JobFault) (before : Option (List File)) (now : Option Content) (taken : ℕ) (is_started : Bool) (faults_before faults_now : ℕ) →
+    LibraryDone reads (ended job_status made) (IsLimitTold made) before now taken is_started faults_before faults_now →
+    LibraryDone reads (ended status_of (in_stage refusal.Job made)) (IsLimitRefused (in_stage refusal.Job made)) before now taken is_started faults_before faults_now
+in_job reads (Ok job) before now taken is_started faults_before faults_now left = left
+in_job reads (Err fault) before now taken is_started faults_before faults_now left = left
+
+pub left_by_request : (words : List (List ℕ)) (r : Request) (made : Result Job JobFault) (before : Option (List File)) (now : Option Content) (taken : ℕ) (is_started : Bool) (faults_before faults_now : ℕ) →
+    request words ≡ Ok r → LibraryDone (reads_schema r.mode) (ended job_status made) (IsLimitTold made) before now taken is_started faults_before faults_now →
+    LibraryDone (reads_for (request words)) (ended status_of (in_stage refusal.Job made)) (IsLimitRefused (in_stage refusal.Job made)) before now taken is_started faults_before faults_now
+left_by_request words r made before now taken is_started faults_before faults_now is left =
+    subst (λ (q : Result Request UsageFault). LibraryDone (reads_for q) (ended status_of (in_stage refusal.Job made)) (IsLimitRefused (in_stage refusal.Job made)) before now taken is_started faults_before faults_now)
+    (sym is) (in_job (reads_schema r.mode) made before now taken is_started faults_before faults_now left)
+
+-- what is decided of a request that reads a schema, or of a sample
+pub reads-other : (mode : Mode) → mode ≢ Sample → reads_schema mode ≡ true
+reads-other Check other = refl
+reads-other Snapshot other = refl
+reads-other Unit other = refl
+reads-other Row other = refl
+reads-other Apply other = refl
+reads-other Sample other = absurd (other refl)
+reads-other Play other = refl
+reads-other Details other = refl
+reads-other DetailsUnit other = refl
+reads-other DetailsApply other = refl
+reads-other Undo other = refl
+reads-other Revert other = refl
+
+pub decided_by : (reads : Bool) (told : Option (List File)) (r : Request) (made : Result Job JobFault) → reads_schema r.mode ≡ reads →
+    IfSome told (λ files. IsDecided job_status due_of (IsPlanned r files (plan_by reads r files)) made) → IfSome told (λ files. IsDecided job_status due_of (IsJobOver r files) made)
+decided_by reads told r made is decided =
+    subst (λ (b : Bool). IfSome told (λ files. IsDecided job_status due_of (IsPlanned r files (plan_by b r files)) made)) (sym is) decided
 
 -- ---- a plan, or none
 
 -- what is decided where there is no plan
 pub decided_without_plan : (told : Option (List File)) (r : Request) (name : List ℕ) (fault : PlanFault) → name ≡ r.schema →
     IfSome told (λ files. Decides plan_status (λ plan. plan) (Err fault) (plan_in files name)) →
-    IfSome told (λ files. IsDecided job_status due_of (IsJobOver r files) (Err (job.Plan fault)))
+    IfSome told (λ files. IsDecided job_status due_of (IsPlanned r files (plan_in files r.schema)) (Err (job.Plan fault)))
 decided_without_plan None r name fault is decided = tt
 decided_without_plan (Some files) r name fault is decided = λ free.
     subst (λ (made : Result Project PlanFault). IsPlanned r files made (Err (job.Plan fault))) (sym (ap (plan_in files) (sym is) ∙ decided free)) refl
@@ -118,7 +143,7 @@ decided_without_plan (Some files) r name fault is decided = λ free.
 pub decided_with_plan : (told mid : Option (List File)) (r : Request) (name : List ℕ) (plan : Project) (answer : Result Job JobFault) → name ≡ r.schema →
     IfSome told (λ files. Decides plan_status (λ plan. plan) (Ok plan) (plan_in files name)) → mid ≡ told →
     IfSome mid (λ files. IsDecided job_status due_of (IsInMode r.mode r plan files) answer) →
-    IfSome told (λ files. IsDecided job_status due_of (IsJobOver r files) answer)
+    IfSome told (λ files. IsDecided job_status due_of (IsPlanned r files (plan_in files r.schema)) answer)
 decided_with_plan None mid r name plan answer is planned same decided = tt
 decided_with_plan (Some files) mid r name plan answer is planned same decided =
     subst (λ (made : Result Project PlanFault). IsDecided job_status due_of (IsPlanned r files made) answer) (sym (ap (plan_in files) (sym is) ∙ planned))
@@ -140,10 +165,10 @@ limits_with_plan (Some files) r name plan is planned limits =
 
 -- what is decided where words give a request
 pub limits_of_words : (words : List (List ℕ)) (told : Option (List File)) (r : Request) (status : ℕ) → request words ≡ Ok r →
-    (is_free status ≡ false → IfSome told (λ files. IfOk (plan_in files r.schema) IsInLimits)) →
-    IfOk (request words) (λ asked. is_free status ≡ false → IfSome told (λ files. IfOk (plan_in files asked.schema) IsInLimits))
+    (reads_schema r.mode ≡ true → is_free status ≡ false → IfSome told (λ files. IfOk (plan_in files r.schema) IsInLimits)) →
+    IfOk (request words) (λ asked. reads_schema asked.mode ≡ true → is_free status ≡ false → IfSome told (λ files. IfOk (plan_in files asked.schema) IsInLimits))
 limits_of_words words told r status is limits =
-    subst (λ (q : Result Request UsageFault). IfOk q (λ asked. is_free status ≡ false → IfSome told (λ files. IfOk (plan_in files asked.schema) IsInLimits))) (sym is) limits
+    subst (λ (q : Result Request UsageFault). IfOk q (λ asked. reads_schema asked.mode ≡ true → is_free status ≡ false → IfSome told (λ files. IfOk (plan_in files asked.schema) IsInLimits))) (sym is) limits
 
 -- ---- what the library leaves
 
@@ -152,7 +177,7 @@ pub left_without_plan : (fault : PlanFault) (before : Option (List File)) (now :
     LibraryLeft (plan_status fault) (IsLimitOf (job.Plan fault)) before now taken is_started faults_before faults_now
 left_without_plan fault before now taken is_started faults_before faults_now after = record {
   files = after.files;
-  read_out = after.read_out;
+  read_out = λ yes. after.read_out;
   too_long = λ ten. (limit_at fault, refl, after.too_long ten);
   failed_once = after.failed_once;
   stopped = after.stopped;
@@ -174,6 +199,41 @@ pub asks_of_words : (words : List (List ℕ)) (r : Request) (told : Option (List
     AsksInTurn (Ok r) told before now → AsksInTurn (request words) told before now
 asks_of_words words r told before now is asks = subst (λ (q : Result Request UsageFault). AsksInTurn q told before now) (sym is) asks
 
+-- no name was asked
+asked_none : (list : List (List ℕ)) (before : Option (List (List ℕ))) → AskedPrefixOf list before before
+asked_none list None = record { count = 0; asked = refl }
+asked_none list (Some names) = record { count = 0; asked = ap Some (sym (append-nil names)) }
+
+asked_none_told : (told : Option (List File)) (list : List File → List (List ℕ)) (before : Option (List (List ℕ))) → IfSome told (λ (f : List File). AskedPrefixOf (list f) before before)
+asked_none_told None list before = tt
+asked_none_told (Some f) list before = asked_none (list f) before
+
+pub asks_nothing : (q : Result Request UsageFault) (told : Option (List File)) (before : Option (List (List ℕ))) → AsksInTurn q told before before
+asks_nothing q told before = record {
+  told = asked_none_told told (reading_list q) before;
+  bytes = [];
+  untold = asked_none (possible_list q []) before;
+}
+
+-- nor was one alone
+pub not-alone : (name : List ℕ) (asked : Option (List (List ℕ))) → AskedAlone name asked asked → ⊥
+not-alone name None alone = alone
+not-alone name (Some names) alone =
+    let same : names ≡ names ++ name ∷ [] = cc in
+    omega (arith, ap length same, length-append names (name ∷ []))
+
+-- what is asked for where a schema is read
+in_turn : (r : Request) (told : Option (List File)) (bytes : List ℕ) (before now : Option (List (List ℕ))) → reads_schema r.mode ≡ true →
+    IfSome told (λ (f : List File). AskedPrefixOf (plan_names f r.schema ++ names_behind r f (plan_in f r.schema)) before now) →
+    AskedPrefixOf (possible_names bytes r.schema ++ possible_behind r (schema_of bytes)) before now → AsksInTurn (Ok r) told before now
+in_turn r told bytes before now reads asks possible = record {
+  told =
+      subst (λ (b : Bool). IfSome told (λ (f : List File). AskedPrefixOf ((if b then plan_names f r.schema else []) ++ names_behind r f (plan_in f r.schema)) before now))
+      (sym reads) asks;
+  bytes = bytes;
+  untold = subst (λ (b : Bool). AskedPrefixOf ((if b then possible_names bytes r.schema else []) ++ possible_behind r (schema_of bytes)) before now) (sym reads) possible;
+}
+
 -- the first of some names are the first of more
 first_of_more : (list more : List (List ℕ)) (before now : Option (List (List ℕ))) → AskedPrefixOf list before now → AskedPrefixOf (list ++ more) before now
 first_of_more list more before now asks =
@@ -186,16 +246,15 @@ asks_told : (r : Request) (told : Option (List File)) (before now : Option (List
 asks_told r None before now asks = tt
 asks_told r (Some f) before now asks = first_of_more (plan_names f r.schema) (names_behind r f (plan_in f r.schema)) before now asks
 
-asks_of_schema : (r : Request) (told : Option (List File)) (before now : Option (List (List ℕ))) → AsksForPlan r.schema told before now → AsksInTurn (Ok r) told before now
-asks_of_schema r told before now asks = record {
-  told = asks_told r told before now asks.told;
-  bytes = asks.bytes;
-  untold = first_of_more (possible_names asks.bytes r.schema) (possible_behind r (schema_of asks.bytes)) before now asks.untold;
-}
+asks_of_schema : (r : Request) (told : Option (List File)) (before now : Option (List (List ℕ))) → reads_schema r.mode ≡ true → AsksForPlan r.schema told before now →
+    AsksInTurn (Ok r) told before now
+asks_of_schema r told before now reads asks =
+    in_turn r told asks.bytes before now reads (asks_told r told before now asks.told)
+    (first_of_more (possible_names asks.bytes r.schema) (possible_behind r (schema_of asks.bytes)) before now asks.untold)
 
-pub asks_of_name : (r : Request) (name : List ℕ) (told : Option (List File)) (before now : Option (List (List ℕ))) → name ≡ r.schema →
+pub asks_of_name : (r : Request) (name : List ℕ) (told : Option (List File)) (before now : Option (List (List ℕ))) → reads_schema r.mode ≡ true → name ≡ r.schema →
     AsksForPlan name told before now → AsksInTurn (Ok r) told before now
-asks_of_name r name told before now is asks = asks_of_schema r told before now (subst (λ (n : List ℕ). AsksForPlan n told before now) is asks)
+asks_of_name r name told before now reads is asks = asks_of_schema r told before now reads (subst (λ (n : List ℕ). AsksForPlan n told before now) is asks)
 
 -- names that were asked, and then the first of others
 asked_then : (first list : List (List ℕ)) (before mid now : Option (List (List ℕ))) → mid ≡ option_map (λ names. names ++ first) before → AskedPrefixOf list mid now →
@@ -211,6 +270,13 @@ possible_same Snapshot r plan = refl
 possible_same Unit r plan = refl
 possible_same Row r plan = refl
 possible_same Apply r plan = refl
+possible_same Sample r plan = refl
+possible_same Play r plan = refl
+possible_same Details r plan = refl
+possible_same DetailsUnit r plan = refl
+possible_same DetailsApply r plan = refl
+possible_same Undo r plan = refl
+possible_same Revert r plan = refl
 
 asks_then_told : (r : Request) (plan : Project) (told : Option (List File)) (possible : List (List ℕ)) (before mid now : Option (List (List ℕ))) →
     IfSome told (λ (f : List File). plan_in f r.schema ≡ Ok plan) → IfSome told (λ (f : List File). plan_names f r.schema ≡ possible) →
@@ -224,28 +290,26 @@ asks_then_told r plan (Some f) possible before mid now planned names asked asks 
 
 -- what a plan was made of, and then what its mode asks for
 asks_behind : (r : Request) (plan : Project) (told : Option (List File)) (before mid now : Option (List (List ℕ))) → IfSome told (λ (f : List File). plan_in f r.schema ≡ Ok plan) →
-    PlanRead plan.schema r.schema told before mid → AsksInMode r plan told mid now → AsksInTurn (Ok r) told before now
-asks_behind r plan told before mid now planned read asks = record {
-  told = asks_then_told r plan told (possible_names read.bytes r.schema) before mid now planned read.told read.asked asks.told;
-  bytes = read.bytes;
-  untold =
-      subst (λ (behind : List (List ℕ)). AskedPrefixOf (possible_names read.bytes r.schema ++ behind) before now)
-      (possible_same r.mode r plan ∙ ap (possible_behind r) (sym read.read))
-      (asked_then (possible_names read.bytes r.schema) (possible_in_mode r.mode r plan) before mid now read.asked asks.untold);
-}
+    PlanRead plan.schema r.schema told before mid → AsksInMode r plan told mid now → reads_schema r.mode ≡ true → AsksInTurn (Ok r) told before now
+asks_behind r plan told before mid now planned read asks reads =
+    in_turn r told read.bytes before now reads (asks_then_told r plan told (possible_names read.bytes r.schema) before mid now planned read.told read.asked asks.told)
+    (subst (λ (behind : List (List ℕ)). AskedPrefixOf (possible_names read.bytes r.schema ++ behind) before now)
+    (possible_same r.mode r plan ∙ ap (possible_behind r) (sym read.read))
+    (asked_then (possible_names read.bytes r.schema) (possible_in_mode r.mode r plan) before mid now read.asked asks.untold))
 
 planned_ok : (told : Option (List File)) (r : Request) (name : List ℕ) (plan : Project) → name ≡ r.schema →
     IfSome told (λ files. Decides plan_status (λ plan. plan) (Ok plan) (plan_in files name)) → IfSome told (λ (f : List File). plan_in f r.schema ≡ Ok plan)
 planned_ok None r name plan is planned = tt
 planned_ok (Some files) r name plan is planned = ap (plan_in files) (sym is) ∙ planned
 
-pub asks_with_plan : (r : Request) (name : List ℕ) (plan : Project) (told told_mid : Option (List File)) (before mid now : Option (List (List ℕ))) → name ≡ r.schema →
+pub asks_with_plan : (r : Request) (name : List ℕ) (plan : Project) (told told_mid : Option (List File)) (before mid now : Option (List (List ℕ))) →
+    reads_schema r.mode ≡ true → name ≡ r.schema →
     IfSome told (λ files. Decides plan_status (λ plan. plan) (Ok plan) (plan_in files name)) → PlanRead plan.schema name told before mid → told_mid ≡ told →
     AsksInMode r plan told_mid mid now → AsksInTurn (Ok r) told before now
-asks_with_plan r name plan told told_mid before mid now is planned read same asks =
+asks_with_plan r name plan told told_mid before mid now reads is planned read same asks =
     asks_behind r plan told before mid now (planned_ok told r name plan is planned)
     (subst (λ (n : List ℕ). PlanRead plan.schema n told before mid) is read)
-    (subst (λ (t : Option (List File)). AsksInMode r plan t mid now) same asks)
+    (subst (λ (t : Option (List File)). AsksInMode r plan t mid now) same asks) reads
 
 -- ---- words that are at fault
 

@@ -24,11 +24,12 @@ use Rattle.schema_plan.specs.Layout.{layout_of}
 use Rattle.schema_plan.specs.Limits.{IsInLimits}
 use Rattle.stream_apply.specs.KeyedLines.{lines_text}
 use Rattle.stream_apply.proofs.NumberedLineLemmas.{lines_in}
-use Rattle.update_box.specs.Candidates.{changes_at, dies_at}
+use Rattle.update_box.specs.Candidates.{dies_at}
 use Rattle.update_box.specs.Packages.{chosen_places}
 use Rattle.update_box.specs.TextLaws.{unit_streams}
 use Rattle.update_box.proofs.KeyLineLemmas.{key-small}
 use Rattle.update_box.proofs.KeyedTextLemmas.{body_text, key_text, keyed-text, table_text-rows, unit_streams-lines}
+use Rattle.update_box.proofs.UpdateLemmas.{changes_at}
 use Rattle.request_words.specs.declared.usage.Request.{Request}
 use Rattle.pdgf_run.specs.Formats.{AreCsvOf, AreRowsOf, IsOfFields}
 use Rattle.pdgf_run.specs.modes.Apply.{AreApplied, AreReadAs, change_fields, fields_in, input_fields, inputs_at, inputs_each, table_fields, table_inputs}

@@ -3,6 +3,7 @@ pub mod DecideLemmas
 pub mod ReportLemmas
 mod ApplyLemmas
 mod ModeLemmas
+mod JoinedLemmas
 mod MadeLemmas
 mod FileLemmas
 mod PathLemmas
@@ -14,3 +15,4 @@ mod KeyedTextLemmas
 mod ChunkLemmas
 mod TextShelfLemmas
 mod AppliedLemmas
+pub mod SampleLemmas

@@ -1,10 +1,9 @@
 -- Words and files come to one verdict.
 use Rattle.std.specs.Prelude.{nat_lt}
-use Rattle.std.specs.List.{sum_by}
+use Rattle.std.specs.List.{range_with_len, sum_by}
 use Rattle.std.proofs.Common.{◌≡◌, ◌≢◌, ◌<◌, ◌+◌, ◌*◌, ℕ, suc, Bool, true, false, List, [], ◌∷◌, get_or, length, Option, Result, Ok, Err, ap, arith, inl, inr, refl, subst, sym, ◌∙◌}
 use Rattle.std.proofs.lemmas.Bool.{cases_eq, cases_lt}
 use Rattle.pd_outside.specs.Files.{File}
-use Rattle.plan_stages.specs.Plans.{plan_in}
 use Rattle.plan_stages.specs.Stages.{in_stage}
 use Rattle.plan_stages.specs.Inputs.{inputs_in}
 use Rattle.plan_stages.specs.declared.inputs.InputFault.{InputFault}
@@ -15,29 +14,32 @@ use Rattle.refusals.specs.declared.refusal.Refusal.TheVariants as refusal
 use Rattle.request_words.specs.Words.{request}
 use Rattle.request_words.specs.declared.usage.Format.{Format}
 use Rattle.request_words.specs.declared.usage.Format.TheVariants.{Copy, Csv}
-use Rattle.request_words.specs.declared.usage.Mode.TheVariants.{Check, Snapshot, Unit, Row, Apply}
+use Rattle.request_words.specs.declared.usage.Mode.TheVariants.{Check, Snapshot, Unit, Row, Apply, Sample, Play, Details, DetailsUnit, DetailsApply, Undo, Revert}
 use Rattle.request_words.specs.declared.usage.Mode.{Mode}
 use Rattle.request_words.specs.declared.usage.Request.{Request}
 use Rattle.request_words.specs.declared.usage.UsageFault.{UsageFault}
 use Rattle.row_text.specs.Fields.{IsDelimiter}
 use Rattle.schema_plan.specs.Dictionaries.{Project}
 use Rattle.schema_plan.specs.Layout.{layout_of}
+use Rattle.schema_plan.specs.TableFacts.{reach}
 use Rattle.stream_apply.proofs.InTurnLemmas.{made-no_fault, one-first, one-made}
 use Rattle.stream_apply.specs.InTurn.{IsAppliedText, IsFaultAt}
 use Rattle.stream_apply.specs.KeyedLines.{lines_text}
 use Rattle.stream_apply.specs.declared.fault.ApplyFault.{ApplyFault}
 use Rattle.stream_apply.specs.declared.fault.ApplyFault.TheVariants.{Memory}
-use Rattle.pdgf_run.specs.Verdict.{IsInMode, IsOfRequest, IsPlanned, IsVerdict}
+use Rattle.pdgf_run.specs.Verdict.{IsInMode, IsOfRequest, IsPlanned, IsVerdict, plan_for}
 use Rattle.update_box.specs.Packages.{chosen_places}
 use Rattle.update_box.specs.Parts.{parts_of, snapshot_contents, unit_contents}
 use Rattle.update_box.specs.declared.parts.Content.{Content}
 use Rattle.update_box.specs.declared.parts.Job.{Job}
 use Rattle.pdgf_run.specs.CsvFiles.{IsCsvAsked, IsCsvUnless, IsDueIn, csv_limit, texts_asked}
+use Rattle.pdgf_run.specs.DueFiles.{most_page_bytes, package_of, page_bytes, text_files}
 use Rattle.pdgf_run.specs.Formats.{file_name, made_files}
 use Rattle.pdgf_run.specs.modes.Apply.{AreApplied, AreDueFor, IsApplyDue, IsAskedAndMade, IsCsvMade, IsFirstFault, IsMadeIn, IsMadeOf, IsReadAndMade, input_limit, input_names, input_paths, inputs_at, inputs_each, tables_asked, text_name, unapplied, unread_record}
+use Rattle.pdgf_run.specs.modes.Sample.{IsLaterText, IsSampleUnless, later_units, summary_of, text_and_changes}
 use Rattle.pdgf_run.specs.modes.Snapshot.{snapshot_asked}
 use Rattle.pdgf_run.specs.modes.Unit.{unit_asked}
-use Rattle.pdgf_run.proofs.CsvLemmas.{no_bad, one_bad, one_copies, one_written}
+use Rattle.pdgf_run.proofs.CsvLemmas.{no_bad, one_bad, one_copies, one_image, one_written}
 
 -- ---- one table
 
@@ -45,7 +47,7 @@ one_text : (delimiter : ℕ) (inputs : List (List ℕ)) (text other : List ℕ) 
 one_text delimiter inputs text other delimits is other_is =
     is.is ∙ ap lines_text (one-made delimiter _ [] is.lines other_is.lines delimits is.made other_is.made) ∙ sym other_is.is
 
-never_both : (delimiter : ℕ) (inputs : List (List ℕ)) (text : List ℕ) (place : ℕ) (fault : ApplyFault) → IsDelimiter delimiter → IsAppliedText delimiter inputs text →
+pub never_both : (delimiter : ℕ) (inputs : List (List ℕ)) (text : List ℕ) (place : ℕ) (fault : ApplyFault) → IsDelimiter delimiter → IsAppliedText delimiter inputs text →
     fault ≢ Memory → ¬ IsFaultAt delimiter inputs place fault
 never_both delimiter inputs text place fault delimits is told = made-no_fault delimiter _ [] is.lines place fault delimits is.made told
 
@@ -168,6 +170,21 @@ one_due_in : (format : Format) (contents : List Content) (r : Request) (plan : P
 one_due_in Copy contents r plan job answer other delimits is other_is = is ∙ sym other_is
 one_due_in Csv contents r plan job answer other delimits is other_is = one_csv_asked contents r plan job answer other delimits is other_is
 
+-- a sample's summary
+one_later : (plan : Project) (place : ℕ) (text other : List ℕ) → IsDelimiter (layout_of plan).delimiter → IsLaterText plan place text → IsLaterText plan place other → text ≡ other
+one_later plan place text other delimits is other_is =
+    one_text (layout_of plan).delimiter (text_and_changes plan place (later_units plan)) text other delimits is other_is
+
+one_sample : (past : Bool) (plan : Project) (answer other : Result (List File) JobFault) → IsDelimiter (layout_of plan).delimiter →
+    IsSampleUnless past plan answer → IsSampleUnless past plan other → answer ≡ other
+one_sample true plan answer other delimits is other_is = is ∙ sym other_is
+one_sample false plan answer other delimits is other_is =
+    let one = is.1 in
+    let two = other_is.1 in
+    let same : one.0 ≡ two.0 =
+    one_image (IsLaterText plan) (range_with_len 0 (length plan.schema.tables)) one.0 two.0 (λ place text another. one_later plan place text another delimits) one.1 two.1 in
+    is.2 ∙ ap (λ (text : List ℕ). Ok (text_files text)) (one.2 ∙ ap (summary_of plan) same ∙ sym two.2) ∙ sym other_is.2
+
 one_in_mode : (mode : Mode) (r : Request) (plan : Project) (files : List File) (answer other : Result (List File) JobFault) → IsDelimiter (layout_of plan).delimiter →
     IsInMode mode r plan files answer → IsInMode mode r plan files other → answer ≡ other
 one_in_mode Check r plan files answer other delimits is other_is = is ∙ sym other_is
@@ -175,6 +192,14 @@ one_in_mode Snapshot r plan files answer other delimits is other_is = one_due_in
 one_in_mode Unit r plan files answer other delimits is other_is = one_due_in r.format unit_contents r plan (unit_asked r plan) answer other delimits is other_is
 one_in_mode Row r plan files answer other delimits is other_is = is ∙ sym other_is
 one_in_mode Apply r plan files answer other delimits is other_is = one_apply plan r files answer other delimits is other_is
+one_in_mode Sample r plan files answer other delimits is other_is =
+    one_sample (nat_lt most_page_bytes (page_bytes r.workers (package_of plan r) (reach (layout_of plan)))) plan answer other delimits is other_is
+one_in_mode Play r plan files answer other delimits is other_is = absurd is
+one_in_mode Details r plan files answer other delimits is other_is = absurd is
+one_in_mode DetailsUnit r plan files answer other delimits is other_is = absurd is
+one_in_mode DetailsApply r plan files answer other delimits is other_is = absurd is
+one_in_mode Undo r plan files answer other delimits is other_is = absurd is
+one_in_mode Revert r plan files answer other delimits is other_is = absurd is
 
 one_planned : (r : Request) (files : List File) (made : Result Project PlanFault) (answer other : Result (List File) JobFault) →
     ((plan : Project) → IsDelimiter (layout_of plan).delimiter) → IsPlanned r files made answer → IsPlanned r files made other → answer ≡ other
@@ -185,7 +210,7 @@ one_of_request : (files : List File) (r : Result Request UsageFault) (verdict ot
     IsOfRequest files r verdict → IsOfRequest files r other → verdict ≡ other
 one_of_request files (Err fault) verdict other delimits is other_is = is ∙ sym other_is
 one_of_request files (Ok r) verdict other delimits is other_is =
-    is.2 ∙ ap (in_stage refusal.Job) (one_planned r files (plan_in files r.schema) is.0 other_is.0 delimits is.1 other_is.1) ∙ sym other_is.2
+    is.2 ∙ ap (in_stage refusal.Job) (one_planned r files (plan_for r files) is.0 other_is.0 delimits is.1 other_is.1) ∙ sym other_is.2
 
 pub one_verdict : (words : List (List ℕ)) (files : List File) (verdict other : Result (List File) Refusal) → ((plan : Project) → IsDelimiter (layout_of plan).delimiter) →
     IsVerdict words files verdict → IsVerdict words files other → verdict ≡ other

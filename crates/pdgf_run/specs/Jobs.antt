@@ -15,15 +15,18 @@ use Rattle.pdgf_run.specs.declared.job.TablesJob.{TablesJob}
 use Rattle.pdgf_run.specs.declared.job.UnitJob.{UnitJob}
 use Rattle.pdgf_run.specs.Formats.{named_files}
 
--- the numbers of a request that asks of tables are within their ranges: the workers, the lines of a package where they are given, and
--- the nodes
+-- the numbers of a request that asks of tables are within their ranges: the workers, and the lines of a package where they are given
 abbrev pub IsPackageSize : ℕ → Type 0
 IsPackageSize lines = (1 ≤ lines) × (lines ≤ 1000000)
 
-pub record CanAsk (request : Request) : Type 0 where
+pub record CanPackBy (request : Request) : Type 0 where
   pub some_worker : 1 ≤ request.workers
   pub worker_limit : request.workers ≤ 64
   pub lines : IfSome request.package IsPackageSize
+
+-- and the nodes
+pub record CanAsk (request : Request) : Type 0 where
+  pub by : CanPackBy request
   pub node_limit : request.nodes ≤ 1024
 
 -- the files of a job

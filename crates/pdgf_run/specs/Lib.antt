@@ -3,7 +3,9 @@ pub mod Formats
 pub mod InMemory
 pub mod CsvFiles
 pub mod Jobs
+pub mod Joined
 pub mod ReadingList
 pub mod TopCall
 pub mod Verdict
 pub mod modes
+pub mod Sampled

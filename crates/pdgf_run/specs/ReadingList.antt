@@ -1,10 +1,10 @@
 -- The names that are asked of a library, each in its turn.
-use Rattle.std.specs.Prelude.{ℕ, List, [], ◌++◌, Option, Result, Ok, Err, IfSome}
+use Rattle.std.specs.Prelude.{ℕ, Bool, false, true, List, [], ◌++◌, Option, Result, Ok, Err, IfSome, if◌then◌else◌}
 use Rattle.pd_outside.specs.Files.{File}
 use Rattle.pd_outside.specs.Library.{AskedPrefixOf}
 use Rattle.plan_stages.specs.PlanNames.{plan_names, possible_names}
 use Rattle.plan_stages.specs.Plans.{plan_in}
-use Rattle.request_words.specs.declared.usage.Mode.TheVariants.{Check, Snapshot, Unit, Row, Apply}
+use Rattle.request_words.specs.declared.usage.Mode.TheVariants.{Check, Snapshot, Unit, Row, Apply, Sample, Play, Details, DetailsUnit, DetailsApply, Undo, Revert}
 use Rattle.request_words.specs.declared.usage.Mode.{Mode}
 use Rattle.request_words.specs.declared.usage.Request.{Request}
 use Rattle.request_words.specs.declared.usage.UsageFault.{UsageFault}
@@ -15,6 +15,24 @@ use Rattle.pdgf_run.specs.modes.Apply.{paths_asked, paths_possible, tables_asked
 
 -- ---- what words ask for
 
+-- whether a mode reads the schema that the words name: a sample has one of its own
+abbrev pub reads_schema : Mode → Bool
+reads_schema Sample = false
+reads_schema mode = true
+
+-- the names that a request asks for of its schema, if it reads one
+abbrev pub if_read : Request → List (List ℕ) → List (List ℕ)
+if_read request names = if reads_schema request.mode then names else []
+
+-- whether a mode reads files behind those of which a plan is made
+abbrev pub reads_on : Mode → Bool
+reads_on Apply = true
+reads_on Details = true
+reads_on DetailsUnit = true
+reads_on DetailsApply = true
+reads_on Revert = true
+reads_on mode = false
+
 -- the names that a mode asks for over a plan and files: in mode apply its inputs', up to and with the first with which they are too long
 abbrev pub names_in_mode : Mode → Request → Project → List File → List (List ℕ)
 names_in_mode Check request plan files = []
@@ -22,16 +40,23 @@ names_in_mode Snapshot request plan files = []
 names_in_mode Unit request plan files = []
 names_in_mode Row request plan files = []
 names_in_mode Apply request plan files = paths_asked plan request files (tables_asked plan request)
+names_in_mode Sample request plan files = []
+names_in_mode Play request plan files = []
+names_in_mode Details request plan files = []
+names_in_mode DetailsUnit request plan files = []
+names_in_mode DetailsApply request plan files = []
+names_in_mode Undo request plan files = []
+names_in_mode Revert request plan files = []
 
 abbrev pub names_behind : {F : Type 0} → Request → List File → Result Project F → List (List ℕ)
 names_behind request files (Err fault) = []
 names_behind request files (Ok plan) = names_in_mode request.mode request plan files
 
--- the names that a request asks for over files: the schema's, then those of the dictionaries that it cites, up to and with the
+-- the names that a request asks for over files: the schema's, if it reads one, then those of the dictionaries that it cites, up to and with the
 -- first that is at fault, and then those of its mode
 abbrev pub reading_list : Result Request UsageFault → List File → List (List ℕ)
 reading_list (Err fault) files = []
-reading_list (Ok request) files = plan_names files request.schema ++ names_behind request files (plan_in files request.schema)
+reading_list (Ok request) files = if_read request (plan_names files request.schema) ++ names_behind request files (plan_in files request.schema)
 
 -- the names that a mode may ask for of a schema
 abbrev pub possible_in_mode : Mode → Request → Project → List (List ℕ)
@@ -40,6 +65,13 @@ possible_in_mode Snapshot request plan = []
 possible_in_mode Unit request plan = []
 possible_in_mode Row request plan = []
 possible_in_mode Apply request plan = paths_possible plan request (tables_asked plan request)
+possible_in_mode Sample request plan = []
+possible_in_mode Play request plan = []
+possible_in_mode Details request plan = []
+possible_in_mode DetailsUnit request plan = []
+possible_in_mode DetailsApply request plan = []
+possible_in_mode Undo request plan = []
+possible_in_mode Revert request plan = []
 
 abbrev pub possible_behind : {F : Type 0} → Request → Result Schema F → List (List ℕ)
 possible_behind request (Err fault) = []
@@ -48,7 +80,7 @@ possible_behind request (Ok schema) = possible_in_mode request.mode request (pro
 -- the names that a request may ask for where its schema has these bytes
 abbrev pub possible_list : Result Request UsageFault → List ℕ → List (List ℕ)
 possible_list (Err fault) bytes = []
-possible_list (Ok request) bytes = possible_names bytes request.schema ++ possible_behind request (schema_of bytes)
+possible_list (Ok request) bytes = if_read request (possible_names bytes request.schema) ++ possible_behind request (schema_of bytes)
 
 -- ---- what was asked
 

@@ -1,5 +1,5 @@
 -- What the top call promises of its report and of the shelf.
-use Rattle.std.specs.Prelude.{◌≡◌, ◌≢◌, ◌≤◌, ◌⊎◌, ℕ, ◌+◌, Bool, false, List, [], IfOk, Option, Result, Ok, Err}
+use Rattle.std.specs.Prelude.{◌≡◌, ◌≢◌, ◌≤◌, ◌⊎◌, ℕ, ◌+◌, Bool, false, true, List, [], IfOk, Option, Result, Ok, Err}
 use Rattle.std.specs.Option.{option_map}
 use Rattle.pd_outside.specs.Faults.{counted}
 use Rattle.pd_outside.specs.Files.{File}
@@ -15,8 +15,10 @@ use Rattle.refusals.specs.declared.refusal.JobFault.{JobFault}
 use Rattle.refusals.specs.declared.refusal.Refusal.{Refusal}
 use Rattle.refusals.specs.declared.refusal.Refusal.TheVariants as refusal
 use Rattle.request_words.specs.declared.usage.Request.{Request}
+use Rattle.request_words.specs.declared.usage.UsageFault.{UsageFault}
 use Rattle.schema_plan.specs.Dictionaries.{Project}
 use Rattle.pdgf_run.specs.declared.report.Report.{Report}
+use Rattle.pdgf_run.specs.ReadingList.{reads_schema}
 use Rattle.pdgf_run.specs.modes.Apply.{AreLaterFiles, HoldInputs, input_limit, tables_asked}
 
 -- The report is the verdict's: the due files were finished, in order, and none is begun; or the shelf is as it was.
@@ -32,6 +34,7 @@ abbrev pub IsLimitOf : JobFault → ℕ → Type 0
 IsLimitOf (job.Plan fault) limit = limit ≡ limit_at fault
 IsLimitOf (job.Range name) limit = ⊥
 IsLimitOf (job.Input fault) limit = limit ≤ input_limit
+IsLimitOf (job.Details cause) limit = limit ≡ schema_limit
 IsLimitOf job.Memory limit = ⊥
 
 abbrev pub IsLimitTold : {A : Type 0} → Result A JobFault → ℕ → Type 0
@@ -51,15 +54,16 @@ abbrev pub IsPastLimit : List ℕ → ℕ → Type 0
 IsPastLimit message taken =
     ((message ≡ text.schema_too_long_text) × (taken ≡ schema_limit + 1))
     ⊎ (((number : ℕ) × ((message ≡ text.dictionary_too_long_text number) × (taken ≡ dictionary_limit + 1)))
-    ⊎ ((name : List ℕ) × (limit : ℕ) × (limit ≤ input_limit) × (message ≡ text.input_too_long_text name) × (taken ≡ limit + 1)))
+    ⊎ (((name : List ℕ) × (limit : ℕ) × (limit ≤ input_limit) × (message ≡ text.input_too_long_text name) × (taken ≡ limit + 1))
+    ⊎ ((message ≡ text.details_too_long_text) × (taken ≡ schema_limit + 1))))
 
--- What a request that ends with a status leaves of the library: the files that are told, what is now left, how many bytes were taken of
+-- What a request that ends with a status leaves of the library, where it reads a schema or none: the files that are told, what is now left, how many bytes were taken of
 -- the last file, whether one is started, and the count of faults.
-pub record LibraryLeft (status : ℕ) (IsLimit : ℕ → Type 0) (before : Option (List File)) (now : Option Content) (taken : ℕ) (is_started : Bool) (faults_before faults_now : ℕ) : Type 0 where
+pub record LibraryDone (reads : Bool) (status : ℕ) (IsLimit : ℕ → Type 0) (before : Option (List File)) (now : Option Content) (taken : ℕ) (is_started : Bool) (faults_before faults_now : ℕ) : Type 0 where
   -- files stay as they are
   pub files : told_files now ≡ before
   -- at the end of all that was read nothing is left
-  pub read_out : status ≡ 0 → IsReadOut now
+  pub read_out : reads ≡ true → status ≡ 0 → IsReadOut now
   -- a file was too long: a byte more than its limit was taken
   pub too_long : status ≡ 10 → (limit : ℕ) × IsLimit limit × (taken ≡ limit + 1)
   -- a read failed: once, and no file is started then; and it is told nowhere else
@@ -67,6 +71,16 @@ pub record LibraryLeft (status : ℕ) (IsLimit : ℕ → Type 0) (before : Optio
   pub stopped : status ≡ 5 → is_started ≡ false
   pub no_fault : status ≢ 5 → faults_now ≡ faults_before
   pub never_falls : faults_before ≤ faults_now
+
+-- the same where it reads one
+abbrev pub LibraryLeft : ℕ → (ℕ → Type 0) → Option (List File) → Option Content → ℕ → Bool → ℕ → ℕ → Type 0
+LibraryLeft status IsLimit before now taken is_started faults_before faults_now =
+    LibraryDone true status IsLimit before now taken is_started faults_before faults_now
+
+-- whether words ask for a schema that is read
+abbrev pub reads_for : Result Request UsageFault → Bool
+reads_for (Err fault) = false
+reads_for (Ok request) = reads_schema request.mode
 
 -- Where files hold what a plain simulation gives as the inputs of a request, all is done, and what the tables hold at the later unit is
 -- finished, in the request's format.

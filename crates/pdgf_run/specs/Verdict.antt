@@ -1,5 +1,5 @@
 -- What words and files come to: the due files, or a refusal.
-use Rattle.std.specs.Prelude.{◌≡◌, ℕ, List, Option, Result, Ok, Err, IfSome, false}
+use Rattle.std.specs.Prelude.{◌≡◌, ℕ, List, Option, Result, Ok, Err, IfSome, Bool, true, false}
 use Rattle.pd_outside.specs.Files.{File}
 use Rattle.pd_outside.specs.Library.{Content}
 use Rattle.plan_stages.specs.Plans.{plan_in}
@@ -11,14 +11,17 @@ use Rattle.refusals.specs.declared.refusal.PlanFault.{PlanFault}
 use Rattle.refusals.specs.declared.refusal.Refusal.{Refusal}
 use Rattle.refusals.specs.declared.refusal.Refusal.TheVariants as refusal
 use Rattle.request_words.specs.Words.{request}
-use Rattle.request_words.specs.declared.usage.Mode.TheVariants.{Check, Snapshot, Unit, Row, Apply}
+use Rattle.request_words.specs.declared.usage.Mode.TheVariants.{Check, Snapshot, Unit, Row, Apply, Sample, Play, Details, DetailsUnit, DetailsApply, Undo, Revert}
 use Rattle.request_words.specs.declared.usage.Mode.{Mode}
 use Rattle.request_words.specs.declared.usage.Request.{Request}
 use Rattle.request_words.specs.declared.usage.UsageFault.{UsageFault}
+use Rattle.sample_tables.specs.Schema.{sample_project}
 use Rattle.schema_plan.specs.Dictionaries.{Project}
+use Rattle.pdgf_run.specs.ReadingList.{reads_schema}
 use Rattle.pdgf_run.specs.modes.Apply.{IsApplyDue}
 use Rattle.pdgf_run.specs.modes.Check.{check_due}
 use Rattle.pdgf_run.specs.modes.Row.{row_due}
+use Rattle.pdgf_run.specs.modes.Sample.{IsSampleOf}
 use Rattle.pdgf_run.specs.modes.Snapshot.{IsSnapshotDue}
 use Rattle.pdgf_run.specs.modes.Unit.{IsUnitDue}
 
@@ -29,14 +32,29 @@ IsInMode Snapshot request plan files answer = IsSnapshotDue request plan answer
 IsInMode Unit request plan files answer = IsUnitDue request plan answer
 IsInMode Row request plan files answer = answer ≡ row_due request plan
 IsInMode Apply request plan files answer = IsApplyDue plan request files answer
+IsInMode Sample request plan files answer = IsSampleOf plan request answer
+IsInMode Play request plan files answer = ⊥
+IsInMode Details request plan files answer = ⊥
+IsInMode DetailsUnit request plan files answer = ⊥
+IsInMode DetailsApply request plan files answer = ⊥
+IsInMode Undo request plan files answer = ⊥
+IsInMode Revert request plan files answer = ⊥
 
--- what a request over files comes to: first the schema that it names gives a plan
+-- the plan that a request is carried out over: of the schema that it names, or in mode sample of a schema of its own
+abbrev pub plan_by : Bool → Request → List File → Result Project PlanFault
+plan_by true request files = plan_in files request.schema
+plan_by false request files = Ok (sample_project request.size)
+
+abbrev pub plan_for : Request → List File → Result Project PlanFault
+plan_for request files = plan_by (reads_schema request.mode) request files
+
+-- what a request over files comes to: first there is a plan
 abbrev pub IsPlanned : Request → List File → Result Project PlanFault → Result (List File) JobFault → Type 0
 IsPlanned request files (Err fault) answer = answer ≡ Err (job.Plan fault)
 IsPlanned request files (Ok plan) answer = IsInMode request.mode request plan files answer
 
 abbrev pub IsJobOver : Request → List File → Result (List File) JobFault → Type 0
-IsJobOver request files answer = IsPlanned request files (plan_in files request.schema) answer
+IsJobOver request files answer = IsPlanned request files (plan_for request files) answer
 
 -- the same, where words give a request
 abbrev pub IsOfRequest : List File → Result Request UsageFault → Result (List File) Refusal → Type 0

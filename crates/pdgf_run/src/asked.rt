@@ -8,7 +8,7 @@ ghost use Rattle.schema_plan.specs.TableFacts.{reach};
 ghost use Rattle.life_intervals.specs.Generator.{last_unit};
 ghost use Rattle.update_box.specs.Packages.{IsChoice, IsJobOf};
 ghost use Rattle.pdgf_run.specs.DueFiles.{asked, chosen_table, default_package, most_page_bytes, package_of, page_bytes};
-ghost use Rattle.pdgf_run.specs.Jobs.{CanAsk};
+ghost use Rattle.pdgf_run.specs.Jobs.{CanAsk, CanPackBy};
 
 use refusals::JobFault;
 use request_words::{OptionName, Request};
@@ -71,8 +71,8 @@ pub(crate) fn chosen_table(plan: &Plan, table: &Option<Text>) -> Option<Option<u
 }
 
 /// How many lines a package of a request has.
-fn package_of(plan: &Plan, request: &Request) -> u64
-    requires { CanAsk request.now }
+pub(crate) fn package_of(plan: &Plan, request: &Request) -> u64
+    requires { CanPackBy request.now }
     ensures lines { result ≡ package_of plan.now request.now }
     ensures some_line { 1 ≤ result }
     ensures line_limit { result ≤ 1000000 }
@@ -105,6 +105,14 @@ fn page_bytes(plan: &Plan, workers: u32, lines: u64) -> u64
     PAGES * u64::from(workers) * lines * plan.reach()
 }
 
+/// Whether the pages of a request's workers have more bytes together than they may, with packages of as many lines as it asks for.
+pub(crate) fn is_past_room(plan: &Plan, request: &Request) -> bool
+    requires { CanPackBy request.now }
+    ensures { result ≡ nat_lt most_page_bytes (page_bytes request.now.workers (package_of plan.now request.now) (reach (layout_of plan.now))) }
+{
+    MOST_PAGE_BYTES < page_bytes(plan, request.workers, package_of(plan, request))
+}
+
 /// What a request asks of a plan's tables at one of its units; or the first of these options that is out of its range: the table, the
 /// node and the package.
 pub(crate) fn asked(plan: &Plan, request: &Request) -> Result<Job, JobFault>
@@ -121,14 +129,13 @@ pub(crate) fn asked(plan: &Plan, request: &Request) -> Result<Job, JobFault>
     if request.nodes <= request.node {
         return Err(JobFault::Range(OptionName::Node));
     }
-    let package = package_of(plan, request);
-    if MOST_PAGE_BYTES < page_bytes(plan, request.workers, package) {
+    if is_past_room(plan, request) {
         return Err(JobFault::Range(OptionName::Package));
     }
     Ok(Job {
         unit: request.unit,
         table,
-        package,
+        package: package_of(plan, request),
         node: request.node,
         nodes: request.nodes,
     })

@@ -1,6 +1,6 @@
 //! From the words to a job: all that is read and all memory that is taken, stage by stage.
 
-ghost use Rattle.std.specs.Prelude.{◌≡◌, ◌≢◌, ◌≤◌, ◌+◌, ◌⊎◌, false, map, string_bytes, Err, IfErr, IfOk, IfSome, Ok, OnOk};
+ghost use Rattle.std.specs.Prelude.{◌≡◌, ◌≢◌, ◌≤◌, ◌+◌, ◌⊎◌, false, true, map, string_bytes, Err, IfErr, IfOk, IfSome, Ok, OnOk};
 ghost use Rattle.plan_stages.specs.Limits.{dictionary_limit, schema_limit};
 ghost use Rattle.plan_stages.specs.PlanNames.{AskedAlone};
 ghost use Rattle.plan_stages.specs.Plans.{plan_in};
@@ -8,20 +8,20 @@ ghost use Rattle.plan_stages.specs.Stages.{ended, told_files};
 ghost use Rattle.refusals.specs.Statuses.{is_free, job_status, status_of};
 ghost use Rattle.request_words.specs.Ranges.{AreWithinRanges};
 ghost use Rattle.request_words.specs.Words.{request};
-ghost use Rattle.request_words.specs.declared.usage.Mode.TheVariants.{Apply};
 ghost use Rattle.schema_plan.specs.Limits.{IsInLimits};
 ghost use Rattle.pdgf_run.specs.Jobs.{due_of, CanFill};
-ghost use Rattle.pdgf_run.specs.ReadingList.{AsksInTurn};
-ghost use Rattle.pdgf_run.specs.TopCall.{IsLimitRefused, IsLimitTold, LibraryLeft};
-ghost use Rattle.pdgf_run.specs.Verdict.{IsDecided, IsJobOver, IsVerdict};
+ghost use Rattle.pdgf_run.specs.ReadingList.{AsksInTurn, reads_on, reads_schema};
+ghost use Rattle.pdgf_run.specs.TopCall.{IsLimitRefused, IsLimitTold, LibraryDone, LibraryLeft, reads_for};
+ghost use Rattle.pdgf_run.specs.Verdict.{IsDecided, IsJobOver, IsPlanned, IsVerdict};
 ghost use Rattle.pdgf_run.specs.modes.Apply.{input_limit};
 
 use crate::job::Job;
 use crate::modes::job_of;
+use crate::modes::sample::plan_sample;
 use pd_outside::{Gate, Library};
 use plan_stages::plan_of;
 use refusals::{JobFault, Refusal};
-use request_words::{Request, UsageFault, read_words};
+use request_words::{Mode, Request, UsageFault, read_words};
 use std::alloc::Global;
 use std::thread::Threads;
 
@@ -39,15 +39,17 @@ pub(crate) fn decide<R: Threads + Sync, L: Library, G: Gate + Sync>(
     ensures usage { IfErr (request (map string_bytes words.now)) (λ fault. result ≡ Err (Refusal.Words fault)) }
     ensures no_memory { IfErr (request (map string_bytes words.now)) (λ fault. fault ≢ UsageFault.Memory) }
     ensures no_usage { OnOk (request (map string_bytes words.now)) (ended status_of result ≢ 2) }
-    ensures left { LibraryLeft (ended status_of result) (IsLimitRefused result) (told_files (L.content library.old)) (L.content library.new)
-        (L.taken library.new) (L.is_started library.new) (L.faults library.old) (L.faults library.new) }
+    ensures left { LibraryDone (reads_for (request (map string_bytes words.now))) (ended status_of result) (IsLimitRefused result) (told_files (L.content library.old))
+        (L.content library.new) (L.taken library.new) (L.is_started library.new) (L.faults library.old) (L.faults library.new) }
+    ensures unread { reads_for (request (map string_bytes words.now)) ≡ false → library.new ≡ library.old }
     ensures longer_schema { IfOk (request (map string_bytes words.now)) (λ request. AskedAlone request.schema (L.asked library.old) (L.asked library.new) →
         (L.taken library.new ≤ schema_limit) ⊎ (ended status_of result ≡ 10)) }
-    ensures longer_dictionary { IfOk (request (map string_bytes words.now)) (λ request. request.mode ≢ Apply →
+    ensures longer_dictionary { IfOk (request (map string_bytes words.now)) (λ request. reads_schema request.mode ≡ true → reads_on request.mode ≡ false →
         ended status_of result ≢ 7 → L.taken library.new ≡ dictionary_limit + 1 → ended status_of result ≡ 10) }
-    ensures within { (ended status_of result ≡ 0) ⊎ (ended status_of result ≡ 9) → L.taken library.new ≤ input_limit }
+    ensures within { reads_for (request (map string_bytes words.now)) ≡ true →
+        (ended status_of result ≡ 0) ⊎ (ended status_of result ≡ 9) → L.taken library.new ≤ input_limit }
     ensures schema_read { ended status_of result ≡ 3 → L.taken library.new ≤ schema_limit }
-    ensures limits { IfOk (request (map string_bytes words.now)) (λ asked. is_free (ended status_of result) ≡ false →
+    ensures limits { IfOk (request (map string_bytes words.now)) (λ asked. reads_schema asked.mode ≡ true → is_free (ended status_of result) ≡ false →
         IfSome (told_files (L.content library.old)) (λ files. IfOk (plan_in files asked.schema) IsInLimits)) }
     ensures asked { AsksInTurn (request (map string_bytes words.now)) (told_files (L.content library.old)) (L.asked library.old) (L.asked library.new) }
 {
@@ -55,7 +57,7 @@ pub(crate) fn decide<R: Threads + Sync, L: Library, G: Gate + Sync>(
     Ok(job_of_request(rt, alloc, library, gate, &request)?)
 }
 
-/// The job of a request.
+/// The job of a request. A sample has a schema of its own, and reads nothing.
 fn job_of_request<R: Threads + Sync, L: Library, G: Gate + Sync>(
     rt: &R,
     alloc: Global,
@@ -66,11 +68,43 @@ fn job_of_request<R: Threads + Sync, L: Library, G: Gate + Sync>(
     requires { AreWithinRanges request.now }
     ensures job { IfSome (told_files (L.content library.old)) (λ files. IsDecided job_status due_of (IsJobOver request.now files) result) }
     ensures can { IfOk result CanFill }
+    ensures left { LibraryDone (reads_schema request.now.mode) (ended job_status result) (IsLimitTold result) (told_files (L.content library.old)) (L.content library.new)
+        (L.taken library.new) (L.is_started library.new) (L.faults library.old) (L.faults library.new) }
+    ensures unread { reads_schema request.now.mode ≡ false → library.new ≡ library.old }
+    ensures longer_schema { AskedAlone request.now.schema (L.asked library.old) (L.asked library.new) →
+        (L.taken library.new ≤ schema_limit) ⊎ (ended job_status result ≡ 10) }
+    ensures longer_dictionary { reads_schema request.now.mode ≡ true → reads_on request.now.mode ≡ false →
+        L.taken library.new ≡ dictionary_limit + 1 → ended job_status result ≡ 10 }
+    ensures within { reads_schema request.now.mode ≡ true → (ended job_status result ≡ 0) ⊎ (ended job_status result ≡ 9) → L.taken library.new ≤ input_limit }
+    ensures schema_read { ended job_status result ≡ 3 → L.taken library.new ≤ schema_limit }
+    ensures usable { ended job_status result ≢ 2 }
+    ensures limits { reads_schema request.now.mode ≡ true → is_free (ended job_status result) ≡ false →
+        IfSome (told_files (L.content library.old)) (λ files. IfOk (plan_in files request.now.schema) IsInLimits) }
+    ensures asked { AsksInTurn (Ok request.now) (told_files (L.content library.old)) (L.asked library.old) (L.asked library.new) }
+{
+    match request.mode {
+        Mode::Sample => plan_sample(rt, alloc, gate, request),
+        _ => planned_job(rt, alloc, library, gate, request),
+    }
+}
+
+/// The job of a request that names a schema.
+fn planned_job<R: Threads + Sync, L: Library, G: Gate + Sync>(
+    rt: &R,
+    alloc: Global,
+    library: &mut L,
+    gate: &G,
+    request: &Request,
+) -> Result<Job, JobFault>
+    requires ranges { AreWithinRanges request.now }
+    requires reads { reads_schema request.now.mode ≡ true }
+    ensures job { IfSome (told_files (L.content library.old)) (λ files. IsDecided job_status due_of (IsPlanned request.now files (plan_in files request.now.schema)) result) }
+    ensures can { IfOk result CanFill }
     ensures left { LibraryLeft (ended job_status result) (IsLimitTold result) (told_files (L.content library.old)) (L.content library.new)
         (L.taken library.new) (L.is_started library.new) (L.faults library.old) (L.faults library.new) }
     ensures longer_schema { AskedAlone request.now.schema (L.asked library.old) (L.asked library.new) →
         (L.taken library.new ≤ schema_limit) ⊎ (ended job_status result ≡ 10) }
-    ensures longer_dictionary { request.now.mode ≢ Apply → L.taken library.new ≡ dictionary_limit + 1 → ended job_status result ≡ 10 }
+    ensures longer_dictionary { reads_on request.now.mode ≡ false → L.taken library.new ≡ dictionary_limit + 1 → ended job_status result ≡ 10 }
     ensures within { (ended job_status result ≡ 0) ⊎ (ended job_status result ≡ 9) → L.taken library.new ≤ input_limit }
     ensures schema_read { ended job_status result ≡ 3 → L.taken library.new ≤ schema_limit }
     ensures usable { ended job_status result ≢ 2 }

@@ -5,7 +5,7 @@ ghost use Rattle.schema_plan.specs.Layout.{layout_of};
 ghost use Rattle.schema_plan.specs.TableFacts.{reach};
 ghost use Rattle.update_box.specs.Packages.{IsJobOf};
 ghost use Rattle.pdgf_run.specs.DueFiles.{most_page_bytes, page_bytes};
-ghost use Rattle.pdgf_run.specs.Jobs.{CanAsk, CanPack};
+ghost use Rattle.pdgf_run.specs.Jobs.{CanPack, CanPackBy};
 
 use line_pages::PageBuf;
 use plan_stages::Inputs;
@@ -64,7 +64,7 @@ pub(crate) fn tables_job(
     out: Option<Name>,
 ) -> Result<TablesJob, Memory>
     requires asked { IsJobOf plan asked }
-    requires ranges { CanAsk request.now }
+    requires ranges { CanPackBy request.now }
     requires pages { page_bytes request.now.workers asked.package (reach (layout_of plan)) ≤ most_page_bytes }
     ensures plan { IfOk result (λ job. job.plan ≡ plan) }
     ensures asked { IfOk result (λ job. job.asked ≡ asked) }

@@ -7,9 +7,11 @@ mod csv;
 mod decide;
 mod fill;
 mod job;
+mod joined;
 pub mod laws;
 mod modes;
 mod names;
+mod numbers;
 mod report;
 mod run;
 mod text_shelf;
@@ -20,3 +22,4 @@ pub use refusals::{DictionaryCause, DictionaryFault, JobFault, PlanFault, Refusa
 pub use report::Report;
 pub use request_words::{Format, Mode, OptionName, Request, UsageFault, read_words};
 pub use run::pdgf;
+pub use sample_tables::sample_schema;

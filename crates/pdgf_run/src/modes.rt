@@ -1,13 +1,12 @@
 //! The modes, each in a file of its own.
 
-ghost use Rattle.std.specs.Prelude.{◌≡◌, ◌≢◌, ◌≤◌, ◌⊎◌, IfOk, IfSome};
+ghost use Rattle.std.specs.Prelude.{◌≡◌, ◌≢◌, ◌≤◌, ◌⊎◌, false, true, IfOk, IfSome};
 ghost use Rattle.plan_stages.specs.PlanNames.{AskedNone};
 ghost use Rattle.plan_stages.specs.Stages.{ended, told_files, IsReadOut};
 ghost use Rattle.refusals.specs.Statuses.{job_status};
 ghost use Rattle.request_words.specs.Ranges.{AreWithinRanges};
-ghost use Rattle.request_words.specs.declared.usage.Mode.TheVariants.{Apply};
 ghost use Rattle.pdgf_run.specs.Jobs.{due_of, CanFill};
-ghost use Rattle.pdgf_run.specs.ReadingList.{AsksInMode};
+ghost use Rattle.pdgf_run.specs.ReadingList.{AsksInMode, reads_on, reads_schema};
 ghost use Rattle.pdgf_run.specs.TopCall.{IsLimitTold, LibraryLeft};
 ghost use Rattle.pdgf_run.specs.Verdict.{IsDecided, IsInMode};
 ghost use Rattle.pdgf_run.specs.modes.Apply.{input_limit};
@@ -15,6 +14,7 @@ ghost use Rattle.pdgf_run.specs.modes.Apply.{input_limit};
 mod apply;
 mod check;
 mod row;
+pub(crate) mod sample;
 pub(crate) mod snapshot;
 pub(crate) mod unit;
 
@@ -28,7 +28,7 @@ use std::marker::Brand;
 use std::sync::ledger::Blank;
 use std::thread::Threads;
 
-/// The job of a request over a plan. Mode apply reads its inputs; every other leaves the library as it is. What is due in CSV is made here,
+/// The job of a request over a plan of the schema that it names. Mode apply reads its inputs; every other leaves the library as it is. What is due in CSV is made here,
 /// by the workers where it is of rows, and each package of lines enters the gate then.
 pub(crate) fn job_of<R: Threads + Sync, L: Library, G: Gate + Sync>(
     rt: &R,
@@ -39,6 +39,7 @@ pub(crate) fn job_of<R: Threads + Sync, L: Library, G: Gate + Sync>(
     request: &Request,
 ) -> Result<Job, JobFault>
     requires ranges { AreWithinRanges request.now }
+    requires reads { reads_schema request.now.mode ≡ true }
     requires read_out { IsReadOut (L.content library.old) }
     ensures job { IfSome (told_files (L.content library.old)) (λ files. IsDecided job_status due_of (IsInMode request.now.mode request.now plan files) result) }
     ensures can { IfOk result CanFill }
@@ -46,7 +47,7 @@ pub(crate) fn job_of<R: Threads + Sync, L: Library, G: Gate + Sync>(
         (L.taken library.new) (L.is_started library.new) (L.faults library.old) (L.faults library.new) }
     ensures usable { ended job_status result ≢ 2 }
     ensures is_schema { ended job_status result ≢ 3 }
-    ensures unread { request.now.mode ≢ Apply → library.new ≡ library.old }
+    ensures unread { reads_on request.now.mode ≡ false → library.new ≡ library.old }
     ensures within { L.taken library.old ≤ input_limit → (ended job_status result ≡ 0) ⊎ (ended job_status result ≡ 9) → L.taken library.new ≤ input_limit }
     ensures asked { AsksInMode request.now plan (told_files (L.content library.old)) (L.asked library.old) (L.asked library.new) }
     ensures unasked { AskedNone (L.asked library.old) (L.asked library.new) → L.taken library.new ≤ L.taken library.old }
@@ -57,5 +58,12 @@ pub(crate) fn job_of<R: Threads + Sync, L: Library, G: Gate + Sync>(
         Mode::Unit => unit::plan_unit::<Brand, R, G>(rt, alloc, gate, plan, request, Blank::new(1)),
         Mode::Row => row::plan_row::<Brand>(alloc, plan, request, Blank::new(1)),
         Mode::Apply => apply::plan_apply(alloc, library, &plan, request),
+        Mode::Sample => unreachable!(), // it has a schema of its own
+        Mode::Play => Err(JobFault::Memory),
+        Mode::Details => Err(JobFault::Memory),
+        Mode::DetailsUnit => Err(JobFault::Memory),
+        Mode::DetailsApply => Err(JobFault::Memory),
+        Mode::Undo => Err(JobFault::Memory),
+        Mode::Revert => Err(JobFault::Memory),
     }
 }

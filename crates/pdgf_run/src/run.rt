@@ -1,6 +1,6 @@
 //! The top call.
 
-ghost use Rattle.std.specs.Prelude.{◌≡◌, ◌≢◌, ◌≤◌, ◌+◌, ◌⊎◌, ◌↔◌, [], false, map, string_bytes, IfErr, IfOk, IfSome, IsErr, IsOkAnd, IsTrue};
+ghost use Rattle.std.specs.Prelude.{◌≡◌, ◌≢◌, ◌≤◌, ◌+◌, ◌⊎◌, ◌↔◌, [], false, true, map, string_bytes, IfErr, IfOk, IfSome, IsErr, IsOkAnd, IsTrue};
 ghost use Rattle.std.specs.Option.{option_map};
 ghost use Rattle.pd_outside.specs.Faults.{Rose, counted};
 ghost use Rattle.pd_outside.specs.Library.{Content, left};
@@ -12,8 +12,8 @@ ghost use Rattle.refusals.specs.Messages.{fixed_text, message_of};
 ghost use Rattle.refusals.specs.Statuses.{is_status};
 ghost use Rattle.request_words.specs.Words.{request};
 ghost use Rattle.request_words.specs.declared.usage.Mode.TheVariants.{Apply};
-ghost use Rattle.pdgf_run.specs.ReadingList.{AsksInTurn};
-ghost use Rattle.pdgf_run.specs.TopCall.{Carries, GivesLater, IsPastLimit};
+ghost use Rattle.pdgf_run.specs.ReadingList.{AsksInTurn, reads_on, reads_schema};
+ghost use Rattle.pdgf_run.specs.TopCall.{Carries, GivesLater, IsPastLimit, reads_for};
 ghost use Rattle.pdgf_run.specs.Verdict.{WhereTold};
 ghost use Rattle.pdgf_run.specs.modes.Apply.{input_limit};
 
@@ -62,9 +62,10 @@ pub fn pdgf<R: Threads + Sync, L: Library, S: Shelf, G: Gate + Sync>(
     ensures too_long { result.status ≡ 10 → IsPastLimit result.message (L.taken library.new) }
     ensures longer_schema { IfOk (request (map string_bytes words.now)) (λ request. AskedAlone request.schema (L.asked library.old) (L.asked library.new) →
         L.taken library.new ≡ schema_limit + 1 → result.status ≡ 10) }
-    ensures longer_dictionary { IfOk (request (map string_bytes words.now)) (λ request. request.mode ≢ Apply →
+    ensures longer_dictionary { IfOk (request (map string_bytes words.now)) (λ request. reads_schema request.mode ≡ true → reads_on request.mode ≡ false →
         result.status ≢ 7 → L.taken library.new ≡ dictionary_limit + 1 → result.status ≡ 10) }
-    ensures read_within { (result.status ≡ 0) ⊎ (result.status ≡ 9) → L.taken library.new ≤ input_limit }
+    ensures read_within { IfOk (request (map string_bytes words.now)) (λ asked. reads_schema asked.mode ≡ true →
+        (result.status ≡ 0) ⊎ (result.status ≡ 9) → L.taken library.new ≤ input_limit) }
     ensures schema_read { result.status ≡ 3 → L.taken library.new ≤ schema_limit }
     ensures read_failed { result.status ≡ 5 → Rose (L.faults library.old) (L.faults library.new) }
     ensures stopped { result.status ≡ 5 → L.is_started library.new ≡ false }
@@ -85,10 +86,13 @@ pub fn pdgf<R: Threads + Sync, L: Library, S: Shelf, G: Gate + Sync>(
     ensures held { result.status ≢ 0 → result.status ≢ 6 → S.held shelf.new ≡ S.held shelf.old }
     ensures none_begun { result.status ≢ 6 → S.is_begun shelf.new ≡ false }
 
+    // Words that give no request, and those of a sample, which has a schema of its own, leave the library as it was.
+    ensures unread { reads_for (request (map string_bytes words.now)) ≡ false → library.new ≡ library.old }
+
     // No other name is started than those of the reading list, in its order, and at a clean end the last is read to its end.
     ensures asked { AsksInTurn (request (map string_bytes words.now)) (told_files (L.content library.old)) (L.asked library.old) (L.asked library.new) }
-    ensures read_out { result.status ≡ 0 →
-        option_map left (L.content library.new) ≡ option_map (λ (c : Content). []) (L.content library.old) }
+    ensures read_out { IfOk (request (map string_bytes words.now)) (λ asked. reads_schema asked.mode ≡ true → result.status ≡ 0 →
+        option_map left (L.content library.new) ≡ option_map (λ (c : Content). []) (L.content library.old)) }
     ensures files { told_files (L.content library.new) ≡ told_files (L.content library.old) }
     ensures library_never_falls { L.faults library.old ≤ L.faults library.new }
     ensures shelf_never_falls { S.faults shelf.old ≤ S.faults shelf.new }

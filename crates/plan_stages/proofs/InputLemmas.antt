@@ -50,21 +50,21 @@ total_more before after bytes is = ap total_length is ∙ total_length-push befo
 pub taken_more : (before after : List (List ℕ)) (bytes : List ℕ) (earlier : ℕ) → after ≡ before ++ bytes ∷ [] → taken_of_last after earlier ≡ length bytes
 taken_more before after bytes earlier is = ap (λ (inputs : List (List ℕ)). taken_of_last inputs earlier) is ∙ taken_of_last-push before bytes earlier
 
-all_read_out-push : (names : List (List ℕ)) (name : List ℕ) (content : Content) → all_read_out (names ++ name ∷ []) content ≡ read_out name (all_read_out names content)
+all_read_out-push : (names : List (List ℕ)) (name : List ℕ) (content : Content) → all_read_out (names ++ name ∷ []) content ≡ read_out (all_read_out names content)
 all_read_out-push [] name content = refl
-all_read_out-push (first ∷ names) name content = all_read_out-push names name (read_out first content)
+all_read_out-push (first ∷ names) name content = all_read_out-push names name (read_out content)
 
 -- files stay
 files-all_read_out : (names : List (List ℕ)) (content : Content) → (all_read_out names content).files ≡ content.files
 files-all_read_out [] content = refl
-files-all_read_out (name ∷ names) content = files-all_read_out names (read_out name content)
+files-all_read_out (name ∷ names) content = files-all_read_out names (read_out content)
 
 pub files_stay : (names : List (List ℕ)) (before now : Option Content) → now ≡ option_map (all_read_out names) before → told_files now ≡ told_files before
 files_stay names None now is = ap told_files is
 files_stay names (Some c) now is = ap told_files is ∙ ap Some (files-all_read_out names c)
 
 read_out_next : (names : List (List ℕ)) (name : List ℕ) (before : Option Content) →
-    option_map (read_out name) (option_map (all_read_out names) before) ≡ option_map (all_read_out (names ++ name ∷ [])) before
+    option_map read_out (option_map (all_read_out names) before) ≡ option_map (all_read_out (names ++ name ∷ [])) before
 read_out_next names name None = refl
 read_out_next names name (Some c) = ap Some (sym (all_read_out-push names name c))
 
@@ -74,9 +74,9 @@ none_read_out (Some c) = refl
 
 -- one more was read to its end
 pub read_out_more : (names : List (List ℕ)) (place : ℕ) (name : List ℕ) (before mid now : Option Content) → slice_get names place ≡ Some name →
-    mid ≡ option_map (all_read_out (take place names)) before → now ≡ option_map (read_out name) mid → now ≡ option_map (all_read_out (take (place + 1) names)) before
+    mid ≡ option_map (all_read_out (take place names)) before → now ≡ option_map read_out mid → now ≡ option_map (all_read_out (take (place + 1) names)) before
 read_out_more names place name before mid now at sofar read =
-    read ∙ ap (option_map (read_out name)) sofar ∙ read_out_next (take place names) name before
+    read ∙ ap (option_map read_out) sofar ∙ read_out_next (take place names) name before
     ∙ ap (λ (front : List (List ℕ)). option_map (all_read_out front) before) (sym (take-at names place name at))
 
 -- ---- what was read so far

@@ -64,9 +64,9 @@ untouched status limit content taken is_started faults of_itself out within =
 
 -- ---- one file after what was read
 
-read_out_is : (name : List ℕ) (before now : Option Content) → now ≡ option_map (read_out name) before → IsReadOut now
-read_out_is name None now is = subst IsReadOut (sym is) tt
-read_out_is name (Some c) now is = subst IsReadOut (sym is) refl
+read_out_is : (before now : Option Content) → now ≡ option_map read_out before → IsReadOut now
+read_out_is None now is = subst IsReadOut (sym is) tt
+read_out_is (Some c) now is = subst IsReadOut (sym is) refl
 
 pub no_fault_on_ok : {A : Type 0} (items : A) (before now : ℕ) → (◌≡◌ {A = Result A ReadFault} (Ok items) (Err reading.Failed)) ⊎ (now ≡ before) → now ≡ before
 no_fault_on_ok items before now (inl failed) = absurd (cc)
@@ -74,11 +74,11 @@ no_fault_on_ok items before now (inr same) = same
 
 -- a file was read to its end
 pub file_read : {A : Type 0} (items : A) (name : List ℕ) (before now : Option Content) (taken : ℕ) (is_started : Bool) (faults_before faults_now : ℕ) →
-    told_files now ≡ told_files before → now ≡ option_map (read_out name) before → taken ≤ dictionary_limit →
+    told_files now ≡ told_files before → now ≡ option_map read_out before → taken ≤ dictionary_limit →
     (◌≡◌ {A = Result A ReadFault} (Ok items) (Err reading.Failed)) ⊎ (faults_now ≡ faults_before) →
     LibraryAfter 0 0 (told_files before) now taken is_started faults_before faults_now
 file_read items name before now taken is_started faults_before faults_now files out within same =
-    all_read (told_files before) now taken is_started faults_before faults_now files (read_out_is name before now out) within
+    all_read (told_files before) now taken is_started faults_before faults_now files (read_out_is before now out) within
     (no_fault_on_ok items faults_before faults_now same)
 
 same_on_other : {A : Type 0} (fault : ReadFault) (before now : ℕ) → fault ≢ reading.Failed →

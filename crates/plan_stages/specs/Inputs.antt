@@ -47,7 +47,7 @@ input_status fault = reading_status fault.cause
 -- the files of these names were read in turn, each to its end
 abbrev pub all_read_out : List (List ℕ) → Content → Content
 all_read_out [] content = content
-all_read_out (name ∷ names) content = all_read_out names (read_out name content)
+all_read_out (name ∷ names) content = all_read_out names (read_out content)
 
 -- how many bytes were taken of the last input; where there is none, as many as before
 abbrev pub taken_of_last : List (List ℕ) → ℕ → ℕ
@@ -93,5 +93,5 @@ pub record InputRead (inputs_before inputs_now : List (List ℕ)) (name : List �
   pub whole : IfSome before (λ (c : Content). bytes ≡ bytes_of c.files name)
   pub taken : taken_now ≡ length bytes
   pub within : length bytes ≤ limit
-  pub read_out : now ≡ option_map (read_out name) before
+  pub read_out : now ≡ option_map read_out before
   pub no_fault : faults_now ≡ faults_before

@@ -18,6 +18,10 @@ use Rattle.stream_apply.specs.declared.fault.ApplyFault.{ApplyFault}
 use Rattle.stream_apply.specs.declared.fault.ApplyFault.TheVariants as applying
 use Rattle.refusals.specs.declared.refusal.Refusal.{Refusal}
 use Rattle.refusals.specs.declared.refusal.Refusal.TheVariants.{Words, Job}
+use Rattle.refusals.specs.declared.refusal.DetailsCause.{DetailsCause}
+use Rattle.refusals.specs.declared.refusal.DetailsCause.TheVariants as details
+use Rattle.refusals.specs.declared.refusal.LineReason.{LineReason}
+use Rattle.refusals.specs.declared.refusal.LineReason.TheVariants as reason
 use Rattle.refusals.specs.declared.refusal.DictionaryCause.{DictionaryCause}
 use Rattle.refusals.specs.declared.refusal.DictionaryCause.TheVariants as cause
 use Rattle.refusals.specs.declared.refusal.InputCause.{InputCause}
@@ -153,28 +157,52 @@ reading_input_text file reading.Failed = codes "read failed"
 reading_input_text file reading.TooLong = codes "too long: " ++ file
 reading_input_text file reading.Memory = codes "out of memory"
 
--- a line of a file by its number, and what is wrong with it
-abbrev pub line_fault_text : List ℕ → ℕ → List ℕ → List ℕ
-line_fault_text file number words = codes "apply: " ++ file ++ codes " line " ++ decimal number ++ codes ": " ++ words
+-- what was done with a file, a line of it by its number, and what is wrong with it
+abbrev pub line_fault_text : List ℕ → List ℕ → ℕ → List ℕ → List ℕ
+line_fault_text verb file number words = verb ++ file ++ codes " line " ++ decimal number ++ codes ": " ++ words
 
 -- why the bytes of the file of this name aren't applied
 abbrev pub applying_text : List ℕ → ApplyFault → List ℕ
-applying_text file (applying.BadLine line) = line_fault_text file line (codes "bad line")
-applying_text file (applying.DoubleKey line) = line_fault_text file line (codes "double key")
-applying_text file (applying.NoSuchKey line) = line_fault_text file line (codes "no such key")
-applying_text file (applying.KeyExists line) = line_fault_text file line (codes "key exists")
+applying_text file (applying.BadLine line) = line_fault_text (codes "apply: ") file line (codes "bad line")
+applying_text file (applying.DoubleKey line) = line_fault_text (codes "apply: ") file line (codes "double key")
+applying_text file (applying.NoSuchKey line) = line_fault_text (codes "apply: ") file line (codes "no such key")
+applying_text file (applying.KeyExists line) = line_fault_text (codes "apply: ") file line (codes "key exists")
 applying_text file applying.Memory = codes "out of memory"
+
+-- why a line isn't undone
+abbrev pub reason_text : LineReason → List ℕ
+reason_text reason.BadLine = codes "bad line"
+reason_text reason.DoubleKey = codes "double key"
+reason_text reason.NoSuchKey = codes "no such key"
+reason_text reason.KeyExists = codes "key exists"
+reason_text reason.BadPlace = codes "bad place"
 
 -- why the file of this name isn't applied
 abbrev pub input_text : List ℕ → InputCause → List ℕ
 input_text file (input.Reading fault) = reading_input_text file fault
 input_text file (input.Applying fault) = applying_text file fault
-input_text file (input.BadRecord number) = line_fault_text file number (codes "bad record")
+input_text file (input.BadRecord number) = line_fault_text (codes "apply: ") file number (codes "bad record")
+input_text file (input.Reverting fault) = line_fault_text (codes "revert: ") file fault.line (reason_text fault.reason)
+
+-- why the file that declares a detail table wasn't read
+abbrev pub reading_details_text : ReadFault → List ℕ
+reading_details_text reading.Failed = codes "read failed"
+reading_details_text reading.TooLong = codes "too long: details"
+reading_details_text reading.Memory = codes "out of memory"
+
+-- why it gives none
+abbrev pub details_text : DetailsCause → List ℕ
+details_text (details.Reading fault) = reading_details_text fault
+details_text details.Syntax = codes "details: not TOML"
+details_text details.WrongForm = codes "details: wrong form"
+details_text (details.Rule number) = codes "rule E" ++ decimal number
+details_text details.Memory = codes "out of memory"
 
 abbrev pub job_fault_text : JobFault → List ℕ
 job_fault_text (job.Plan fault) = plan_fault_text fault
 job_fault_text (job.Range name) = codes "out of range: " ++ option_text name
 job_fault_text (job.Input fault) = input_text fault.file fault.cause
+job_fault_text (job.Details cause) = details_text cause
 job_fault_text job.Memory = codes "out of memory"
 
 -- the words of a refusal
@@ -196,12 +224,19 @@ message_of refusal = message_line (refusal_text refusal)
 abbrev pub write_failed_text : List ℕ
 write_failed_text = message_line (codes "write failed")
 
+-- the message of a store that failed
+abbrev pub keeper_failed_text : List ℕ
+keeper_failed_text = message_line (codes "keeper failed")
+
 -- the messages of files that are too long
 abbrev pub schema_too_long_text : List ℕ
 schema_too_long_text = message_line (codes "too long: schema")
 
 abbrev pub dictionary_too_long_text : ℕ → List ℕ
 dictionary_too_long_text number = message_line (codes "too long: dictionary " ++ decimal number)
+
+abbrev pub details_too_long_text : List ℕ
+details_too_long_text = message_line (codes "too long: details")
 
 abbrev pub input_too_long_text : List ℕ → List ℕ
 input_too_long_text file = message_line (codes "too long: " ++ file)
@@ -212,7 +247,8 @@ fixed_text status =
     if status == 0 then Some [] else
     (if status == 5 then Some (message_line (codes "read failed")) else
     (if status == 6 then Some write_failed_text else
-    (if status == 7 then Some (message_line (codes "out of memory")) else None)))
+    (if status == 7 then Some (message_line (codes "out of memory")) else
+    (if status == 12 then Some keeper_failed_text else None))))
 
 -- ---- worked messages
 
@@ -256,6 +292,14 @@ worked_long_dictionary = refl
 worked_input : message_of (Job (job.Input (record { file = codes "customer.3.ins"; cause = input.Applying (applying.KeyExists 12) }))) ≡ codes "pdgf: apply: customer.3.ins line 12: key exists\n"
 unfolding digits
 worked_input = refl
+
+worked_undone_input : message_of (Job (job.Input (record { file = codes "customer.3.undo"; cause = input.Reverting (record { line = 3; reason = reason.BadPlace }) }))) ≡ codes "pdgf: revert: customer.3.undo line 3: bad place\n"
+unfolding digits
+worked_undone_input = refl
+
+worked_details_rule : message_of (Job (job.Details (details.Rule 3))) ≡ codes "pdgf: rule E3\n"
+unfolding digits
+worked_details_rule = refl
 
 worked_long_input : message_of (Job (job.Input (record { file = codes "customer.tbl"; cause = input.Reading reading.TooLong }))) ≡ codes "pdgf: too long: customer.tbl\n"
 worked_long_input = refl

@@ -11,6 +11,8 @@ use Rattle.stream_apply.specs.declared.fault.ApplyFault.{ApplyFault}
 use Rattle.stream_apply.specs.declared.fault.ApplyFault.TheVariants as applying
 use Rattle.refusals.specs.declared.refusal.Refusal.{Refusal}
 use Rattle.refusals.specs.declared.refusal.Refusal.TheVariants.{Words, Job}
+use Rattle.refusals.specs.declared.refusal.DetailsCause.{DetailsCause}
+use Rattle.refusals.specs.declared.refusal.DetailsCause.TheVariants as details
 use Rattle.refusals.specs.declared.refusal.DictionaryCause.{DictionaryCause}
 use Rattle.refusals.specs.declared.refusal.DictionaryCause.TheVariants as cause
 use Rattle.refusals.specs.declared.refusal.InputCause.{InputCause}
@@ -59,12 +61,22 @@ abbrev pub input_cause_status : InputCause → ℕ
 input_cause_status (input.Reading fault) = reading_status fault
 input_cause_status (input.Applying fault) = applying_status fault
 input_cause_status (input.BadRecord number) = 9
+input_cause_status (input.Reverting fault) = 9
+
+-- the status of a file that gives no detail table
+abbrev pub details_status : DetailsCause → ℕ
+details_status (details.Reading fault) = reading_status fault
+details_status details.Syntax = 3
+details_status details.WrongForm = 3
+details_status (details.Rule number) = 4
+details_status details.Memory = 7
 
 -- the status of a request that gives no job
 abbrev pub job_status : JobFault → ℕ
 job_status (job.Plan fault) = plan_status fault
 job_status (job.Range name) = 8
 job_status (job.Input fault) = input_cause_status fault.cause
+job_status (job.Details cause) = details_status cause
 job_status job.Memory = 7
 
 -- the status of a refusal
@@ -85,7 +97,11 @@ done_status = 0
 abbrev pub write_failed_status : ℕ
 write_failed_status = 6
 
+-- a store failed
+abbrev pub keeper_failed_status : ℕ
+keeper_failed_status = 12
+
 -- whether a number is a status of the program
 abbrev pub is_status : ℕ → Bool
 is_status status =
-    list_any (λ known. status == known) (0 ∷ 2 ∷ 3 ∷ 4 ∷ 5 ∷ 6 ∷ 7 ∷ 8 ∷ 9 ∷ 10 ∷ [])
+    list_any (λ known. status == known) (0 ∷ 2 ∷ 3 ∷ 4 ∷ 5 ∷ 6 ∷ 7 ∷ 8 ∷ 9 ∷ 10 ∷ 12 ∷ [])

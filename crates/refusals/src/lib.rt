@@ -6,7 +6,8 @@ mod message;
 mod refusal;
 
 pub use file_name::FileName;
-pub use message::write_failed_message;
+pub use message::{keeper_failed_message, write_failed_message};
 pub use refusal::{
-    DictionaryCause, DictionaryFault, InputCause, InputFault, JobFault, PlanFault, Refusal,
+    DetailsCause, DictionaryCause, DictionaryFault, InputCause, InputFault, JobFault, LineFault,
+    LineReason, PlanFault, Refusal,
 };

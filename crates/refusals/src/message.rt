@@ -1,11 +1,12 @@
 //! The messages, and the words that they are made of.
 
 ghost use Rattle.std.specs.Prelude.{◌≡◌, ◌≤◌, ◌+◌, ◌++◌, length, codes, decimal};
-ghost use Rattle.refusals.specs.Messages.{applying_text, broken_text, cause_text, dashed_text, expected_text, grammar_fault_text, grammar_text, input_text, job_fault_text, key_text, line_fault_text, message_line, option_text, place_text, plan_fault_text, reading_dictionary_text, reading_input_text, reading_text, refusal_text, rule_text, schema_fault_text, shape_text, usage_text, wanted_text, write_failed_text};
+ghost use Rattle.refusals.specs.Messages.{applying_text, broken_text, cause_text, dashed_text, details_text, expected_text, grammar_fault_text, grammar_text, input_text, job_fault_text, keeper_failed_text, key_text, line_fault_text, message_line, option_text, place_text, plan_fault_text, reading_dictionary_text, reading_details_text, reading_input_text, reading_text, reason_text, refusal_text, rule_text, schema_fault_text, shape_text, usage_text, wanted_text, write_failed_text};
 
 use crate::FileName;
 use crate::refusal::{
-    DictionaryCause, DictionaryFault, InputCause, InputFault, JobFault, PlanFault, Refusal,
+    DetailsCause, DictionaryCause, DictionaryFault, InputCause, InputFault, JobFault, LineReason,
+    PlanFault, Refusal,
 };
 use dictionaries::DictFault;
 use itoa::Buffer;
@@ -34,6 +35,13 @@ pub fn write_failed_message() -> Message
     line(b"write failed")
 }
 
+/// The message of a store that failed.
+pub fn keeper_failed_message() -> Message
+    ensures { result ≡ keeper_failed_text }
+{
+    line(b"keeper failed")
+}
+
 /// Appends the words of a refusal.
 pub(crate) fn put_refusal(message: &mut Message, refusal: Refusal)
     requires { length message.old + 150 ≤ Message.ROOM }
@@ -56,6 +64,7 @@ fn put_job_fault(message: &mut Message, fault: JobFault)
         JobFault::Plan(fault) => put_plan_fault(message, fault),
         JobFault::Range(name) => put_named(message, b"out of range: ", name),
         JobFault::Input(fault) => put_input_fault(message, fault),
+        JobFault::Details(cause) => put_details_fault(message, cause),
         JobFault::Memory => message.put(b"out of memory"),
     }
 }
@@ -95,6 +104,21 @@ fn put_plan_fault(message: &mut Message, fault: PlanFault)
             },
         ) => put_rule(message, number, table, column),
         PlanFault::Check(CheckFault::Memory) => message.put(b"out of memory"),
+    }
+}
+
+/// Appends why the file that declares a detail table gives none.
+fn put_details_fault(message: &mut Message, cause: DetailsCause)
+    requires { length message.old + 50 ≤ Message.ROOM }
+    ensures text { message.new ≡ message.old ++ details_text cause }
+    ensures short { length message.new ≤ length message.old + 50 }
+{
+    match cause {
+        DetailsCause::Reading(fault) => message.put(reading_details_words(fault).as_bytes()),
+        DetailsCause::Syntax => message.put(b"details: not TOML"),
+        DetailsCause::WrongForm => message.put(b"details: wrong form"),
+        DetailsCause::Rule(number) => put_counted(message, b"rule E", u64::from(number)),
+        DetailsCause::Memory => message.put(b"out of memory"),
     }
 }
 
@@ -172,8 +196,15 @@ fn put_input_fault(message: &mut Message, fault: InputFault)
         InputCause::Reading(cause) => put_reading_input(message, fault.file, cause),
         InputCause::Applying(cause) => put_applying(message, fault.file, cause),
         InputCause::BadRecord(number) => {
-            put_line_fault(message, fault.file, number, b"bad record")
+            put_line_fault(message, b"apply: ", fault.file, number, b"bad record")
         }
+        InputCause::Reverting(cause) => put_line_fault(
+            message,
+            b"revert: ",
+            fault.file,
+            cause.line,
+            reason_words(cause.reason).as_bytes(),
+        ),
     }
 }
 
@@ -199,22 +230,38 @@ fn put_applying(message: &mut Message, file: FileName, fault: ApplyFault)
     ensures text { message.new ≡ message.old ++ applying_text file fault }
     ensures short { length message.new ≤ length message.old + 120 }
 {
+    let verb = b"apply: ";
     match fault {
-        ApplyFault::BadLine { line } => put_line_fault(message, file, line, b"bad line"),
-        ApplyFault::DoubleKey { line } => put_line_fault(message, file, line, b"double key"),
-        ApplyFault::NoSuchKey { line } => put_line_fault(message, file, line, b"no such key"),
-        ApplyFault::KeyExists { line } => put_line_fault(message, file, line, b"key exists"),
+        ApplyFault::BadLine { line } => put_line_fault(message, verb, file, line, b"bad line"),
+        ApplyFault::DoubleKey { line } => put_line_fault(message, verb, file, line, b"double key"),
+        ApplyFault::NoSuchKey { line } => put_line_fault(message, verb, file, line, b"no such key"),
+        ApplyFault::KeyExists { line } => put_line_fault(message, verb, file, line, b"key exists"),
         ApplyFault::Memory => message.put(b"out of memory"),
     }
 }
 
-/// Appends a line of a file by its number, and what is wrong with it.
-fn put_line_fault(message: &mut Message, file: FileName, number: u64, words: &[u8])
-    requires { length message.old + length words.now + 100 ≤ Message.ROOM }
-    ensures text { message.new ≡ message.old ++ line_fault_text file number words.now }
+/// What is wrong with a line that is undone.
+fn reason_words(reason: LineReason) -> &'static str
+    ensures text { result.now ≡ reason_text reason }
+    ensures short { length result.now ≤ 11 }
+{
+    match reason {
+        LineReason::BadLine => "bad line",
+        LineReason::DoubleKey => "double key",
+        LineReason::NoSuchKey => "no such key",
+        LineReason::KeyExists => "key exists",
+        LineReason::BadPlace => "bad place",
+    }
+}
+
+/// Appends what was done with a file, a line of it by its number, and what is wrong with it.
+fn put_line_fault(message: &mut Message, verb: &[u8], file: FileName, number: u64, words: &[u8])
+    requires room { length message.old + length words.now + 100 ≤ Message.ROOM }
+    requires verb { length verb.now ≤ 8 }
+    ensures text { message.new ≡ message.old ++ line_fault_text verb.now file number words.now }
     ensures short { length message.new ≤ length message.old + length words.now + 100 }
 {
-    message.put(b"apply: ");
+    message.put(verb);
     message.put(file.as_bytes());
     put_counted(message, b" line ", number);
     message.put(b": ");
@@ -368,6 +415,18 @@ fn reading_words(fault: ReadFault) -> &'static str
     match fault {
         ReadFault::Failed => "read failed",
         ReadFault::TooLong => "too long: schema",
+        ReadFault::Memory => "out of memory",
+    }
+}
+
+/// Why the file that declares a detail table wasn't read.
+fn reading_details_words(fault: ReadFault) -> &'static str
+    ensures text { result.now ≡ reading_details_text fault }
+    ensures short { length result.now ≤ 17 }
+{
+    match fault {
+        ReadFault::Failed => "read failed",
+        ReadFault::TooLong => "too long: details",
         ReadFault::Memory => "out of memory",
     }
 }

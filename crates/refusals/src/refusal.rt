@@ -37,6 +37,8 @@ pub enum JobFault {
     Range(OptionName),
     /// A file that is to be applied isn't read, or can't be applied.
     Input(InputFault),
+    /// The file that declares a detail table gives none.
+    Details(DetailsCause),
     /// Memory ran out.
     Memory,
 }
@@ -92,6 +94,47 @@ pub enum InputCause {
     Applying(ApplyFault),
     /// The record of this number, counted from 1, is the first of its CSV that is bad.
     BadRecord(u64),
+    /// A line of it can't be undone.
+    Reverting(LineFault),
+}
+
+/// Which line of a file can't be undone, and why.
+#[derive(Clone, Copy, Debug, PartialEq, Eq)]
+pub struct LineFault {
+    /// The line's number, counted from 1.
+    pub line: u64,
+    /// What is wrong with it.
+    pub reason: LineReason,
+}
+
+/// What is wrong with a line that is undone.
+#[derive(Clone, Copy, Debug, PartialEq, Eq)]
+pub enum LineReason {
+    /// It isn't of the form.
+    BadLine,
+    /// Its key stood on an earlier line.
+    DoubleKey,
+    /// The table doesn't hold its key.
+    NoSuchKey,
+    /// The table holds its key already.
+    KeyExists,
+    /// Its place isn't behind the one before, or past the end of the table.
+    BadPlace,
+}
+
+/// Why the file that declares a detail table gives none.
+#[derive(Clone, Copy, Debug, PartialEq, Eq)]
+pub enum DetailsCause {
+    /// The file wasn't read.
+    Reading(ReadFault),
+    /// Its bytes are no TOML.
+    Syntax,
+    /// A key is missing, of another type or one more.
+    WrongForm,
+    /// It breaks the rule of this number, counted from 1, and none before.
+    Rule(u32),
+    /// Memory ran out.
+    Memory,
 }
 
 impl Refusal {
@@ -126,7 +169,23 @@ impl JobFault {
             JobFault::Plan(fault) => fault.status(),
             JobFault::Range(_) => 8,
             JobFault::Input(fault) => fault.cause.status(),
+            JobFault::Details(cause) => cause.status(),
             JobFault::Memory => 7,
+        }
+    }
+}
+
+impl DetailsCause {
+    ghost use Rattle.refusals.specs.Statuses.{details_status};
+
+    fn status(self) -> u8
+        ensures { result ≡ details_status self }
+    {
+        match self {
+            DetailsCause::Reading(fault) => reading_status(fault),
+            DetailsCause::Syntax | DetailsCause::WrongForm => 3,
+            DetailsCause::Rule(_) => 4,
+            DetailsCause::Memory => 7,
         }
     }
 }
@@ -171,7 +230,7 @@ impl InputCause {
         match self {
             InputCause::Reading(fault) => reading_status(fault),
             InputCause::Applying(fault) => applying_status(fault),
-            InputCause::BadRecord(_) => 9,
+            InputCause::BadRecord(_) | InputCause::Reverting(_) => 9,
         }
     }
 }
@@ -226,6 +285,14 @@ impl From<InputFault> for JobFault {
 
     fn from(fault: InputFault) -> JobFault {
         JobFault::Input(fault)
+    }
+}
+
+impl From<DetailsCause> for JobFault {
+    ghost from_gives = { λ cause made. made ≡ job_fault.Details cause };
+
+    fn from(cause: DetailsCause) -> JobFault {
+        JobFault::Details(cause)
     }
 }
 

@@ -9,9 +9,9 @@ use Rattle.request_words.specs.Options.{Given, is_number, is_number_of, mode_nam
 use Rattle.request_words.specs.Ranges.{AreWithinRanges, IsOfForm, IsTaken}
 use Rattle.request_words.specs.Words.{first_fault, of_mode, option_fault, request, unless_fault}
 use Rattle.request_words.specs.declared.options.Form.TheVariants.{FromOneTo}
-use Rattle.request_words.specs.declared.options.Take.TheVariants.{Optional, Preset}
+use Rattle.request_words.specs.declared.options.Take.TheVariants.{Needed, Optional, Preset}
 use Rattle.request_words.specs.declared.usage.Mode.{Mode}
-use Rattle.request_words.specs.declared.usage.Mode.TheVariants.{Check, Snapshot, Unit, Row, Apply}
+use Rattle.request_words.specs.declared.usage.Mode.TheVariants.{Check, Snapshot, Unit, Row, Apply, Sample, Play, Details, DetailsUnit, DetailsApply, Undo, Revert}
 use Rattle.request_words.specs.declared.usage.OptionName.{OptionName}
 use Rattle.request_words.specs.declared.usage.OptionName.TheVariants as option
 use Rattle.request_words.specs.declared.usage.Request.{Request}
@@ -53,6 +53,13 @@ optional-taken most name None none = tt
 optional-taken most name (Some word) none =
     number_read most word (is_number_of (FromOneTo most) word) refl (true_from (is_number_of (FromOneTo most) word) name none)
 
+needed-taken : (most : ℕ) (name : OptionName) (value : Option (List ℕ)) → option_fault (Needed (FromOneTo most)) name value ≡ None →
+    IsOfForm (FromOneTo most) (unwrap_or (number_given (Needed (FromOneTo most)) value) 0)
+needed-taken most name None none = absurd (cc)
+needed-taken most name (Some word) none =
+    let is : is_number_of (FromOneTo most) word ≡ true = true_from (is_number_of (FromOneTo most) word) name none in
+    number_there word (IsOfForm (FromOneTo most)) (is_number_of (FromOneTo most) word) is (number_read most word (is_number_of (FromOneTo most) word) refl is)
+
 -- ---- all options
 
 first-none : (one others : Option UsageFault) → option_or one others ≡ None → one ≡ None
@@ -86,12 +93,22 @@ package-none mode given none = at-none mode given order none 9 (omega arith)
 nodes-none : (mode : Mode) (given : Given) → first_fault mode given order ≡ None → option_fault (takes mode option.Nodes) option.Nodes (given option.Nodes) ≡ None
 nodes-none mode given none = at-none mode given order none 11 (omega arith)
 
+size-none : (mode : Mode) (given : Given) → first_fault mode given order ≡ None → option_fault (takes mode option.Size) option.Size (given option.Size) ≡ None
+size-none mode given none = at-none mode given order none 12 (omega arith)
+
 workers-taken : (mode : Mode) (given : Given) → first_fault mode given order ≡ None → IsTaken (takes mode option.Workers) (number_or_zero mode given option.Workers)
 workers-taken Check given none = tt
 workers-taken Snapshot given none = preset-taken 64 4 option.Workers (given option.Workers) (omega arith) (omega arith) (workers-none Snapshot given none)
 workers-taken Unit given none = preset-taken 64 4 option.Workers (given option.Workers) (omega arith) (omega arith) (workers-none Unit given none)
 workers-taken Row given none = tt
 workers-taken Apply given none = tt
+workers-taken Sample given none = preset-taken 64 4 option.Workers (given option.Workers) (omega arith) (omega arith) (workers-none Sample given none)
+workers-taken Play given none = tt
+workers-taken Details given none = preset-taken 64 4 option.Workers (given option.Workers) (omega arith) (omega arith) (workers-none Details given none)
+workers-taken DetailsUnit given none = preset-taken 64 4 option.Workers (given option.Workers) (omega arith) (omega arith) (workers-none DetailsUnit given none)
+workers-taken DetailsApply given none = tt
+workers-taken Undo given none = preset-taken 64 4 option.Workers (given option.Workers) (omega arith) (omega arith) (workers-none Undo given none)
+workers-taken Revert given none = tt
 
 package-taken : (mode : Mode) (given : Given) → first_fault mode given order ≡ None → IfSome (number_for mode given option.Package) (IsTaken (takes mode option.Package))
 package-taken Check given none = tt
@@ -99,6 +116,13 @@ package-taken Snapshot given none = optional-taken 1000000 option.Package (given
 package-taken Unit given none = optional-taken 1000000 option.Package (given option.Package) (package-none Unit given none)
 package-taken Row given none = tt
 package-taken Apply given none = tt
+package-taken Sample given none = optional-taken 1000000 option.Package (given option.Package) (package-none Sample given none)
+package-taken Play given none = tt
+package-taken Details given none = optional-taken 1000000 option.Package (given option.Package) (package-none Details given none)
+package-taken DetailsUnit given none = optional-taken 1000000 option.Package (given option.Package) (package-none DetailsUnit given none)
+package-taken DetailsApply given none = tt
+package-taken Undo given none = optional-taken 1000000 option.Package (given option.Package) (package-none Undo given none)
+package-taken Revert given none = tt
 
 nodes-taken : (mode : Mode) (given : Given) → first_fault mode given order ≡ None → IsTaken (takes mode option.Nodes) (number_or_zero mode given option.Nodes)
 nodes-taken Check given none = tt
@@ -106,12 +130,34 @@ nodes-taken Snapshot given none = preset-taken 1024 1 option.Nodes (given option
 nodes-taken Unit given none = preset-taken 1024 1 option.Nodes (given option.Nodes) (omega arith) (omega arith) (nodes-none Unit given none)
 nodes-taken Row given none = tt
 nodes-taken Apply given none = tt
+nodes-taken Sample given none = tt
+nodes-taken Play given none = tt
+nodes-taken Details given none = tt
+nodes-taken DetailsUnit given none = tt
+nodes-taken DetailsApply given none = tt
+nodes-taken Undo given none = tt
+nodes-taken Revert given none = tt
+
+size-taken : (mode : Mode) (given : Given) → first_fault mode given order ≡ None → IsTaken (takes mode option.Size) (number_or_zero mode given option.Size)
+size-taken Check given none = tt
+size-taken Snapshot given none = tt
+size-taken Unit given none = tt
+size-taken Row given none = tt
+size-taken Apply given none = tt
+size-taken Sample given none = needed-taken 1000 option.Size (given option.Size) (size-none Sample given none)
+size-taken Play given none = tt
+size-taken Details given none = tt
+size-taken DetailsUnit given none = tt
+size-taken DetailsApply given none = tt
+size-taken Undo given none = tt
+size-taken Revert given none = tt
 
 request-taken : (mode : Mode) (given : Given) → first_fault mode given order ≡ None → AreWithinRanges (request_of mode given)
 request-taken mode given none = record {
   workers = workers-taken mode given none;
   lines = package-taken mode given none;
   nodes = nodes-taken mode given none;
+  size = size-taken mode given none;
 }
 
 -- ---- words

@@ -1,11 +1,10 @@
 -- The options: how each is written, which mode takes it, and what it gives a request.
-use Rattle.std.specs.Prelude.{ℕ, ◌^◌, Bool, false, ◌&&◌, nat_lt, nat_le, List, [], ◌∷◌, length, Option, Some, None, codes, unwrap_or, if◌then◌else◌}
+use Rattle.std.specs.Prelude.{ℕ, ◌^◌, Bool, false, true, ◌&&◌, nat_lt, nat_le, List, [], ◌∷◌, length, Option, Some, None, codes, unwrap_or, if◌then◌else◌}
 use Rattle.std.specs.Char.{is_ascii_digit}
 use Rattle.std.specs.List.{list_all}
 use Rattle.std.specs.Option.{option_and_then}
 use Rattle.std.specs.Str.{bytes_eq}
 use Rattle.std.specs.Str.Parse.{digits_value}
-use Rattle.request_words.specs.declared.options.Columns.{Columns}
 use Rattle.request_words.specs.declared.options.Form.{Form}
 use Rattle.request_words.specs.declared.options.Form.TheVariants.{Text, Number, FromOneTo, Directory, FormatName}
 use Rattle.request_words.specs.declared.options.Take.{Take}
@@ -13,7 +12,7 @@ use Rattle.request_words.specs.declared.options.Take.TheVariants.{Unwanted, Opti
 use Rattle.request_words.specs.declared.usage.Format.{Format}
 use Rattle.request_words.specs.declared.usage.Format.TheVariants.{Copy, Csv}
 use Rattle.request_words.specs.declared.usage.Mode.{Mode}
-use Rattle.request_words.specs.declared.usage.Mode.TheVariants.{Check, Snapshot, Unit, Row, Apply}
+use Rattle.request_words.specs.declared.usage.Mode.TheVariants.{Check, Snapshot, Unit, Row, Apply, Sample, Play, Details, DetailsUnit, DetailsApply, Undo, Revert}
 use Rattle.request_words.specs.declared.usage.OptionName.{OptionName}
 use Rattle.request_words.specs.declared.usage.OptionName.TheVariants as option
 use Rattle.request_words.specs.declared.usage.Request.{Request}
@@ -25,44 +24,113 @@ mode_named word =
     else (if bytes_eq word (codes "snapshot") then Some Snapshot
     else (if bytes_eq word (codes "unit") then Some Unit
     else (if bytes_eq word (codes "row") then Some Row
-    else (if bytes_eq word (codes "apply") then Some Apply else None))))
+    else (if bytes_eq word (codes "apply") then Some Apply
+    else (if bytes_eq word (codes "sample") then Some Sample
+    else (if bytes_eq word (codes "play") then Some Play
+    else (if bytes_eq word (codes "details") then Some Details
+    else (if bytes_eq word (codes "details-unit") then Some DetailsUnit
+    else (if bytes_eq word (codes "details-apply") then Some DetailsApply
+    else (if bytes_eq word (codes "undo") then Some Undo
+    else (if bytes_eq word (codes "revert") then Some Revert else None)))))))))))
 
 -- the format of this name
 abbrev pub format_named : List ℕ → Option Format
 format_named word = if bytes_eq word (codes "copy") then Some Copy else (if bytes_eq word (codes "csv") then Some Csv else None)
 
--- ---- the table: a line for each option, a column for each mode
+-- ---- options and modes
 
-abbrev pub by_modes : Take → Take → Take → Take → Take → Columns
-by_modes check snapshot unit row apply = record { check = check; snapshot = snapshot; unit = unit; row = row; apply = apply }
+-- an option's name, as it stands behind two hyphens, what its value has to be, and the number that stands where it isn't given
+abbrev pub option_line : OptionName → List ℕ × Form × Option ℕ
+option_line option.Schema = (codes "schema", Text, None)
+option_line option.Unit = (codes "unit", Number, None)
+option_line option.From = (codes "from", Number, None)
+option_line option.To = (codes "to", Number, None)
+option_line option.Table = (codes "table", Text, None)
+option_line option.Key = (codes "key", Number, None)
+option_line option.In = (codes "in", Directory, None)
+option_line option.Out = (codes "out", Directory, None)
+option_line option.Workers = (codes "workers", FromOneTo 64, Some 4)
+option_line option.Package = (codes "package", FromOneTo 1000000, None)
+option_line option.Node = (codes "node", Number, Some 0)
+option_line option.Nodes = (codes "nodes", FromOneTo 1024, Some 1)
+option_line option.Size = (codes "size", FromOneTo 1000, None)
+option_line option.Format = (codes "format", FormatName, None)
+option_line option.Store = (codes "store", Text, None)
+option_line option.Spec = (codes "spec", Text, None)
 
--- an option's name, as it stands behind two hyphens, and what the modes check, snapshot, unit, row and apply do with it
-abbrev pub option_line : OptionName → List ℕ × Columns
-option_line option.Schema = (codes "schema", by_modes (Needed Text) (Needed Text) (Needed Text) (Needed Text) (Needed Text))
-option_line option.Unit = (codes "unit", by_modes Unwanted (Needed Number) (Needed Number) (Needed Number) Unwanted)
-option_line option.From = (codes "from", by_modes Unwanted Unwanted Unwanted Unwanted (Needed Number))
-option_line option.To = (codes "to", by_modes Unwanted Unwanted Unwanted Unwanted (Needed Number))
-option_line option.Table = (codes "table", by_modes Unwanted (Optional Text) (Optional Text) (Needed Text) (Optional Text))
-option_line option.Key = (codes "key", by_modes Unwanted Unwanted Unwanted (Needed Number) Unwanted)
-option_line option.In = (codes "in", by_modes Unwanted Unwanted Unwanted Unwanted (Needed Directory))
-option_line option.Out = (codes "out", by_modes Unwanted (Optional Directory) (Optional Directory) Unwanted (Optional Directory))
-option_line option.Workers = (codes "workers", by_modes Unwanted (Preset (FromOneTo 64) 4) (Preset (FromOneTo 64) 4) Unwanted Unwanted)
-option_line option.Package = (codes "package", by_modes Unwanted (Optional (FromOneTo 1000000)) (Optional (FromOneTo 1000000)) Unwanted Unwanted)
-option_line option.Node = (codes "node", by_modes Unwanted (Preset Number 0) (Preset Number 0) Unwanted Unwanted)
-option_line option.Nodes = (codes "nodes", by_modes Unwanted (Preset (FromOneTo 1024) 1) (Preset (FromOneTo 1024) 1) Unwanted Unwanted)
-option_line option.Format = (codes "format", by_modes Unwanted (Optional FormatName) (Optional FormatName) Unwanted (Optional FormatName))
+-- whether a mode needs an option: each but one needs a schema's name
+abbrev pub needs : Mode → OptionName → Bool
+needs Sample option.Size = true
+needs Sample name = false
+needs mode option.Schema = true
+needs Snapshot option.Unit = true
+needs Unit option.Unit = true
+needs Row option.Unit = true
+needs Row option.Table = true
+needs Row option.Key = true
+needs Apply option.From = true
+needs Apply option.To = true
+needs Apply option.In = true
+needs Play option.To = true
+needs Play option.Store = true
+needs Details option.Unit = true
+needs Details option.Spec = true
+needs DetailsUnit option.Unit = true
+needs DetailsUnit option.Spec = true
+needs DetailsApply option.From = true
+needs DetailsApply option.To = true
+needs DetailsApply option.In = true
+needs DetailsApply option.Spec = true
+needs Undo option.Unit = true
+needs Revert option.From = true
+needs Revert option.To = true
+needs Revert option.In = true
+needs mode name = false
 
--- the column of a mode
-abbrev pub in_column : Mode → Columns → Take
-in_column Check columns = columns.check
-in_column Snapshot columns = columns.snapshot
-in_column Unit columns = columns.unit
-in_column Row columns = columns.row
-in_column Apply columns = columns.apply
+-- whether a mode that writes rows by workers may be given an option that it doesn't need: where the rows go, and how many workers make
+-- them in packages of which size
+abbrev pub may_pack : OptionName → Bool
+may_pack option.Out = true
+may_pack option.Workers = true
+may_pack option.Package = true
+may_pack name = false
+
+-- the same of one that may be shared by nodes, too, and writes in a format
+abbrev pub may_share : OptionName → Bool
+may_share option.Table = true
+may_share option.Node = true
+may_share option.Nodes = true
+may_share option.Format = true
+may_share name = may_pack name
+
+-- whether a mode may be given an option that it doesn't need
+abbrev pub may_take : Mode → OptionName → Bool
+may_take Snapshot name = may_share name
+may_take Unit name = may_share name
+may_take Apply option.Table = true
+may_take Apply option.Out = true
+may_take Apply option.Format = true
+may_take Sample option.Workers = true
+may_take Sample option.Package = true
+may_take Details name = may_pack name
+may_take DetailsUnit name = may_pack name
+may_take DetailsApply option.Out = true
+may_take Undo option.Table = true
+may_take Undo name = may_pack name
+may_take Revert option.Table = true
+may_take Revert option.Out = true
+may_take mode name = false
+
+-- what is done with an option that is needed or that may be given, by what its value has to be and the number that stands where it isn't
+abbrev pub take_by : Bool → Bool → Form → Option ℕ → Take
+take_by true may form preset = Needed form
+take_by false true form None = Optional form
+take_by false true form (Some number) = Preset form number
+take_by false false form preset = Unwanted
 
 -- what a mode does with an option
 abbrev pub takes : Mode → OptionName → Take
-takes mode name = in_column mode (option_line name).1
+takes mode name = take_by (needs mode name) (may_take mode name) (option_line name).1 (option_line name).2
 
 -- the name of an option
 abbrev pub word_of : OptionName → List ℕ
@@ -72,7 +140,8 @@ word_of name = (option_line name).0
 abbrev pub options : List OptionName
 options =
     option.Unit ∷ option.From ∷ option.To ∷ option.Table ∷ option.Key ∷ option.In ∷ option.Out
-    ∷ option.Workers ∷ option.Package ∷ option.Node ∷ option.Nodes ∷ option.Format ∷ []
+    ∷ option.Workers ∷ option.Package ∷ option.Node ∷ option.Nodes
+    ∷ option.Size ∷ option.Format ∷ option.Store ∷ option.Spec ∷ []
 
 -- and the schema's name before them
 abbrev pub order : List OptionName
@@ -141,5 +210,8 @@ request_of mode given = record {
   «package» = number_for mode given option.Package;
   node = number_or_zero mode given option.Node;
   nodes = number_or_zero mode given option.Nodes;
+  size = number_or_zero mode given option.Size;
   format = format_given (given option.Format);
+  store = unwrap_or (given option.Store) [];
+  spec = unwrap_or (given option.Spec) [];
 }

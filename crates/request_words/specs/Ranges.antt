@@ -28,3 +28,4 @@ pub record AreWithinRanges (request : Request) : Type 0 where
   pub workers : IsTaken (takes request.mode option.Workers) request.workers
   pub lines : IfSome request.package (IsTaken (takes request.mode option.Package))
   pub nodes : IsTaken (takes request.mode option.Nodes) request.nodes
+  pub size : IsTaken (takes request.mode option.Size) request.size

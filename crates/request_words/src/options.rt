@@ -1,7 +1,7 @@
 //! The options: how each is written, and which mode takes it.
 
 ghost use Rattle.std.specs.Prelude.{◌≡◌};
-ghost use Rattle.request_words.specs.Options.{by_modes, format_named, option_line, mode_named, takes};
+ghost use Rattle.request_words.specs.Options.{format_named, may_take, mode_named, needs, option_line, takes};
 
 use crate::usage::{Format, Mode, OptionName};
 
@@ -33,18 +33,8 @@ pub(crate) enum Take {
     Needed(Form),
 }
 
-/// A line of the table: what each mode does with an option.
-#[derive(Clone, Copy, Debug, PartialEq, Eq)]
-pub(crate) struct Columns {
-    pub(crate) check: Take,
-    pub(crate) snapshot: Take,
-    pub(crate) unit: Take,
-    pub(crate) row: Take,
-    pub(crate) apply: Take,
-}
-
 /// The options that are written with two hyphens, in the order in which they are tried.
-pub(crate) const OPTIONS: [OptionName; 12] = [
+pub(crate) const OPTIONS: [OptionName; 15] = [
     OptionName::Unit,
     OptionName::From,
     OptionName::To,
@@ -56,7 +46,10 @@ pub(crate) const OPTIONS: [OptionName; 12] = [
     OptionName::Package,
     OptionName::Node,
     OptionName::Nodes,
+    OptionName::Size,
     OptionName::Format,
+    OptionName::Store,
+    OptionName::Spec,
 ];
 
 /// The mode of this name.
@@ -69,6 +62,13 @@ pub(crate) fn mode_named(word: &str) -> Option<Mode>
         "unit" => Some(Mode::Unit),
         "row" => Some(Mode::Row),
         "apply" => Some(Mode::Apply),
+        "sample" => Some(Mode::Sample),
+        "play" => Some(Mode::Play),
+        "details" => Some(Mode::Details),
+        "details-unit" => Some(Mode::DetailsUnit),
+        "details-apply" => Some(Mode::DetailsApply),
+        "undo" => Some(Mode::Undo),
+        "revert" => Some(Mode::Revert),
         _ => None,
     }
 }
@@ -88,13 +88,16 @@ pub(crate) fn format_named(word: &str) -> Option<Format>
 pub(crate) fn takes(mode: Mode, name: OptionName) -> Take
     ensures { result ≡ takes mode name }
 {
-    let (_, columns) = option_line(name);
-    match mode {
-        Mode::Check => columns.check,
-        Mode::Snapshot => columns.snapshot,
-        Mode::Unit => columns.unit,
-        Mode::Row => columns.row,
-        Mode::Apply => columns.apply,
+    let (_, form, preset) = option_line(name);
+    if needs(mode, name) {
+        return Take::Needed(form);
+    }
+    if !may_take(mode, name) {
+        return Take::Unwanted;
+    }
+    match preset {
+        None => Take::Optional(form),
+        Some(number) => Take::Preset(form, number),
     }
 }
 
@@ -107,53 +110,68 @@ impl OptionName {
         ensures word { result.now ≡ word_of self }
         ensures short { length result.now ≤ 8 }
     {
-        let (word, _) = option_line(self);
+        let (word, _, _) = option_line(self);
         word
     }
 }
 
-/// A line of the table.
-fn by_modes(check: Take, snapshot: Take, unit: Take, row: Take, apply: Take) -> Columns
-    ensures { result ≡ by_modes check snapshot unit row apply }
+/// An option's name, as it stands behind two hyphens, what its value has to be, and the number that stands where it isn't given.
+fn option_line(name: OptionName) -> (&'static str, Form, Option<u64>)
+    ensures { (result.0.now, result.1, result.2) ≡ option_line name }
 {
-    Columns {
-        check,
-        snapshot,
-        unit,
-        row,
-        apply,
+    match name {
+        OptionName::Schema => ("schema", Form::Text, None),
+        OptionName::Unit => ("unit", Form::Number, None),
+        OptionName::From => ("from", Form::Number, None),
+        OptionName::To => ("to", Form::Number, None),
+        OptionName::Table => ("table", Form::Text, None),
+        OptionName::Key => ("key", Form::Number, None),
+        OptionName::In => ("in", Form::Directory, None),
+        OptionName::Out => ("out", Form::Directory, None),
+        OptionName::Workers => ("workers", Form::FromOneTo(64), Some(4)),
+        OptionName::Package => ("package", Form::FromOneTo(1_000_000), None),
+        OptionName::Node => ("node", Form::Number, Some(0)),
+        OptionName::Nodes => ("nodes", Form::FromOneTo(1_024), Some(1)),
+        OptionName::Size => ("size", Form::FromOneTo(1_000), None),
+        OptionName::Format => ("format", Form::FormatName, None),
+        OptionName::Store => ("store", Form::Text, None),
+        OptionName::Spec => ("spec", Form::Text, None),
     }
 }
 
-/// The table: an option's name, as it stands behind two hyphens, and what each mode does with it.
-fn option_line(name: OptionName) -> (&'static str, Columns)
-    ensures { (result.0.now, result.1) ≡ option_line name }
+/// Whether a mode needs an option.
+fn needs(mode: Mode, name: OptionName) -> bool
+    ensures { result ≡ needs mode name }
 {
-    let no = Take::Unwanted;
-    let any = Take::Needed(Form::Text);
-    let number = Take::Needed(Form::Number);
-    let may = Take::Optional(Form::Text);
-    let source = Take::Needed(Form::Directory);
-    let folder = Take::Optional(Form::Directory);
-    let workers = Take::Preset(Form::FromOneTo(64), 4);
-    let package = Take::Optional(Form::FromOneTo(1_000_000));
-    let node = Take::Preset(Form::Number, 0);
-    let nodes = Take::Preset(Form::FromOneTo(1_024), 1);
-    let format = Take::Optional(Form::FormatName);
-    match name {
-        //                             check, snapshot, unit, row, apply
-        OptionName::Schema => ("schema", by_modes(any, any, any, any, any)),
-        OptionName::Unit => ("unit", by_modes(no, number, number, number, no)),
-        OptionName::From => ("from", by_modes(no, no, no, no, number)),
-        OptionName::To => ("to", by_modes(no, no, no, no, number)),
-        OptionName::Table => ("table", by_modes(no, may, may, any, may)),
-        OptionName::Key => ("key", by_modes(no, no, no, number, no)),
-        OptionName::In => ("in", by_modes(no, no, no, no, source)),
-        OptionName::Out => ("out", by_modes(no, folder, folder, no, folder)),
-        OptionName::Workers => ("workers", by_modes(no, workers, workers, no, no)),
-        OptionName::Package => ("package", by_modes(no, package, package, no, no)),
-        OptionName::Node => ("node", by_modes(no, node, node, no, no)),
-        OptionName::Nodes => ("nodes", by_modes(no, nodes, nodes, no, no)),
-        OptionName::Format => ("format", by_modes(no, format, format, no, format)),
+    use OptionName::{From, In, Key, Schema, Size, Spec, Store, Table, To, Unit};
+    match mode {
+        Mode::Check => matches!(name, Schema),
+        Mode::Snapshot | Mode::Unit | Mode::Undo => matches!(name, Schema | Unit),
+        Mode::Row => matches!(name, Schema | Unit | Table | Key),
+        Mode::Apply | Mode::Revert => matches!(name, Schema | From | To | In),
+        Mode::Sample => matches!(name, Size),
+        Mode::Play => matches!(name, Schema | To | Store),
+        Mode::Details | Mode::DetailsUnit => matches!(name, Schema | Unit | Spec),
+        Mode::DetailsApply => matches!(name, Schema | From | To | In | Spec),
+    }
+}
+
+/// Whether a mode may be given an option that it doesn't need.
+fn may_take(mode: Mode, name: OptionName) -> bool
+    ensures { result ≡ may_take mode name }
+{
+    use OptionName::{Format, Node, Nodes, Out, Package, Table, Workers};
+    match mode {
+        Mode::Check | Mode::Row | Mode::Play => false,
+        Mode::Snapshot | Mode::Unit => matches!(
+            name,
+            Table | Out | Workers | Package | Node | Nodes | Format
+        ),
+        Mode::Apply => matches!(name, Table | Out | Format),
+        Mode::Sample => matches!(name, Workers | Package),
+        Mode::Details | Mode::DetailsUnit => matches!(name, Out | Workers | Package),
+        Mode::DetailsApply => matches!(name, Out),
+        Mode::Undo => matches!(name, Table | Out | Workers | Package),
+        Mode::Revert => matches!(name, Table | Out),
     }
 }

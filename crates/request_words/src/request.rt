@@ -95,6 +95,8 @@ pub(crate) fn request_of(
     let schema = text_of(alloc, given_by(matches, OptionName::Schema).unwrap_or(""))?;
     let table = optional_text_of(alloc, given_by(matches, OptionName::Table))?;
     let source = text_of(alloc, given_by(matches, OptionName::In).unwrap_or(""))?;
+    let store = text_of(alloc, given_by(matches, OptionName::Store).unwrap_or(""))?;
+    let spec = text_of(alloc, given_by(matches, OptionName::Spec).unwrap_or(""))?;
     let out = optional_text_of(alloc, given_by(matches, OptionName::Out))?;
     Ok(Request {
         mode,
@@ -110,7 +112,10 @@ pub(crate) fn request_of(
         package: number_for(mode, matches, OptionName::Package),
         node: number_or_zero(mode, matches, OptionName::Node),
         nodes: number_or_zero(mode, matches, OptionName::Nodes),
+        size: number_or_zero(mode, matches, OptionName::Size),
         format: format_given(given_by(matches, OptionName::Format)),
+        store,
+        spec,
     })
 }
 

@@ -15,6 +15,20 @@ pub enum Mode {
     Row,
     /// Applies the streams of units to the texts of tables, and writes the later texts.
     Apply,
+    /// Tells what the tables of a schema of its own come to, by a size.
+    Sample,
+    /// Plays what the units make of the tables into a store.
+    Play,
+    /// Writes the text of a detail table at a unit.
+    Details,
+    /// Writes what a unit deletes, updates and inserts in a detail table.
+    DetailsUnit,
+    /// Applies the streams of units to the text of a detail table, and writes the later text.
+    DetailsApply,
+    /// Writes what takes each table back from a unit to the one before it.
+    Undo,
+    /// Undoes units on the texts of tables, and writes the earlier texts.
+    Revert,
 }
 
 /// A place for a word: the schema's name, or the value of an option.
@@ -24,9 +38,9 @@ pub enum OptionName {
     Schema,
     /// `--unit`: a time unit.
     Unit,
-    /// `--from`: the time unit of the tables' texts that are read.
+    /// `--from`: the time unit of the texts that are read.
     From,
-    /// `--to`: the last time unit that is applied.
+    /// `--to`: the time unit that is come to.
     To,
     /// `--table`: the name of a table.
     Table,
@@ -44,8 +58,14 @@ pub enum OptionName {
     Node,
     /// `--nodes`: how many nodes share the rows, 1 to 1,024.
     Nodes,
+    /// `--size`: the size of the sample, 1 to 1,000.
+    Size,
     /// `--format`: how rows are written and read.
     Format,
+    /// `--store`: the name of a store.
+    Store,
+    /// `--spec`: the name of the file that declares a detail table.
+    Spec,
 }
 
 /// How rows are written and read.
@@ -57,8 +77,8 @@ pub enum Format {
     Csv,
 }
 
-/// What the words ask for. A number that the mode doesn't take is 0, a package is none then, and the directory of the files that are
-/// read is the empty text.
+/// What the words ask for. A number that the mode doesn't take is 0, a package is none then, and a text is the empty one: the
+/// schema's name, the directory of the files that are read, the store, and the file of a detail table.
 #[derive(Debug, PartialEq, Drop)]
 pub struct Request {
     /// What to do.
@@ -67,9 +87,10 @@ pub struct Request {
     pub schema: Text,
     /// The time unit of a snapshot, of changes or of the report on a row.
     pub unit: u64,
-    /// The time unit of the tables' texts that are read.
+    /// The time unit of the texts that are read.
     pub from: u64,
-    /// The last time unit that is applied to them. It may be before the first one.
+    /// The time unit that is come to: the last one that is applied or played, or the one that units are undone to. The words may give
+    /// any.
     pub to: u64,
     /// The one table that is wanted, where not all are.
     pub table: Option<Text>,
@@ -87,8 +108,14 @@ pub struct Request {
     pub node: u64,
     /// How many nodes share the rows, 1 to 1,024: 1 where the words don't say.
     pub nodes: u64,
+    /// The size of the sample, 1 to 1,000.
+    pub size: u64,
     /// How rows are written and read: as lines in COPY text form where the words don't say, or the mode doesn't take it.
     pub format: Format,
+    /// The name of the store.
+    pub store: Text,
+    /// The name of the file that declares a detail table.
+    pub spec: Text,
 }
 
 /// Why words give no request.

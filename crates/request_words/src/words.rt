@@ -15,9 +15,9 @@ use std::alloc::Global;
 /// Behind the name stand a mode, a schema or none, and options, in any order: each as its name behind two hyphens with its
 /// value as the next word, or as one word of its name, `=` and its value, and none twice. No mode, schema or value begins
 /// with a hyphen, and none behind `=` is empty. `Words` is told first, then `Mode`, then what is wrong with the schema, the
-/// unit, the unit of the texts that are read, the last unit that is applied, the table, the key, the directory that is read, the
-/// directory of the files, the workers, the package, the node and the nodes, in this order. A fault of the
-/// words is told without memory being taken. The numbers of a request are within the ranges of the options that its mode takes.
+/// unit, the unit of the texts that are read, the unit that is come to, the table, the key, the directory that is read, the
+/// directory of the files, the workers, the package, the node, the nodes, the size, the format, the store and the file of a detail
+/// table, in this order. A fault of the words is told without memory being taken. The numbers of a request are within the ranges of the options that its mode takes.
 #[tactic(auto, unfolding(crate::specs::Words::request))]
 pub fn read_words(alloc: Global, words: &[String]) -> Result<Request, UsageFault>
     ensures read { IfOk result (λ made. request (map string_bytes words.now) ≡ Ok made) }

@@ -6,6 +6,8 @@ mod applied;
 #[cfg(test)]
 mod citations;
 #[cfg(test)]
+mod devices;
+#[cfg(test)]
 mod inputs;
 #[cfg(test)]
 mod outside;
@@ -16,9 +18,13 @@ mod refused;
 #[cfg(test)]
 mod run;
 #[cfg(test)]
+mod sample;
+#[cfg(test)]
 mod schemas;
 #[cfg(test)]
 mod simulations;
+#[cfg(test)]
+mod sure;
 #[cfg(test)]
 mod texts;
 #[cfg(test)]

@@ -142,6 +142,42 @@ kind = "changed"
 "#;
 
 /// Customers live three units and change every two; orders live nine, or as long as their customer, the oldest who was born in the two
+/// units before or with them.
+pub const TRADE: &str = r#"seed = 7
+units = 5
+[[table]]
+name = "customer"
+rows = 1
+insert = 1
+life = [3, 3]
+update = 2
+[[table.column]]
+name = "id"
+kind = "key"
+base = 1
+[[table.column]]
+name = "born"
+kind = "born"
+[[table.column]]
+name = "changed"
+kind = "changed"
+[[table]]
+name = "orders"
+rows = 1
+insert = 1
+life = [9, 9]
+[[table.column]]
+name = "id"
+kind = "key"
+base = 1
+[[table.column]]
+name = "customer"
+kind = "ref"
+table = "customer"
+window = 2
+"#;
+
+/// Customers live three units and change every two; orders live nine, or as long as their customer, the oldest who was born in the two
 /// units before or with them; and a line lives as long as the order that is born with it. A cohort of one row has its place first.
 pub const SALES: &str = r#"seed = 7
 units = 5

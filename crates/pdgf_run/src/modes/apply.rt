@@ -450,7 +450,7 @@ fn applied_texts(
 }
 
 /// Whether a fault is want of memory, which tells no input.
-fn is_memory(fault: ApplyFault) -> bool
+pub(crate) fn is_memory(fault: ApplyFault) -> bool
     ensures memory { OnTrue result (fault ≡ ApplyFault.Memory) }
     ensures other { OnFalse result (fault ≢ ApplyFault.Memory) }
 {

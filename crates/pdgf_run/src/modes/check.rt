@@ -8,7 +8,7 @@ ghost use Rattle.pdgf_run.specs.modes.Check.{check_due, check_line, check_lines,
 
 use crate::job::Job;
 use crate::names::name_of;
-use itoa::Buffer;
+use crate::numbers::push_number;
 use life_intervals::born;
 use line_pages::Memory;
 use refusals::JobFault;
@@ -44,10 +44,10 @@ fn push_line(text: &mut Vec<u8>, plan: &Plan, table: u32) -> Result<(), Memory>
 {
     text.extend_from_slice(name_of(plan, table).as_bytes())?;
     text.push(b'\t')?;
-    push_number(text, born(plan, table, plan.units()), b'\t')?;
+    push_number(text, u128::from(born(plan, table, plan.units())), b'\t')?;
     push_life(text, plan.sure_life(table))?;
-    push_number(text, plan.cost(table), b'\t')?;
-    push_number(text, plan.max_line(table), b'\n')
+    push_number(text, u128::from(plan.cost(table)), b'\t')?;
+    push_number(text, u128::from(plan.max_line(table)), b'\n')
 }
 
 /// Appends the sure life of a table, and a tab.
@@ -55,20 +55,10 @@ fn push_life(text: &mut Vec<u8>, life: Option<u64>) -> Result<(), Memory>
     ensures { OnOk result (text.new.items ≡ (text.old.items ++ life_text life) ++ codes "\t") }
 {
     match life {
-        Some(units) => push_number(text, units, b'\t'),
+        Some(units) => push_number(text, u128::from(units), b'\t'),
         None => {
             text.extend_from_slice(b"none\t")?;
             Ok(())
         }
     }
-}
-
-/// Appends a number in decimal, and a byte behind it.
-fn push_number(text: &mut Vec<u8>, number: u64, behind: u8) -> Result<(), Memory>
-    ensures { OnOk result (text.new.items ≡ (text.old.items ++ decimal number) ++ behind ∷ []) }
-{
-    let mut digits = Buffer::new();
-    text.extend_from_slice(digits.format(number).as_bytes())?;
-    text.push(behind)?;
-    Ok(())
 }

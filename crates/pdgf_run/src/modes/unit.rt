@@ -12,7 +12,7 @@ ghost use Rattle.schema_plan.specs.TableFacts.{reach};
 ghost use Rattle.update_box.specs.Packages.{IsJobOf};
 ghost use Rattle.pdgf_run.specs.CsvFiles.{IsCsvOfJob};
 ghost use Rattle.pdgf_run.specs.DueFiles.{most_page_bytes, page_bytes, table_files};
-ghost use Rattle.pdgf_run.specs.Jobs.{due_of, CanAsk, CanFill, CanPack, CanPackUnit};
+ghost use Rattle.pdgf_run.specs.Jobs.{due_of, CanAsk, CanFill, CanPack, CanPackBy, CanPackUnit};
 ghost use Rattle.pdgf_run.specs.Verdict.{IsDecided};
 ghost use Rattle.pdgf_run.specs.modes.Unit.{IsUnitDue, unit_asked};
 
@@ -133,7 +133,7 @@ fn csv_unit<B: Ledger, R: Threads + Sync, G: Gate + Sync>(
 }
 
 /// The job of what a unit changes, with its files in a directory or on the standard output. At `Memory` there is none.
-fn found_job<B: Ledger>(
+pub(crate) fn found_job<B: Ledger>(
     alloc: Global,
     plan: Plan,
     asked: update_box::Job,
@@ -146,7 +146,7 @@ fn found_job<B: Ledger>(
     requires some { 0 < blank.parts }
     requires asked { IsJobOf plan asked }
     requires later { 1 ≤ asked.unit }
-    requires ranges { CanAsk request.now }
+    requires ranges { CanPackBy request.now }
     requires pages { page_bytes request.now.workers asked.package (reach (layout_of plan)) ≤ most_page_bytes }
     ensures plan { IfOk result (λ job. job.of.plan ≡ plan) }
     ensures asked { IfOk result (λ job. job.of.asked ≡ asked) }

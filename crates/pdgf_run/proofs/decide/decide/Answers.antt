@@ -13,7 +13,7 @@ returns-in_err-request-clause-verdict g c =
 pub returns-in_err-request-clause-left : goal.returns-in_err-request-clause-left
 returns-in_err-request-clause-left g c =
     let made = err_from_is_err_and c.from_residual.result c.from_residual.ensures.1 in
-    rw (made.1, made.2) (left_by_words _ _ _ _ _ _)
+    rw (made.1, made.2) (left_by_words _ _ _ _ _ _ _)
 
 pub returns-in_err-job_of_request-clause-verdict : goal.returns-in_err-job_of_request-clause-verdict
 returns-in_err-job_of_request-clause-verdict g c =
@@ -24,7 +24,7 @@ returns-in_err-job_of_request-clause-verdict g c =
 pub returns-in_err-job_of_request-clause-left : goal.returns-in_err-job_of_request-clause-left
 returns-in_err-job_of_request-clause-left g c =
     let made = err_from_is_err_and c.from_residual-in_err-job_of_request.result c.from_residual-in_err-job_of_request.ensures.1 in
-    rw (made.1, made.2) (left_by_request (Err c.in_err-job_of_request.field-0.0) _ _ _ _ _ _ c.in_err-job_of_request.ensures.left)
+    rw (made.1, made.2) (left_by_request _ c.in_ok-request.request (Err c.in_err-job_of_request.field-0.0) _ _ _ _ _ _ c.in_ok-request.ensures.read c.in_err-job_of_request.ensures.left)
 
 pub returns-in_err-job_of_request-clause-asked : goal.returns-in_err-job_of_request-clause-asked
 returns-in_err-job_of_request-clause-asked g c = asks_of_words _ c.in_ok-request.request _ _ _ c.in_ok-request.ensures.read c.in_err-job_of_request.ensures.asked
@@ -33,7 +33,7 @@ pub returns-clause-verdict : goal.returns-clause-verdict
 returns-clause-verdict g c = decided_for_request _ _ c.in_ok-request.request (Ok c.in_ok-job_of_request.field-0) c.in_ok-request.ensures.read c.in_ok-job_of_request.ensures.job
 
 pub returns-clause-left : goal.returns-clause-left
-returns-clause-left g c = left_by_request (Ok c.in_ok-job_of_request.field-0) _ _ _ _ _ _ c.in_ok-job_of_request.ensures.left
+returns-clause-left g c = left_by_request _ c.in_ok-request.request (Ok c.in_ok-job_of_request.field-0) _ _ _ _ _ _ c.in_ok-request.ensures.read c.in_ok-job_of_request.ensures.left
 
 pub returns-clause-asked : goal.returns-clause-asked
 returns-clause-asked g c = asks_of_words _ c.in_ok-request.request _ _ _ c.in_ok-request.ensures.read c.in_ok-job_of_request.ensures.asked

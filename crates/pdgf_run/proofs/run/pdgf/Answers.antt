@@ -1,14 +1,12 @@
-use Rattle.std.proofs.Common.{◌≡◌, ◌≢◌, [], refl, sym, subst, map, string_bytes, false}
+use Rattle.std.proofs.Common.{◌≡◌, ◌≢◌, refl, sym, subst, map, string_bytes, false}
 use Rattle.std.specs.Prelude.{IsErr, ◌↔◌}
-use Rattle.std.specs.Option.{option_map}
 use Rattle.pd_outside.specs.Faults.{Rose, counted}
-use Rattle.pd_outside.specs.Library.{Content, left}
 use Rattle.plan_stages.specs.Stages.{told_files}
 use Rattle.request_words.specs.Words.{request}
 use Rattle.pdgf_run.specs.declared.report.Report.{Report}
 use Rattle.pdgf_run.specs.TopCall.{IsPastLimit}
 use Rattle.pdgf_run.proofs.AppliedLemmas.{applied_done, applied_refused}
-use Rattle.pdgf_run.proofs.DecideLemmas.{read_to_the_end, refused-usage, rose}
+use Rattle.pdgf_run.proofs.DecideLemmas.{refused-usage, rose}
 use Rattle.pdgf_run.proofs.ReportLemmas.{past_limit}
 use Rattle.pdgf_run.proofs.run.pdgf.Goals as goal
 
@@ -40,12 +38,6 @@ pub returns-in-Err-clause-library_faults : goal.returns-in-Err-clause-library_fa
 returns-in-Err-clause-library_faults g c =
     subst (λ (report : Report). report.status ≢ 5 → g.L.Library.faults c.decide.new.library ≡ g.L.Library.faults c.args.library.now) (sym c.refused.ensures)
     c.in-Err.ensures.left.no_fault
-
-pub returns-in-Err-clause-read_out : goal.returns-in-Err-clause-read_out
-returns-in-Err-clause-read_out g c =
-    subst (λ (report : Report). report.status ≡ 0 → option_map left (g.L.Library.content c.decide.new.library) ≡ option_map (λ (k : Content). []) (g.L.Library.content c.args.library.now))
-    (sym c.refused.ensures)
-    (λ zero. read_to_the_end _ _ c.in-Err.ensures.left.files (c.in-Err.ensures.left.read_out zero))
 
 pub returns-in-Err-clause-applied : goal.returns-in-Err-clause-applied
 returns-in-Err-clause-applied g c = λ five six seven.

@@ -1,0 +1,51 @@
+//! Runs over an outside that never fails.
+
+ghost use Rattle.std.specs.Prelude.{◌≡◌, ◌⊎◌, List, Ok, map, string_bytes, false};
+ghost use Rattle.pd_outside.specs.Files.{File};
+ghost use Rattle.pdgf_run.specs.Verdict.{IsVerdict};
+
+use crate::run::words_of;
+use crate::schemas::TRADE;
+use pd_outside::{Files, OpenGate, SureLibrary, SureShelf};
+use pdgf_run::laws::words_and_files_have_one_verdict;
+use pdgf_run::{Report, pdgf};
+use std::alloc::Global;
+use std::process::Abort;
+use std::thread::Threads;
+
+/// What `pdgf` does over them: where files are due all is done, or memory ran out.
+fn run_surely<R: Threads + Sync>(
+    rt: &R,
+    alloc: Global,
+    words: &[String],
+    library: &mut SureLibrary,
+    shelf: &mut SureShelf,
+) -> Report
+    requires { shelf.old.is_begun ≡ false }
+    ensures complete { (due : List File) → IsVerdict (map string_bytes words.now) library.old.content.files (Ok due) → (result.status ≡ 0) ⊎ (result.status ≡ 7) }
+{
+    words_and_files_have_one_verdict();
+    pdgf(rt, alloc, words, library, shelf, &OpenGate)
+}
+
+fn assert_done<R: Threads + Sync + Abort>(rt: &R, alloc: Global, line: &str) {
+    let mut files = Files::new(alloc);
+    files.push("s.toml", TRADE.as_bytes()).expect(rt, "memory");
+    let mut library = SureLibrary::new(files);
+    let words = words_of(rt, alloc, line);
+    let mut shelf = SureShelf::new();
+    let Report { status, .. } = run_surely(rt, alloc, &words, &mut library, &mut shelf);
+    assert_eq!(rt; status, 0, "{line}");
+}
+
+// Of the inputs no file is there: they are empty, and so are the tables that they make.
+#[test]
+fn all_is_done_over_an_outside_that_never_fails(rt: HostRuntime) {
+    assert_done(&rt, rt.alloc(), "pdgf snapshot s.toml --unit 2 --out out");
+    assert_done(&rt, rt.alloc(), "pdgf unit s.toml --unit 3");
+    assert_done(
+        &rt,
+        rt.alloc(),
+        "pdgf apply s.toml --from 2 --to 3 --in d --out out",
+    );
+}
