@@ -6,6 +6,8 @@ mod csv_tests;
 #[cfg(test)]
 mod line_tests;
 #[cfg(test)]
+mod pair_tests;
+#[cfg(test)]
 mod stream_tests;
 #[cfg(test)]
 mod turn_tests;

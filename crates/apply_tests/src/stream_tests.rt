@@ -1,7 +1,7 @@
 //! A table of three lines, and streams for it, worked out by hand.
 
 use std::alloc::Global;
-use stream_apply::{Applier, ApplyFault};
+use stream_apply::{Applier, ApplyFault, KeyFields};
 
 const TABLE: &[u8] = b"1\ta\n2\tb\n3\tc\n";
 
@@ -13,7 +13,7 @@ fn text_behind(
     updates: &[u8],
     inserts: &[u8],
 ) -> Result<Vec<u8>, ApplyFault> {
-    let applier = Applier::load(alloc, table, 9)?;
+    let applier = Applier::load(alloc, table, KeyFields::One, 9)?;
     let applier = applier.delete(deletes)?;
     let applier = applier.update(updates)?;
     let applier = applier.insert(inserts)?;

@@ -1,7 +1,7 @@
 //! A table of three lines, and the streams of two units for it, worked out by hand.
 
 use std::alloc::{AllocError, Global};
-use stream_apply::{ApplyFault, TurnFault, apply_in_turn};
+use stream_apply::{ApplyFault, KeyFields, TurnFault, apply_in_turn};
 
 const TABLE: &[u8] = b"1\ta\n2\tb\n3\tc\n";
 
@@ -19,7 +19,7 @@ fn make(alloc: Global, texts: &[&[u8]], text: &[u8]) -> bool {
     let Ok(inputs) = inputs_of(alloc, texts) else {
         return false;
     };
-    match apply_in_turn(alloc, &inputs, 9) {
+    match apply_in_turn(alloc, &inputs, KeyFields::One, 9) {
         Ok(bytes) => bytes.as_slice() == text,
         Err(_) => false,
     }
@@ -30,7 +30,7 @@ fn fail(alloc: Global, texts: &[&[u8]], place: usize, fault: ApplyFault) -> bool
     let Ok(inputs) = inputs_of(alloc, texts) else {
         return false;
     };
-    match apply_in_turn(alloc, &inputs, 9) {
+    match apply_in_turn(alloc, &inputs, KeyFields::One, 9) {
         Ok(_) => false,
         Err(told) => told == TurnFault { place, fault },
     }

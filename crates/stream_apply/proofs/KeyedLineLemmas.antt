@@ -27,7 +27,7 @@ bytes_eq-swapped xs ys =
     one_answer (bytes_eq xs ys) (bytes_eq ys xs) (bytes_eq-Decides xs ys)
     ((λ same. sym ((bytes_eq-Decides ys xs).0 same)), λ same. (bytes_eq-Decides ys xs).1 (sym same))
 
--- fields that are written one by one and joined are so written with the delimiter between each two
+-- fields that are written one by one and joined are so written with the keys delimiter between each two
 join_with_byte-front : {X : Type 0} (f : X → List ℕ) (byte : ℕ) (x : X) (xs : List X) →
     join_with_byte byte (map f (x ∷ xs)) ≡ join_by f (byte ∷ []) (x ∷ xs)
 join_with_byte-front f byte x [] = sym (append-nil (f x))

@@ -2,6 +2,7 @@ pub mod KeyedLineLemmas
 pub mod NumberedLineLemmas
 pub mod UnitLemmas
 pub mod TableLemmas
+mod DistinctLemmas
 pub mod LineLemmas
 pub mod StreamLemmas
 pub mod MadeLemmas

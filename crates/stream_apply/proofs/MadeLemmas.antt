@@ -7,6 +7,7 @@ use Rattle.std.proofs.lemmas.List.Folds.{list_any-append}
 use Rattle.std.proofs.lemmas.Option.{slice_get-get_or}
 use Rattle.stream_apply.specs.KeyedLines.{KeyedLine, has_key, keyed, lines_text, put}
 use Rattle.stream_apply.specs.Streams.{IsStream}
+use Rattle.stream_apply.specs.declared.key_fields.KeyFields.{KeyFields}
 use Rattle.stream_apply.specs.declared.kind.Kind.TheVariants.{Inserts}
 use Rattle.stream_apply.proofs.StreamLemmas.{lines_text-push, put-absent}
 
@@ -64,8 +65,8 @@ new-keys table lines free apart (suc n) within =
     ∙ append_assoc table (take n lines) (line ∷ [])
     ∙ ap (λ (ls : List KeyedLine). table ++ ls) (sym more)
 
-pub insert-appends : (delimiter : ℕ) (table lines : List KeyedLine) (bytes : List ℕ) → IsStream delimiter Inserts table bytes lines → fold put table lines ≡ table ++ lines
-insert-appends delimiter table lines bytes stream =
+pub insert-appends : (keys : KeyFields) (delimiter : ℕ) (table lines : List KeyedLine) (bytes : List ℕ) → IsStream keys delimiter Inserts table bytes lines → fold put table lines ≡ table ++ lines
+insert-appends keys delimiter table lines bytes stream =
     let all : take (length lines) lines ≡ lines = take_all (length lines) lines (omega arith) in
     ap (fold put table) (sym all)
     ∙ new-keys table lines stream.held stream.apart (length lines) (omega arith)

@@ -7,6 +7,7 @@ use Rattle.std.proofs.lemmas.List.Elements.{All-nil, All-push}
 use Rattle.std.proofs.lemmas.Bool.{cases_lt, true≢false}
 use Rattle.stream_apply.specs.KeyedLines.{KeyedLine, has_key, keyed, lines_text, put}
 use Rattle.stream_apply.specs.Streams.{IsKeyedLine, IsReadTo, IsStream, wants_held}
+use Rattle.stream_apply.specs.declared.key_fields.KeyFields.{KeyFields}
 use Rattle.stream_apply.specs.declared.kind.Kind.{Kind}
 
 -- a line with a new key goes behind the others
@@ -26,12 +27,12 @@ lines_text-push lines line =
     ∙ ap (λ (t : List ℕ). lines_text lines ++ t) (append-nil (line.text ++ 10 ∷ []))
 
 -- before the first line
-pub read-none : (delimiter : ℕ) (kind : Kind) (table : List KeyedLine) (bytes : List ℕ) → IsReadTo delimiter kind table bytes [] bytes
-read-none delimiter kind table bytes = record {
+pub read-none : (keys : KeyFields) (delimiter : ℕ) (kind : Kind) (table : List KeyedLine) (bytes : List ℕ) → IsReadTo keys delimiter kind table bytes [] bytes
+read-none keys delimiter kind table bytes = record {
   text = refl;
   lines_read = record {
     text = refl;
-    keyed = All-nil (IsKeyedLine delimiter kind);
+    keyed = All-nil (IsKeyedLine keys delimiter kind);
     apart = λ i d below. absurd (omega arith);
     held = All-nil (λ (line : KeyedLine). has_key table line.key ≡ wants_held kind);
   };
@@ -52,8 +53,8 @@ apart-push lines line apart free i d below =
           ∙ free
     ]
 
-pub read-more : (delimiter : ℕ) (kind : Kind) (table lines now : List KeyedLine) (line : KeyedLine) (bytes rest behind : List ℕ) → IsReadTo delimiter kind table bytes lines rest → IsKeyedLine delimiter kind line → rest ≡ line.text ++ 10 ∷ behind → has_key lines line.key ≡ false → has_key table line.key ≡ wants_held kind → now ≡ put lines line → IsReadTo delimiter kind table bytes now behind
-read-more delimiter kind table lines now line bytes rest behind read keyed_line cut free held is =
+pub read-more : (keys : KeyFields) (delimiter : ℕ) (kind : Kind) (table lines now : List KeyedLine) (line : KeyedLine) (bytes rest behind : List ℕ) → IsReadTo keys delimiter kind table bytes lines rest → IsKeyedLine keys delimiter kind line → rest ≡ line.text ++ 10 ∷ behind → has_key lines line.key ≡ false → has_key table line.key ≡ wants_held kind → now ≡ put lines line → IsReadTo keys delimiter kind table bytes now behind
+read-more keys delimiter kind table lines now line bytes rest behind read keyed_line cut free held is =
     let pushed : now ≡ lines ++ line ∷ [] = is ∙ put-absent lines line free in
     let stream = read.lines_read in
     let whole : bytes ≡ lines_text (lines ++ line ∷ []) ++ behind =
@@ -61,29 +62,29 @@ read-more delimiter kind table lines now line bytes rest behind read keyed_line 
     ∙ ap (λ (t : List ℕ). lines_text lines ++ t) (cut ∙ sym (append_assoc line.text (10 ∷ []) behind))
     ∙ sym (append_assoc (lines_text lines) (line.text ++ 10 ∷ []) behind)
     ∙ ap (λ (t : List ℕ). t ++ behind) (sym (lines_text-push lines line)) in
-    subst (λ (ls : List KeyedLine). IsReadTo delimiter kind table bytes ls behind) (sym pushed) (record {
+    subst (λ (ls : List KeyedLine). IsReadTo keys delimiter kind table bytes ls behind) (sym pushed) (record {
       text = whole;
       lines_read = record {
         text = refl;
-        keyed = All-push (IsKeyedLine delimiter kind) lines line stream.keyed keyed_line;
+        keyed = All-push (IsKeyedLine keys delimiter kind) lines line stream.keyed keyed_line;
         apart = apart-push lines line stream.apart free;
         held = All-push (λ (l : KeyedLine). has_key table l.key ≡ wants_held kind) lines line stream.held held;
       };
     })
 
 -- behind the last line
-pub read-all : (delimiter : ℕ) (kind : Kind) (table lines : List KeyedLine) (bytes rest : List ℕ) → IsReadTo delimiter kind table bytes lines rest → length rest ≡ 0 → IsStream delimiter kind table bytes lines
-read-all delimiter kind table lines bytes rest read none =
+pub read-all : (keys : KeyFields) (delimiter : ℕ) (kind : Kind) (table lines : List KeyedLine) (bytes rest : List ℕ) → IsReadTo keys delimiter kind table bytes lines rest → length rest ≡ 0 → IsStream keys delimiter kind table bytes lines
+read-all keys delimiter kind table lines bytes rest read none =
     let all : lines_text lines ≡ bytes = sym (read.text ∙ ap (λ (t : List ℕ). lines_text lines ++ t) (nil_from_length rest none) ∙ append-nil (lines_text lines)) in
-    subst (λ (t : List ℕ). IsStream delimiter kind table t lines) all read.lines_read
+    subst (λ (t : List ℕ). IsStream keys delimiter kind table t lines) all read.lines_read
 
 -- there are no more lines than bytes
 lines-within : (lines : List KeyedLine) → length lines ≤ length (lines_text lines)
 lines-within [] = omega arith
 lines-within (line ∷ lines) = omega (arith, lines-within lines, length-append (line.text ++ 10 ∷ []) (lines_text lines), length-append line.text (10 ∷ []))
 
-pub lines-below : (delimiter : ℕ) (kind : Kind) (table lines : List KeyedLine) (bytes rest : List ℕ) → IsReadTo delimiter kind table bytes lines rest → length lines + length rest ≤ length bytes
-lines-below delimiter kind table lines bytes rest read = omega (arith, lines-within lines, ap length read.text, length-append (lines_text lines) rest)
+pub lines-below : (keys : KeyFields) (delimiter : ℕ) (kind : Kind) (table lines : List KeyedLine) (bytes rest : List ℕ) → IsReadTo keys delimiter kind table bytes lines rest → length lines + length rest ≤ length bytes
+lines-below keys delimiter kind table lines bytes rest read = omega (arith, lines-within lines, ap length read.text, length-append (lines_text lines) rest)
 
 -- what is not empty
 pub above_zero : (n : ℕ) → (n == 0) ≡ false → 0 < n

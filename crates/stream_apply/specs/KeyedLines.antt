@@ -4,7 +4,7 @@ use Rattle.std.specs.List.{list_any}
 use Rattle.std.specs.Str.{bytes_eq}
 use denote.Ref.{Bor}
 
--- a line without its line feed, and its first field as it is written, which is its key
+-- a line without its line feed, and its first field or two as they are written, which are its key
 pub record KeyedLine : Type 0 where
   pub key : List ℕ
   pub text : List ℕ

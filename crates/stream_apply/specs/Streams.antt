@@ -1,10 +1,11 @@
 -- Streams of lines, what they make of a table, and their faults.
-use Rattle.std.specs.Prelude.{◌≡◌, ℕ, ◌+◌, Bool, true, false, not, List, [], ◌∷◌, ◌++◌, All, Option, Some, filter, fold, get_or, length, take, ◌<◌}
-use Rattle.row_text.specs.Fields.{escaped_text}
-use Rattle.row_text.specs.Lines.{IsLineBody}
+use Rattle.std.specs.Prelude.{◌≡◌, ℕ, ◌+◌, Bool, true, false, not, List, [], ◌∷◌, ◌++◌, All, Option, Some, filter, fold, get_or, length, map, take, ◌<◌}
+use Rattle.row_text.specs.Lines.{IsLineBody, line_text}
 use Rattle.stream_apply.specs.KeyedLines.{KeyedLine, has_key, lines_text, put}
 use Rattle.stream_apply.specs.declared.fault.ApplyFault.{ApplyFault}
 use Rattle.stream_apply.specs.declared.fault.ApplyFault.TheVariants.{BadLine, DoubleKey, KeyExists, Memory, NoSuchKey}
+use Rattle.stream_apply.specs.declared.key_fields.KeyFields.{KeyFields}
+use Rattle.stream_apply.specs.declared.key_fields.KeyFields.TheVariants.{One, Two}
 use Rattle.stream_apply.specs.declared.kind.Kind.{Kind}
 use Rattle.stream_apply.specs.declared.kind.Kind.TheVariants.{Deletes, Inserts, Snapshot, Updates}
 
@@ -22,35 +23,45 @@ wants_held Deletes = true
 wants_held Updates = true
 wants_held Inserts = false
 
--- the fields of a line: a text first, which tells the key, and others
-pub record IsFields (kind : Kind) (fields : List (Option (List ℕ))) (first : List ℕ) (others : List (Option (List ℕ))) : Type 0 where
-  pub is : fields ≡ Some first ∷ others
+-- how many fields at the front of a line are its key
+abbrev pub key_count : KeyFields → ℕ
+key_count One = 1
+key_count Two = 2
+
+-- texts as fields, none of which is null
+abbrev pub text_fields : List (List ℕ) → List (Option (List ℕ))
+text_fields texts = map (λ (text : List ℕ). Some text) texts
+
+-- the fields of a line: as many texts first as a key has, and others
+pub record IsFields (keys : KeyFields) (kind : Kind) (fields : List (Option (List ℕ))) (front : List (List ℕ)) (others : List (Option (List ℕ))) : Type 0 where
+  pub count : length front ≡ key_count keys
+  pub is : fields ≡ text_fields front ++ others
   pub alone : holds_keys_alone kind ≡ true → others ≡ []
 
 -- a line of a stream, with its key
-pub record IsKeyedLine (delimiter : ℕ) (kind : Kind) (line : KeyedLine) : Type 0 where
+pub record IsKeyedLine (keys : KeyFields) (delimiter : ℕ) (kind : Kind) (line : KeyedLine) : Type 0 where
   pub fields : List (Option (List ℕ))
-  pub first : List ℕ
+  pub front : List (List ℕ)
   pub others : List (Option (List ℕ))
   pub body : IsLineBody delimiter fields line.text
-  pub parts : IsFields kind fields first others
-  pub key : line.key ≡ escaped_text delimiter first
+  pub parts : IsFields keys kind fields front others
+  pub key : line.key ≡ line_text delimiter (text_fields front)
 
 -- bytes that start with no line of a stream
-abbrev pub StartsNone : ℕ → Kind → List ℕ → Type 0
-StartsNone delimiter kind bytes = (line : KeyedLine) (rest : List ℕ) → bytes ≡ line.text ++ 10 ∷ rest → ¬ IsKeyedLine delimiter kind line
+abbrev pub StartsNone : KeyFields → ℕ → Kind → List ℕ → Type 0
+StartsNone keys delimiter kind bytes = (line : KeyedLine) (rest : List ℕ) → bytes ≡ line.text ++ 10 ∷ rest → ¬ IsKeyedLine keys delimiter kind line
 
 -- bytes that are the lines of a stream for a table, with no fault
-pub record IsStream (delimiter : ℕ) (kind : Kind) (table : List KeyedLine) (bytes : List ℕ) (lines : List KeyedLine) : Type 0 where
+pub record IsStream (keys : KeyFields) (delimiter : ℕ) (kind : Kind) (table : List KeyedLine) (bytes : List ℕ) (lines : List KeyedLine) : Type 0 where
   pub text : bytes ≡ lines_text lines
-  pub keyed : All (IsKeyedLine delimiter kind) lines
+  pub keyed : All (IsKeyedLine keys delimiter kind) lines
   pub apart : (i : ℕ) (d : KeyedLine) → i < length lines → has_key (take i lines) (get_or lines i d).key ≡ false
   pub held : All (λ (line : KeyedLine). has_key table line.key ≡ wants_held kind) lines
 
 -- a stream of which the first lines have no fault, and what is behind them
-pub record IsReadTo (delimiter : ℕ) (kind : Kind) (table : List KeyedLine) (bytes : List ℕ) (lines : List KeyedLine) (rest : List ℕ) : Type 0 where
+pub record IsReadTo (keys : KeyFields) (delimiter : ℕ) (kind : Kind) (table : List KeyedLine) (bytes : List ℕ) (lines : List KeyedLine) (rest : List ℕ) : Type 0 where
   pub text : bytes ≡ lines_text lines ++ rest
-  pub lines_read : IsStream delimiter kind table (lines_text lines) lines
+  pub lines_read : IsStream keys delimiter kind table (lines_text lines) lines
 
 -- the fault of a key, at the line of a number, behind lines without a fault
 abbrev pub IsKeyFault : Kind → List KeyedLine → List KeyedLine → List ℕ → ℕ → ApplyFault → Type 0
@@ -61,30 +72,30 @@ IsKeyFault kind table before key number (KeyExists line) = (line ≡ number) × 
 IsKeyFault kind table before key number Memory = Unit {0}
 
 -- the line behind those without a fault is no line of the stream
-pub record HasBadLine (delimiter : ℕ) (kind : Kind) (table : List KeyedLine) (bytes : List ℕ) (line : ℕ) : Type 0 where
+pub record HasBadLine (keys : KeyFields) (delimiter : ℕ) (kind : Kind) (table : List KeyedLine) (bytes : List ℕ) (line : ℕ) : Type 0 where
   pub before : List KeyedLine
   pub rest : List ℕ
-  pub read : IsReadTo delimiter kind table bytes before rest
+  pub read : IsReadTo keys delimiter kind table bytes before rest
   pub number : line ≡ length before + 1
   pub more : 0 < length rest
-  pub none : StartsNone delimiter kind rest
+  pub none : StartsNone keys delimiter kind rest
 
 -- the line behind those without a fault has a key at fault
-pub record HasKeyFault (delimiter : ℕ) (kind : Kind) (table : List KeyedLine) (bytes : List ℕ) (fault : ApplyFault) : Type 0 where
+pub record HasKeyFault (keys : KeyFields) (delimiter : ℕ) (kind : Kind) (table : List KeyedLine) (bytes : List ℕ) (fault : ApplyFault) : Type 0 where
   pub before : List KeyedLine
   pub line : KeyedLine
   pub rest : List ℕ
-  pub read : IsReadTo delimiter kind table bytes before (line.text ++ 10 ∷ rest)
-  pub keyed : IsKeyedLine delimiter kind line
+  pub read : IsReadTo keys delimiter kind table bytes before (line.text ++ 10 ∷ rest)
+  pub keyed : IsKeyedLine keys delimiter kind line
   pub key : IsKeyFault kind table before line.key (length before + 1) fault
 
 -- the first fault of a stream
-abbrev pub IsFaultOf : ℕ → Kind → List KeyedLine → List ℕ → ApplyFault → Type 0
-IsFaultOf delimiter kind table bytes (BadLine line) = HasBadLine delimiter kind table bytes line
-IsFaultOf delimiter kind table bytes (DoubleKey line) = HasKeyFault delimiter kind table bytes (DoubleKey line)
-IsFaultOf delimiter kind table bytes (NoSuchKey line) = HasKeyFault delimiter kind table bytes (NoSuchKey line)
-IsFaultOf delimiter kind table bytes (KeyExists line) = HasKeyFault delimiter kind table bytes (KeyExists line)
-IsFaultOf delimiter kind table bytes Memory = Unit {0}
+abbrev pub IsFaultOf : KeyFields → ℕ → Kind → List KeyedLine → List ℕ → ApplyFault → Type 0
+IsFaultOf keys delimiter kind table bytes (BadLine line) = HasBadLine keys delimiter kind table bytes line
+IsFaultOf keys delimiter kind table bytes (DoubleKey line) = HasKeyFault keys delimiter kind table bytes (DoubleKey line)
+IsFaultOf keys delimiter kind table bytes (NoSuchKey line) = HasKeyFault keys delimiter kind table bytes (NoSuchKey line)
+IsFaultOf keys delimiter kind table bytes (KeyExists line) = HasKeyFault keys delimiter kind table bytes (KeyExists line)
+IsFaultOf keys delimiter kind table bytes Memory = Unit {0}
 
 -- a table without the lines whose keys are among those of others
 abbrev pub without : List KeyedLine → List KeyedLine → List KeyedLine
@@ -101,21 +112,24 @@ made_by Deletes table lines = without table lines
 made_by Updates table lines = with_each table lines
 made_by Inserts table lines = table ++ lines
 
--- a table as it stands, with the byte between two fields
+-- a table as it stands, with what of its lines is their key and the byte between two fields
 pub record Table : Type 0 where
+  pub keys : KeyFields
   pub delimiter : ℕ
   pub lines : List KeyedLine
 
 -- a table as bytes hold it
-pub record IsLoaded (bytes : List ℕ) (delimiter : ℕ) (table : Table) : Type 0 where
+pub record IsLoaded (bytes : List ℕ) (keys : KeyFields) (delimiter : ℕ) (table : Table) : Type 0 where
+  pub known_by : table.keys ≡ keys
   pub delimits : table.delimiter ≡ delimiter
-  pub read : IsStream delimiter Snapshot [] bytes table.lines
+  pub read : IsStream keys delimiter Snapshot [] bytes table.lines
 
 -- a table before and after a stream of a kind: the lines of the stream have no fault, and what they make of the table's
 pub record IsApplied (kind : Kind) (bytes : List ℕ) (old new : Table) : Type 0 where
   pub lines : List KeyedLine
+  pub known_by : new.keys ≡ old.keys
   pub delimits : new.delimiter ≡ old.delimiter
-  pub read : IsStream old.delimiter kind old.lines bytes lines
+  pub read : IsStream old.keys old.delimiter kind old.lines bytes lines
   pub made : new.lines ≡ made_by kind old.lines lines
 
 -- what the streams of one unit make of a table: the lines of the deletes dropped, those of the updates in place, those of the inserts behind
@@ -123,13 +137,13 @@ abbrev pub applied : List KeyedLine → List KeyedLine → List KeyedLine → Li
 applied table deletes updates inserts = with_each (without table deletes) updates ++ inserts
 
 -- the lines behind a table's text and the streams of one unit, none of which has a fault
-pub record IsBehind (delimiter : ℕ) (text deletes updates inserts : List ℕ) (lines : List KeyedLine) : Type 0 where
+pub record IsBehind (keys : KeyFields) (delimiter : ℕ) (text deletes updates inserts : List ℕ) (lines : List KeyedLine) : Type 0 where
   pub table : List KeyedLine
   pub dropped : List KeyedLine
   pub replaced : List KeyedLine
   pub added : List KeyedLine
-  pub table_read : IsStream delimiter Snapshot [] text table
-  pub deletes_read : IsStream delimiter Deletes table deletes dropped
-  pub updates_read : IsStream delimiter Updates (without table dropped) updates replaced
-  pub inserts_read : IsStream delimiter Inserts (with_each (without table dropped) replaced) inserts added
+  pub table_read : IsStream keys delimiter Snapshot [] text table
+  pub deletes_read : IsStream keys delimiter Deletes table deletes dropped
+  pub updates_read : IsStream keys delimiter Updates (without table dropped) updates replaced
+  pub inserts_read : IsStream keys delimiter Inserts (with_each (without table dropped) replaced) inserts added
   pub are : lines ≡ applied table dropped replaced added

@@ -7,6 +7,7 @@ ghost use Rattle.stream_apply.specs.Streams.{IsApplied, IsFaultOf, IsLoaded};
 ghost use Rattle.stream_apply.specs.declared.kind.Kind.TheVariants.{Deletes, Inserts, Snapshot, Updates};
 
 use crate::fault::ApplyFault;
+use crate::key_fields::KeyFields;
 use crate::key_table::KeyTable;
 use crate::kind::Kind;
 use crate::stream::read_stream;
@@ -18,6 +19,7 @@ use std::marker::Model;
 #[derive(Drop)]
 pub struct Applier<'a> {
     alloc: Global,
+    keys: KeyFields,
     delimiter: u8,
     table: KeyTable<'a>,
 }
@@ -28,23 +30,30 @@ impl<'a> Model for Applier<'a> {
 
     ghost Value = { Table };
 
-    ghost view = { λ a. record { delimiter = a.delimiter; lines = a.table } };
+    ghost view = { λ a. record { keys = a.keys; delimiter = a.delimiter; lines = a.table } };
 
     ghost invariant = { λ a. IsDelimiter a.delimiter };
 }
 
 impl<'a> Applier<'a> {
-    /// A table as its text holds it, with the delimiter, a tab (9) or a bar (124), that stands between two fields of it and of
-    /// the streams. Refused at the first line of the text that is at fault: a `BadLine` or a `DoubleKey`.
-    pub fn load(alloc: Global, snapshot: &'a [u8], delimiter: u8) -> Result<Applier<'a>, ApplyFault>
+    /// A table as its text holds it, with what of a line is its key and the delimiter, a tab (9) or a bar (124), that stands
+    /// between two fields, both of it and of the streams. Refused at the first line of the text that is at fault: a `BadLine` or a
+    /// `DoubleKey`.
+    pub fn load(
+        alloc: Global,
+        snapshot: &'a [u8],
+        keys: KeyFields,
+        delimiter: u8,
+    ) -> Result<Applier<'a>, ApplyFault>
         requires { IsDelimiter delimiter }
-        ensures loaded { IfOk result (IsLoaded snapshot.now delimiter) }
-        ensures fault { IfErr result (IsFaultOf delimiter Snapshot [] snapshot.now) }
+        ensures loaded { IfOk result (IsLoaded snapshot.now keys delimiter) }
+        ensures fault { IfErr result (IsFaultOf keys delimiter Snapshot [] snapshot.now) }
     {
         let none = KeyTable::new(alloc);
-        let table = read_stream(alloc, Kind::Snapshot, &none, snapshot, delimiter)?;
+        let table = read_stream(alloc, Kind::Snapshot, &none, snapshot, keys, delimiter)?;
         Ok(Applier {
             alloc,
+            keys,
             delimiter,
             table,
         })
@@ -54,17 +63,19 @@ impl<'a> Applier<'a> {
     /// bytes that is at fault.
     pub fn delete(self, bytes: &[u8]) -> Result<Applier<'a>, ApplyFault>
         ensures applied { IfOk result (IsApplied Deletes bytes.now self.entry) }
-        ensures fault { IfErr result (IsFaultOf self.entry.delimiter Deletes self.entry.lines bytes.now) }
+        ensures fault { IfErr result (IsFaultOf self.entry.keys self.entry.delimiter Deletes self.entry.lines bytes.now) }
     {
         let Applier {
             alloc,
+            keys,
             delimiter,
             mut table,
         } = self;
-        let keys = read_stream(alloc, Kind::Deletes, &table, bytes, delimiter)?;
-        table.drop_all(&keys);
+        let dropped = read_stream(alloc, Kind::Deletes, &table, bytes, keys, delimiter)?;
+        table.drop_all(&dropped);
         Ok(Applier {
             alloc,
+            keys,
             delimiter,
             table,
         })
@@ -74,17 +85,19 @@ impl<'a> Applier<'a> {
     /// that is at fault.
     pub fn update(self, bytes: &'a [u8]) -> Result<Applier<'a>, ApplyFault>
         ensures applied { IfOk result (IsApplied Updates bytes.now self.entry) }
-        ensures fault { IfErr result (IsFaultOf self.entry.delimiter Updates self.entry.lines bytes.now) }
+        ensures fault { IfErr result (IsFaultOf self.entry.keys self.entry.delimiter Updates self.entry.lines bytes.now) }
     {
         let Applier {
             alloc,
+            keys,
             delimiter,
             mut table,
         } = self;
-        let lines = read_stream(alloc, Kind::Updates, &table, bytes, delimiter)?;
+        let lines = read_stream(alloc, Kind::Updates, &table, bytes, keys, delimiter)?;
         put_all(&mut table, &lines)?;
         Ok(Applier {
             alloc,
+            keys,
             delimiter,
             table,
         })
@@ -93,17 +106,19 @@ impl<'a> Applier<'a> {
     /// The table with the lines of the bytes behind its own. Refused at the first line of the bytes that is at fault.
     pub fn insert(self, bytes: &'a [u8]) -> Result<Applier<'a>, ApplyFault>
         ensures applied { IfOk result (IsApplied Inserts bytes.now self.entry) }
-        ensures fault { IfErr result (IsFaultOf self.entry.delimiter Inserts self.entry.lines bytes.now) }
+        ensures fault { IfErr result (IsFaultOf self.entry.keys self.entry.delimiter Inserts self.entry.lines bytes.now) }
     {
         let Applier {
             alloc,
+            keys,
             delimiter,
             mut table,
         } = self;
-        let lines = read_stream(alloc, Kind::Inserts, &table, bytes, delimiter)?;
+        let lines = read_stream(alloc, Kind::Inserts, &table, bytes, keys, delimiter)?;
         put_all(&mut table, &lines)?;
         Ok(Applier {
             alloc,
+            keys,
             delimiter,
             table,
         })

@@ -8,8 +8,8 @@ use row_text::Memory;
 /// its number, which counts from 1.
 #[derive(Clone, Copy, Debug, PartialEq, Eq)]
 pub enum ApplyFault {
-    /// The line has no line feed or is no line body, its key is null, or it has more fields than the key where it is to be
-    /// a key alone.
+    /// The line has no line feed or is no line body, it has fewer fields than a key, one of these is null, or it has more where it
+    /// is to be a key alone.
     BadLine { line: u64 },
     /// An earlier line of the same bytes has this key.
     DoubleKey { line: u64 },

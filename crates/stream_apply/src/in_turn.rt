@@ -1,6 +1,6 @@
 //! A table's text and the streams of units, applied one after the other.
 
-ghost use Rattle.std.specs.Prelude.{◌≡◌, ◌≢◌, ◌<◌, List, [], length, map, IfErr, IfOk};
+ghost use Rattle.std.specs.Prelude.{◌≡◌, ◌≢◌, ◌<◌, ◌≤◌, List, [], length, map, IfErr, IfOk};
 ghost use Rattle.row_text.specs.Fields.{IsDelimiter};
 ghost use Rattle.stream_apply.specs.InTurn.{HasFaultAt, IsAppliedText, inputs_from};
 ghost use Rattle.stream_apply.specs.KeyedLines.{KeyedLine};
@@ -10,10 +10,11 @@ ghost use Rattle.stream_apply.specs.declared.kind.Kind.TheVariants.{Snapshot};
 
 use crate::applier::{put_all, text_of};
 use crate::fault::ApplyFault;
+use crate::key_fields::KeyFields;
 use crate::key_table::KeyTable;
 use crate::kind::Kind;
 use crate::stream::read_stream;
-use std::alloc::Global;
+use std::alloc::{AllocError, Global};
 
 /// What is wrong first when inputs are applied in turn: the place of the input, counted from 0, and the fault of its first line
 /// that is at fault. For want of memory the place says nothing.
@@ -23,21 +24,50 @@ pub struct TurnFault {
     pub fault: ApplyFault,
 }
 
-/// The text that a table's text and the streams of units make, with the delimiter, a tab (9) or a bar (124), that stands between
-/// two fields. The first input is the table's text, and behind it stand, unit by unit, what the unit deletes, updates and
-/// inserts; without inputs the table is empty. Refused at the first line that is at fault of the first input that has one, or for
-/// want of memory.
-pub fn apply_in_turn(alloc: Global, inputs: &[Vec<u8>], delimiter: u8) -> Result<Vec<u8>, TurnFault>
+/// The text that a table's text and the streams of units make, with what of a line is its key and the delimiter, a tab (9) or a
+/// bar (124), that stands between two fields. The first input is the table's text, and behind it stand, unit by unit, what the unit
+/// deletes, updates and inserts; without inputs the table is empty. Refused at the first line that is at fault of the first input that
+/// has one, or for want of memory.
+pub fn apply_in_turn(
+    alloc: Global,
+    inputs: &[Vec<u8>],
+    keys: KeyFields,
+    delimiter: u8,
+) -> Result<Vec<u8>, TurnFault>
     requires { IsDelimiter delimiter }
-    ensures applied { IfOk result (λ text. IsAppliedText delimiter (map (λ input. input.items) inputs.now) text.items) }
+    ensures applied { IfOk result (λ text. IsAppliedText keys delimiter (map (λ input. input.items) inputs.now) text.items) }
     ensures fault { IfErr result (λ told. told.fault ≢ Memory →
         (told.place < length inputs.now)
-        × HasFaultAt delimiter (inputs_from Snapshot (map (λ input. input.items) inputs.now)) [] told.place told.fault) }
+        × HasFaultAt keys delimiter (inputs_from Snapshot (map (λ input. input.items) inputs.now)) [] told.place told.fault) }
+    ensures place { IfErr result (λ told. told.place ≤ length inputs.now) }
+{
+    match slices_of(alloc, inputs) {
+        Ok(slices) => apply_slices(alloc, &slices, keys, delimiter),
+        Err(_) => Err(TurnFault {
+            place: 0,
+            fault: ApplyFault::Memory,
+        }),
+    }
+}
+
+/// The same where the inputs are parts of other bytes.
+pub fn apply_slices(
+    alloc: Global,
+    inputs: &[&[u8]],
+    keys: KeyFields,
+    delimiter: u8,
+) -> Result<Vec<u8>, TurnFault>
+    requires { IsDelimiter delimiter }
+    ensures applied { IfOk result (λ text. IsAppliedText keys delimiter (map (λ input. input.now) inputs.now) text.items) }
+    ensures fault { IfErr result (λ told. told.fault ≢ Memory →
+        (told.place < length inputs.now)
+        × HasFaultAt keys delimiter (inputs_from Snapshot (map (λ input. input.now) inputs.now)) [] told.place told.fault) }
+    ensures place { IfErr result (λ told. told.place ≤ length inputs.now) }
 {
     let mut table = KeyTable::new(alloc);
     let mut kind = Kind::Snapshot;
     for (place, input) in inputs.iter().enumerate() {
-        table = match apply_input(alloc, kind, table, input, delimiter) {
+        table = match apply_input(alloc, kind, table, input, keys, delimiter) {
             Ok(made) => made,
             Err(fault) => return Err(TurnFault { place, fault }),
         };
@@ -52,20 +82,32 @@ pub fn apply_in_turn(alloc: Global, inputs: &[Vec<u8>], delimiter: u8) -> Result
     }
 }
 
+/// Inputs as parts of their bytes.
+fn slices_of(alloc: Global, inputs: &[Vec<u8>]) -> Result<Vec<&[u8]>, AllocError>
+    ensures { IfOk result (λ slices. map (λ slice. slice.now) slices.items ≡ map (λ input. input.items) inputs.now) }
+{
+    let mut slices = Vec::new(alloc);
+    for input in inputs {
+        slices.push(input.as_slice())?;
+    }
+    Ok(slices)
+}
+
 /// What the bytes make of a table. Refused at the first line of the bytes that is at fault.
 fn apply_input<'a>(
     alloc: Global,
     kind: Kind,
     mut table: KeyTable<'a>,
     bytes: &'a [u8],
+    keys: KeyFields,
     delimiter: u8,
 ) -> Result<KeyTable<'a>, ApplyFault>
     requires { IsDelimiter delimiter }
-    ensures applied { IfOk result (λ made. (lines : List KeyedLine) × IsStream delimiter kind table.entry bytes.now lines
+    ensures applied { IfOk result (λ made. (lines : List KeyedLine) × IsStream keys delimiter kind table.entry bytes.now lines
         × (made ≡ made_by kind table.entry lines)) }
-    ensures fault { IfErr result (IsFaultOf delimiter kind table.entry bytes.now) }
+    ensures fault { IfErr result (IsFaultOf keys delimiter kind table.entry bytes.now) }
 {
-    let lines = read_stream(alloc, kind, &table, bytes, delimiter)?;
+    let lines = read_stream(alloc, kind, &table, bytes, keys, delimiter)?;
     match kind {
         Kind::Snapshot => Ok(lines),
         Kind::Deletes => {

@@ -1,6 +1,9 @@
 //! Lines in order, each found by its key.
 
-ghost use Rattle.std.specs.Prelude.{◌≡◌, ◌<◌, [], filter, length, not, slice_get, IfSome, OnOk};
+ghost use Rattle.std.specs.Prelude.{◌≡◌, ◌<◌, ◌^◌, [], filter, length, not, slice_get, IfSome, OnOk};
+ghost use Rattle.std.specs.List.{IsDistinct};
+ghost use Rattle.std.specs.Prelude.{map};
+ghost use Rattle.std.specs.Str.{bytes_eq};
 ghost use Rattle.stream_apply.specs.KeyedLines.{has_key, keyed, put};
 
 use indexmap::IndexMap;
@@ -10,7 +13,7 @@ use std::marker::Model;
 
 /// Lines in order, each found by its key. A contract sees their list.
 #[derive(Drop)]
-pub(crate) struct KeyTable<'a> {
+pub struct KeyTable<'a> {
     lines: IndexMap<&'a [u8], &'a [u8]>,
 }
 
@@ -25,7 +28,7 @@ impl<'a> Model for KeyTable<'a> {
 
 impl<'a> KeyTable<'a> {
     /// No lines.
-    pub(crate) fn new(alloc: Global) -> KeyTable<'a>
+    pub fn new(alloc: Global) -> KeyTable<'a>
         ensures { result ≡ [] }
     {
         KeyTable {
@@ -33,22 +36,24 @@ impl<'a> KeyTable<'a> {
         }
     }
 
-    /// The number of lines.
-    pub(crate) fn len(&self) -> usize
-        ensures { result ≡ length self.now }
+    /// The number of lines, of which no two have one key.
+    pub fn len(&self) -> usize
+        ensures number { result ≡ length self.now }
+        ensures small { result < 2 ^ 63 }
+        ensures apart { IsDistinct bytes_eq (map (λ line. line.key) self.now) }
     {
         self.lines.len()
     }
 
     /// Whether a line has this key.
-    pub(crate) fn has(&self, key: &[u8]) -> bool
+    pub fn has(&self, key: &[u8]) -> bool
         ensures { result ≡ has_key self.now key.now }
     {
         self.lines.contains_key(key)
     }
 
     /// Puts a line in the place of the one with its key, or behind the others where none has it.
-    pub(crate) fn put(&mut self, key: &'a [u8], text: &'a [u8]) -> Result<(), Memory>
+    pub fn put(&mut self, key: &'a [u8], text: &'a [u8]) -> Result<(), Memory>
         ensures { OnOk result (self.new ≡ put self.old (keyed key.now text.now)) }
     {
         self.lines.insert(key, text)?;
@@ -56,7 +61,7 @@ impl<'a> KeyTable<'a> {
     }
 
     /// Drops the lines whose keys are among those of others.
-    pub(crate) fn drop_all(&mut self, others: &KeyTable)
+    pub fn drop_all(&mut self, others: &KeyTable)
         ensures { self.new ≡ filter (λ line. not (has_key others.now line.key)) self.old }
     {
         if others.len() == 0 {
@@ -70,7 +75,7 @@ impl<'a> KeyTable<'a> {
     }
 
     /// The key of the line at an index, which counts from 0.
-    pub(crate) fn key_at(&self, index: usize) -> &'a [u8]
+    pub fn key_at(&self, index: usize) -> &'a [u8]
         requires { index < length self.now }
         ensures { IfSome (slice_get self.now index) (λ line. line.key ≡ result.now) }
     {
@@ -81,7 +86,7 @@ impl<'a> KeyTable<'a> {
     }
 
     /// The text of the line at an index, which counts from 0.
-    pub(crate) fn text_at(&self, index: usize) -> &'a [u8]
+    pub fn text_at(&self, index: usize) -> &'a [u8]
         requires { index < length self.now }
         ensures { IfSome (slice_get self.now index) (λ line. line.text ≡ result.now) }
     {

@@ -1,12 +1,13 @@
 //! A table's text, and what streams make of it: lines dropped, replaced in place and appended, each known by its key.
 //!
-//! A line is a line body of fields with a line feed behind, and its key is its first field. Lines are kept as parts of the
-//! bytes that they were read from.
+//! A line is a line body of fields with a line feed behind, and its key is its first field, or its first two. Lines are kept as
+//! parts of the bytes that they were read from.
 #![tactic(auto)]
 
 mod applier;
 mod fault;
 mod in_turn;
+mod key_fields;
 mod key_table;
 mod kind;
 pub mod laws;
@@ -14,4 +15,6 @@ mod stream;
 
 pub use applier::Applier;
 pub use fault::ApplyFault;
-pub use in_turn::{TurnFault, apply_in_turn};
+pub use in_turn::{TurnFault, apply_in_turn, apply_slices};
+pub use key_fields::KeyFields;
+pub use key_table::KeyTable;

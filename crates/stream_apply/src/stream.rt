@@ -1,11 +1,13 @@
 //! The lines of a stream, read in order up to the first fault.
 
-ghost use Rattle.std.specs.Prelude.{◌≡◌, ◌≤◌, ◌<◌, ℕ, ◌+◌, List, [], ◌∷◌, ◌++◌, false, length, take, Contains, IfErr, IfOk, MatchOption, OnOk, Option, Some};
+ghost use Rattle.std.specs.Prelude.{◌≡◌, ◌≤◌, ◌<◌, ℕ, ◌^◌, List, [], ◌∷◌, ◌++◌, false, length, take, Contains, IfErr, IfOk, MatchOption, None, OnOk, Option, Some, slice_get};
 ghost use Rattle.row_text.specs.Fields.{IsDelimiter, escaped_text};
+ghost use Rattle.row_text.specs.Lines.{line_text};
 ghost use Rattle.stream_apply.specs.KeyedLines.{has_key, keyed};
-ghost use Rattle.stream_apply.specs.Streams.{IsFaultOf, IsFields, IsKeyFault, IsKeyedLine, IsStream, StartsNone, wants_held};
+ghost use Rattle.stream_apply.specs.Streams.{IsFaultOf, IsFields, IsKeyFault, IsKeyedLine, IsStream, StartsNone, text_fields, wants_held};
 
 use crate::fault::ApplyFault;
+use crate::key_fields::KeyFields;
 use crate::key_table::KeyTable;
 use crate::kind::Kind;
 use row_text::{Fields, LineFault, Memory, field_size, next_line, split_line};
@@ -25,17 +27,18 @@ pub(crate) fn read_stream<'a>(
     kind: Kind,
     table: &KeyTable,
     bytes: &'a [u8],
+    keys: KeyFields,
     delimiter: u8,
 ) -> Result<KeyTable<'a>, ApplyFault>
     requires { IsDelimiter delimiter }
-    ensures read { IfOk result (λ lines. IsStream delimiter kind table.now bytes.now lines) }
-    ensures fault { IfErr result (IsFaultOf delimiter kind table.now bytes.now) }
+    ensures read { IfOk result (λ lines. IsStream keys delimiter kind table.now bytes.now lines) }
+    ensures fault { IfErr result (IsFaultOf keys delimiter kind table.now bytes.now) }
 {
     let mut lines = KeyTable::new(alloc);
     let mut rest = bytes;
     while !rest.is_empty() {
         let number = lines.len() as u64 + 1;
-        match read_line(alloc, kind, rest, delimiter)? {
+        match read_line(alloc, kind, rest, keys, delimiter)? {
             None => return Err(ApplyFault::BadLine { line: number }),
             Some(line) => {
                 check_key(kind, table, &lines, line.key, number)?;
@@ -74,17 +77,18 @@ fn read_line<'a>(
     alloc: Global,
     kind: Kind,
     bytes: &'a [u8],
+    keys: KeyFields,
     delimiter: u8,
 ) -> Result<Option<ReadLine<'a>>, Memory>
     requires { IsDelimiter delimiter }
     ensures { IfOk result (λ read. MatchOption read
-        (StartsNone delimiter kind bytes.now)
-        (λ line. IsKeyedLine delimiter kind (keyed line.key.now line.text.now) × (bytes.now ≡ line.text.now ++ 10 ∷ line.rest.now))) }
+        (StartsNone keys delimiter kind bytes.now)
+        (λ line. IsKeyedLine keys delimiter kind (keyed line.key.now line.text.now) × (bytes.now ≡ line.text.now ++ 10 ∷ line.rest.now))) }
 {
     let Some((text, rest)) = cut_line(bytes) else {
         return Ok(None);
     };
-    match key_size(alloc, kind, text, delimiter)? {
+    match key_size(alloc, kind, text, keys, delimiter)? {
         None => Ok(None),
         Some(size) => Ok(Some(ReadLine {
             key: &text[..size],
@@ -105,31 +109,54 @@ fn cut_line(bytes: &[u8]) -> Option<(&[u8], &[u8])>
 }
 
 /// How many bytes of a line are its key; None where it is no line of this kind.
-fn key_size(alloc: Global, kind: Kind, text: &[u8], delimiter: u8) -> Result<Option<usize>, Memory>
+fn key_size(
+    alloc: Global,
+    kind: Kind,
+    text: &[u8],
+    keys: KeyFields,
+    delimiter: u8,
+) -> Result<Option<usize>, Memory>
     requires { IsDelimiter delimiter }
     ensures { IfOk result (λ size. MatchOption size
-        ((key : List ℕ) → ¬ IsKeyedLine delimiter kind (keyed key text.now))
-        (λ s. (s ≤ length text.now) × IsKeyedLine delimiter kind (keyed (take s text.now) text.now))) }
+        ((key : List ℕ) → ¬ IsKeyedLine keys delimiter kind (keyed key text.now))
+        (λ s. (s ≤ length text.now) × IsKeyedLine keys delimiter kind (keyed (take s text.now) text.now))) }
 {
     match split_line(alloc, text, delimiter) {
-        Ok(fields) => Ok(first_size(kind, &fields, delimiter)),
+        Ok(fields) => Ok(front_size(kind, &fields, keys, delimiter)),
         Err(LineFault::BadAt { .. }) => Ok(None),
         Err(LineFault::Memory) => Err(Memory),
     }
 }
 
-/// How many bytes the first field is written as; None where the fields are those of no line of this kind.
-fn first_size(kind: Kind, fields: &Fields, delimiter: u8) -> Option<usize>
-    requires { 0 < length fields.now }
+/// How many bytes the fields of the key are written as; None where the fields are those of no line of this kind.
+fn front_size(kind: Kind, fields: &Fields, keys: KeyFields, delimiter: u8) -> Option<usize>
+    requires { length (line_text delimiter fields.now) < 2 ^ 63 }
     ensures { MatchOption result
-        ((first : List ℕ) (others : List (Option (List ℕ))) → ¬ IsFields kind fields.now first others)
-        (λ size. (first : List ℕ) × (others : List (Option (List ℕ))) × IsFields kind fields.now first others × (size ≡ length (escaped_text delimiter first))) }
+        ((front : List (List ℕ)) (others : List (Option (List ℕ))) → ¬ IsFields keys kind fields.now front others)
+        (λ size. (front : List (List ℕ)) × (others : List (Option (List ℕ))) × IsFields keys kind fields.now front others
+        × (size ≡ length (line_text delimiter (text_fields front)))) }
 {
-    if kind.holds_keys_alone() && fields.len() > 1 {
+    let count = keys.count();
+    if fields.len() < count {
         return None;
     }
-    match fields.get(0) {
-        None => None,
-        Some(first) => Some(field_size(Some(first), delimiter)),
+    if kind.holds_keys_alone() && fields.len() > count {
+        return None;
     }
+    let first = text_size(fields, 0, delimiter)?;
+    match keys {
+        KeyFields::One => Some(first),
+        KeyFields::Two => Some(first + 1 + text_size(fields, 1, delimiter)?),
+    }
+}
+
+/// How many bytes the field at a place, which counts from 0, is written as; None where it is null.
+fn text_size(fields: &Fields, place: usize, delimiter: u8) -> Option<usize>
+    requires { place < length fields.now }
+    ensures { MatchOption result
+        (slice_get fields.now place ≡ Some None)
+        (λ size. (text : List ℕ) × (slice_get fields.now place ≡ Some (Some text)) × (size ≡ length (escaped_text delimiter text))) }
+{
+    let text = fields.get(place)?;
+    Some(field_size(Some(text), delimiter))
 }

@@ -13,6 +13,7 @@ use Rattle.row_lines.specs.Lines.{table_text}
 use Rattle.row_lines.proofs.RestedLineLemmas.{field_texts-next}
 use Rattle.stream_apply.specs.InTurn.{IsAppliedText}
 use Rattle.stream_apply.specs.KeyedLines.{KeyedLine}
+use Rattle.stream_apply.specs.declared.key_fields.KeyFields.TheVariants.{One}
 use Rattle.stream_apply.proofs.NumberedLineLemmas.{lines_in}
 use Rattle.stream_apply.proofs.UnitLemmas.{IsMadeByUnits, applied-units, made-unit}
 use Rattle.update_box.specs.Candidates.{dies_at}
@@ -56,6 +57,18 @@ module _ (plan : Project) (limits : IsInLimits plan) (place : ℕ) (below : plac
 
   -- ---- a unit
 
+  -- what dies at the next unit is alive at this one, and what is alive at this one and doesn't die is alive at the next
+  same_death : (unit j : ℕ) → j < born_count births unit → death generator place (unit + 1) j ≡ death generator place unit j
+  same_death unit j born = death-later generator place unit (unit + 1) j born (omega arith)
+
+  pub dying-alive : (unit j : ℕ) → j < born_count births unit → dies_at plan place (unit + 1) j ≡ true → is_live generator place unit j ≡ true
+  dying-alive unit j born at = ap (λ (d : Option ℕ). is_after d unit) (sym (same_death unit j born)) ∙ at_next-alive (death generator place (unit + 1) j) unit at
+
+  pub alive-next : (unit j : ℕ) → j < born_count births unit →
+      (is_live generator place unit j && not (dies_at plan place (unit + 1) j)) ≡ is_live generator place (unit + 1) j
+  alive-next unit j born =
+      ap (λ (d : Option ℕ). is_after d unit && not (dies_at plan place (unit + 1) j)) (sym (same_death unit j born)) ∙ after_next-alive (death generator place (unit + 1) j) unit
+
   -- a row that lives on and isn't updated has the line that it had
   text-rested : (unit t : ℕ) → t ≡ unit + 1 → t ≤ last_unit plan → (ordinal : ℕ) → ordinal < born_count births unit →
       is_live generator place unit ordinal ≡ true → is_live generator place t ordinal ≡ true →
@@ -69,44 +82,39 @@ module _ (plan : Project) (limits : IsInLimits plan) (place : ℕ) (below : plac
 
   -- its streams, applied to the rows of the unit before, make those of the unit, and what comes behind them
   rows-next : (unit : ℕ) → unit + 1 ≤ last_unit plan → (streams : List (List ℕ)) (last : List KeyedLine) →
-      IsMadeByUnits generator.delimiter streams (rows (unit + 1)) last →
-      IsMadeByUnits generator.delimiter (unit_streams plan place (unit + 1) ++ streams) (rows unit) last
+      IsMadeByUnits One generator.delimiter streams (rows (unit + 1)) last →
+      IsMadeByUnits One generator.delimiter (unit_streams plan place (unit + 1) ++ streams) (rows unit) last
   rows-next unit within streams last made =
       let t : ℕ = unit + 1 in
       let all : first_ordinal births t + cohort_size births t ≡ born_count births t = sym (born_count-next births t) in
       let small : first_ordinal births t + cohort_size births t ≤ born_count births (last_unit plan) = omega (arith, all, born_count-le births t (last_unit plan) within) in
-      let same_death : (j : ℕ) → j < born_count births unit → death generator place t j ≡ death generator place unit j =
-      λ j born. death-later generator place unit t j born (omega arith) in
-      let was_alive : (j : ℕ) → j < born_count births unit → (is_live generator place unit j && not (dies_at plan place t j)) ≡ is_live generator place t j =
-      λ j born.
-      ap (λ (d : Option ℕ). is_after d unit && not (dies_at plan place t j)) (sym (same_death j born)) ∙ after_next-alive (death generator place t j) unit in
-      subst (λ (of_unit : List (List ℕ)). IsMadeByUnits generator.delimiter (of_unit ++ streams) (rows unit) last) (sym (unit_streams-lines plan limits place below t within))
-      (made-unit generator.delimiter key (born_count births (last_unit plan)) (keys-apart plan limits place below) (text unit) (text t)
+      subst (λ (of_unit : List (List ℕ)). IsMadeByUnits One generator.delimiter (of_unit ++ streams) (rows unit) last) (sym (unit_streams-lines plan limits place below t within))
+      (made-unit One generator.delimiter key (born_count births (last_unit plan)) (keys-apart plan limits place below) (text unit) (text t)
       (is_live generator place unit) (dies_at plan place t) (changes_at plan place t) (is_live generator place t) (first_ordinal births t) (cohort_size births t) streams last small
       (λ j born. keyed-text plan limits place below t within j (omega (arith, born, all)))
-      (λ j born at. ap (λ (d : Option ℕ). is_after d unit) (sym (same_death j born)) ∙ at_next-alive (death generator place t j) unit at)
-      was_alive
+      (dying-alive unit)
+      (alive-next unit)
       (λ j born at. (and_parts (is_live generator place t j) (change_unit generator place t j == t) at).0)
       (λ j born alive rests.
-      text-rested unit t refl within j born (and_parts (is_live generator place unit j) (not (dies_at plan place t j)) (was_alive j born ∙ alive)).0 alive
+      text-rested unit t refl within j born (and_parts (is_live generator place unit j) (not (dies_at plan place t j)) (alive-next unit j born ∙ alive)).0 alive
       (λ same. true≢false (sym (and_from (is_live generator place t j) (change_unit generator place t j == t) alive (eq-eqb (change_unit generator place t j) t same)) ∙ rests)))
-      (subst (λ (n : ℕ). IsMadeByUnits generator.delimiter streams (lines_in key (text t) (is_live generator place t) 0 n) last) (sym all) made))
+      (subst (λ (n : ℕ). IsMadeByUnits One generator.delimiter streams (lines_in key (text t) (is_live generator place t) 0 n) last) (sym all) made))
 
   -- ---- units in turn
 
   rows-after : (count from : ℕ) → from + count ≤ last_unit plan →
-      IsMadeByUnits generator.delimiter (flat_map (unit_streams plan place) (range_with_len (from + 1) count)) (rows from) (rows (from + count))
+      IsMadeByUnits One generator.delimiter (flat_map (unit_streams plan place) (range_with_len (from + 1) count)) (rows from) (rows (from + count))
   rows-after zero from within = let here : from ≡ from + 0 = omega arith in ap rows here
   rows-after (suc count) from within =
       let next : (from + 1) + count ≡ from + suc count = omega arith in
       rows-next from (omega (arith, within)) (flat_map (unit_streams plan place) (range_with_len (from + 1 + 1) count)) (rows (from + suc count))
-      (subst (λ (unit : ℕ). IsMadeByUnits generator.delimiter (flat_map (unit_streams plan place) (range_with_len (from + 1 + 1) count)) (rows (from + 1)) (rows unit)) next
+      (subst (λ (unit : ℕ). IsMadeByUnits One generator.delimiter (flat_map (unit_streams plan place) (range_with_len (from + 1 + 1) count)) (rows (from + 1)) (rows unit)) next
       (rows-after count (from + 1) (omega (arith, within))))
 
   pub units-applied : (from count : ℕ) → from + count ≤ last_unit plan →
-      IsAppliedText generator.delimiter (table_text generator from place ∷ flat_map (unit_streams plan place) (range_with_len (from + 1) count)) (table_text generator (from + count) place)
+      IsAppliedText One generator.delimiter (table_text generator from place ∷ flat_map (unit_streams plan place) (range_with_len (from + 1) count)) (table_text generator (from + count) place)
   units-applied from count within =
-      applied-units generator.delimiter key (born_count births (last_unit plan)) (keys-apart plan limits place below) (table_text generator from place) (table_text generator (from + count) place)
+      applied-units One generator.delimiter key (born_count births (last_unit plan)) (keys-apart plan limits place below) (table_text generator from place) (table_text generator (from + count) place)
       (text from) (is_live generator place from) 0 (born_count births from) (flat_map (unit_streams plan place) (range_with_len (from + 1) count)) (rows (from + count))
       (omega (arith, born_count-le births from (last_unit plan) (omega (arith, within))))
       (λ j low high. keyed-text plan limits place below from (omega (arith, within)) j (omega (arith, high)))
@@ -114,15 +122,15 @@ module _ (plan : Project) (limits : IsInLimits plan) (place : ℕ) (below : plac
 
   -- no unit, and one
   pub text-applied : (unit : ℕ) → unit ≤ last_unit plan →
-      IsAppliedText generator.delimiter (table_text generator unit place ∷ []) (table_text generator unit place)
+      IsAppliedText One generator.delimiter (table_text generator unit place ∷ []) (table_text generator unit place)
   text-applied unit within =
       let here : unit + 0 ≡ unit = omega arith in
-      subst (λ (at : ℕ). IsAppliedText generator.delimiter (table_text generator unit place ∷ []) (table_text generator at place)) here
+      subst (λ (at : ℕ). IsAppliedText One generator.delimiter (table_text generator unit place ∷ []) (table_text generator at place)) here
       (units-applied unit 0 (omega (arith, within)))
 
   pub unit-applied : (t : ℕ) → 1 ≤ t → t ≤ last_unit plan →
-      IsAppliedText generator.delimiter (table_text generator (t - 1) place ∷ unit_streams plan place t) (table_text generator t place)
+      IsAppliedText One generator.delimiter (table_text generator (t - 1) place ∷ unit_streams plan place t) (table_text generator t place)
   unit-applied t some within =
       let here : (t - 1) + 1 ≡ t = omega (arith, some) in
-      subst (λ (at : ℕ). IsAppliedText generator.delimiter (table_text generator (t - 1) place ∷ unit_streams plan place at) (table_text generator at place)) here
+      subst (λ (at : ℕ). IsAppliedText One generator.delimiter (table_text generator (t - 1) place ∷ unit_streams plan place at) (table_text generator at place)) here
       (units-applied (t - 1) 1 (omega (arith, some, within)))

@@ -94,7 +94,7 @@ module _ (plan : Project) (limits : IsInLimits plan) (unit : ℕ) (within : unit
       (sym (key-field place below i born_i) ∙ same))))
 
   -- so the key of a row that is alive stands in one line
-  lines_with_key-live : (place : ℕ) → place < length plan.schema.tables → (ordinal : ℕ) → ordinal < born_by place → is_live generator place unit ordinal ≡ true →
+  pub lines_with_key-live : (place : ℕ) → place < length plan.schema.tables → (ordinal : ℕ) → ordinal < born_by place → is_live generator place unit ordinal ≡ true →
       lines_with_key generator unit place (decimal (key_of generator place unit ordinal)) ≡ 1
   lines_with_key-live place below ordinal born alive =
       let key : List ℕ = decimal (key_of generator place unit ordinal) in

@@ -1,9 +1,10 @@
 -- The texts of a table and of what a unit changes in it, as lines that are known by their keys.
-use Rattle.std.proofs.Common.{◌≡◌, ℕ, ◌+◌, ◌-◌, ◌<◌, ◌≤◌, Bool, List, [], ◌∷◌, ◌++◌, decimal, filter, flat_map, length, map, Option, Some, add-one, ap, arith, sym, ◌∙◌}
+use Rattle.std.proofs.Common.{◌≡◌, ℕ, ◌+◌, ◌-◌, ◌<◌, ◌≤◌, Bool, List, [], ◌∷◌, ◌++◌, decimal, filter, flat_map, length, map, Option, Some, add-one, ap, arith, refl, sym, ◌∙◌}
 use Rattle.std.specs.List.{join_with_byte, range_with_len}
 use Rattle.std.proofs.lemmas.Fmt.{decimal_injective}
+use Rattle.std.proofs.lemmas.List.{append-nil}
 use Rattle.std.proofs.lemmas.List.Folds.{flat_map-map}
-use Rattle.row_text.specs.Fields.{field_text}
+use Rattle.row_text.specs.Fields.{escaped_text, field_text}
 use Rattle.row_text.specs.Lines.{line_text}
 use Rattle.row_text.proofs.DigitLemmas.{escaped_text-decimal}
 use Rattle.cohort_sizes.specs.Births.{Births, born_count, cohort_size, first_ordinal}
@@ -21,6 +22,7 @@ use Rattle.row_lines.specs.Lines.{cohort_text, deleted_text, field, field_texts,
 use Rattle.row_lines.proofs.FieldLemmas.{field-key}
 use Rattle.row_lines.proofs.LineLemmas.{key_of-by, table_text-living}
 use Rattle.stream_apply.specs.KeyedLines.{KeyedLine, keyed, lines_text}
+use Rattle.stream_apply.specs.declared.key_fields.KeyFields.TheVariants.{One}
 use Rattle.stream_apply.proofs.KeyedLineLemmas.{join_with_byte-by}
 use Rattle.stream_apply.proofs.NumberedLineLemmas.{AreKeys, lines_in}
 use Rattle.stream_apply.proofs.UnitLemmas.{IsKeyedText}
@@ -84,7 +86,7 @@ module _ (plan : Project) (limits : IsInLimits plan) (place : ℕ) (below : plac
 
   -- a line is written from its fields, of which the first is the key
   pub keyed-text : (unit : ℕ) → unit ≤ last_unit plan → (ordinal : ℕ) → ordinal < born_count births unit →
-      IsKeyedText generator.delimiter (key ordinal) (text unit ordinal)
+      IsKeyedText One generator.delimiter (key ordinal) (text unit ordinal)
   keyed-text unit within ordinal born =
       let own : IsTableInLimits (last_unit plan) (table_of plan place) = limits.tables place no_table (place-below plan place below) in
       let count : ℕ = length (table_of plan place).columns in
@@ -96,13 +98,15 @@ module _ (plan : Project) (limits : IsInLimits plan) (place : ℕ) (below : plac
       ap (λ (n : ℕ). map held (range_with_len 0 n)) (more ∙ add-one (count - 1))
       ∙ ap (λ (o : Option (List ℕ)). o ∷ others) (field-key generator unit place ordinal 0 own.key_first own.key_never_null) in
       record {
-        first = first;
+        front = first ∷ [];
         others = others;
+        count = refl;
         written = ap (join_with_byte generator.delimiter) (sym (map-map (field_text generator.delimiter) held (range_with_len 0 count)))
             ∙ join_with_byte-by (field_text generator.delimiter) generator.delimiter (map held (range_with_len 0 count))
             ∙ ap (line_text generator.delimiter) fields;
         key_written = ap decimal (key_of-by generator (last_unit plan) unit place ordinal within born)
-            ∙ sym (escaped_text-decimal generator.delimiter (key_of generator place unit ordinal) (key-small plan limits unit within place below ordinal born));
+            ∙ sym (escaped_text-decimal generator.delimiter (key_of generator place unit ordinal) (key-small plan limits unit within place below ordinal born))
+            ∙ sym (append-nil (escaped_text generator.delimiter first));
       }
 
   pub table_text-rows : (unit : ℕ) → unit ≤ last_unit plan → table_text generator unit place ≡ lines_text (live_lines plan place unit)

@@ -102,7 +102,7 @@ newborn-alive plan limits place below unit within index inside =
     (parents-alive_now (last_unit plan) generator.order earlier (sure_life generator.tables) table.births unit index within inside (cascades_of table)
     (cascades-of (last_unit plan) generator sound place (place-below plan place below)))
 
-newborn-live : (plan : Project) → IsInLimits plan → (place : ℕ) → place < length plan.schema.tables → (unit : ℕ) → unit ≤ last_unit plan →
+pub newborn-live : (plan : Project) → IsInLimits plan → (place : ℕ) → place < length plan.schema.tables → (unit : ℕ) → unit ≤ last_unit plan →
     filter (is_live (generator_of plan) place unit) (newborn (generator_of plan) place unit) ≡ newborn (generator_of plan) place unit
 newborn-live plan limits place below unit within =
     let births : Births = (table_of plan place).births in

@@ -18,6 +18,7 @@ ghost use Rattle.life_intervals.specs.Simulation.{holds_row, rows_at, simulation
 ghost use Rattle.life_intervals.specs.Streams.{deleted, inserted, updated};
 ghost use Rattle.row_lines.specs.Lines.{key_line_of, line, parent_of_row, table_text};
 ghost use Rattle.stream_apply.specs.InTurn.{IsAppliedText};
+ghost use Rattle.stream_apply.specs.declared.key_fields.KeyFields.TheVariants.{One};
 ghost use Rattle.update_box.specs.Packages.{IsJobOf, package_text, packages_in, packages_of, room_of, share_of, share_text};
 ghost use Rattle.update_box.specs.Parts.{Part, content_text, snapshot_contents, unit_contents};
 ghost use Rattle.update_box.specs.declared.parts.Job.{Job};
@@ -102,13 +103,13 @@ pub fn a_longer_run_changes_nothing_earlier()
 /// further units, each in its turn. None is at fault: each row that a unit deletes or updates is in the table, and none that it inserts.
 pub fn streams_give_the_next_text()
     ensures text { (plan : Project) → IsInLimits plan → (place : ℕ) → place < length plan.schema.tables → (t : ℕ) → t ≤ last_unit plan →
-        IsAppliedText (layout_of plan).delimiter (table_text (generator_of plan) t place ∷ []) (table_text (generator_of plan) t place) }
+        IsAppliedText One (layout_of plan).delimiter (table_text (generator_of plan) t place ∷ []) (table_text (generator_of plan) t place) }
     ensures unit { (plan : Project) → IsInLimits plan → (place : ℕ) → place < length plan.schema.tables → (t : ℕ) → 1 ≤ t → t ≤ last_unit plan →
-        IsAppliedText (layout_of plan).delimiter (table_text (generator_of plan) (t - 1) place ∷ unit_streams plan place t)
+        IsAppliedText One (layout_of plan).delimiter (table_text (generator_of plan) (t - 1) place ∷ unit_streams plan place t)
         (table_text (generator_of plan) t place) }
     ensures units { (plan : Project) → IsInLimits plan → (place : ℕ) → place < length plan.schema.tables →
         (from count : ℕ) → from + count ≤ last_unit plan →
-        IsAppliedText (layout_of plan).delimiter
+        IsAppliedText One (layout_of plan).delimiter
         (table_text (generator_of plan) from place ∷ flat_map (unit_streams plan place) (range_with_len (from + 1) count))
         (table_text (generator_of plan) (from + count) place) }
 {}

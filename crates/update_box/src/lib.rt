@@ -26,7 +26,7 @@ mod updates;
 
 pub use list_packer::ListPacker;
 pub use memory::Memory;
-pub use names::push_file_name;
+pub use names::{push_ending, push_file_name};
 pub use parts::{Content, Job, Places, places_of};
 pub use prepared::PreparedTables;
 pub use snapshot_packer::SnapshotPacker;

@@ -33,7 +33,7 @@ fn name_of(plan: &Plan, table: u32) -> &str
 }
 
 /// How the name of a file ends that holds nothing but this content of a table at a unit.
-fn push_ending(path: &mut Text, unit: u64, content: Content) -> Result<(), Memory>
+pub fn push_ending(path: &mut Text, unit: u64, content: Content) -> Result<(), Memory>
     ensures { OnOk result (path.new ≡ path.old ++ ending_of unit content) }
 {
     let ending = match content {

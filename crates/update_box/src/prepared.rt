@@ -93,7 +93,7 @@ impl PreparedTables {
     }
 
     /// The lines at a unit of the rows of the table at a place, which is one of them.
-    pub(crate) fn lines_of<'a>(&'a self, rows: &'a Rows<'a>, unit: u64, place: u32) -> RunLines<'a>
+    pub fn lines_of<'a>(&'a self, rows: &'a Rows<'a>, unit: u64, place: u32) -> RunLines<'a>
         requires tables { ArePrepared rows.now self.now }
         requires among { IsAmong self.now place }
         requires unit { unit ≤ last_unit rows.now }

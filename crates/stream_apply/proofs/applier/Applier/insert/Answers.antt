@@ -11,9 +11,10 @@ returns-clause-applied c =
     let bytes = c.args.bytes.now in
     record {
       lines = lines;
+      known_by = ap (λ (t : Table). t.keys) c.self.view_is;
       delimits = ap (λ (t : Table). t.delimiter) c.self.view_is;
-      read = subst (λ (t : Table). IsStream t.delimiter Inserts t.lines bytes lines) c.self.view_is c.in_ok-lines.ensures.read;
+      read = subst (λ (t : Table). IsStream t.keys t.delimiter Inserts t.lines bytes lines) c.self.view_is c.in_ok-lines.ensures.read;
       made = c.in_ok-put_all.ensures
-          ∙ insert-appends c.self.inside.delimiter table lines bytes c.in_ok-lines.ensures.read
+          ∙ insert-appends c.self.inside.keys c.self.inside.delimiter table lines bytes c.in_ok-lines.ensures.read
           ∙ ap (λ (t : Table). t.lines ++ lines) c.self.view_is;
     }

@@ -12,4 +12,4 @@ returns c =
     ∙ ap (filter (λ (line : KeyedLine). not (has_key c.args.others.now line.key))) c.self.view_is
 
 pub returns-then-len-eq0 : goal.returns-then-len-eq0
-returns-then-len-eq0 c = none_dropped c.args.others.now c.args.self.now (sym c.len.ensures ∙ c.if-len-eq0.true)
+returns-then-len-eq0 c = none_dropped c.args.others.now c.args.self.now (sym c.len.ensures.number ∙ c.if-len-eq0.true)
