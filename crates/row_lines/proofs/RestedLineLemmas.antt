@@ -42,13 +42,13 @@ module _ (plan : Project) (limits : IsInLimits plan) (place : ℕ) (below : plac
   abbrev is_rested : IsRested units generator sound place (place-below plan place below) unit ordinal born
   is_rested = rested units generator sound place (place-below plan place below) unit ordinal born still
 
-  same_changed : later.changed ≡ row.changed
+  pub same_changed : later.changed ≡ row.changed
   same_changed =
       row_at-changed generator place (suc unit) ordinal (place-below plan place below)
       ∙ is_rested.changed
       ∙ sym (row_at-changed generator place unit ordinal (place-below plan place below))
 
-  same_birth : later.born ≡ row.born
+  pub same_birth : later.born ≡ row.born
   same_birth = birth-later births unit (suc unit) ordinal born (omega arith)
 
   -- the row but for how many units are left to the end of its life and to its next update, of which no field tells

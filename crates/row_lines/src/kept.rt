@@ -6,7 +6,7 @@ ghost use Rattle.schema_plan.specs.Lineage.{one_if};
 ghost use Rattle.row_lines.specs.Kept.{kept_by};
 
 /// Puts the numbers from `first` on into the list.
-pub(crate) fn put_range(list: &mut [u64], first: u64)
+pub fn put_range(list: &mut [u64], first: u64)
     requires { first + length list.old < 2 ^ 64 }
     ensures { list.new ≡ range_with_len first (length list.old) }
 {
@@ -16,7 +16,7 @@ pub(crate) fn put_range(list: &mut [u64], first: u64)
 }
 
 /// Moves the numbers beside which a flag is true to the begin of the list, and tells how many they are. No step is chosen by a flag.
-pub(crate) fn keep(list: &mut [u64], flags: &[bool]) -> usize
+pub fn keep(list: &mut [u64], flags: &[bool]) -> usize
     requires { length flags.now ≡ length list.old }
     ensures count { result ≡ length (kept_by flags.now list.old) }
     ensures within { result ≤ length list.old }

@@ -23,6 +23,7 @@ mod runs;
 mod table_lines;
 
 pub use cohort_lines::CohortLines;
+pub use kept::{keep, put_range};
 pub use reports::row_report;
 pub use rows::{live, put_key, put_line};
 pub use run_buf::RunBuf;

@@ -97,8 +97,8 @@ fn is_number_range(leaf: &Leaf) -> bool
     }
 }
 
-/// Whether `hi` is at least `lo`, and by no more than a number of 64 bits with a sign.
-fn is_range(lo: i64, hi: i64) -> bool
+/// Whether `hi` is at least `lo`, and at most 2^63 - 1 past it.
+pub fn is_range(lo: i64, hi: i64) -> bool
     ensures { result ≡ is_range lo hi }
 {
     lo <= hi && hi.checked_sub(lo).is_some()

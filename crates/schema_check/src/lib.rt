@@ -17,3 +17,5 @@ mod reference_rules;
 mod rules;
 
 pub use checker::{CheckFault, check, citations};
+pub use leaf_rules::is_range;
+pub use names::is_name;

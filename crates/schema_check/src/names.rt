@@ -10,7 +10,7 @@ use schema_model::Text;
 const MAX_LEN: usize = 32;
 
 /// Whether a text is a name: a letter from a to z, and then letters, digits and `_`, at most 32 bytes together.
-pub(crate) fn is_name(text: &Text) -> bool
+pub fn is_name(text: &Text) -> bool
     ensures { result ≡ is_name text.now }
 {
     let bytes = text.as_str().as_bytes();
