@@ -1,0 +1,11 @@
+use Rattle.std.proofs.Common.{◌≡◌, ℕ, None, ap, ◌∙◌}
+use Rattle.std.specs.HashMap.{get}
+use Rattle.keeper_play.specs.Kept.{KeptRows}
+use Rattle.keeper_play.specs.MapKeeper.{keeping_of, same_key}
+use Rattle.keeper_play.proofs.MapLemmas.{rows-updated}
+use Rattle.keeper_play.proofs.map_keeper.MapKeeper.remove.Goals as goal
+
+pub returns : goal.returns
+returns c =
+    ap (λ (rows : KeptRows). record (keeping_of c.args.self.now) { rows = rows })
+    (rows-updated (get same_key c.remove.new.self) (get same_key c.args.self.now.rows) c.args.table c.args.key None c.remove.ensures.updates.0)

@@ -1,0 +1,52 @@
+use Rattle.std.proofs.Common.{◌≡◌, ◌<◌, ◌≤◌, ℕ, suc, ◌+◌, ◌-◌, ◌∷◌, [], true, List, length, map, take, drop, get_or, reverse, ap, ap₂, arith, subst, sym, ◌∙◌}
+use Rattle.std.specs.Prelude.{All}
+use Rattle.std.specs.List.{flat_map, range_with_len}
+use Rattle.std.proofs.lemmas.Result.{err_from_is_err_and}
+use Rattle.schema_plan.specs.Dictionaries.{Project}
+use Rattle.schema_plan.specs.Limits.{IsInLimits}
+use Rattle.life_intervals.specs.CohortKeys.{IsCohort}
+use Rattle.life_intervals.specs.Generator.{Generator, generator_of, last_unit, rows_in_all, table_of}
+use Rattle.life_intervals.specs.Intervals.{changing, dying, is_live, newborn}
+use Rattle.cohort_sizes.specs.Births.{born_count, cohort_size, first_ordinal}
+use Rattle.cohort_sizes.specs.declared.cohort.Cohort.{Cohort}
+use Rattle.keeper_play.specs.Kept.{Statement}
+use Rattle.keeper_play.specs.Played.{changes_of, drop_at, put_at, Changes}
+use Rattle.keeper_play.specs.Statements.{deletions, insertions, places, unit_statements, updates}
+use Rattle.keeper_play.specs.Store.{StoppedIn, perform, perform_all}
+use Rattle.keeper_play.proofs.StoreLemmas.{backwards-at, backwards-more, items-at, items-more, made-more, made-none, numbers-at, numbers-more, places-at, stopped-behind, stopped-one}
+use Rattle.keeper_play.proofs.UnitLemmas.{changing-alive, changing-born, cohort-limit, deleted-ordinals, deletions-at, dying-born, insertions-at, newborn-alive, unit_statements-parts, updated-ordinals, updates-at}
+use Rattle.life_intervals.proofs.AcceptedLemmas.{length-tables}
+use Rattle.life_intervals.proofs.Ranges.{flat_map-range_with_len_more}
+use Rattle.keeper_play.proofs.play.put_cohort.Goals as goal
+
+pub put_row-requires-clause-alive : goal.put_row-requires-clause-alive
+put_row-requires-clause-alive g c =
+    let plan : Project = c.args.rows.now in
+    let limits : IsInLimits plan = subst IsInLimits c.plan.ensures c.schema-limits.ensures.limits in
+    let inside : c.loop-index.index < cohort_size (table_of plan c.args.table).births c.args.unit = omega (arith, c.loop-index-test.true, c.requires.cohort.size) in
+    ap (λ (first : ℕ). is_live (generator_of plan) c.args.table c.args.unit (first + c.loop-index.index)) c.requires.cohort.first
+    ∙ newborn-alive plan limits c.args.table c.requires.table c.args.unit c.requires.unit c.loop-index.index inside
+
+pub returns-in_err-put_row-clause-stopped : goal.returns-in_err-put_row-clause-stopped
+returns-in_err-put_row-clause-stopped g c =
+    let made = err_from_is_err_and c.from_residual.result c.from_residual.ensures.1 in
+    let put : ℕ → Statement = put_at c.args.rows.now c.args.unit c.args.table in
+    let first : ℕ = c.args.cohort.first in
+    let size : ℕ = c.args.cohort.size in
+    let i : ℕ = c.loop-index.index in
+    rw made.1
+    (stopped-behind (map put (range_with_len first size)) (map put (range_with_len first i)) (put (first + i) ∷ []) (map put (range_with_len (first + suc i) (size - suc i))) _ _ _
+    (numbers-at put first i size c.loop-index-test.true) c.loop-index.invariant.made c.in_err-put_row.ensures.stopped)
+
+pub loop-index-preserved : goal.loop-index-preserved
+loop-index-preserved g c =
+    let put : ℕ → Statement = put_at c.args.rows.now c.args.unit c.args.table in
+    let first : ℕ = c.args.cohort.first in
+    let i : ℕ = c.loop-index.index in
+    record {
+      made =
+          made-more (map put (range_with_len first i)) (put (first + i) ∷ []) _ _ _ c.loop-index.invariant.made c.in_ok-put_row.ensures.made
+          ∙ ap (λ (statements : List Statement). perform_all statements (g.K.Keeper.store c.args.keeper.now)) (sym (numbers-more put first i));
+      faults = c.in_ok-put_row.ensures.at_last.once ∙ c.loop-index.invariant.faults;
+      page = c.in_ok-put_row.ensures.page ∙ c.loop-index.invariant.page;
+    }

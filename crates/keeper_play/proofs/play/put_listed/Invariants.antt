@@ -1,0 +1,12 @@
+use Rattle.std.proofs.Common.{◌≡◌, ◌≤◌, length, map, take}
+use Rattle.keeper_play.specs.Played.{put_at}
+use Rattle.keeper_play.specs.Store.{perform_all}
+use Rattle.keeper_play.proofs.play.put_listed.Given as goal
+
+-- the rows so far are put
+abbrev pub invariant-loop-j : goal.invariant-loop-j
+invariant-loop-j g l = record {
+  made : g.K.Keeper.store l.keeper ≡ perform_all (map (put_at l.rows l.unit l.table) (take l.j-index l.ordinals)) (g.K.Keeper.store l.fn.keeper);
+  faults : g.K.Keeper.faults l.keeper ≡ g.K.Keeper.faults l.fn.keeper;
+  page : l.buf ≡ l.fn.buf;
+}

@@ -1,0 +1,73 @@
+use Rattle.std.proofs.Common.{◌≡◌, ◌<◌, ◌≤◌, ℕ, suc, ◌+◌, ◌-◌, ◌∷◌, [], true, List, length, map, take, drop, get_or, reverse, ap, ap₂, arith, subst, sym, ◌∙◌}
+use Rattle.std.specs.Prelude.{All, OnOk, OnErr, ◌++◌}
+use Rattle.std.proofs.lemmas.List.{append-nil, append_assoc}
+use Rattle.std.specs.List.{flat_map, range_with_len}
+use Rattle.std.proofs.lemmas.Result.{err_from_is_err_and}
+use Rattle.schema_plan.specs.Dictionaries.{Project}
+use Rattle.schema_plan.specs.Limits.{IsInLimits}
+use Rattle.life_intervals.specs.CohortKeys.{IsCohort}
+use Rattle.life_intervals.specs.Generator.{Generator, generator_of, last_unit, rows_in_all, table_of}
+use Rattle.life_intervals.specs.Intervals.{changing, dying, is_live, newborn}
+use Rattle.cohort_sizes.specs.Births.{born_count, cohort_size, first_ordinal}
+use Rattle.cohort_sizes.specs.declared.cohort.Cohort.{Cohort}
+use Rattle.keeper_play.specs.Kept.{Statement}
+use Rattle.keeper_play.specs.Played.{changes_of, drop_at, put_at, Changes}
+use Rattle.keeper_play.specs.Statements.{deletions, insertions, places, unit_statements, updates}
+use Rattle.keeper_play.specs.Store.{StoppedIn, perform, perform_all}
+use Rattle.keeper_play.proofs.StoreLemmas.{backwards-at, backwards-more, items-at, items-more, made-more, made-none, numbers-at, numbers-more, on_err, on_ok, places-at, stopped-behind, stopped-one}
+use Rattle.keeper_play.proofs.UnitLemmas.{deletions-born, deletions-told, insertions-cohort, insertions-told, updates-alive, updates-born, updates-told, changing-alive, changing-born, cohort-limit, deleted-ordinals, deletions-at, dying-born, insertions-at, newborn-alive, unit_statements-parts, updated-ordinals, updates-at}
+use Rattle.life_intervals.proofs.AcceptedLemmas.{length-tables}
+use Rattle.life_intervals.proofs.Ranges.{flat_map-range_with_len_more}
+use Rattle.keeper_play.proofs.play.put_updates.Goals as goal
+
+-- the table is one of the plan's
+is_below : (tables table count : ℕ) (plan other : Project) → table < count → count ≡ length other.schema.tables → other ≡ plan → table < length plan.schema.tables
+is_below tables table count plan other within counts is = omega (arith, within, counts, ap (λ (p : Project). length p.schema.tables) is)
+
+pub put_listed-requires-clause-born : goal.put_listed-requires-clause-born
+put_listed-requires-clause-born g c =
+    let plan : Project = c.args.rows.now in
+    let limits : IsInLimits plan = subst IsInLimits c.plan.ensures c.schema-limits.ensures.limits in
+    let table : ℕ = c.loop-table.table in
+    let below : table < length plan.schema.tables = is_below 0 table c.tables-table-end.result plan c.plan-2.result.now c.loop-table-test.true c.tables-table-end.ensures c.plan-2.ensures in
+    updates-born plan limits table below c.args.unit c.requires.unit c.upds.result.now (c.upds.ensures ∙ ap (λ (changes : Changes). changes.updated) (c.requires.source.each table below))
+
+pub put_listed-requires-clause-alive : goal.put_listed-requires-clause-alive
+put_listed-requires-clause-alive g c =
+    let plan : Project = c.args.rows.now in
+    let limits : IsInLimits plan = subst IsInLimits c.plan.ensures c.schema-limits.ensures.limits in
+    let table : ℕ = c.loop-table.table in
+    let below : table < length plan.schema.tables = is_below 0 table c.tables-table-end.result plan c.plan-2.result.now c.loop-table-test.true c.tables-table-end.ensures c.plan-2.ensures in
+    updates-alive plan limits table below c.args.unit c.requires.unit c.upds.result.now (c.upds.ensures ∙ ap (λ (changes : Changes). changes.updated) (c.requires.source.each table below))
+
+pub returns-in_err-put_listed-clause-stopped : goal.returns-in_err-put_listed-clause-stopped
+returns-in_err-put_listed-clause-stopped g c =
+    let made = err_from_is_err_and c.from_residual.result c.from_residual.ensures.1 in
+    let plan : Project = c.args.rows.now in
+    let limits : IsInLimits plan = subst IsInLimits c.plan.ensures c.schema-limits.ensures.limits in
+    let table : ℕ = c.loop-table.table in
+    let below : table < length plan.schema.tables = is_below 0 table c.tables-table-end.result plan c.plan-2.result.now c.loop-table-test.true c.tables-table-end.ensures c.plan-2.ensures in
+    let at : ℕ → List Statement = updates (generator_of plan) c.args.unit in
+    let n : ℕ = length (generator_of plan).tables in
+    let is = updates-told plan limits table below c.args.unit c.requires.unit c.upds.result.now (c.upds.ensures ∙ ap (λ (changes : Changes). changes.updated) (c.requires.source.each table below)) in
+    rw made.1
+    (stopped-behind (flat_map at (places (generator_of plan))) (flat_map at (range_with_len 0 table)) (at table) (flat_map at (range_with_len (suc table) (n - suc table))) _ _ _
+    (places-at at table n (omega (arith, below, length-tables plan))) c.loop-table.invariant.made
+    (subst (λ (statements : List Statement). StoppedIn statements (g.K.Keeper.store c.loop-table.keeper) (g.K.Keeper.store c.put_listed.new.keeper)) is c.in_err-put_listed.ensures.stopped))
+
+pub loop-table-preserved : goal.loop-table-preserved
+loop-table-preserved g c =
+    let plan : Project = c.args.rows.now in
+    let limits : IsInLimits plan = subst IsInLimits c.plan.ensures c.schema-limits.ensures.limits in
+    let table : ℕ = c.loop-table.table in
+    let below : table < length plan.schema.tables = is_below 0 table c.tables-table-end.result plan c.plan-2.result.now c.loop-table-test.true c.tables-table-end.ensures c.plan-2.ensures in
+    let at : ℕ → List Statement = updates (generator_of plan) c.args.unit in
+    let is = updates-told plan limits table below c.args.unit c.requires.unit c.upds.result.now (c.upds.ensures ∙ ap (λ (changes : Changes). changes.updated) (c.requires.source.each table below)) in
+    record {
+      made =
+          made-more (flat_map at (range_with_len 0 table)) (at table) _ _ _ c.loop-table.invariant.made
+          (c.in_ok-put_listed.ensures.made ∙ ap (λ (statements : List Statement). perform_all statements (g.K.Keeper.store c.loop-table.keeper)) is)
+          ∙ ap (λ (statements : List Statement). perform_all statements (g.K.Keeper.store c.args.keeper.now)) (sym (flat_map-range_with_len_more at table));
+      faults = c.in_ok-put_listed.ensures.at_last.once ∙ c.loop-table.invariant.faults;
+      page = c.in_ok-put_listed.ensures.page ∙ c.loop-table.invariant.page;
+    }

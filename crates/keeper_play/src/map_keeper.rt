@@ -1,0 +1,306 @@
+//! A store in memory.
+
+ghost use Rattle.std.specs.Prelude.{◌≡◌, ◌<◌, ◌≤◌, ◌+◌, [], ◌∷◌, ◌++◌, ◌↔◌, None, Some, false, true, Contains, IsErr, IsOk, IfOk, IsTrue, OnOk, OnErr, is_err};
+ghost use Rattle.std.specs.Option.{option_map};
+ghost use Rattle.pd_outside.specs.Faults.{Rose, counted, faults_after, last_count};
+ghost use Rattle.keeper_play.specs.Kept.{KeptRow, no_rows, put_row, drop_row, with_row};
+ghost use Rattle.keeper_play.specs.MapKeeper.{IsCounted, keeping_of, row_of, store_of};
+ghost use Rattle.keeper_play.specs.Store.{finish_store, perform, start_store};
+
+use crate::{KeepFailed, Keeper, Memory, RefTo};
+use std::alloc::Global;
+use std::collections::HashMap;
+use std::marker::Model;
+
+/// The calls of a `MapKeeper` that fail: numbers of its `put` and `drop_row` calls, counted together from 1 over the keeper's life.
+#[derive(Drop)]
+pub struct KeeperFails {
+    calls: Vec<u64>,
+}
+
+impl Model for KeeperFails {
+    ghost use Rattle.std.specs.Prelude.{ℕ, List};
+
+    ghost Value = { List ℕ };
+
+    ghost view = { λ f. f.calls.items };
+}
+
+impl KeeperFails {
+    /// No call fails.
+    pub fn new(alloc: Global) -> Self
+        ensures { result ≡ [] }
+    {
+        KeeperFails {
+            calls: Vec::new(alloc),
+        }
+    }
+
+    /// The call of this number fails too. At `Memory` the list is as before.
+    pub fn push(&mut self, call: u64) -> Result<(), Memory>
+        ensures ok { OnOk result (self.new ≡ self.old ++ call ∷ []) }
+        ensures err { OnErr result (self.new ≡ self.old) }
+    {
+        self.calls.push(call)?;
+        Ok(())
+    }
+
+    fn states(&self, call: u64) -> bool
+        ensures { IsTrue result ↔ Contains self.now call }
+    {
+        self.calls.contains(&call)
+    }
+}
+
+/// A row as it is kept.
+#[derive(Drop)]
+struct Kept {
+    refs: Vec<RefTo>,
+    line: Vec<u8>,
+}
+
+/// A store that keeps its rows in memory, with stated failures. It tells all its meanings; before the first `start` its name is empty.
+///
+/// A `put` and a `drop_row` fail where they are stated to. They and `start` fail too where no memory is left for what they keep, and the
+/// former two where 2^64 - 1 statements were made since the last `start`. Each call that fails is counted as a fault.
+#[derive(Drop)]
+pub struct MapKeeper {
+    alloc: Global,
+    fails: KeeperFails,
+    rows: HashMap<(u32, u64), Kept>,
+    name: String,
+    is_open: bool,
+    done: u64,
+    calls: u64,
+    faults: u64,
+    last_failed: bool,
+}
+
+/// A row with copies of its references and its line.
+fn kept_row(alloc: Global, refs: &[RefTo], line: &[u8]) -> Result<Kept, Memory>
+    ensures { IfOk result (λ kept. row_of kept ≡ record { refs = refs.now; line = line.now }) }
+{
+    let mut kept = Kept {
+        refs: Vec::with_capacity(alloc, refs.len())?,
+        line: Vec::with_capacity(alloc, line.len())?,
+    };
+    kept.refs.extend_from_slice(refs)?;
+    kept.line.extend_from_slice(line)?;
+    Ok(kept)
+}
+
+impl MapKeeper {
+    /// A store with these failures. It isn't open and has no rows, and no call was made.
+    pub fn new(alloc: Global, fails: KeeperFails) -> Self
+        ensures { keeping_of result ≡ record {
+          rows = no_rows;
+          name = [];
+          is_open = false;
+          done = 0;
+          fails = fails;
+          calls = 0;
+          faults = 0;
+          last_failed = false;
+        } }
+    {
+        MapKeeper {
+            alloc,
+            fails,
+            rows: HashMap::new(alloc),
+            name: String::new(alloc),
+            is_open: false,
+            done: 0,
+            calls: 0,
+            faults: 0,
+            last_failed: false,
+        }
+    }
+
+    /// The line of the row of a table with a key; None exactly where no such row is kept.
+    pub fn line(&self, table: u32, key: u64) -> Option<&[u8]>
+        ensures { option_map (λ line. line.now) result ≡ option_map (λ (row : KeptRow). row.line) ((keeping_of self.now).rows table key) }
+    {
+        match self.rows.get(&(table, key)) {
+            Some(kept) => Some(kept.line.as_slice()),
+            None => None,
+        }
+    }
+
+    /// The references of the row of a table with a key; None exactly where no such row is kept.
+    pub fn refs(&self, table: u32, key: u64) -> Option<&[RefTo]>
+        ensures { option_map (λ refs. refs.now) result ≡ option_map (λ (row : KeptRow). row.refs) ((keeping_of self.now).rows table key) }
+    {
+        match self.rows.get(&(table, key)) {
+            Some(kept) => Some(kept.refs.as_slice()),
+            None => None,
+        }
+    }
+
+    /// The name of the store that was last started; the empty text before.
+    pub fn name(&self) -> &str
+        ensures { result.now ≡ (keeping_of self.now).name }
+    {
+        self.name.as_str()
+    }
+
+    /// Whether the store is open.
+    pub fn is_open(&self) -> bool
+        ensures { result ≡ (keeping_of self.now).is_open }
+    {
+        self.is_open
+    }
+
+    /// How many statements were made since the last `start`.
+    pub fn statements(&self) -> u64
+        ensures { result ≡ (keeping_of self.now).done }
+    {
+        self.done
+    }
+
+    /// Counts a call, and tells whether it may be made: it isn't stated to fail, and its statement can be counted.
+    fn may_call(&mut self) -> bool
+        ensures rest { keeping_of self.new ≡ record (keeping_of self.old) { calls = counted (keeping_of self.old).calls } }
+        ensures stated { Contains (keeping_of self.old).fails (counted (keeping_of self.old).calls) → result ≡ false }
+        ensures may { result ≡ true → (keeping_of self.old).done < last_count }
+        ensures unstated { (keeping_of self.old).done < last_count → result ≡ false → Contains (keeping_of self.old).fails (counted (keeping_of self.old).calls) }
+    {
+        self.calls = self.calls.saturating_add(1);
+        !self.fails.states(self.calls) && self.done < u64::MAX
+    }
+
+    /// A call failed: it is counted as a fault.
+    fn fail(&mut self) -> Result<(), KeepFailed>
+        ensures failed { IsErr result }
+        ensures never_falls { (keeping_of self.old).faults ≤ (keeping_of self.new).faults }
+        ensures rest { keeping_of self.new ≡ record (keeping_of self.old) { faults = counted (keeping_of self.old).faults; last_failed = true } }
+    {
+        self.faults = self.faults.saturating_add(1);
+        self.last_failed = true;
+        Err(KeepFailed)
+    }
+
+    /// A statement is made.
+    fn succeed(&mut self) -> Result<(), KeepFailed>
+        requires { (keeping_of self.old).done < last_count }
+        ensures made { IsOk result }
+        ensures rest { keeping_of self.new ≡ record (keeping_of self.old) { done = (keeping_of self.old).done + 1; last_failed = false } }
+    {
+        self.done += 1;
+        self.last_failed = false;
+        Ok(())
+    }
+
+    /// Puts a row under its key. At `Memory` all is as before.
+    fn insert(&mut self, table: u32, key: u64, refs: &[RefTo], line: &[u8]) -> Result<(), Memory>
+        ensures ok { OnOk result (keeping_of self.new ≡ record (keeping_of self.old) { rows = with_row table key (Some (record { refs = refs.now; line = line.now })) (keeping_of self.old).rows }) }
+        ensures err { OnErr result (keeping_of self.new ≡ keeping_of self.old) }
+    {
+        let kept = kept_row(self.alloc, refs, line)?;
+        self.rows.insert((table, key), kept)?;
+        Ok(())
+    }
+
+    /// Takes the row with a key away.
+    fn remove(&mut self, table: u32, key: u64)
+        ensures { keeping_of self.new ≡ record (keeping_of self.old) { rows = with_row table key None (keeping_of self.old).rows } }
+    {
+        self.rows.remove(&(table, key));
+    }
+}
+
+impl Keeper for MapKeeper {
+    ghost store = { λ m. store_of (keeping_of m) };
+
+    ghost faults = { λ m. (keeping_of m).faults };
+
+    ghost last_failed = { λ m. (keeping_of m).last_failed };
+
+    fn start(&mut self, name: &str) -> Result<(), KeepFailed>
+        requires { (store_of (keeping_of self.old)).is_open ≡ false }
+        ensures started { OnOk result (store_of (keeping_of self.new) ≡ start_store name.now (store_of (keeping_of self.old))) }
+        ensures unchanged { OnErr result (store_of (keeping_of self.new) ≡ store_of (keeping_of self.old)) }
+        ensures never_falls { (keeping_of self.old).faults ≤ (keeping_of self.new).faults }
+        ensures cause { OnErr result (Rose (keeping_of self.old).faults (keeping_of self.new).faults) }
+        ensures counted { (keeping_of self.new).faults ≡ faults_after result (keeping_of self.old).faults }
+        ensures last { (keeping_of self.new).last_failed ≡ is_err result }
+
+        // It fails for want of memory alone.
+        ensures counts { IsCounted result (keeping_of self.old) (keeping_of self.new) }
+        ensures calls { (keeping_of self.new).calls ≡ (keeping_of self.old).calls }
+    {
+        match String::from_str(self.alloc, name) {
+            Ok(name) => {
+                self.rows = HashMap::new(self.alloc);
+                self.name = name;
+                self.is_open = true;
+                self.done = 0;
+                self.last_failed = false;
+                Ok(())
+            }
+            Err(_) => self.fail(),
+        }
+    }
+
+    fn put(&mut self, table: u32, key: u64, refs: &[RefTo], line: &[u8]) -> Result<(), KeepFailed>
+        requires { IsTrue (store_of (keeping_of self.old)).is_open }
+        ensures made { OnOk result (store_of (keeping_of self.new) ≡ perform (put_row table key (record { refs = refs.now; line = line.now })) (store_of (keeping_of self.old))) }
+        ensures unchanged { OnErr result (store_of (keeping_of self.new) ≡ store_of (keeping_of self.old)) }
+        ensures never_falls { (keeping_of self.old).faults ≤ (keeping_of self.new).faults }
+        ensures cause { OnErr result (Rose (keeping_of self.old).faults (keeping_of self.new).faults) }
+        ensures counted { (keeping_of self.new).faults ≡ faults_after result (keeping_of self.old).faults }
+        ensures last { (keeping_of self.new).last_failed ≡ is_err result }
+
+        // It fails where it is stated to, and else for want of memory, or of a number for its statement, alone.
+        ensures stated { Contains (keeping_of self.old).fails (counted (keeping_of self.old).calls) → IsErr result }
+        ensures counts { IsCounted result (keeping_of self.old) (keeping_of self.new) }
+        ensures calls { (keeping_of self.new).calls ≡ counted (keeping_of self.old).calls }
+    {
+        if self.may_call() && self.insert(table, key, refs, line).is_ok() {
+            self.succeed()
+        } else {
+            self.fail()
+        }
+    }
+
+    fn drop_row(&mut self, table: u32, key: u64) -> Result<(), KeepFailed>
+        requires { IsTrue (store_of (keeping_of self.old)).is_open }
+        ensures made { OnOk result (store_of (keeping_of self.new) ≡ perform (drop_row table key) (store_of (keeping_of self.old))) }
+        ensures unchanged { OnErr result (store_of (keeping_of self.new) ≡ store_of (keeping_of self.old)) }
+        ensures never_falls { (keeping_of self.old).faults ≤ (keeping_of self.new).faults }
+        ensures cause { OnErr result (Rose (keeping_of self.old).faults (keeping_of self.new).faults) }
+        ensures counted { (keeping_of self.new).faults ≡ faults_after result (keeping_of self.old).faults }
+        ensures last { (keeping_of self.new).last_failed ≡ is_err result }
+
+        // It fails where it is stated to, and else for want of a number for its statement alone.
+        ensures stated { Contains (keeping_of self.old).fails (counted (keeping_of self.old).calls) → IsErr result }
+        ensures unstated { (keeping_of self.old).done < last_count → OnErr result (Contains (keeping_of self.old).fails (counted (keeping_of self.old).calls)) }
+        ensures counts { IsCounted result (keeping_of self.old) (keeping_of self.new) }
+        ensures calls { (keeping_of self.new).calls ≡ counted (keeping_of self.old).calls }
+    {
+        if self.may_call() {
+            self.remove(table, key);
+            self.succeed()
+        } else {
+            self.fail()
+        }
+    }
+
+    fn finish(&mut self) -> Result<(), KeepFailed>
+        requires { IsTrue (store_of (keeping_of self.old)).is_open }
+        ensures finished { OnOk result (store_of (keeping_of self.new) ≡ finish_store (store_of (keeping_of self.old))) }
+        ensures unchanged { OnErr result (store_of (keeping_of self.new) ≡ store_of (keeping_of self.old)) }
+        ensures never_falls { (keeping_of self.old).faults ≤ (keeping_of self.new).faults }
+        ensures cause { OnErr result (Rose (keeping_of self.old).faults (keeping_of self.new).faults) }
+        ensures counted { (keeping_of self.new).faults ≡ faults_after result (keeping_of self.old).faults }
+        ensures last { (keeping_of self.new).last_failed ≡ is_err result }
+
+        // It never fails.
+        ensures sure { IsOk result }
+        ensures counts { IsCounted result (keeping_of self.old) (keeping_of self.new) }
+        ensures calls { (keeping_of self.new).calls ≡ (keeping_of self.old).calls }
+    {
+        self.is_open = false;
+        self.last_failed = false;
+        Ok(())
+    }
+}

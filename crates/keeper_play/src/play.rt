@@ -1,0 +1,254 @@
+//! The statements of a unit, made.
+
+ghost use Rattle.std.specs.Prelude.{◌≡◌, ◌<◌, ◌≤◌, ◌∷◌, [], All, IsTrue, flat_map, length, map, reverse, OnErr, OnOk, true};
+ghost use Rattle.std.specs.List.{range_with_len};
+ghost use Rattle.cohort_sizes.specs.Births.{born_count};
+ghost use Rattle.pd_outside.specs.Faults.{FailsAtLast, Rose};
+ghost use Rattle.schema_plan.specs.Layout.{layout_of};
+ghost use Rattle.schema_plan.specs.TableFacts.{reach};
+ghost use Rattle.life_intervals.specs.CohortKeys.{IsCohort};
+ghost use Rattle.life_intervals.specs.Generator.{generator_of, last_unit, rows_in_all, table_of};
+ghost use Rattle.life_intervals.specs.Intervals.{is_live};
+ghost use Rattle.keeper_play.specs.Played.{TellsUnit, drop_at, put_at};
+ghost use Rattle.keeper_play.specs.Statements.{deletions, insertions, places, unit_statements, updates};
+ghost use Rattle.keeper_play.specs.declared.refs.TheConstants.{MOST_REFS};
+ghost use Rattle.keeper_play.specs.Store.{StoppedIn, perform_all};
+
+use crate::refs::{NO_REFS, find_refs};
+use crate::{KeepFailed, Keeper, RefTo, UnitSource};
+use life_intervals::{Cohort, Rows, find};
+use line_pages::PageBuf;
+use row_lines::put_line;
+use schema_plan::Plan;
+use std::sync::ledger::Ledger;
+use step_count::Steps;
+
+/// Makes the statements of a unit: puts the rows that it updates, table by table, drops those that it deletes, the tables in the contrary
+/// order, and puts those that it inserts, table by table. Unit 0 inserts its rows alone.
+///
+/// `source` tells what the unit does, and `buf` is empty and has a room of the greatest line. At `KeepFailed` the statements before the one
+/// that failed were made, and no others. The store stays open, and `buf` is empty again. It takes no memory.
+pub fn play_unit<K: Keeper, U: UnitSource, L: Ledger>(
+    plan: &Plan,
+    unit: u64,
+    source: &U,
+    keeper: &mut K,
+    buf: &mut PageBuf,
+    steps: &mut Steps<L>,
+) -> Result<(), KeepFailed>
+    requires unit { unit ≤ last_unit plan.now }
+    requires source { TellsUnit plan.now unit (U.tables source.now) (U.changes source.now) }
+    requires is_open { IsTrue (K.store keeper.old).is_open }
+    requires empty { buf.old.text ≡ [] }
+    requires room { reach (layout_of plan.now) ≤ buf.old.room }
+    ensures made { OnOk result (K.store keeper.new ≡ perform_all (unit_statements (generator_of plan.now) unit) (K.store keeper.old)) }
+    ensures stopped { OnErr result (StoppedIn (unit_statements (generator_of plan.now) unit) (K.store keeper.old) (K.store keeper.new)) }
+    ensures at_last { FailsAtLast result (K.faults keeper.old) (K.faults keeper.new) (K.last_failed keeper.new) }
+    ensures cause { OnErr result (Rose (K.faults keeper.old) (K.faults keeper.new)) }
+    ensures page { buf.new ≡ buf.old }
+{
+    let _limits = plan.schema(); // so the rows of unit 0 are its insertions
+    let rows = Rows::of(plan);
+    put_updates(&rows, unit, source, keeper, buf, steps)?;
+    drop_deletions(&rows, unit, source, keeper, steps)?;
+    put_insertions(&rows, unit, source, keeper, buf, steps)
+}
+
+/// Puts the rows that a unit updates, table by table.
+fn put_updates<K: Keeper, U: UnitSource, L: Ledger>(
+    rows: &Rows<'_>,
+    unit: u64,
+    source: &U,
+    keeper: &mut K,
+    buf: &mut PageBuf,
+    steps: &mut Steps<L>,
+) -> Result<(), KeepFailed>
+    requires unit { unit ≤ last_unit rows.now }
+    requires source { TellsUnit rows.now unit (U.tables source.now) (U.changes source.now) }
+    requires is_open { IsTrue (K.store keeper.old).is_open }
+    requires empty { buf.old.text ≡ [] }
+    requires room { reach (layout_of rows.now) ≤ buf.old.room }
+    ensures made { OnOk result (K.store keeper.new ≡ perform_all (flat_map (updates (generator_of rows.now) unit) (places (generator_of rows.now))) (K.store keeper.old)) }
+    ensures stopped { OnErr result (StoppedIn (flat_map (updates (generator_of rows.now) unit) (places (generator_of rows.now))) (K.store keeper.old) (K.store keeper.new)) }
+    ensures at_last { FailsAtLast result (K.faults keeper.old) (K.faults keeper.new) (K.last_failed keeper.new) }
+    ensures page { buf.new ≡ buf.old }
+{
+    let _limits = rows.plan().schema(); // so the rows that it updates are alive
+    for table in 0..rows.plan().tables() {
+        put_listed(rows, unit, table, source.upds(table), keeper, buf, steps)?;
+    }
+    Ok(())
+}
+
+/// Drops the rows that a unit deletes, the tables in the contrary order, since rows go before those to which they refer.
+fn drop_deletions<K: Keeper, U: UnitSource, L: Ledger>(
+    rows: &Rows<'_>,
+    unit: u64,
+    source: &U,
+    keeper: &mut K,
+    steps: &mut Steps<L>,
+) -> Result<(), KeepFailed>
+    requires unit { unit ≤ last_unit rows.now }
+    requires source { TellsUnit rows.now unit (U.tables source.now) (U.changes source.now) }
+    requires is_open { IsTrue (K.store keeper.old).is_open }
+    ensures made { OnOk result (K.store keeper.new ≡ perform_all (flat_map (deletions (generator_of rows.now) unit) (reverse (places (generator_of rows.now)))) (K.store keeper.old)) }
+    ensures stopped { OnErr result (StoppedIn (flat_map (deletions (generator_of rows.now) unit) (reverse (places (generator_of rows.now)))) (K.store keeper.old) (K.store keeper.new)) }
+    ensures at_last { FailsAtLast result (K.faults keeper.old) (K.faults keeper.new) (K.last_failed keeper.new) }
+{
+    let _limits = rows.plan().schema(); // so the rows that it deletes are born
+    let tables = rows.plan().tables();
+    for behind in 0..tables {
+        let table = tables - 1 - behind;
+        drop_listed(rows, table, source.dels(table), keeper, steps)?;
+    }
+    Ok(())
+}
+
+/// Puts the rows that a unit inserts, table by table.
+fn put_insertions<K: Keeper, U: UnitSource, L: Ledger>(
+    rows: &Rows<'_>,
+    unit: u64,
+    source: &U,
+    keeper: &mut K,
+    buf: &mut PageBuf,
+    steps: &mut Steps<L>,
+) -> Result<(), KeepFailed>
+    requires unit { unit ≤ last_unit rows.now }
+    requires source { TellsUnit rows.now unit (U.tables source.now) (U.changes source.now) }
+    requires is_open { IsTrue (K.store keeper.old).is_open }
+    requires empty { buf.old.text ≡ [] }
+    requires room { reach (layout_of rows.now) ≤ buf.old.room }
+    ensures made { OnOk result (K.store keeper.new ≡ perform_all (flat_map (insertions (generator_of rows.now) unit) (places (generator_of rows.now))) (K.store keeper.old)) }
+    ensures stopped { OnErr result (StoppedIn (flat_map (insertions (generator_of rows.now) unit) (places (generator_of rows.now))) (K.store keeper.old) (K.store keeper.new)) }
+    ensures at_last { FailsAtLast result (K.faults keeper.old) (K.faults keeper.new) (K.last_failed keeper.new) }
+    ensures page { buf.new ≡ buf.old }
+{
+    let _limits = rows.plan().schema(); // so the rows that it inserts are alive
+    for table in 0..rows.plan().tables() {
+        put_cohort(rows, unit, table, source.ins(table), keeper, buf, steps)?;
+    }
+    Ok(())
+}
+
+/// Puts rows of a table as they are at a unit, by which they are born and at which they are alive.
+fn put_listed<K: Keeper, L: Ledger>(
+    rows: &Rows<'_>,
+    unit: u64,
+    table: u32,
+    ordinals: &[u64],
+    keeper: &mut K,
+    buf: &mut PageBuf,
+    steps: &mut Steps<L>,
+) -> Result<(), KeepFailed>
+    requires table { table < length rows.now.schema.tables }
+    requires unit { unit ≤ last_unit rows.now }
+    requires born { All (λ j. j < born_count (table_of rows.now table).births unit) ordinals.now }
+    requires alive { All (λ j. is_live (generator_of rows.now) table unit j ≡ true) ordinals.now }
+    requires is_open { IsTrue (K.store keeper.old).is_open }
+    requires empty { buf.old.text ≡ [] }
+    requires room { reach (layout_of rows.now) ≤ buf.old.room }
+    ensures made { OnOk result (K.store keeper.new ≡ perform_all (map (put_at rows.now unit table) ordinals.now) (K.store keeper.old)) }
+    ensures stopped { OnErr result (StoppedIn (map (put_at rows.now unit table) ordinals.now) (K.store keeper.old) (K.store keeper.new)) }
+    ensures at_last { FailsAtLast result (K.faults keeper.old) (K.faults keeper.new) (K.last_failed keeper.new) }
+    ensures page { buf.new ≡ buf.old }
+{
+    let mut refs = NO_REFS;
+    for j in ordinals {
+        put_row(rows, unit, table, *j, keeper, &mut refs, buf, steps)?;
+    }
+    Ok(())
+}
+
+/// Puts the cohort of a unit.
+fn put_cohort<K: Keeper, L: Ledger>(
+    rows: &Rows<'_>,
+    unit: u64,
+    table: u32,
+    cohort: Cohort,
+    keeper: &mut K,
+    buf: &mut PageBuf,
+    steps: &mut Steps<L>,
+) -> Result<(), KeepFailed>
+    requires table { table < length rows.now.schema.tables }
+    requires unit { unit ≤ last_unit rows.now }
+    requires cohort { IsCohort rows.now table unit cohort }
+    requires is_open { IsTrue (K.store keeper.old).is_open }
+    requires empty { buf.old.text ≡ [] }
+    requires room { reach (layout_of rows.now) ≤ buf.old.room }
+    ensures made { OnOk result (K.store keeper.new ≡ perform_all (map (put_at rows.now unit table) (range_with_len cohort.first cohort.size)) (K.store keeper.old)) }
+    ensures stopped { OnErr result (StoppedIn (map (put_at rows.now unit table) (range_with_len cohort.first cohort.size)) (K.store keeper.old) (K.store keeper.new)) }
+    ensures at_last { FailsAtLast result (K.faults keeper.old) (K.faults keeper.new) (K.last_failed keeper.new) }
+    ensures page { buf.new ≡ buf.old }
+{
+    let _limits = rows.plan().schema(); // so its rows are alive
+    let mut refs = NO_REFS;
+    for index in 0..cohort.size {
+        put_row(
+            rows,
+            unit,
+            table,
+            cohort.first + index,
+            keeper,
+            &mut refs,
+            buf,
+            steps,
+        )?;
+    }
+    Ok(())
+}
+
+/// Drops rows of a table.
+fn drop_listed<K: Keeper, L: Ledger>(
+    rows: &Rows<'_>,
+    table: u32,
+    ordinals: &[u64],
+    keeper: &mut K,
+    steps: &mut Steps<L>,
+) -> Result<(), KeepFailed>
+    requires table { table < length rows.now.schema.tables }
+    requires born { All (λ j. j < rows_in_all rows.now table) ordinals.now }
+    requires is_open { IsTrue (K.store keeper.old).is_open }
+    ensures made { OnOk result (K.store keeper.new ≡ perform_all (map (drop_at rows.now table) ordinals.now) (K.store keeper.old)) }
+    ensures stopped { OnErr result (StoppedIn (map (drop_at rows.now table) ordinals.now) (K.store keeper.old) (K.store keeper.new)) }
+    ensures at_last { FailsAtLast result (K.faults keeper.old) (K.faults keeper.new) (K.last_failed keeper.new) }
+{
+    for j in ordinals {
+        let key = rows.key(table, *j, steps);
+        keeper.drop_row(table, key)?;
+    }
+    Ok(())
+}
+
+/// Puts the row of ordinal `j` as it is at a unit, by which it is born and at which it is alive. `refs` has room for its references.
+fn put_row<K: Keeper, L: Ledger>(
+    rows: &Rows<'_>,
+    unit: u64,
+    table: u32,
+    j: u64,
+    keeper: &mut K,
+    refs: &mut [RefTo],
+    buf: &mut PageBuf,
+    steps: &mut Steps<L>,
+) -> Result<(), KeepFailed>
+    requires table { table < length rows.now.schema.tables }
+    requires unit { unit ≤ last_unit rows.now }
+    requires born { j < born_count (table_of rows.now table).births unit }
+    requires alive { is_live (generator_of rows.now) table unit j ≡ true }
+    requires is_open { IsTrue (K.store keeper.old).is_open }
+    requires refs { MOST_REFS ≤ length refs.old }
+    requires empty { buf.old.text ≡ [] }
+    requires room { reach (layout_of rows.now) ≤ buf.old.room }
+    ensures made { OnOk result (K.store keeper.new ≡ perform_all (put_at rows.now unit table j ∷ []) (K.store keeper.old)) }
+    ensures stopped { OnErr result (StoppedIn (put_at rows.now unit table j ∷ []) (K.store keeper.old) (K.store keeper.new)) }
+    ensures at_last { FailsAtLast result (K.faults keeper.old) (K.faults keeper.new) (K.last_failed keeper.new) }
+    ensures page { buf.new ≡ buf.old }
+{
+    let _limits = rows.plan().schema(); // so each line is within the reach
+    let row = find(rows.plan(), table, j);
+    let key = rows.found_key(table, row, steps);
+    let count = find_refs(rows, table, row, unit, refs, steps);
+    put_line(rows.plan(), table, j, unit, buf, steps);
+    let kept = keeper.put(table, key, &refs[..count], buf.text());
+    buf.clear();
+    kept
+}

@@ -1,0 +1,30 @@
+//! What a unit does to the tables, as it is played.
+
+ghost use Rattle.std.specs.Prelude.{◌≡◌, ◌<◌, ℕ};
+ghost use Rattle.keeper_play.specs.Played.{Changes};
+
+use life_intervals::Cohort;
+
+/// What a unit does to each table.
+pub trait UnitSource {
+    /// How many tables it tells of.
+    ghost tables: { Self → ℕ };
+
+    /// What the unit does to the table at a place.
+    ghost changes: { Self → ℕ → Changes };
+
+    /// The ordinals of the rows of a table that the unit deletes, in rising order.
+    fn dels(&self, table: u32) -> &[u64]
+        requires { table < tables self.now }
+        ensures { result.now ≡ (changes self.now table).deleted };
+
+    /// The ordinals of the rows of a table that the unit updates, in rising order.
+    fn upds(&self, table: u32) -> &[u64]
+        requires { table < tables self.now }
+        ensures { result.now ≡ (changes self.now table).updated };
+
+    /// The cohort of a table that the unit inserts.
+    fn ins(&self, table: u32) -> Cohort
+        requires { table < tables self.now }
+        ensures { result ≡ (changes self.now table).inserted };
+}
