@@ -1,0 +1,82 @@
+//! Where databases are opened.
+
+use crate::Refused;
+use crate::tables::Tables;
+use keeper_play::RefTo;
+use sqlite::{Connection, MemStore};
+use std::alloc::Global;
+
+/// An open database, in a transaction, with tables that keep rows and the references between them.
+pub trait RowTables {
+    /// Puts a row with its references, in place of one with the same key.
+    fn put(&mut self, table: u32, key: u64, refs: &[RefTo], line: &[u8]) -> Result<(), Refused>;
+
+    /// Drops a row with its references.
+    fn drop_row(&mut self, table: u32, key: u64) -> Result<(), Refused>;
+
+    /// Commits what was put and dropped.
+    fn commit(&mut self) -> Result<(), Refused>;
+
+    /// Closes the database.
+    fn close(self);
+}
+
+/// Databases that are opened by a name.
+pub trait Databases {
+    /// What an open database is.
+    type Tables: RowTables + Drop;
+
+    /// Opens the database of a name, or makes it, and makes the tables in it. It is refused where it has any table.
+    fn open(&self, name: &str) -> Result<Self::Tables, Refused>;
+}
+
+/// Databases in memory, each of them new.
+#[derive(Drop)]
+pub struct MemoryDatabases {
+    alloc: Global,
+}
+
+impl MemoryDatabases {
+    /// Databases in this memory.
+    pub fn new(alloc: Global) -> Self {
+        MemoryDatabases { alloc }
+    }
+}
+
+/// An open database in memory.
+#[derive(Drop)]
+pub struct MemoryTables {
+    tables: Tables<MemStore>,
+}
+
+impl MemoryTables {
+    /// The database, in its transaction.
+    pub fn into_database(self) -> Connection<MemStore> {
+        self.tables.into_database()
+    }
+}
+
+impl Databases for MemoryDatabases {
+    type Tables = MemoryTables;
+
+    fn open(&self, _name: &str) -> Result<MemoryTables, Refused> {
+        let tables = Tables::create(Connection::open_in_memory(self.alloc)?)?;
+        Ok(MemoryTables { tables })
+    }
+}
+
+impl RowTables for MemoryTables {
+    fn put(&mut self, table: u32, key: u64, refs: &[RefTo], line: &[u8]) -> Result<(), Refused> {
+        self.tables.put(table, key, refs, line)
+    }
+
+    fn drop_row(&mut self, table: u32, key: u64) -> Result<(), Refused> {
+        self.tables.drop_row(table, key)
+    }
+
+    fn commit(&mut self) -> Result<(), Refused> {
+        self.tables.commit()
+    }
+
+    fn close(self) {}
+}

@@ -1,0 +1,165 @@
+//! A store in a database of SQLite.
+
+ghost use Rattle.std.specs.Prelude.{◌≡◌, ◌≤◌, ◌+◌, None, false, true, IsErr, IsTrue, OnErr, OnOk, is_err, is_ok, is_some};
+ghost use Rattle.pd_outside.specs.Faults.{Rose, counted, faults_after};
+
+use crate::{Databases, Refused, RowTables};
+use keeper_play::{KeepFailed, Keeper, RefTo};
+
+/// A store in a database of SQLite. It tells neither its rows nor its name.
+///
+/// `start` opens the database of the name, which must have no table, and begins a transaction; `finish` commits it. Each call that is
+/// refused is counted as a fault. Once a statement was refused, so are all others, and the transaction can't be committed.
+#[derive(Drop)]
+pub struct SqlKeeper<D: Databases + Drop> {
+    databases: D,
+    tables: Option<D::Tables>,
+    is_sound: bool,
+    done: u64,
+    faults: u64,
+    last_failed: bool,
+}
+
+impl<D: Databases + Drop> SqlKeeper<D> {
+    /// A store in one of these databases. It isn't open, and no call was made.
+    pub fn new(databases: D) -> Self
+        ensures closed { is_some result.tables ≡ false }
+        ensures done { result.done ≡ 0 }
+        ensures faults { result.faults ≡ 0 }
+        ensures last { result.last_failed ≡ false }
+    {
+        SqlKeeper {
+            databases,
+            tables: None,
+            is_sound: true,
+            done: 0,
+            faults: 0,
+            last_failed: false,
+        }
+    }
+
+    /// The open database, with what was put so far, in its transaction; None where the store isn't open.
+    pub fn into_tables(self) -> Option<D::Tables> {
+        let SqlKeeper { tables, .. } = self;
+        tables
+    }
+
+    /// Tells how a statement ended, which is counted where it was made and can be counted.
+    fn told(&mut self, made: Result<(), Refused>) -> Result<(), KeepFailed>
+        ensures tables { self.new.tables ≡ self.old.tables }
+        ensures made { OnOk result (self.new.done ≡ self.old.done + 1) }
+        ensures unchanged { OnErr result (self.new.done ≡ self.old.done) }
+        ensures refused { OnErr made (IsErr result) }
+        ensures never_falls { self.old.faults ≤ self.new.faults }
+        ensures counted { self.new.faults ≡ faults_after result self.old.faults }
+        ensures last { self.new.last_failed ≡ is_err result }
+    {
+        match self.done.checked_add(1) {
+            Some(done) if made.is_ok() => {
+                self.done = done;
+                self.last_failed = false;
+                Ok(())
+            }
+            _ => {
+                self.is_sound = false;
+                self.fail()
+            }
+        }
+    }
+
+    /// A call failed: it is counted as a fault.
+    fn fail(&mut self) -> Result<(), KeepFailed>
+        ensures failed { IsErr result }
+        ensures never_falls { self.old.faults ≤ self.new.faults }
+        ensures rest { self.new ≡ record self.old { faults = counted self.old.faults; last_failed = true } }
+    {
+        self.faults = self.faults.saturating_add(1);
+        self.last_failed = true;
+        Err(KeepFailed)
+    }
+
+    /// Puts a row, where the store is open and no statement was refused.
+    fn put_in(&mut self, table: u32, key: u64, refs: &[RefTo], line: &[u8]) -> Result<(), Refused>
+        ensures tables { is_some self.new.tables ≡ is_some self.old.tables }
+        ensures rest { self.new ≡ record self.old { tables = self.new.tables } }
+    {
+        match &mut self.tables {
+            Some(tables) if self.is_sound => tables.put(table, key, refs, line),
+            _ => Err(Refused),
+        }
+    }
+
+    /// Drops a row, where the store is open and no statement was refused.
+    fn drop_in(&mut self, table: u32, key: u64) -> Result<(), Refused>
+        ensures tables { is_some self.new.tables ≡ is_some self.old.tables }
+        ensures rest { self.new ≡ record self.old { tables = self.new.tables } }
+    {
+        match &mut self.tables {
+            Some(tables) if self.is_sound => tables.drop_row(table, key),
+            _ => Err(Refused),
+        }
+    }
+
+    /// Commits what was put and dropped, where no statement was refused.
+    fn commit(&mut self) -> Result<(), Refused>
+        ensures tables { is_some self.new.tables ≡ is_some self.old.tables }
+        ensures rest { self.new ≡ record self.old { tables = self.new.tables } }
+    {
+        match &mut self.tables {
+            Some(tables) if self.is_sound => tables.commit(),
+            _ => Err(Refused),
+        }
+    }
+
+    /// Closes the database.
+    fn close(&mut self)
+        ensures tables { is_some self.new.tables ≡ false }
+        ensures rest { self.new ≡ record self.old { tables = self.new.tables } }
+    {
+        if let Some(tables) = self.tables.take() {
+            tables.close();
+        }
+    }
+}
+
+impl<D: Databases + Drop> Keeper for SqlKeeper<D> {
+    ghost store = { λ m. record { rows = None; name = None; is_open = is_some m.tables; done = m.done } };
+
+    ghost faults = { λ m. m.faults };
+
+    ghost last_failed = { λ m. m.last_failed };
+
+    fn start(&mut self, name: &str) -> Result<(), KeepFailed> {
+        match self.databases.open(name) {
+            Ok(tables) => {
+                self.tables = Some(tables);
+                self.is_sound = true;
+                self.done = 0;
+                self.last_failed = false;
+                Ok(())
+            }
+            Err(Refused) => self.fail(),
+        }
+    }
+
+    fn put(&mut self, table: u32, key: u64, refs: &[RefTo], line: &[u8]) -> Result<(), KeepFailed> {
+        let made = self.put_in(table, key, refs, line);
+        self.told(made)
+    }
+
+    fn drop_row(&mut self, table: u32, key: u64) -> Result<(), KeepFailed> {
+        let made = self.drop_in(table, key);
+        self.told(made)
+    }
+
+    fn finish(&mut self) -> Result<(), KeepFailed> {
+        match self.commit() {
+            Ok(()) => {
+                self.close();
+                self.last_failed = false;
+                Ok(())
+            }
+            Err(Refused) => self.fail(),
+        }
+    }
+}

@@ -1,0 +1,20 @@
+//! Why a database did not do what was asked.
+
+use sqlite::Error;
+use std::alloc::AllocError;
+
+/// The database refused a statement, wasn't opened, or isn't empty.
+#[derive(Clone, Copy, Debug, PartialEq, Eq)]
+pub struct Refused;
+
+impl From<Error> for Refused {
+    fn from(_error: Error) -> Refused {
+        Refused
+    }
+}
+
+impl From<AllocError> for Refused {
+    fn from(_error: AllocError) -> Refused {
+        Refused
+    }
+}

@@ -1,0 +1,137 @@
+//! Databases of the system.
+
+use crate::tables::{Tables, drop_tables};
+use crate::{Databases, Refused, RowTables};
+use keeper_play::RefTo;
+use sqlite::{Connection, File, FileStore, MemStore, Options, Unknown};
+use std::hash::{BuildHasher, RandomState};
+
+/// The name of a database in memory, as SQLite has it.
+const IN_MEMORY: &str = ":memory:";
+
+/// How many pages of 4,096 bytes are kept in memory of those read, and how many of those written: 32 MiB each.
+const PAGES: usize = 8_192;
+
+/// Databases in files of the system. A name is a path, but for `:memory:`, a new database in memory, which is gone once it is closed.
+#[derive(Drop)]
+pub struct SystemDatabases<'a> {
+    rt: &'a HostRuntime,
+}
+
+impl<'a> SystemDatabases<'a> {
+    /// The system's files, and its memory.
+    pub fn new(rt: &'a HostRuntime) -> Self {
+        SystemDatabases { rt }
+    }
+}
+
+/// An open database of the system.
+#[derive(Drop)]
+pub struct SystemTables<'a> {
+    rt: &'a HostRuntime,
+    name: String,
+    place: Place,
+}
+
+/// Where an open database is.
+#[derive(Drop)]
+enum Place {
+    File(Tables<FileStore<File>>),
+    Memory(Tables<MemStore>),
+    /// It was closed where its commit failed.
+    Nowhere,
+}
+
+impl<'a> Databases for SystemDatabases<'a> {
+    type Tables = SystemTables<'a>;
+
+    fn open(&self, name: &str) -> Result<SystemTables<'a>, Refused> {
+        let alloc = self.rt.alloc();
+        let kept_name = String::from_str(alloc, name)?;
+        let place = if name == IN_MEMORY {
+            Place::Memory(Tables::create(Connection::open_in_memory(alloc)?)?)
+        } else {
+            Place::File(Tables::create(open_file(self.rt, name)?)?)
+        };
+        Ok(SystemTables {
+            rt: self.rt,
+            name: kept_name,
+            place,
+        })
+    }
+}
+
+impl<'a> SystemTables<'a> {
+    /// Drops the tables again that a commit may have left in a file which failed at its end, as far as the disk lets.
+    fn take_back(&mut self) -> Result<(), Refused> {
+        // The file is locked until it is closed.
+        self.place = Place::Nowhere;
+        if self.name.as_str() == IN_MEMORY {
+            return Ok(());
+        }
+        let mut database = open_file(self.rt, self.name.as_str())?;
+        let dropped = drop_tables(&mut database);
+        close_file(database);
+        dropped
+    }
+}
+
+impl<'a> RowTables for SystemTables<'a> {
+    fn put(&mut self, table: u32, key: u64, refs: &[RefTo], line: &[u8]) -> Result<(), Refused> {
+        match &mut self.place {
+            Place::File(tables) => tables.put(table, key, refs, line),
+            Place::Memory(tables) => tables.put(table, key, refs, line),
+            Place::Nowhere => Err(Refused),
+        }
+    }
+
+    fn drop_row(&mut self, table: u32, key: u64) -> Result<(), Refused> {
+        match &mut self.place {
+            Place::File(tables) => tables.drop_row(table, key),
+            Place::Memory(tables) => tables.drop_row(table, key),
+            Place::Nowhere => Err(Refused),
+        }
+    }
+
+    fn commit(&mut self) -> Result<(), Refused> {
+        let committed = match &mut self.place {
+            Place::File(tables) => tables.commit(),
+            Place::Memory(tables) => tables.commit(),
+            Place::Nowhere => Err(Refused),
+        };
+        if committed.is_err() {
+            // Where that is refused too, nobody knows what a disk holds that failed at a commit.
+            let _ = self.take_back();
+        }
+        committed
+    }
+
+    fn close(self) {
+        let SystemTables { place, .. } = self;
+        if let Place::File(tables) = place {
+            close_file(tables.into_database());
+        }
+    }
+}
+
+/// Opens the database in a file, or makes it.
+fn open_file(rt: &HostRuntime, path: &str) -> Result<Connection<FileStore<File>>, Refused> {
+    let Ok(files) = sqlite_std_file::open(rt, path, Unknown) else {
+        return Err(Refused);
+    };
+    let Ok(state) = RandomState::new(rt) else {
+        return Err(Refused);
+    };
+    let mut options = Options::new(state.hash_one(&0u8));
+    options.cache_pages = PAGES;
+    options.spill_pages = PAGES;
+    match Connection::open_files(rt.alloc(), files, options) {
+        Ok(database) => Ok(database),
+        Err(_) => Err(Refused),
+    }
+}
+
+/// Closes a database. Where its log isn't copied into the file, it stands beside it, with all that is committed.
+fn close_file(database: Connection<FileStore<File>>) {
+    let _ = database.close();
+}

@@ -1,0 +1,239 @@
+//! The two tables of a store, and the statements on them.
+
+use crate::Refused;
+use keeper_play::RefTo;
+use sqlite::types::ValueRef;
+use sqlite::{Alter, Connection, Constraint, Error, ErrorCode, Statement, params};
+
+/// Whether a database has any table, index or view.
+const COUNT_OBJECTS: &str = "SELECT count(*) FROM sqlite_schema";
+
+/// The tables. A row has its number, the place of its table, its key and its line; a reference has its number and that of the row to which it
+/// leads. The index finds the references to a row.
+const CREATE_TABLES: &str = "BEGIN;
+CREATE TABLE kept_row (
+  row_id INTEGER PRIMARY KEY,
+  table_place INTEGER NOT NULL,
+  row_key INTEGER NOT NULL,
+  line BLOB NOT NULL
+);
+CREATE TABLE kept_reference (
+  reference_id INTEGER PRIMARY KEY,
+  parent_id INTEGER NOT NULL REFERENCES kept_row (row_id)
+);
+CREATE INDEX kept_reference_by_parent ON kept_reference (parent_id);";
+
+const ADD_ROW: &str =
+    "INSERT INTO kept_row (row_id, table_place, row_key, line) VALUES (?1, ?2, ?3, ?4)";
+
+const SET_LINE: &str = "UPDATE kept_row SET line = ?3 WHERE row_id = ?1 AND row_key = ?2";
+
+const DROP_REFERENCES: &str = "DELETE FROM kept_reference WHERE reference_id BETWEEN ?1 AND ?2";
+
+const PUT_REFERENCE: &str = "INSERT INTO kept_reference (reference_id, parent_id) VALUES (?1, ?2)";
+
+const DROP_ROW: &str = "DELETE FROM kept_row WHERE row_id = ?1 AND row_key = ?2";
+
+const COMMIT: &str = "COMMIT";
+
+const DROP_TABLES: &str = "BEGIN;
+DROP TABLE kept_reference;
+DROP TABLE kept_row;
+COMMIT";
+
+/// How many tables the rows may be of.
+const TABLES: u64 = 64;
+
+/// How many columns a table may have.
+const COLUMNS: u32 = 64;
+
+/// How far apart, at most, the keys of a table may lie.
+const KEYS: u64 = 1 << 47;
+
+/// A row: its number, the place of its table, and its key.
+#[derive(Clone, Copy)]
+struct RowName {
+    number: i64,
+    table: u32,
+    key: i64,
+}
+
+impl RowName {
+    /// The row of a table that has a key. Its number is made of the remainder of its key and the place of its table, so that all rows have
+    /// numbers of their own where the keys of each table lie near enough to one another.
+    fn of(table: u32, key: u64) -> Result<RowName, Refused> {
+        let place = u64::from(table);
+        if place >= TABLES {
+            return Err(Refused);
+        }
+        let number = (key % KEYS * TABLES + place) as i64;
+        match i64::try_from(key) {
+            Ok(key) => Ok(RowName { number, table, key }),
+            Err(_) => Err(Refused),
+        }
+    }
+
+    /// The number of its reference in the column at a place.
+    fn reference(self, column: u32) -> Result<i64, Refused> {
+        if column >= COLUMNS {
+            return Err(Refused);
+        }
+        let first = self.number.checked_mul(i64::from(COLUMNS)).ok_or(Refused)?;
+        first.checked_add(i64::from(column)).ok_or(Refused)
+    }
+}
+
+/// The statements on the tables.
+#[derive(Drop)]
+struct Statements {
+    add_row: Statement,
+    set_line: Statement,
+    drop_references: Statement,
+    put_reference: Statement,
+    drop_row: Statement,
+}
+
+impl Statements {
+    /// The statements, prepared for a database with the tables.
+    fn prepare<S: Alter>(database: &mut Connection<S>) -> Result<Statements, Refused> {
+        Ok(Statements {
+            add_row: prepare(database, ADD_ROW)?,
+            set_line: prepare(database, SET_LINE)?,
+            drop_references: prepare(database, DROP_REFERENCES)?,
+            put_reference: prepare(database, PUT_REFERENCE)?,
+            drop_row: prepare(database, DROP_ROW)?,
+        })
+    }
+}
+
+/// An open database with the two tables, in a transaction.
+#[derive(Drop)]
+pub(crate) struct Tables<S: Alter + Drop> {
+    database: Connection<S>,
+    statements: Statements,
+}
+
+impl<S: Alter + Drop> Tables<S> {
+    /// The tables, made in a database that has none.
+    pub(crate) fn create(mut database: Connection<S>) -> Result<Tables<S>, Refused> {
+        let statements = make_tables(&mut database)?;
+        Ok(Tables {
+            database,
+            statements,
+        })
+    }
+
+    /// Puts a row with its references, in place of one with the same key.
+    pub(crate) fn put(
+        &mut self,
+        table: u32,
+        key: u64,
+        refs: &[RefTo],
+        line: &[u8],
+    ) -> Result<(), Refused> {
+        let row = RowName::of(table, key)?;
+        self.put_line(row, line)?;
+        for to in refs {
+            self.put_ref(row, to)?;
+        }
+        Ok(())
+    }
+
+    /// Drops a row with its references.
+    pub(crate) fn drop_row(&mut self, table: u32, key: u64) -> Result<(), Refused> {
+        let row = RowName::of(table, key)?;
+        self.drop_refs(row)?;
+        let values = params![row.number, row.key];
+        make(&mut self.database, &self.statements.drop_row, values)?;
+        Ok(())
+    }
+
+    /// Commits what was put and dropped.
+    pub(crate) fn commit(&mut self) -> Result<(), Refused> {
+        batch(&mut self.database, COMMIT)
+    }
+
+    /// Puts a row without references, in place of one with the same key.
+    fn put_line(&mut self, row: RowName, line: &[u8]) -> Result<(), Refused> {
+        let values = params![row.number, row.table, row.key, line];
+        match make(&mut self.database, &self.statements.add_row, values) {
+            Ok(_) => Ok(()),
+            Err(error) if is_taken(error) => self.set_line(row, line),
+            Err(_) => Err(Refused),
+        }
+    }
+
+    /// Sets the line of a row that is there, and drops its references.
+    fn set_line(&mut self, row: RowName, line: &[u8]) -> Result<(), Refused> {
+        self.drop_refs(row)?;
+        let values = params![row.number, row.key, line];
+        let set = make(&mut self.database, &self.statements.set_line, values)?;
+        if set == 1 { Ok(()) } else { Err(Refused) }
+    }
+
+    /// Puts a reference of a row.
+    fn put_ref(&mut self, row: RowName, to: &RefTo) -> Result<(), Refused> {
+        let parent = RowName::of(to.table, to.key)?;
+        let values = params![row.reference(to.column)?, parent.number];
+        make(&mut self.database, &self.statements.put_reference, values)?;
+        Ok(())
+    }
+
+    /// Drops the references of a row.
+    fn drop_refs(&mut self, row: RowName) -> Result<(), Refused> {
+        let values = params![row.reference(0)?, row.reference(COLUMNS - 1)?];
+        make(&mut self.database, &self.statements.drop_references, values)?;
+        Ok(())
+    }
+
+    /// The database, in its transaction.
+    pub(crate) fn into_database(self) -> Connection<S> {
+        self.database
+    }
+}
+
+/// Whether a row was refused since there is one with its number.
+fn is_taken(error: Error) -> bool {
+    matches!(
+        error,
+        Error::SqliteFailure(ErrorCode::ConstraintViolation(Constraint::PrimaryKey))
+    )
+}
+
+/// Begins a transaction in a database that is empty, makes the tables, and prepares the statements on them.
+fn make_tables<S: Alter>(database: &mut Connection<S>) -> Result<Statements, Refused> {
+    if count_objects(database)? != 0 {
+        return Err(Refused);
+    }
+    batch(database, CREATE_TABLES)?;
+    Statements::prepare(database)
+}
+
+/// Drops the tables of a database and commits that; it is refused where it has none.
+pub(crate) fn drop_tables<S: Alter>(database: &mut Connection<S>) -> Result<(), Refused> {
+    batch(database, DROP_TABLES)
+}
+
+/// How many objects a database has.
+fn count_objects<S: Alter>(database: &mut Connection<S>) -> Result<i64, Refused> {
+    Ok(database.query_row(COUNT_OBJECTS, &[])?.get(0)?)
+}
+
+/// Makes the statements of a text.
+fn batch<S: Alter>(database: &mut Connection<S>, text: &str) -> Result<(), Refused> {
+    Ok(database.execute_batch(text)?)
+}
+
+/// Prepares a statement.
+fn prepare<S: Alter>(database: &mut Connection<S>, text: &str) -> Result<Statement, Refused> {
+    Ok(database.prepare(text)?)
+}
+
+/// Makes a statement, and tells how many rows it changed.
+fn make<S: Alter>(
+    database: &mut Connection<S>,
+    statement: &Statement,
+    values: &[ValueRef<'_>],
+) -> Result<usize, Error> {
+    statement.execute(database, values)
+}
