@@ -1,0 +1,185 @@
+//! The packages of a detail table's lines.
+
+ghost use Rattle.std.specs.Prelude.{◌≡◌, ◌<◌, ◌≤◌, ◌-◌, ◌*◌, ◌^◌, [], IfOk, length, min};
+ghost use Rattle.detail_plan.specs.Rules.{KeepsRules, reach_of};
+ghost use Rattle.detail_rows.specs.Packages.{AreTold, count_of, package_count, range_text, room_of, rows_in, text_numbered};
+
+use crate::detail_lines::LineKind;
+use crate::memory::Memory;
+use crate::parent_lines::ParentLines;
+use detail_plan::DetailPlan;
+use line_pages::PageBuf;
+use range_workers::Packer;
+use std::alloc::Global;
+use std::marker::{Brand, Model};
+use std::sync::ledger::{Blank, Ledger};
+use step_count::Steps;
+
+/// Which lines are told, of which rows of the parent.
+#[derive(Clone, Copy, Debug)]
+pub enum Rows<'a> {
+    /// The lines of all rows that the parent holds at a unit.
+    All { unit: u64 },
+    /// The lines of the rows of these ordinals, with their keys alone.
+    Keys { ordinals: &'a [u64] },
+    /// The lines at a unit of the rows of these ordinals.
+    Lines { ordinals: &'a [u64], unit: u64 },
+    /// The lines of the rows that are born at a unit, as `Lines` of all their ordinals gives them.
+    Born { unit: u64 },
+}
+
+/// The packages of a detail table's lines, each of so many rows of its parent. Each is made from the plan, with the orders that are kept for its rows,
+/// and from the rows that are told alone. A contract sees the plan, the detail table, the rows and the number of rows of a package.
+#[derive(Drop)]
+pub struct DetailPacker<'a> {
+    lines: ParentLines<'a>,
+    told: Rows<'a>,
+    size: u64,
+    many: u64,
+    count: u64,
+    room: usize,
+}
+
+impl<'a> Model for DetailPacker<'a> {
+    ghost use Rattle.std.specs.Prelude.{◌≡◌, ◌≤◌, ◌^◌};
+    ghost use Rattle.detail_rows.specs.Packages.{ArePackages, Packages};
+
+    ghost Value = { Packages };
+
+    ghost view = { λ p. record { plan = p.lines.plan; detail = p.lines.detail; rows = p.told; size = p.size } };
+
+    ghost invariant = { λ p. ArePackages (record { plan = p.lines.plan; detail = p.lines.detail; rows = p.told; size = p.size }) p.many p.count p.room };
+}
+
+/// How many rows there are: all that are born by the unit, or those that are listed.
+fn rows_in(lines: &ParentLines<'_>, told: &Rows<'_>) -> u64
+    requires { AreTold lines.now.plan lines.now.detail told.now }
+    ensures many { result ≡ rows_in lines.now.plan lines.now.detail told.now }
+    ensures few { result ≤ 2 ^ 60 }
+{
+    match told {
+        Rows::All { unit } => lines.born(*unit),
+        Rows::Keys { ordinals } | Rows::Lines { ordinals, .. } => ordinals.len() as u64,
+        Rows::Born { unit } => lines.cohort(*unit).size,
+    }
+}
+
+/// How many packages of at most so many rows are wanted for so many.
+fn package_count(size: u64, many: u64) -> u64
+    requires some { 1 ≤ size }
+    requires size { size ≤ 1000000 }
+    requires many { many ≤ 2 ^ 60 }
+    ensures count { result ≡ package_count size many }
+    ensures few { result ≤ 2 ^ 60 }
+{
+    (many + (size - 1)) / size
+}
+
+/// Puts the lines of the rows from a position up to another on a page, which is empty.
+fn put_range<L: Ledger>(
+    lines: &ParentLines<'_>,
+    told: &Rows<'_>,
+    first: u64,
+    end: u64,
+    page: &mut PageBuf,
+    steps: &mut Steps<L>,
+)
+    requires told { AreTold lines.now.plan lines.now.detail told.now }
+    requires ordered { first ≤ end }
+    requires within { end ≤ rows_in lines.now.plan lines.now.detail told.now }
+    requires empty { page.old.text ≡ [] }
+    requires room { (end - first) * reach_of lines.now.plan lines.now.detail ≤ page.old.room }
+    ensures { page.new ≡ record page.old { text = range_text lines.now.plan lines.now.detail told.now first end } }
+{
+    match told {
+        Rows::All { unit } => lines.put_living(*unit, first, end - first, page, steps),
+        Rows::Keys { ordinals } => {
+            let listed = &ordinals[first as usize..end as usize];
+            lines.put_listed(LineKind::KeysAlone, lines.last_unit(), listed, page, steps);
+        }
+        Rows::Lines { ordinals, unit } => {
+            let listed = &ordinals[first as usize..end as usize];
+            lines.put_listed(LineKind::Whole, *unit, listed, page, steps);
+        }
+        Rows::Born { unit } => {
+            let born = lines.cohort(*unit).first;
+            lines.put_living(*unit, born + first, end - first, page, steps);
+        }
+    }
+}
+
+impl<'a> DetailPacker<'a> {
+    /// The packages of the lines of some rows of a detail table's parent, over the rows of a plan, of so many rows each: 1 to 1,000,000. At `Memory`
+    /// nothing is made.
+    pub fn new(
+        alloc: Global,
+        rows: life_intervals::Rows<'a>,
+        detail: &'a DetailPlan,
+        told: Rows<'a>,
+        size: u64,
+    ) -> Result<DetailPacker<'a>, Memory>
+        requires keeps { KeepsRules rows detail.now }
+        requires some_row { 1 ≤ size }
+        requires size_limit { size ≤ 1000000 }
+        requires told { AreTold rows detail.now told }
+        ensures { IfOk result (λ packer. packer ≡ record { plan = rows.entry; detail = detail.now; rows = told.entry; size = size }) }
+    {
+        let lines = ParentLines::new(alloc, rows, detail)?;
+        let many = rows_in(&lines, &told);
+        let room = size.min(many) * lines.reach();
+        Ok(DetailPacker {
+            lines,
+            told,
+            size,
+            many,
+            count: package_count(size, many),
+            room: room as usize,
+        })
+    }
+
+    /// Puts the lines of a package on a page, which is empty.
+    fn put_package<B: Ledger>(&self, n: u64, page: &mut PageBuf, blank: Blank)
+        requires name { blank.name ≡ B.name }
+        requires parts { blank.parts ≡ B.parts }
+        requires some { 0 < blank.parts }
+        requires number { n < count_of self.now }
+        requires empty { page.old.text ≡ [] }
+        requires room { room_of self.now ≤ page.old.room }
+        ensures { page.new ≡ record page.old { text = text_numbered self.now n } }
+    {
+        let mut steps = Steps::<B>::new(blank);
+        let first = n * self.size;
+        let end = self.many.min(first + self.size);
+        put_range(&self.lines, &self.told, first, end, page, &mut steps);
+    }
+
+    /// Makes a package, and counts no steps.
+    fn put_uncounted(&self, n: u64, page: &mut PageBuf)
+        requires number { n < count_of self.now }
+        requires empty { page.old.text ≡ [] }
+        requires room { room_of self.now ≤ page.old.room }
+        ensures { page.new ≡ record page.old { text = text_numbered self.now n } }
+    {
+        self.put_package::<Brand>(n, page, Blank::new(1));
+    }
+}
+
+impl<'a> Packer for DetailPacker<'a> {
+    ghost text = { text_numbered };
+
+    ghost count = { count_of };
+
+    ghost room = { room_of };
+
+    fn count(&self) -> u64 {
+        self.count
+    }
+
+    fn room(&self) -> usize {
+        self.room
+    }
+
+    fn pack(&self, n: u64, page: &mut PageBuf) {
+        self.put_uncounted(n, page);
+    }
+}

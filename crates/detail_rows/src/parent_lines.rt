@@ -1,0 +1,347 @@
+//! The lines of the rows of the parent, by their ordinals: of some at once, from what the plan tells of these.
+
+ghost use Rattle.std.specs.Prelude.{◌≡◌, ◌<◌, ◌≤◌, ◌+◌, ◌*◌, ◌^◌, ◌++◌, ℕ, IfOk, get_or, length, map, take};
+ghost use Rattle.schema_plan.specs.Layout.{layout_of};
+ghost use Rattle.life_intervals.specs.Generator.{generator_of, last_unit};
+ghost use Rattle.life_intervals.specs.Intervals.{change_unit, is_live};
+ghost use Rattle.life_intervals.specs.Keys.{key_of};
+ghost use Rattle.life_intervals.specs.Runs.{IsRun};
+ghost use Rattle.detail_plan.specs.Rules.{KeepsRules, reach_of};
+ghost use Rattle.detail_rows.specs.Lines.{parent_place};
+ghost use Rattle.detail_rows.specs.Packages.{born_by, first_born, listed_text, living_from, size_born};
+ghost use Rattle.detail_rows.specs.Told.{AreMany};
+
+use crate::detail_lines::{DetailLines, LineKind};
+use crate::memory::Memory;
+use crate::parent_row::ParentRows;
+use detail_plan::DetailPlan;
+use life_intervals::{Cohort, MOST_ROWS, Rows, born, cohort};
+use line_pages::PageBuf;
+use row_lines::{keep, put_range};
+use schema_plan::Plan;
+use std::alloc::Global;
+use std::marker::Model;
+use std::sync::ledger::Ledger;
+use step_count::Steps;
+
+/// The lines of the rows of a detail table's parent, with what doesn't change from row to row. A contract sees the plan and the detail table.
+#[derive(Drop)]
+pub(crate) struct ParentLines<'a> {
+    rows: Rows<'a>,
+    lines: DetailLines<'a>,
+    table: u32,
+}
+
+impl<'a> Model for ParentLines<'a> {
+    ghost use Rattle.detail_rows.specs.Parent.{AreParentLines, ParentLinesOf};
+
+    ghost Value = { ParentLinesOf };
+
+    ghost view = { λ l. record { plan = l.rows; detail = l.lines.detail } };
+
+    ghost invariant = { λ l. AreParentLines (record { plan = l.rows; detail = l.lines.detail }) l.lines l.table };
+}
+
+/// The place in a plan's schema of the parent of a detail table that keeps its rules over it.
+pub fn parent_of(plan: &Plan, detail: &DetailPlan) -> u32
+    requires { KeepsRules plan.now detail.now }
+    ensures place { result ≡ parent_place plan.now detail.now }
+    ensures within { result < length plan.now.schema.tables }
+{
+    match plan.table_named(detail.detail().parent.as_str()) {
+        Some(table) => table,
+        None => unreachable!(),
+    }
+}
+
+impl<'a> ParentLines<'a> {
+    /// The lines of the rows of the parent of a detail table that keeps its rules over a plan. At `Memory` there are none.
+    pub(crate) fn new(
+        alloc: Global,
+        rows: Rows<'a>,
+        detail: &'a DetailPlan,
+    ) -> Result<ParentLines<'a>, Memory>
+        requires { KeepsRules rows detail.now }
+        ensures { IfOk result (λ lines. lines ≡ record { plan = rows.entry; detail = detail.now }) }
+    {
+        let plan = rows.plan();
+        let table = parent_of(plan, detail);
+        let lines = DetailLines::new(alloc, plan.delimiter(), detail)?;
+        Ok(ParentLines { rows, lines, table })
+    }
+
+    /// The rows of the plan.
+    fn rows(&self) -> &Rows<'a>
+        ensures { result.now ≡ self.now.plan }
+    {
+        &self.rows
+    }
+
+    /// The lines of the detail table.
+    fn lines(&self) -> &DetailLines<'a>
+        ensures value { result.now ≡ record { delimiter = (layout_of self.now.plan).delimiter; detail = self.now.detail } }
+        ensures keeps { KeepsRules self.now.plan self.now.detail }
+    {
+        &self.lines
+    }
+
+    /// The place of the parent.
+    pub(crate) fn table(&self) -> u32
+        ensures place { result ≡ parent_place self.now.plan self.now.detail }
+        ensures within { result < length self.now.plan.schema.tables }
+    {
+        self.table
+    }
+
+    /// The last unit.
+    pub(crate) fn last_unit(&self) -> u64
+        ensures { result ≡ last_unit self.now.plan }
+    {
+        self.rows().plan().units()
+    }
+
+    /// The greatest size of all lines of a row, in bytes.
+    pub(crate) fn reach(&self) -> u64
+        ensures reach { result ≡ reach_of self.now.plan self.now.detail }
+        ensures most { result ≤ 65536 }
+    {
+        self.lines().reach(self.rows().plan())
+    }
+
+    /// How many rows of the parent are born by unit `t`.
+    pub(crate) fn born(&self, t: u64) -> u64
+        requires { t ≤ last_unit self.now.plan }
+        ensures count { result ≡ born_by self.now.plan self.now.detail t }
+        ensures limit { result ≤ 2 ^ 40 }
+    {
+        born(self.rows().plan(), self.table(), t)
+    }
+
+    /// The rows of the parent that are born at unit `t`.
+    pub(crate) fn cohort(&self, t: u64) -> Cohort
+        requires { t ≤ last_unit self.now.plan }
+        ensures first { result.first ≡ first_born self.now.plan self.now.detail t }
+        ensures size { result.size ≡ size_born self.now.plan self.now.detail t }
+        ensures within { result.first + result.size ≡ born_by self.now.plan self.now.detail t }
+        ensures limit { born_by self.now.plan self.now.detail t ≤ 2 ^ 40 }
+    {
+        let _most = self.born(t); // there are at most 2^40
+        cohort(self.rows().plan(), self.table(), t)
+    }
+
+    /// Puts the units at which rows changed last by unit `t`, where whole lines are told.
+    fn put_changes<L: Ledger>(
+        &self,
+        kind: LineKind,
+        t: u64,
+        ordinals: &[u64],
+        births: &[u64],
+        changes: &mut [u64],
+        steps: &mut Steps<L>,
+    )
+        requires unit { t ≤ last_unit self.now.plan }
+        requires run { IsRun self.now.plan (parent_place self.now.plan self.now.detail) t ordinals.now births.now }
+        requires same_length { length changes.old ≡ length ordinals.now }
+        ensures same_length { length changes.new ≡ length ordinals.now }
+        ensures changes { kind ≡ LineKind.Whole → (i : ℕ) → i < length ordinals.now → get_or changes.new i 0 ≡ change_unit (generator_of self.now.plan) (parent_place self.now.plan self.now.detail) t (get_or ordinals.now i 0) }
+    {
+        match kind {
+            LineKind::Whole => {
+                let table = self.table();
+                self.rows()
+                    .put_changes(table, t, ordinals, births, changes, steps);
+            }
+            LineKind::KeysAlone => {}
+        }
+    }
+
+    /// Appends the lines at unit `t` of some rows, which are born by it, from what is told of these.
+    fn put_told(&self, kind: LineKind, t: u64, told: &ParentRows<'_>, page: &mut PageBuf)
+        requires unit { t ≤ last_unit self.now.plan }
+        requires many { AreMany (length told.now.ordinals.now) told.now }
+        requires rows { (i : ℕ) → i < length told.now.ordinals.now → get_or told.now.ordinals.now i 0 < born_by self.now.plan self.now.detail t }
+        requires run { IsRun self.now.plan (parent_place self.now.plan self.now.detail) t told.now.ordinals.now told.now.births.now }
+        requires keys { (i : ℕ) → i < length told.now.ordinals.now → get_or told.now.keys.now i 0 ≡ key_of (generator_of self.now.plan) (parent_place self.now.plan self.now.detail) (last_unit self.now.plan) (get_or told.now.ordinals.now i 0) }
+        requires changes { kind ≡ LineKind.Whole → (i : ℕ) → i < length told.now.ordinals.now → get_or told.now.changes.now i 0 ≡ change_unit (generator_of self.now.plan) (parent_place self.now.plan self.now.detail) t (get_or told.now.ordinals.now i 0) }
+        requires room { length page.old.text + length told.now.ordinals.now * reach_of self.now.plan self.now.detail ≤ page.old.room }
+        ensures text { page.new ≡ record page.old { text = page.old.text ++ listed_text self.now.plan self.now.detail kind t told.now.ordinals.now } }
+        ensures size { length (listed_text self.now.plan self.now.detail kind t told.now.ordinals.now) ≤ length told.now.ordinals.now * reach_of self.now.plan self.now.detail }
+    {
+        let _most = self.born(t); // there are at most 2^40
+        let _place = self.table(); // it is one of the plan's
+        self.lines().put_rows(kind, told, told.ordinals.len(), page);
+    }
+
+    /// Appends the lines at unit `t` of the rows of these ordinals, which are born by it and no more than a run has.
+    fn put_run<L: Ledger>(
+        &self,
+        kind: LineKind,
+        t: u64,
+        ordinals: &[u64],
+        page: &mut PageBuf,
+        steps: &mut Steps<L>,
+    )
+        requires few { length ordinals.now ≤ MOST_ROWS }
+        requires unit { t ≤ last_unit self.now.plan }
+        requires rows { (i : ℕ) → i < length ordinals.now → get_or ordinals.now i 0 < born_by self.now.plan self.now.detail t }
+        requires room { length page.old.text + length ordinals.now * reach_of self.now.plan self.now.detail ≤ page.old.room }
+        ensures text { page.new ≡ record page.old { text = page.old.text ++ listed_text self.now.plan self.now.detail kind t ordinals.now } }
+        ensures size { length (listed_text self.now.plan self.now.detail kind t ordinals.now) ≤ length ordinals.now * reach_of self.now.plan self.now.detail }
+    {
+        let table = self.table();
+        let many = ordinals.len();
+        let mut all_births = [0; MOST_ROWS];
+        let all = &mut all_births[..];
+        let births = &mut all[..many];
+        self.rows().put_births(table, t, ordinals, births);
+        let mut all_changes = [0; MOST_ROWS];
+        let all = &mut all_changes[..];
+        let changes = &mut all[..many];
+        self.put_changes(kind, t, ordinals, births, changes, steps);
+        let mut all_keys = [0; MOST_ROWS];
+        let all = &mut all_keys[..];
+        let keys = &mut all[..many];
+        self.rows().put_keys(table, ordinals, births, keys, steps);
+        let told = ParentRows {
+            keys,
+            ordinals,
+            births,
+            changes,
+        };
+        self.put_told(kind, t, &told, page);
+    }
+
+    /// The same of as many as there are.
+    pub(crate) fn put_listed<L: Ledger>(
+        &self,
+        kind: LineKind,
+        t: u64,
+        ordinals: &[u64],
+        page: &mut PageBuf,
+        steps: &mut Steps<L>,
+    )
+        requires unit { t ≤ last_unit self.now.plan }
+        requires rows { (i : ℕ) → i < length ordinals.now → get_or ordinals.now i 0 < born_by self.now.plan self.now.detail t }
+        requires room { length page.old.text + length ordinals.now * reach_of self.now.plan self.now.detail ≤ page.old.room }
+        ensures { page.new ≡ record page.old { text = page.old.text ++ listed_text self.now.plan self.now.detail kind t ordinals.now } }
+    {
+        let mut done = 0;
+        while done < ordinals.len() {
+            let some = (ordinals.len() - done).min(MOST_ROWS);
+            self.put_run(kind, t, &ordinals[done..done + some], page, steps);
+            done += some;
+        }
+    }
+
+    /// Appends the lines at unit `t` of the living among some rows from the one of ordinal `first` on, which are born by it and no more than a run has.
+    fn put_living_run<L: Ledger>(
+        &self,
+        t: u64,
+        first: u64,
+        some: usize,
+        page: &mut PageBuf,
+        steps: &mut Steps<L>,
+    )
+        requires few { some ≤ MOST_ROWS }
+        requires unit { t ≤ last_unit self.now.plan }
+        requires rows { first + some ≤ born_by self.now.plan self.now.detail t }
+        requires room { length page.old.text + some * reach_of self.now.plan self.now.detail ≤ page.old.room }
+        ensures text { page.new ≡ record page.old { text = page.old.text ++ listed_text self.now.plan self.now.detail LineKind.Whole t (living_from self.now.plan self.now.detail t first some) } }
+        ensures size { length (listed_text self.now.plan self.now.detail LineKind.Whole t (living_from self.now.plan self.now.detail t first some)) ≤ some * reach_of self.now.plan self.now.detail }
+    {
+        let mut all_ordinals = [0; MOST_ROWS];
+        let all = &mut all_ordinals[..];
+        let ordinals = &mut all[..some];
+        let living = self.find_living(t, first, some, ordinals, steps);
+        self.put_run(LineKind::Whole, t, &ordinals[..living], page, steps);
+    }
+
+    /// Puts the ordinals of the living among some rows from the one of ordinal `first` on to the begin of a list, which is as long, and tells how many they
+    /// are.
+    fn find_living<L: Ledger>(
+        &self,
+        t: u64,
+        first: u64,
+        some: usize,
+        ordinals: &mut [u64],
+        steps: &mut Steps<L>,
+    ) -> usize
+        requires few { some ≤ MOST_ROWS }
+        requires length { length ordinals.old ≡ some }
+        requires unit { t ≤ last_unit self.now.plan }
+        requires rows { first + some ≤ born_by self.now.plan self.now.detail t }
+        ensures within { result ≤ some }
+        ensures living { take result ordinals.new ≡ living_from self.now.plan self.now.detail t first some }
+    {
+        let _most = self.born(t); // there are at most 2^40
+        let table = self.table();
+        put_range(ordinals, first);
+        let mut all_births = [0; MOST_ROWS];
+        let all = &mut all_births[..];
+        let births = &mut all[..some];
+        self.rows().put_births(table, t, ordinals, births);
+        let mut all_live = [false; MOST_ROWS];
+        let all = &mut all_live[..];
+        let live = &mut all[..some];
+        self.put_lives(t, ordinals, births, live, steps);
+        keep(ordinals, live)
+    }
+
+    /// Puts which rows are alive at unit `t`.
+    fn put_lives<L: Ledger>(
+        &self,
+        t: u64,
+        ordinals: &[u64],
+        births: &[u64],
+        live: &mut [bool],
+        steps: &mut Steps<L>,
+    )
+        requires few { length ordinals.now ≤ MOST_ROWS }
+        requires unit { t ≤ last_unit self.now.plan }
+        requires run { IsRun self.now.plan (parent_place self.now.plan self.now.detail) t ordinals.now births.now }
+        requires same_length { length live.old ≡ length ordinals.now }
+        ensures { live.new ≡ map (is_live (generator_of self.now.plan) (parent_place self.now.plan self.now.detail) t) ordinals.now }
+    {
+        let table = self.table();
+        let many = ordinals.len();
+        let mut all_parents = [0; MOST_ROWS];
+        let all = &mut all_parents[..];
+        let parents = &mut all[..many];
+        let mut all_parents_births = [0; MOST_ROWS];
+        let all = &mut all_parents_births[..];
+        let parents_births = &mut all[..many];
+        let _ = self.rows().put_run_lives(
+            table,
+            t,
+            ordinals,
+            births,
+            live,
+            parents,
+            parents_births,
+            steps,
+        );
+    }
+
+    /// Appends the lines at unit `t` of the living among `count` rows from the one of ordinal `first` on, which are born by it.
+    pub(crate) fn put_living<L: Ledger>(
+        &self,
+        t: u64,
+        first: u64,
+        count: u64,
+        page: &mut PageBuf,
+        steps: &mut Steps<L>,
+    )
+        requires unit { t ≤ last_unit self.now.plan }
+        requires rows { first + count ≤ born_by self.now.plan self.now.detail t }
+        requires room { length page.old.text + count * reach_of self.now.plan self.now.detail ≤ page.old.room }
+        ensures { page.new ≡ record page.old { text = page.old.text ++ listed_text self.now.plan self.now.detail LineKind.Whole t (living_from self.now.plan self.now.detail t first count) } }
+    {
+        let _most = self.born(t); // there are at most 2^40
+        let mut done = 0;
+        while done < count {
+            let some = (count - done).min(MOST_ROWS as u64);
+            self.put_living_run(t, first + done, some as usize, page, steps);
+            done += some;
+        }
+    }
+}

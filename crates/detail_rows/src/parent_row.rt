@@ -1,0 +1,40 @@
+//! Rows of the parent.
+
+/// What the lines of a row take from it: its key, its ordinal, and the units of its birth and of its last change.
+#[derive(Clone, Copy, Debug)]
+pub(crate) struct ParentRow {
+    pub(crate) key: u64,
+    pub(crate) ordinal: u64,
+    pub(crate) born: u64,
+    pub(crate) changed: u64,
+}
+
+/// Rows side by side, each at one place of the four lists.
+#[derive(Clone, Copy)]
+pub(crate) struct ParentRows<'a> {
+    pub(crate) keys: &'a [u64],
+    pub(crate) ordinals: &'a [u64],
+    pub(crate) births: &'a [u64],
+    pub(crate) changes: &'a [u64],
+}
+
+impl<'a> ParentRows<'a> {
+    ghost use Rattle.std.specs.Prelude.{◌≡◌, ◌<◌, ℕ};
+    ghost use Rattle.detail_rows.specs.Told.{AreMany, row_of};
+
+    /// The row at a place, of so many.
+    #[inline(always)]
+    pub(crate) fn row(&self, i: usize, many: usize) -> ParentRow
+        requires many { AreMany many self.now }
+        requires within { i < many }
+        ensures { result ≡ row_of self.now i }
+    {
+        let _ = many;
+        ParentRow {
+            key: self.keys[i],
+            ordinal: self.ordinals[i],
+            born: self.births[i],
+            changed: self.changes[i],
+        }
+    }
+}

@@ -1,0 +1,172 @@
+//! Declarations that are read, and what they declare, or why they declare nothing, worked out by hand.
+
+use crate::fixtures::joined;
+use detail_plan::{DetailReadFault, read_detail};
+use std::alloc::Global;
+use std::process::Abort;
+
+/// All keys and kinds, and numbers and names that no rule accepts, since the rules are not tried here.
+const TEXT: &str = r#"
+hi = -16
+column = [
+    { kind = "int", hi = -9223372036854775808, lo = 9223372036854775807, name = "" },
+    { name = "B", kind = "pick", entries = [] },
+    { name = "B", kind = "pick", entries = ["", "a\tb", "é"], changes = true },
+    { name = "c", kind = "int", lo = 1, hi = 2, changes = false },
+]
+parent = "None"
+name = 'no name'
+lo = 0x46
+seed = -7
+"#;
+
+/// What it declares, as `{:?}` writes it.
+const DETAIL: &str = concat!(
+    r#"Detail { seed: -7, lo: 70, hi: -16, name: Text { text: "no name" }, parent: Text { text: "None" }, columns: Sequence { items: ["#,
+    r#"DetailColumn { name: Text { text: "" }, kind: Int { lo: 9223372036854775807, hi: -9223372036854775808 }, changes: false }, "#,
+    r#"DetailColumn { name: Text { text: "B" }, kind: Pick { entries: Sequence { items: [] } }, changes: false }, "#,
+    r#"DetailColumn { name: Text { text: "B" }, kind: Pick { entries: Sequence { items: [Text { text: "" }, Text { text: "a\tb" }, Text { text: "é" }] } }, changes: true }, "#,
+    r#"DetailColumn { name: Text { text: "c" }, kind: Int { lo: 1, hi: 2 }, changes: false }"#,
+    "] } }",
+);
+
+#[test]
+fn each_key_is_read(rt: HostRuntime) {
+    let detail = read_detail(rt.alloc(), TEXT.as_bytes()).expect(&rt, "nothing declared");
+    let told = format!(in rt.alloc(); "{detail:?}").expect(&rt, "memory");
+    assert!(rt; told.as_str() == DETAIL, "{told}");
+}
+
+/// The keys of a declaration, each right and of another type.
+const TOP: [(&str, &str); 6] = [
+    ("seed=1\n", "seed='1'\n"),
+    ("lo=1\n", "lo=1.0\n"),
+    ("hi=2\n", "hi=[2]\n"),
+    ("name='item'\n", "name=1\n"),
+    ("parent='customer'\n", "parent=true\n"),
+    ("column=[]\n", "column={}\n"),
+];
+
+/// Those of a declaration before its columns.
+const FRONT: &str = "seed=1\nlo=1\nhi=2\nname='item'\nparent='customer'\n[[column]]\n";
+
+/// Those of a column of numbers.
+const INT: [(&str, &str); 4] = [
+    ("name='qty'\n", "name=['qty']\n"),
+    ("kind='int'\n", "kind=1\n"),
+    ("lo=5\n", "lo='5'\n"),
+    ("hi=5\n", "hi=true\n"),
+];
+
+/// Those of a column of entries.
+const PICK: [(&str, &str); 3] = [
+    ("name='mark'\n", "name=1\n"),
+    ("kind='pick'\n", "kind=['pick']\n"),
+    ("entries=['a','b']\n", "entries='a'\n"),
+];
+
+/// The right lines but for the one at a place, in whose stead another stands.
+fn with_line(
+    rt: &impl Abort,
+    alloc: Global,
+    front: &str,
+    lines: &[(&str, &str)],
+    at: usize,
+    other: &str,
+) -> String {
+    let mut text = joined(rt, alloc, &[front]);
+    for (place, (right, _)) in lines.iter().enumerate() {
+        let line = if place == at { other } else { *right };
+        text.push_str(line).expect(rt, "memory");
+    }
+    text
+}
+
+/// A text declares nothing, for this reason.
+fn assert_refused(rt: &impl Abort, alloc: Global, text: &[u8], fault: DetailReadFault) {
+    let told = read_detail(alloc, text).err();
+    assert!(rt; told == Some(fault), "{told:?}: {text:?}");
+}
+
+/// Each of the keys has to be there, and to be of its type.
+fn assert_required(rt: &impl Abort, alloc: Global, front: &str, lines: &[(&str, &str)]) {
+    let right = with_line(rt, alloc, front, lines, lines.len(), "");
+    assert!(rt;
+        read_detail(alloc, right.as_str().as_bytes()).is_ok(),
+        "{right}"
+    );
+    for (at, (_, wrong)) in lines.iter().enumerate() {
+        for other in ["", *wrong] {
+            let text = with_line(rt, alloc, front, lines, at, other);
+            let bytes = text.as_str().as_bytes();
+            assert_refused(rt, alloc, bytes, DetailReadFault::WrongForm);
+        }
+    }
+}
+
+#[test]
+fn each_key_is_required_and_of_its_type(rt: HostRuntime) {
+    assert_required(&rt, rt.alloc(), "", &TOP);
+    assert_required(&rt, rt.alloc(), FRONT, &INT);
+    assert_required(&rt, rt.alloc(), FRONT, &PICK);
+}
+
+/// Columns behind the front, which have a wrong key, or none.
+const COLUMNS: [(&str, bool); 12] = [
+    ("name='c'\nkind='int'\nlo=1\nhi=1\n", true),
+    ("name='c'\nkind='int'\nlo=1\nhi=1\nchanges=1\n", false),
+    ("name='c'\nkind='int'\nlo=1\nhi=1\nentries=['a']\n", false),
+    ("name='c'\nkind='int'\nlo=1\nhi=1\nnull=0\n", false),
+    ("name='c'\nkind='pick'\nentries=['a']\n", true),
+    (
+        "name='c'\nkind='pick'\nentries=['a']\nchanges='true'\n",
+        false,
+    ),
+    ("name='c'\nkind='pick'\nentries=['a']\nlo=1\n", false),
+    ("name='c'\nkind='pick'\nentries=['a', 1]\n", false),
+    ("name='c'\nkind='pick'\nentries=['a']\nweights=[1]\n", false),
+    ("name='c'\nkind='Int'\nlo=1\nhi=1\n", false),
+    ("name='c'\nkind='words'\nlo=1\nhi=1\n", false),
+    ("name='c'\nkind='pick'\nentries=['a']\n[further]\n", false),
+];
+
+/// Whole texts: no document, or one with a wrong key.
+const TEXTS: [(&[u8], DetailReadFault); 7] = [
+    (b"seed = ", DetailReadFault::Syntax),
+    (b"seed=1\nseed=1\n", DetailReadFault::Syntax),
+    (b"name='\xff'\n", DetailReadFault::Syntax),
+    (b"", DetailReadFault::WrongForm),
+    (
+        b"seed=1\nlo=1\nhi=2\nname='i'\nparent='c'\ncolumn=[1]\n",
+        DetailReadFault::WrongForm,
+    ),
+    (
+        b"seed=1\nlo=1\nhi=2\nname='i'\nparent='c'\ncolumn=[]\nunits=1\n",
+        DetailReadFault::WrongForm,
+    ),
+    (
+        b"seed=1\nlo=1\nhi=2\nname='i'\nparent='c'\ncolumn=[]\nchanges=true\n",
+        DetailReadFault::WrongForm,
+    ),
+];
+
+fn assert_columns(rt: &impl Abort, alloc: Global, cases: &[(&str, bool)]) {
+    for (column, is_right) in cases {
+        let text = joined(rt, alloc, &[FRONT, column]);
+        let told = read_detail(alloc, text.as_str().as_bytes()).err();
+        let due = if *is_right {
+            None
+        } else {
+            Some(DetailReadFault::WrongForm)
+        };
+        assert!(rt; told == due, "{text}");
+    }
+}
+
+#[test]
+fn wrong_keys_and_texts_that_are_no_document_are_refused(rt: HostRuntime) {
+    assert_columns(&rt, rt.alloc(), &COLUMNS);
+    for (text, fault) in TEXTS {
+        assert_refused(&rt, rt.alloc(), text, fault);
+    }
+}
