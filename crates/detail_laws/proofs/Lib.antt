@@ -1,0 +1,3 @@
+mod NumberedRowLemmas
+mod ApplyLawLemmas
+mod NameLemmas

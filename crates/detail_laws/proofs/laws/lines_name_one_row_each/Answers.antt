@@ -1,0 +1,6 @@
+use Rattle.detail_rows.proofs.DeclaredLemmas.{delimits}
+use Rattle.detail_laws.proofs.NameLemmas.{lines-name}
+use Rattle.detail_laws.proofs.laws.lines_name_one_row_each.Goals as goal
+
+pub returns : goal.returns
+returns c = λ plan limits detail keeps t within. lines-name plan limits detail keeps (delimits plan) t within

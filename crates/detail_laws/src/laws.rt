@@ -1,0 +1,37 @@
+//! The laws of detail tables' texts, each the contract of a function that does nothing, for accepted schemas and declarations.
+
+ghost use Rattle.std.specs.Prelude.{ℕ, ◌+◌, ◌-◌, ◌≤◌, List, [], ◌∷◌, flat_map};
+ghost use Rattle.std.specs.List.{range_with_len};
+ghost use Rattle.schema_plan.specs.Dictionaries.{Project};
+ghost use Rattle.schema_plan.specs.Layout.{layout_of};
+ghost use Rattle.schema_plan.specs.Limits.{IsInLimits};
+ghost use Rattle.life_intervals.specs.Generator.{last_unit};
+ghost use Rattle.stream_apply.specs.InTurn.{IsAppliedText};
+ghost use Rattle.stream_apply.specs.KeyedLines.{KeyedLine};
+ghost use Rattle.stream_apply.specs.declared.key_fields.KeyFields.TheVariants.{Two};
+ghost use Rattle.detail_plan.specs.Rules.{KeepsRules};
+ghost use Rattle.detail_plan.specs.declared.detail.Detail.{Detail};
+ghost use Rattle.detail_rows.specs.Applying.{detail_streams};
+ghost use Rattle.detail_laws.specs.Naming.{AreDetailLines};
+ghost use Rattle.detail_rows.specs.Lines.{detail_text};
+
+/// What the streams of a unit make of a detail table's text at the unit before is its text at the unit, and so are those of further
+/// units, each in its turn. None is at fault.
+pub fn streams_give_the_next_details()
+    ensures text { (plan : Project) → IsInLimits plan → (detail : Detail) → KeepsRules plan detail → (t : ℕ) → t ≤ last_unit plan →
+        IsAppliedText Two (layout_of plan).delimiter (detail_text plan detail t ∷ []) (detail_text plan detail t) }
+    ensures unit { (plan : Project) → IsInLimits plan → (detail : Detail) → KeepsRules plan detail → (t : ℕ) → 1 ≤ t → t ≤ last_unit plan →
+        IsAppliedText Two (layout_of plan).delimiter (detail_text plan detail (t - 1) ∷ detail_streams plan detail t) (detail_text plan detail t) }
+    ensures units { (plan : Project) → IsInLimits plan → (detail : Detail) → KeepsRules plan detail →
+        (from count : ℕ) → from + count ≤ last_unit plan →
+        IsAppliedText Two (layout_of plan).delimiter
+        (detail_text plan detail from ∷ flat_map (detail_streams plan detail) (range_with_len (from + 1) count))
+        (detail_text plan detail (from + count)) }
+{}
+
+/// No two lines of a detail table's text have the same first two fields, and the first of each is the key of exactly one line of the
+/// parent's text at the same unit.
+pub fn lines_name_one_row_each()
+    ensures { (plan : Project) → IsInLimits plan → (detail : Detail) → KeepsRules plan detail → (t : ℕ) → t ≤ last_unit plan →
+        (lines : List KeyedLine) × AreDetailLines plan detail t lines }
+{}
