@@ -1,0 +1,15 @@
+pub mod ListLemmas
+pub mod PlaceLemmas
+pub mod UndoLineLemmas
+pub mod PackageLemmas
+pub mod LineLemmas
+pub mod KeyedLemmas
+pub mod TableReadLemmas
+pub mod DigitLemmas
+pub mod LeadLemmas
+pub mod WeaverLemmas
+pub mod UndoLemmas
+pub mod TurnLemmas
+pub mod OutcomeLemmas
+pub mod NumberedUndoLemmas
+pub mod TurnOutcomeLemmas

@@ -1,0 +1,10 @@
+pub mod UndoText
+pub mod Places
+pub mod Parts
+pub mod Packages
+pub mod Kept
+pub mod Worked
+pub mod Reverting
+pub mod ReadLines
+pub mod Weaving
+pub mod InTurn

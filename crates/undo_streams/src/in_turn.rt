@@ -1,0 +1,80 @@
+//! A table's text and undo texts, undone one after the other.
+
+ghost use Rattle.std.specs.Prelude.{◌≡◌, ◌≢◌, ◌<◌, ◌≤◌, length, map, IfErr, IfOk};
+ghost use Rattle.row_text.specs.Fields.{IsDelimiter};
+ghost use Rattle.undo_streams.specs.InTurn.{HasUndoFaultAt, IsRevertFaultAt, IsRevertedText, IsUndoneInTurn};
+ghost use Rattle.undo_streams.specs.declared.fault.RevertFault.TheVariants.{Memory};
+
+use crate::fault::RevertFault;
+use crate::lines::read_table;
+use crate::reverter::text_of;
+use crate::weaver::undo_table;
+use std::alloc::Global;
+use stream_apply::KeyTable;
+
+/// What is wrong first when undo texts are taken in turn: the place of the input, counted from 0, and the fault of its first line that
+/// is at fault. For want of memory the place says nothing.
+#[derive(Clone, Copy, Debug, PartialEq, Eq)]
+pub struct RevertedAt {
+    pub place: usize,
+    pub fault: RevertFault,
+}
+
+/// The text that a table's text and undo texts make, with the delimiter, a tab (9) or a bar (124), that stands between two fields. The
+/// first input is the table's text, and behind it stand the undo texts, in the order in which they are taken. Refused at the first line
+/// that is at fault of the first input that has one, or for want of memory.
+pub fn revert_in_turn(
+    alloc: Global,
+    inputs: &[Vec<u8>],
+    delimiter: u8,
+) -> Result<Vec<u8>, RevertedAt>
+    requires delimiter { IsDelimiter delimiter }
+    requires table { 1 ≤ length inputs.now }
+    ensures reverted { IfOk result (λ text. IsRevertedText delimiter (map (λ input. input.items) inputs.now) text.items) }
+    ensures fault { IfErr result (λ told. told.fault ≢ Memory →
+        (told.place < length inputs.now)
+        × IsRevertFaultAt delimiter (map (λ input. input.items) inputs.now) told.place told.fault) }
+{
+    let table = match read_table(alloc, &inputs[0], delimiter) {
+        Ok(table) => table,
+        Err(fault) => return Err(RevertedAt { place: 0, fault }),
+    };
+    let table = match undo_in_turn(alloc, table, &inputs[1..], delimiter) {
+        Ok(table) => table,
+        Err(told) => {
+            return Err(RevertedAt {
+                place: told.place + 1,
+                fault: told.fault,
+            });
+        }
+    };
+    match text_of(alloc, &table) {
+        Ok(text) => Ok(text),
+        Err(_) => Err(RevertedAt {
+            place: 0,
+            fault: RevertFault::Memory,
+        }),
+    }
+}
+
+/// What undo texts make of a table, one after the other. Places count from 0 at the first of them.
+fn undo_in_turn<'a>(
+    alloc: Global,
+    table: KeyTable<'a>,
+    undos: &'a [Vec<u8>],
+    delimiter: u8,
+) -> Result<KeyTable<'a>, RevertedAt>
+    requires { IsDelimiter delimiter }
+    ensures undone { IfOk result (IsUndoneInTurn delimiter (map (λ undo. undo.items) undos.now) table.entry) }
+    ensures place { IfErr result (λ told. told.place < length undos.now) }
+    ensures fault { IfErr result (λ told. told.fault ≢ Memory → HasUndoFaultAt delimiter (map (λ undo. undo.items) undos.now) table.entry told.place told.fault) }
+{
+    let mut table = table;
+    for (place, undo) in undos.iter().enumerate() {
+        table = match undo_table(alloc, table, undo, delimiter) {
+            Ok(made) => made,
+            Err(fault) => return Err(RevertedAt { place, fault }),
+        };
+    }
+    Ok(table)
+}

@@ -1,0 +1,60 @@
+//! The three parts of an undo text.
+
+ghost use Rattle.std.specs.Prelude.{◌≡◌, ◌≢◌, IfSome, MatchOption};
+ghost use Rattle.undo_streams.specs.Reverting.{rank_of, shape_of, wants_held, word_of};
+ghost use Rattle.undo_streams.specs.declared.part.Part.{Part};
+
+use crate::lines::Shape;
+
+/// The parts of an undo text, in their order: lines that are dropped, set and added.
+#[derive(Clone, Copy)]
+pub(crate) enum Part {
+    Drops,
+    Sets,
+    Adds,
+}
+
+impl Part {
+    /// The part whose lines begin with a word; None where those of none do.
+    pub(crate) fn of_word(word: &[u8]) -> Option<Part>
+        ensures { MatchOption result ((part : Part) → word.now ≢ word_of part) (λ part. word.now ≡ word_of part) }
+    {
+        if word == b"drop".as_slice() {
+            Some(Part::Drops)
+        } else if word == b"set".as_slice() {
+            Some(Part::Sets)
+        } else if word == b"add".as_slice() {
+            Some(Part::Adds)
+        } else {
+            None
+        }
+    }
+
+    /// Where it stands among the three.
+    pub(crate) fn rank(self) -> u8
+        ensures { result ≡ rank_of self }
+    {
+        match self {
+            Part::Drops => 0,
+            Part::Sets => 1,
+            Part::Adds => 2,
+        }
+    }
+
+    /// What its lines hold behind the word and the place.
+    pub(crate) fn shape(self) -> Shape
+        ensures { result ≡ shape_of self }
+    {
+        match self {
+            Part::Drops => Shape::KeyAlone,
+            Part::Sets | Part::Adds => Shape::Row,
+        }
+    }
+
+    /// Whether the table has to hold the key of each line; else it may hold none.
+    pub(crate) fn wants_held(self) -> bool
+        ensures { result ≡ wants_held self }
+    {
+        !matches!(self, Part::Adds)
+    }
+}

@@ -1,0 +1,103 @@
+//! A table that is taken back.
+
+ghost use Rattle.std.specs.Prelude.{◌≡◌, [], ◌∷◌, ◌++◌, IfErr, IfOk, OnOk};
+ghost use Rattle.row_text.specs.Fields.{IsDelimiter};
+ghost use Rattle.stream_apply.specs.KeyedLines.{lines_text};
+ghost use Rattle.stream_apply.specs.Streams.{IsLoaded};
+ghost use Rattle.stream_apply.specs.declared.key_fields.KeyFields.TheVariants.{One};
+ghost use Rattle.undo_streams.specs.Reverting.{IsLoadFault, IsUndoFault, IsUndone};
+
+use crate::fault::RevertFault;
+use crate::lines::read_table;
+use crate::weaver::undo_table;
+use row_text::Memory;
+use std::alloc::{AllocError, Global};
+use std::marker::Model;
+use stream_apply::KeyTable;
+
+/// A table, from which undo texts are taken back one after the other. Its lines stay where they were read, and in the table's order.
+#[derive(Drop)]
+pub struct Reverter<'a> {
+    alloc: Global,
+    delimiter: u8,
+    table: KeyTable<'a>,
+}
+
+impl<'a> Model for Reverter<'a> {
+    ghost use Rattle.row_text.specs.Fields.{IsDelimiter};
+    ghost use Rattle.stream_apply.specs.Streams.{Table};
+    ghost use Rattle.stream_apply.specs.declared.key_fields.KeyFields.TheVariants.{One};
+
+    ghost Value = { Table };
+
+    ghost view = { λ r. record { keys = One; delimiter = r.delimiter; lines = r.table } };
+
+    ghost invariant = { λ r. IsDelimiter r.delimiter };
+}
+
+impl<'a> Reverter<'a> {
+    /// A table as its text holds it, with the delimiter, a tab (9) or a bar (124), that stands between two fields of it and of the undo
+    /// texts. Refused at the first line of the text that is at fault: a `BadLine` or a `DoubleKey`.
+    pub fn load(
+        alloc: Global,
+        snapshot: &'a [u8],
+        delimiter: u8,
+    ) -> Result<Reverter<'a>, RevertFault>
+        requires { IsDelimiter delimiter }
+        ensures loaded { IfOk result (IsLoaded snapshot.now One delimiter) }
+        ensures fault { IfErr result (IsLoadFault delimiter snapshot.now) }
+    {
+        let table = read_table(alloc, snapshot, delimiter)?;
+        Ok(Reverter {
+            alloc,
+            delimiter,
+            table,
+        })
+    }
+
+    /// The table with an undo text taken back, in time that is linear in the two. Refused at the first line of the bytes that is at
+    /// fault; the table is gone then.
+    pub fn undo(self, bytes: &'a [u8]) -> Result<Reverter<'a>, RevertFault>
+        ensures undone { IfOk result (IsUndone bytes.now self.entry) }
+        ensures fault { IfErr result (IsUndoFault self.entry.delimiter self.entry.lines bytes.now) }
+    {
+        let Reverter {
+            alloc,
+            delimiter,
+            table,
+        } = self;
+        let table = undo_table(alloc, table, bytes, delimiter)?;
+        Ok(Reverter {
+            alloc,
+            delimiter,
+            table,
+        })
+    }
+
+    /// The text of the table: its lines in order, each with its line feed.
+    pub fn text(&self) -> Result<Vec<u8>, Memory>
+        ensures { IfOk result (λ text. text.items ≡ lines_text self.now.lines) }
+    {
+        Ok(text_of(self.alloc, &self.table)?)
+    }
+}
+
+/// The lines of a table in order, each with its line feed.
+pub(crate) fn text_of(alloc: Global, table: &KeyTable) -> Result<Vec<u8>, AllocError>
+    ensures { IfOk result (λ text. text.items ≡ lines_text table.now) }
+{
+    let mut text = Vec::new(alloc);
+    for index in 0..table.len() {
+        put_line(&mut text, table.text_at(index))?;
+    }
+    Ok(text)
+}
+
+/// Appends a line with its line feed.
+fn put_line(text: &mut Vec<u8>, line: &[u8]) -> Result<(), AllocError>
+    ensures { OnOk result (text.new.items ≡ text.old.items ++ (line.now ++ 10 ∷ [])) }
+{
+    text.extend_from_slice(line)?;
+    text.push(b'\n')?;
+    Ok(())
+}

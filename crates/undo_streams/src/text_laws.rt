@@ -1,0 +1,40 @@
+//! The laws of undo texts, each the contract of a function that does nothing.
+
+ghost use Rattle.std.specs.Prelude.{◌≡◌, ◌+◌, ◌*◌, ◌<◌, ◌≤◌, ◌^◌, [], codes, flat_map, length};
+ghost use Rattle.std.specs.List.{range_with_len};
+ghost use Rattle.schema_plan.specs.Layout.{layout_of};
+ghost use Rattle.schema_plan.specs.Limits.{IsInLimits};
+ghost use Rattle.schema_plan.specs.TableFacts.{reach};
+ghost use Rattle.life_intervals.specs.Generator.{last_unit};
+ghost use Rattle.row_lines.specs.Worked.{owned};
+ghost use Rattle.undo_streams.specs.Packages.{Packages, count_of, room_of, text_numbered};
+ghost use Rattle.undo_streams.specs.UndoText.{undo_text};
+ghost use Rattle.undo_streams.specs.Worked.{last_undo_text, lodgers, plain_sales};
+
+/// Undo texts worked out by hand: of customers, their orders and the lines of these, of whom one customer goes with his orders and their
+/// lines, and another changes; of owners and notes, one of which loses its owner; of lodgers, who go from the middle of their list; and
+/// of a unit with nothing before it, and of none.
+pub fn worked_undo_texts()
+    ensures customers { last_undo_text plain_sales 3 0 ≡ codes "drop\t4\nset\t3\t2\t2\nadd\t0\t1\t0\t1\n" }
+    ensures orders { last_undo_text plain_sales 3 1 ≡ codes "drop\t4\nadd\t0\t1\t1\nadd\t1\t2\t1\nadd\t2\t3\t1\n" }
+    ensures lines { last_undo_text plain_sales 3 2 ≡ codes "drop\t4\nadd\t0\t1\t1\nadd\t1\t2\t2\nadd\t2\t3\t3\n" }
+    ensures owners { last_undo_text owned 2 0 ≡ codes "drop\t3\nadd\t0\t1\n" }
+    ensures notes { last_undo_text owned 2 1 ≡ codes "drop\t3\nset\t1\t1\t0\tof 1\n" }
+    ensures lodgers { last_undo_text lodgers 3 0 ≡ codes "drop\t5\ndrop\t6\nadd\t0\t1\nadd\t2\t4\n" }
+    ensures first_lodgers { last_undo_text lodgers 1 0 ≡ codes "drop\t1\ndrop\t2\n" }
+    ensures unit_0 { last_undo_text lodgers 0 0 ≡ [] }
+{}
+
+/// The packages of an undo text, one after the other, are the text, however many lines a package has.
+pub fn packages_are_the_text()
+    ensures { (packages : Packages) → 1 ≤ packages.size →
+        flat_map (text_numbered packages) (range_with_len 0 (count_of packages)) ≡ undo_text packages.plan packages.unit packages.table }
+{}
+
+/// They want no more room than so many of the greatest lines as a package has, each with a word and a place before it, and there are few of
+/// them.
+pub fn packages_want_little()
+    ensures room { (packages : Packages) → room_of packages ≤ packages.size * (26 + reach (layout_of packages.plan)) }
+    ensures count { (packages : Packages) → IsInLimits packages.plan → packages.table < length packages.plan.schema.tables →
+        1 ≤ packages.unit → packages.unit ≤ last_unit packages.plan → 1 ≤ packages.size → count_of packages ≤ 2 ^ 42 }
+{}
