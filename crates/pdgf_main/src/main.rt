@@ -1,8 +1,9 @@
-//! The program `pdgf`: the files of the system, the standard output and the words of the command line, handed to one
+//! The program `pdgf`: the files of the system, the standard output, databases and the words of the command line, handed to one
 //! call.
 #![tactic(auto)]
 
 use pdgf_run::run_program;
+use sql_keeper::{RowTables, SqlKeeper, SystemDatabases};
 use std::io::IsTerminal;
 use std::process::ExitCode;
 use std::rt::Env;
@@ -19,7 +20,19 @@ fn main(rt: HostRuntime) -> ExitCode {
         None
     };
     let mut shelf = ProgressShelf::new(files, &rt, watched, rt.stdout().is_terminal());
-    let report = run_program(&rt, rt.alloc(), words_of(&rt), &mut library, &mut shelf);
+    let mut keeper = SqlKeeper::new(SystemDatabases::new(&rt));
+    let report = run_program(
+        &rt,
+        rt.alloc(),
+        words_of(&rt),
+        &mut library,
+        &mut shelf,
+        &mut keeper,
+    );
+    // A store that was broken off is left without what was made in it.
+    if let Some(tables) = keeper.into_tables() {
+        tables.close();
+    }
     // Where the message can't be written, the status still tells.
     let _ = report.tell(&mut rt.stderr());
     report.exit_code()

@@ -18,7 +18,7 @@ use Rattle.refusals.specs.declared.refusal.JobFault.TheVariants as job
 use Rattle.refusals.specs.declared.refusal.PlanFault.{PlanFault}
 use Rattle.refusals.specs.declared.refusal.Refusal.{Refusal}
 use Rattle.request_words.specs.Words.{request}
-use Rattle.request_words.specs.declared.usage.Mode.TheVariants.{Apply}
+use Rattle.request_words.specs.declared.usage.Mode.TheVariants.{Apply, Play}
 use Rattle.request_words.specs.declared.usage.Mode.{Mode}
 use Rattle.request_words.specs.declared.usage.OptionName.TheVariants as option
 use Rattle.request_words.specs.declared.usage.Request.{Request}
@@ -36,15 +36,18 @@ use Rattle.schema_plan.specs.Limits.{IsInLimits}
 use Rattle.schema_plan.specs.Names.{same_text}
 use Rattle.schema_plan.specs.Planned.{table_named}
 use Rattle.stream_apply.specs.InTurn.{IsAppliedText}
+use Rattle.stream_apply.specs.declared.key_fields.KeyFields.TheVariants.{One}
 use Rattle.update_box.proofs.ApplyLawLemmas.{units-applied}
 use Rattle.update_box.specs.TextLaws.{unit_streams}
 use Rattle.pdgf_run.specs.DueFiles.{chosen_table}
 use Rattle.pdgf_run.specs.Jobs.{due_of}
+use Rattle.pdgf_run.specs.Playing.{IsTaskOf, is_playing, task_due}
 use Rattle.pdgf_run.specs.ReadingList.{reads_schema}
 use Rattle.pdgf_run.specs.TopCall.{Carries, GivesLater}
 use Rattle.pdgf_run.specs.Verdict.{IsDecided, IsInMode, IsJobOver, IsPlanned, IsVerdict, plan_by}
-use Rattle.pdgf_run.specs.declared.job.Job.{Job}
+use Rattle.pdgf_run.specs.declared.job.Task.{Task}
 use Rattle.pdgf_run.specs.declared.report.Report.{Report}
+use Rattle.pdgf_run.proofs.TaskLemmas.{plays_no_other}
 use Rattle.update_box.specs.Packages.{chosen_places}
 use Rattle.csv_face.specs.Csv.{HasRows}
 use Rattle.request_words.specs.declared.usage.Format.{Format}
@@ -59,17 +62,17 @@ use Rattle.pdgf_run.proofs.OutcomeLemmas.{one_verdict}
 
 -- ---- what is asked is within the plan
 
-passes : (test : Bool) (fault : JobFault) (rest : Result (Option ℕ) JobFault) (table : Option ℕ) → (if test then Err fault else rest) ≡ Ok table → (test ≡ false) × (rest ≡ Ok table)
+pub passes : (test : Bool) (fault : JobFault) (rest : Result (Option ℕ) JobFault) (table : Option ℕ) → (if test then Err fault else rest) ≡ Ok table → (test ≡ false) × (rest ≡ Ok table)
 passes true fault rest table is = absurd (cc)
 passes false fault rest table is = (refl, is)
 
-not_less : (a b : ℕ) → nat_lt a b ≡ false → b ≤ a
+pub not_less : (a b : ℕ) → nat_lt a b ≡ false → b ≤ a
 not_less a b is = elim (cases_lt a b) [
   | inl less ↦ absurd (true≢false (sym (lt-ltb a b less) ∙ is))
   | inr order ↦ order
 ]
 
-choice_is : (chosen : Option (Option ℕ)) (table : Option ℕ) → of_choice chosen ≡ Ok table → chosen ≡ Some table
+pub choice_is : (chosen : Option (Option ℕ)) (table : Option ℕ) → of_choice chosen ≡ Ok table → chosen ≡ Some table
 choice_is None table is = absurd (cc)
 choice_is (Some choice) table is = ap Some (let same : choice ≡ table = cc in same)
 
@@ -92,7 +95,7 @@ found_within plan (Some found) place name at is =
     let here = found_at (nat_lt (position_or_len (λ (table : Table). same_text table.name name) plan.schema.tables) (length plan.schema.tables)) _ found (sym at) in
     omega (arith, same, here.1, less _ (length plan.schema.tables) here.0)
 
-chosen_within : (plan : Project) (name : Option (List ℕ)) (place : ℕ) → chosen_table plan.schema name ≡ Some (Some place) → place < length plan.schema.tables
+pub chosen_within : (plan : Project) (name : Option (List ℕ)) (place : ℕ) → chosen_table plan.schema name ≡ Some (Some place) → place < length plan.schema.tables
 chosen_within plan None place is = absurd (cc)
 chosen_within plan (Some name) place is = found_within plan (table_named plan.schema name) place name refl is
 
@@ -110,7 +113,7 @@ length-table_inputs plan r place = omega (arith, length-streams plan place (r.fr
 
 -- ---- they make what the tables hold later
 
-place_within : (plan : Project) (table : Option ℕ) (i : ℕ) → IfSome table (λ place. place < length plan.schema.tables) → i < length (chosen_places plan table) →
+pub place_within : (plan : Project) (table : Option ℕ) (i : ℕ) → IfSome table (λ place. place < length plan.schema.tables) → i < length (chosen_places plan table) →
     get_or (chosen_places plan table) i 0 < length plan.schema.tables
 place_within plan None i within below =
     let count = length-range_with_len 0 (length plan.schema.tables) in
@@ -135,11 +138,11 @@ later_applied plan r table inputs limits order units within are = record {
       ∙ chunk (table_inputs plan r.from (r.to - r.from)) (inputs_each r) places i (length-table_inputs plan r) inside in
       let text : get_or (map (table_text (generator_of plan) r.to) places) i [] ≡ table_text (generator_of plan) r.to place =
       get_or-map (table_text (generator_of plan) r.to) places i 0 [] inside in
-      let made : IsAppliedText (layout_of plan).delimiter (table_inputs plan r.from (r.to - r.from) place) (table_text (generator_of plan) r.to place) =
-      subst (λ (t : ℕ). IsAppliedText (layout_of plan).delimiter (table_inputs plan r.from (r.to - r.from) place) (table_text (generator_of plan) t place)) sum
+      let made : IsAppliedText One (layout_of plan).delimiter (table_inputs plan r.from (r.to - r.from) place) (table_text (generator_of plan) r.to place) =
+      subst (λ (t : ℕ). IsAppliedText One (layout_of plan).delimiter (table_inputs plan r.from (r.to - r.from) place) (table_text (generator_of plan) t place)) sum
       (units-applied plan limits place (place_within plan table i within inside) r.from (r.to - r.from) at_end) in
-      subst (λ (t : List ℕ). IsAppliedText (layout_of plan).delimiter (inputs_at (inputs_each r) inputs i) t) (sym text)
-      (subst (λ (l : List (List ℕ)). IsAppliedText (layout_of plan).delimiter l (table_text (generator_of plan) r.to place)) (sym own) made);
+      subst (λ (t : List ℕ). IsAppliedText One (layout_of plan).delimiter (inputs_at (inputs_each r) inputs i) t) (sym text)
+      (subst (λ (l : List (List ℕ)). IsAppliedText One (layout_of plan).delimiter l (table_text (generator_of plan) r.to place)) (sym own) made);
 }
 
 -- inputs within the limit are all read
@@ -154,7 +157,7 @@ none_too_long inputs (Some number) is within =
     ap (λ (count : ℕ). total_length (take count inputs)) (let same : number + 1 - 0 ≡ number + 1 = omega arith in same) in
     absurd (omega (arith, within, past, all, less_taken inputs (number + 1)))
 
-all_read : (files : List File) (paths : List (List ℕ)) → total_length (inputs_of files paths) ≤ input_limit → inputs_in files paths input_limit ≡ Ok (inputs_of files paths)
+pub all_read : (files : List File) (paths : List (List ℕ)) → total_length (inputs_of files paths) ≤ input_limit → inputs_in files paths input_limit ≡ Ok (inputs_of files paths)
 all_read files paths within =
     ap (λ (long : Option ℕ). unless_too_long long (inputs_of files paths)) (none_too_long (inputs_of files paths) (first_too_long input_limit [] (inputs_of files paths)) refl within)
 
@@ -241,7 +244,10 @@ gives_later words files r verdict report before now given mode limits is carries
 
 -- ---- the report
 
-not_free : (status : ℕ) → status ≢ 5 → status ≢ 7 → is_free status ≡ false
+apart : Apply ≡ Play → ⊥
+apart is = cc
+
+pub not_free : (status : ℕ) → status ≢ 5 → status ≢ 7 → is_free status ≡ false
 not_free status five seven = elim (cases_eq status 5) [
   | inl same ↦ absurd (five same)
   | inr other ↦ elim (cases_eq status 7) [
@@ -263,11 +269,22 @@ applied_refused words (Some files) (Ok asked) r report before now given limits d
     gives_later words files asked (Err r) report before now given mode (limits (ap reads_schema mode) free) (decided free) (is, same)
 
 -- a request that is carried out
-pub applied_done : (words : List (List ℕ)) (told : Option (List File)) (q : Result Request UsageFault) (job : Job) (report : Report) (before now : Option Held) → request words ≡ q →
+pub applied_done : (words : List (List ℕ)) (told : Option (List File)) (q : Result Request UsageFault) (made due : List File) (report : Report) (before now : Option Held) → request words ≡ q →
     IfOk q (λ asked. reads_schema asked.mode ≡ true → is_free 0 ≡ false → IfSome told (λ files. IfOk (plan_in files asked.schema) IsInLimits)) →
-    IfSome told (λ files. IsDecided status_of due_of (IsVerdict words files) (Ok job)) → report ≡ record { status = done_status; message = [] } →
-    now ≡ option_map (finish_files (due_of job)) before → IfOk q (λ asked. asked.mode ≡ Apply → IfSome told (λ files. GivesLater asked files report before now))
-applied_done words told (Err fault) job report before now given limits decided is same = tt
-applied_done words None (Ok asked) job report before now given limits decided is same = λ mode. tt
-applied_done words (Some files) (Ok asked) job report before now given limits decided is same = λ mode.
-    gives_later words files asked (Ok (due_of job)) report before now given mode (limits (ap reads_schema mode) refl) decided (is, same)
+    IfSome told (λ files. IsVerdict words files (Ok due)) → made ≡ due → report ≡ record { status = done_status; message = [] } →
+    now ≡ option_map (finish_files made) before → IfOk q (λ asked. asked.mode ≡ Apply → IfSome told (λ files. GivesLater asked files report before now))
+applied_done words told (Err fault) made due report before now given limits decided alike is same = tt
+applied_done words None (Ok asked) made due report before now given limits decided alike is same = λ mode. tt
+applied_done words (Some files) (Ok asked) made due report before now given limits decided alike is same = λ mode.
+    gives_later words files asked (Ok due) report before now given mode (limits (ap reads_schema mode) refl) decided
+    (is, same ∙ ap (λ (l : List File). option_map (finish_files l) before) alike)
+
+pub applied_carried : (words : List (List ℕ)) (told : Option (List File)) (q : Result Request UsageFault) (t : Task) (report : Report) (before now : Option Held) → request words ≡ q →
+    IfOk q (λ asked. reads_schema asked.mode ≡ true → is_free 0 ≡ false → IfSome told (λ files. IfOk (plan_in files asked.schema) IsInLimits)) →
+    IfSome told (λ files. IsVerdict words files (Ok (task_due t))) → IfOk q (λ asked. IsTaskOf asked told t) → (is_playing t ≡ false → report.status ≢ 12) →
+    (report.status ≢ 6 → report.status ≢ 7 → report.status ≢ 12 → Carries (Ok (task_due t)) report before now) → report.status ≢ 6 → report.status ≢ 7 →
+    IfOk q (λ asked. asked.mode ≡ Apply → IfSome told (λ files. GivesLater asked files report before now))
+applied_carried words told (Err fault) t report before now given limits decided of unfailed carries six seven = tt
+applied_carried words told (Ok asked) t report before now given limits decided of unfailed carries six seven = λ mode.
+    let made = carries six seven (unfailed (plays_no_other asked told t of (λ plays. apart (sym mode ∙ plays)))) in
+    applied_done words told (Ok asked) (task_due t) (task_due t) report before now given limits decided refl made.0 made.1 mode

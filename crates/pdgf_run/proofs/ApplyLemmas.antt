@@ -57,7 +57,7 @@ in_directory-longer directory [] number within = absurd (omega (arith, within))
 in_directory-longer directory (name ∷ names) zero within = longer_than_directory directory name
 in_directory-longer directory (name ∷ names) (suc number) within = in_directory-longer directory names number (omega (arith, within))
 
-length-in_directory : (directory : List ℕ) (names : List (List ℕ)) → length (map (in_directory directory) names) ≡ length names
+pub length-in_directory : (directory : List ℕ) (names : List (List ℕ)) → length (map (in_directory directory) names) ≡ length names
 length-in_directory directory [] = refl
 length-in_directory directory (name ∷ names) = ap suc (length-in_directory directory names)
 
@@ -183,7 +183,7 @@ taken_within (bytes ∷ rest) limit before first total =
 
 -- ---- the names that are asked
 
-none_first : (list : List (List ℕ)) (before : Option (List (List ℕ))) → AskedPrefixOf list before before
+pub none_first : (list : List (List ℕ)) (before : Option (List (List ℕ))) → AskedPrefixOf list before before
 none_first list None = record { count = 0; asked = refl }
 none_first list (Some names) = record { count = 0; asked = ap Some (sym (append-nil names)) }
 
@@ -195,13 +195,13 @@ none_asked_told (Some files) plan r before = none_first (paths_asked plan r file
 pub none_asked : (plan : Project) (r : Request) (before : Option (List (List ℕ))) → AskedPrefixOf (paths_possible plan r (tables_asked plan r)) before before
 none_asked plan r before = none_first (paths_possible plan r (tables_asked plan r)) before
 
-first_names : (paths : List (List ℕ)) (count : ℕ) (before now : Option (List (List ℕ))) → AskedInTurn (take count paths) before now → AskedPrefixOf paths before now
+pub first_names : (paths : List (List ℕ)) (count : ℕ) (before now : Option (List (List ℕ))) → AskedInTurn (take count paths) before now → AskedPrefixOf paths before now
 first_names paths count before now asked = record { count = count; asked = asked }
 
-all_names : (paths : List (List ℕ)) (before now : Option (List (List ℕ))) → AskedInTurn paths before now → AskedPrefixOf paths before now
+pub all_names : (paths : List (List ℕ)) (before now : Option (List (List ℕ))) → AskedInTurn paths before now → AskedPrefixOf paths before now
 all_names paths before now asked = asked_first paths paths [] before now asked (sym (append-nil paths))
 
-asked_at_most : (paths : List (List ℕ)) (fault : InputFault) (taken : ℕ) (before now : Option (List (List ℕ))) → AskedToFault fault paths taken before now →
+pub asked_at_most : (paths : List (List ℕ)) (fault : InputFault) (taken : ℕ) (before now : Option (List (List ℕ))) → AskedToFault fault paths taken before now →
     AskedPrefixOf paths before now
 asked_at_most paths fault taken before now asked = go asked.at_most
   where
@@ -286,14 +286,14 @@ fits_before limit inputs number place is fits =
 take_of_take : (paths : List (List ℕ)) (m n : ℕ) → m ≤ n → take n paths ≡ take m paths ++ take (n - m) (drop m paths)
 take_of_take paths m n le = ap (λ (k : ℕ). take k paths) (let sum : n ≡ m + (n - m) = omega (arith, le) in sum) ∙ take-add m (n - m) paths
 
-up_to : (paths : List (List ℕ)) (place count : ℕ) (long : Option ℕ) (before now : Option (List (List ℕ))) (inputs : List (List ℕ)) → IfSome long (λ number. place ≤ number) → count ≤ place + 1 →
+pub up_to : (paths : List (List ℕ)) (place count : ℕ) (long : Option ℕ) (before now : Option (List (List ℕ))) (inputs : List (List ℕ)) → IfSome long (λ number. place ≤ number) → count ≤ place + 1 →
     AskedInTurn (take count paths) before now → AskedPrefixOf (up_to_long paths (unless_too_long long inputs)) before now
 up_to paths place count None before now inputs within few turn = first_names paths count before now turn
 up_to paths place count (Some number) before now inputs within few turn =
     asked_first (take (number + 1) paths) (take count paths) (take (number + 1 - count) (drop count paths)) before now turn
     (take_of_take paths count (number + 1) (omega (arith, within, few)))
 
-fits_so_far : (files : List File) (names : List (List ℕ)) (place own : ℕ) (long : Option ℕ) → first_too_long input_limit [] (inputs_of files names) ≡ long →
+pub fits_so_far : (files : List File) (names : List (List ℕ)) (place own : ℕ) (long : Option ℕ) → first_too_long input_limit [] (inputs_of files names) ≡ long →
     total_length (inputs_of files (take place names)) + own ≡ input_limit → IfSome long (λ number. place ≤ number)
 fits_so_far files names place own None is limits = tt
 fits_so_far files names place own (Some number) is limits =
@@ -323,7 +323,7 @@ nothing_behind names added same =
     let lengths : length (names ++ added) ≡ length names = ap length (let back : names ++ added ≡ names = cc in back) in
     omega (arith, lengths, length-append names added)
 
-asked_some : (names : List (List ℕ)) (before now : Option (List (List ℕ))) → 1 ≤ length names → AskedInTurn names before now → ¬ AskedNone before now
+pub asked_some : (names : List (List ℕ)) (before now : Option (List (List ℕ))) → 1 ≤ length names → AskedInTurn names before now → ¬ AskedNone before now
 asked_some names None now some turn none = none
 asked_some names (Some all) now some turn none =
     let same : ◌≡◌ {A = Option (List (List ℕ))} (Some (all ++ names)) (Some all) = sym turn ∙ none in

@@ -25,11 +25,11 @@ use Rattle.request_words.specs.declared.usage.UsageFault.TheVariants as usage
 use Rattle.schema_plan.specs.Dictionaries.{Project, project_of}
 use Rattle.schema_plan.specs.Limits.{IsInLimits}
 use Rattle.schema_read.specs.Schema.{schema_of}
-use Rattle.pdgf_run.specs.Jobs.{due_of}
+use Rattle.pdgf_run.specs.Playing.{task_due}
 use Rattle.pdgf_run.specs.ReadingList.{AsksInMode, AsksInTurn, names_behind, names_in_mode, possible_behind, possible_in_mode, possible_list, reading_list, reads_schema}
 use Rattle.pdgf_run.specs.TopCall.{IsLimitOf, IsLimitRefused, IsLimitTold, LibraryDone, LibraryLeft, reads_for}
 use Rattle.pdgf_run.specs.Verdict.{IsDecided, IsInMode, IsJobOver, IsOfRequest, IsPlanned, IsVerdict, plan_by}
-use Rattle.pdgf_run.specs.declared.job.Job.{Job}
+use Rattle.pdgf_run.specs.declared.job.Task.{Task}
 
 -- ---- words that give no request
 
@@ -43,7 +43,7 @@ not_memory fault not_free same = let free = ap (λ (f : UsageFault). is_free (st
 
 -- words that give no request are refused, where memory doesn't run out
 pub decided_for_words : (words : List (List ℕ)) (told : Option (List File)) (fault : UsageFault) → (fault ≢ usage.Memory → request words ≡ Err fault) →
-    IfSome told (λ files. IsDecided status_of due_of (IsVerdict words files) (Err (refusal.Words fault)))
+    IfSome told (λ files. IsDecided status_of task_due (IsVerdict words files) (Err (refusal.Words fault)))
 decided_for_words words None fault given = tt
 decided_for_words words (Some files) fault given = λ not_free.
     of_words words files (Err fault) (Err (refusal.Words fault)) (given (not_memory fault not_free)) refl
@@ -87,22 +87,22 @@ left_by_words reads fault IsLimit content taken is_started faults =
 -- ---- words that give one
 
 -- what is decided of a request is decided of its words
-pub decided_for_request : (words : List (List ℕ)) (told : Option (List File)) (r : Request) (made : Result Job JobFault) → request words ≡ Ok r →
-    IfSome told (λ files. IsDecided job_status due_of (IsJobOver r files) made) →
-    IfSome told (λ files. IsDecided status_of due_of (IsVerdict words files) (in_stage refusal.Job made))
+pub decided_for_request : (words : List (List ℕ)) (told : Option (List File)) (r : Request) (made : Result Task JobFault) → request words ≡ Ok r →
+    IfSome told (λ files. IsDecided job_status task_due (IsJobOver r files) made) →
+    IfSome told (λ files. IsDecided status_of task_due (IsVerdict words files) (in_stage refusal.Job made))
 decided_for_request words None r made is decided = tt
 decided_for_request words (Some files) r (Ok job) is decided =
-    of_words words files (Ok r) (Ok (due_of job)) is (Ok (due_of job), decided, refl)
+    of_words words files (Ok r) (Ok (task_due job)) is (Ok (task_due job), decided, refl)
 decided_for_request words (Some files) r (Err fault) is decided = λ not_free.
     of_words words files (Ok r) (Err (refusal.Job fault)) is (Err fault, decided not_free, refl)
 
-in_job : (reads : Bool) (made : Result Job JobFault) (before : Option (List File)) (now : Option Content) (taken : ℕ) (is_started : Bool) (faults_before faults_now : ℕ) →
+in_job : (reads : Bool) (made : Result Task JobFault) (before : Option (List File)) (now : Option Content) (taken : ℕ) (is_started : Bool) (faults_before faults_now : ℕ) →
     LibraryDone reads (ended job_status made) (IsLimitTold made) before now taken is_started faults_before faults_now →
     LibraryDone reads (ended status_of (in_stage refusal.Job made)) (IsLimitRefused (in_stage refusal.Job made)) before now taken is_started faults_before faults_now
 in_job reads (Ok job) before now taken is_started faults_before faults_now left = left
 in_job reads (Err fault) before now taken is_started faults_before faults_now left = left
 
-pub left_by_request : (words : List (List ℕ)) (r : Request) (made : Result Job JobFault) (before : Option (List File)) (now : Option Content) (taken : ℕ) (is_started : Bool) (faults_before faults_now : ℕ) →
+pub left_by_request : (words : List (List ℕ)) (r : Request) (made : Result Task JobFault) (before : Option (List File)) (now : Option Content) (taken : ℕ) (is_started : Bool) (faults_before faults_now : ℕ) →
     request words ≡ Ok r → LibraryDone (reads_schema r.mode) (ended job_status made) (IsLimitTold made) before now taken is_started faults_before faults_now →
     LibraryDone (reads_for (request words)) (ended status_of (in_stage refusal.Job made)) (IsLimitRefused (in_stage refusal.Job made)) before now taken is_started faults_before faults_now
 left_by_request words r made before now taken is_started faults_before faults_now is left =
@@ -124,30 +124,30 @@ reads-other DetailsApply other = refl
 reads-other Undo other = refl
 reads-other Revert other = refl
 
-pub decided_by : (reads : Bool) (told : Option (List File)) (r : Request) (made : Result Job JobFault) → reads_schema r.mode ≡ reads →
-    IfSome told (λ files. IsDecided job_status due_of (IsPlanned r files (plan_by reads r files)) made) → IfSome told (λ files. IsDecided job_status due_of (IsJobOver r files) made)
+pub decided_by : (reads : Bool) (told : Option (List File)) (r : Request) (made : Result Task JobFault) → reads_schema r.mode ≡ reads →
+    IfSome told (λ files. IsDecided job_status task_due (IsPlanned r files (plan_by reads r files)) made) → IfSome told (λ files. IsDecided job_status task_due (IsJobOver r files) made)
 decided_by reads told r made is decided =
-    subst (λ (b : Bool). IfSome told (λ files. IsDecided job_status due_of (IsPlanned r files (plan_by b r files)) made)) (sym is) decided
+    subst (λ (b : Bool). IfSome told (λ files. IsDecided job_status task_due (IsPlanned r files (plan_by b r files)) made)) (sym is) decided
 
 -- ---- a plan, or none
 
 -- what is decided where there is no plan
 pub decided_without_plan : (told : Option (List File)) (r : Request) (name : List ℕ) (fault : PlanFault) → name ≡ r.schema →
     IfSome told (λ files. Decides plan_status (λ plan. plan) (Err fault) (plan_in files name)) →
-    IfSome told (λ files. IsDecided job_status due_of (IsPlanned r files (plan_in files r.schema)) (Err (job.Plan fault)))
+    IfSome told (λ files. IsDecided job_status task_due (IsPlanned r files (plan_in files r.schema)) (Err (job.Plan fault)))
 decided_without_plan None r name fault is decided = tt
 decided_without_plan (Some files) r name fault is decided = λ free.
     subst (λ (made : Result Project PlanFault). IsPlanned r files made (Err (job.Plan fault))) (sym (ap (plan_in files) (sym is) ∙ decided free)) refl
 
 -- what is decided of a plan
-pub decided_with_plan : (told mid : Option (List File)) (r : Request) (name : List ℕ) (plan : Project) (answer : Result Job JobFault) → name ≡ r.schema →
+pub decided_with_plan : (told mid : Option (List File)) (r : Request) (name : List ℕ) (plan : Project) (answer : Result Task JobFault) → name ≡ r.schema →
     IfSome told (λ files. Decides plan_status (λ plan. plan) (Ok plan) (plan_in files name)) → mid ≡ told →
-    IfSome mid (λ files. IsDecided job_status due_of (IsInMode r.mode r plan files) answer) →
-    IfSome told (λ files. IsDecided job_status due_of (IsPlanned r files (plan_in files r.schema)) answer)
+    IfSome mid (λ files. IsDecided job_status task_due (IsInMode r.mode r plan files) answer) →
+    IfSome told (λ files. IsDecided job_status task_due (IsPlanned r files (plan_in files r.schema)) answer)
 decided_with_plan None mid r name plan answer is planned same decided = tt
 decided_with_plan (Some files) mid r name plan answer is planned same decided =
-    subst (λ (made : Result Project PlanFault). IsDecided job_status due_of (IsPlanned r files made) answer) (sym (ap (plan_in files) (sym is) ∙ planned))
-    (IfSome-same (λ (f : List File). IsDecided job_status due_of (IsInMode r.mode r plan f) answer) mid (Some files) same decided)
+    subst (λ (made : Result Project PlanFault). IsDecided job_status task_due (IsPlanned r files made) answer) (sym (ap (plan_in files) (sym is) ∙ planned))
+    (IfSome-same (λ (f : List File). IsDecided job_status task_due (IsInMode r.mode r plan f) answer) mid (Some files) same decided)
 
 -- a plan is in its limits
 pub limits_without_plan : (told : Option (List File)) (r : Request) (name : List ℕ) (fault : PlanFault) → name ≡ r.schema →
@@ -212,7 +212,8 @@ pub asks_nothing : (q : Result Request UsageFault) (told : Option (List File)) (
 asks_nothing q told before = record {
   told = asked_none_told told (reading_list q) before;
   bytes = [];
-  untold = asked_none (possible_list q []) before;
+  details = [];
+  untold = asked_none (possible_list q [] []) before;
 }
 
 -- nor was one alone
@@ -223,15 +224,16 @@ not-alone name (Some names) alone =
     omega (arith, ap length same, length-append names (name ∷ []))
 
 -- what is asked for where a schema is read
-in_turn : (r : Request) (told : Option (List File)) (bytes : List ℕ) (before now : Option (List (List ℕ))) → reads_schema r.mode ≡ true →
+in_turn : (r : Request) (told : Option (List File)) (bytes details : List ℕ) (before now : Option (List (List ℕ))) → reads_schema r.mode ≡ true →
     IfSome told (λ (f : List File). AskedPrefixOf (plan_names f r.schema ++ names_behind r f (plan_in f r.schema)) before now) →
-    AskedPrefixOf (possible_names bytes r.schema ++ possible_behind r (schema_of bytes)) before now → AsksInTurn (Ok r) told before now
-in_turn r told bytes before now reads asks possible = record {
+    AskedPrefixOf (possible_names bytes r.schema ++ possible_behind r details (schema_of bytes)) before now → AsksInTurn (Ok r) told before now
+in_turn r told bytes details before now reads asks possible = record {
   told =
       subst (λ (b : Bool). IfSome told (λ (f : List File). AskedPrefixOf ((if b then plan_names f r.schema else []) ++ names_behind r f (plan_in f r.schema)) before now))
       (sym reads) asks;
   bytes = bytes;
-  untold = subst (λ (b : Bool). AskedPrefixOf ((if b then possible_names bytes r.schema else []) ++ possible_behind r (schema_of bytes)) before now) (sym reads) possible;
+  details = details;
+  untold = subst (λ (b : Bool). AskedPrefixOf ((if b then possible_names bytes r.schema else []) ++ possible_behind r details (schema_of bytes)) before now) (sym reads) possible;
 }
 
 -- the first of some names are the first of more
@@ -249,34 +251,34 @@ asks_told r (Some f) before now asks = first_of_more (plan_names f r.schema) (na
 asks_of_schema : (r : Request) (told : Option (List File)) (before now : Option (List (List ℕ))) → reads_schema r.mode ≡ true → AsksForPlan r.schema told before now →
     AsksInTurn (Ok r) told before now
 asks_of_schema r told before now reads asks =
-    in_turn r told asks.bytes before now reads (asks_told r told before now asks.told)
-    (first_of_more (possible_names asks.bytes r.schema) (possible_behind r (schema_of asks.bytes)) before now asks.untold)
+    in_turn r told asks.bytes [] before now reads (asks_told r told before now asks.told)
+    (first_of_more (possible_names asks.bytes r.schema) (possible_behind r [] (schema_of asks.bytes)) before now asks.untold)
 
 pub asks_of_name : (r : Request) (name : List ℕ) (told : Option (List File)) (before now : Option (List (List ℕ))) → reads_schema r.mode ≡ true → name ≡ r.schema →
     AsksForPlan name told before now → AsksInTurn (Ok r) told before now
 asks_of_name r name told before now reads is asks = asks_of_schema r told before now reads (subst (λ (n : List ℕ). AsksForPlan n told before now) is asks)
 
 -- names that were asked, and then the first of others
-asked_then : (first list : List (List ℕ)) (before mid now : Option (List (List ℕ))) → mid ≡ option_map (λ names. names ++ first) before → AskedPrefixOf list mid now →
+pub asked_then : (first list : List (List ℕ)) (before mid now : Option (List (List ℕ))) → mid ≡ option_map (λ names. names ++ first) before → AskedPrefixOf list mid now →
     AskedPrefixOf (first ++ list) before now
 asked_then first list before mid now once more =
     asked_first (first ++ list) (first ++ take more.count list) (drop more.count list) before now
     (more.asked ∙ ap (option_map (λ (names : List (List ℕ)). names ++ take more.count list)) once ∙ asked_also first (take more.count list) before)
     (ap (λ (l : List (List ℕ)). first ++ l) (sym (take-append-drop more.count list)) ∙ sym (append_assoc first (take more.count list) (drop more.count list)))
 
-possible_same : (mode : Mode) (r : Request) (plan : Project) → possible_in_mode mode r plan ≡ possible_in_mode mode r (project_of plan.schema [])
-possible_same Check r plan = refl
-possible_same Snapshot r plan = refl
-possible_same Unit r plan = refl
-possible_same Row r plan = refl
-possible_same Apply r plan = refl
-possible_same Sample r plan = refl
-possible_same Play r plan = refl
-possible_same Details r plan = refl
-possible_same DetailsUnit r plan = refl
-possible_same DetailsApply r plan = refl
-possible_same Undo r plan = refl
-possible_same Revert r plan = refl
+possible_same : (mode : Mode) (r : Request) (plan : Project) (details : List ℕ) → possible_in_mode mode r plan details ≡ possible_in_mode mode r (project_of plan.schema []) details
+possible_same Check r plan details = refl
+possible_same Snapshot r plan details = refl
+possible_same Unit r plan details = refl
+possible_same Row r plan details = refl
+possible_same Apply r plan details = refl
+possible_same Sample r plan details = refl
+possible_same Play r plan details = refl
+possible_same Details r plan details = refl
+possible_same DetailsUnit r plan details = refl
+possible_same DetailsApply r plan details = refl
+possible_same Undo r plan details = refl
+possible_same Revert r plan details = refl
 
 asks_then_told : (r : Request) (plan : Project) (told : Option (List File)) (possible : List (List ℕ)) (before mid now : Option (List (List ℕ))) →
     IfSome told (λ (f : List File). plan_in f r.schema ≡ Ok plan) → IfSome told (λ (f : List File). plan_names f r.schema ≡ possible) →
@@ -292,10 +294,10 @@ asks_then_told r plan (Some f) possible before mid now planned names asked asks 
 asks_behind : (r : Request) (plan : Project) (told : Option (List File)) (before mid now : Option (List (List ℕ))) → IfSome told (λ (f : List File). plan_in f r.schema ≡ Ok plan) →
     PlanRead plan.schema r.schema told before mid → AsksInMode r plan told mid now → reads_schema r.mode ≡ true → AsksInTurn (Ok r) told before now
 asks_behind r plan told before mid now planned read asks reads =
-    in_turn r told read.bytes before now reads (asks_then_told r plan told (possible_names read.bytes r.schema) before mid now planned read.told read.asked asks.told)
+    in_turn r told read.bytes asks.details before now reads (asks_then_told r plan told (possible_names read.bytes r.schema) before mid now planned read.told read.asked asks.told)
     (subst (λ (behind : List (List ℕ)). AskedPrefixOf (possible_names read.bytes r.schema ++ behind) before now)
-    (possible_same r.mode r plan ∙ ap (possible_behind r) (sym read.read))
-    (asked_then (possible_names read.bytes r.schema) (possible_in_mode r.mode r plan) before mid now read.asked asks.untold))
+    (possible_same r.mode r plan asks.details ∙ ap (possible_behind r asks.details) (sym read.read))
+    (asked_then (possible_names read.bytes r.schema) (possible_in_mode r.mode r plan asks.details) before mid now read.asked asks.untold))
 
 planned_ok : (told : Option (List File)) (r : Request) (name : List ℕ) (plan : Project) → name ≡ r.schema →
     IfSome told (λ files. Decides plan_status (λ plan. plan) (Ok plan) (plan_in files name)) → IfSome told (λ (f : List File). plan_in f r.schema ≡ Ok plan)
@@ -324,14 +326,14 @@ fault-status (usage.EmptyDirectory name) other = refl
 fault-status usage.Format other = refl
 
 usage_status : (q : Result Request UsageFault) (r : Refusal) → IfErr q (λ fault. fault ≢ usage.Memory) →
-    IfErr q (λ fault. ◌≡◌ {A = Result Job Refusal} (Err r) (Err (refusal.Words fault))) → OnOk q (status_of r ≢ 2) → (status_of r ≡ 2) ↔ IsErr q
+    IfErr q (λ fault. ◌≡◌ {A = Result Task Refusal} (Err r) (Err (refusal.Words fault))) → OnOk q (status_of r ≢ 2) → (status_of r ≡ 2) ↔ IsErr q
 usage_status (Ok q) r no_memory told other = (λ two. absurd (other two), λ err. absurd (cc))
 usage_status (Err fault) r no_memory told other =
     (λ two. refl, λ err. let same : r ≡ refusal.Words fault = cc in ap status_of same ∙ fault-status fault no_memory)
 
 -- a refusal has status 2 exactly where the words give no request
 pub refused-usage : (words : List (List ℕ)) (r : Refusal) → IfErr (request words) (λ fault. fault ≢ usage.Memory) →
-    IfErr (request words) (λ fault. ◌≡◌ {A = Result Job Refusal} (Err r) (Err (refusal.Words fault))) → OnOk (request words) (status_of r ≢ 2) →
+    IfErr (request words) (λ fault. ◌≡◌ {A = Result Task Refusal} (Err r) (Err (refusal.Words fault))) → OnOk (request words) (status_of r ≢ 2) →
     (status_of r ≡ 2) ↔ IsErr (request words)
 refused-usage words r no_memory told other = usage_status (request words) r no_memory told other
 

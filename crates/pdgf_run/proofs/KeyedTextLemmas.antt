@@ -5,7 +5,7 @@ use Rattle.std.specs.List.{AllZip, list_any, range_with_len}
 use Rattle.std.specs.Str.Parse.{AllDigits}
 use Rattle.std.proofs.lemmas.Bool.{cases_Bool, eqb-true}
 use Rattle.std.proofs.lemmas.Fmt.{decimal_is_IsNumeral}
-use Rattle.std.proofs.lemmas.List.{length-map}
+use Rattle.std.proofs.lemmas.List.{append-nil, length-map}
 use Rattle.std.proofs.lemmas.List.Elements.{All-append, All-cons, All-from_get_or, All-head, All-map, All-nil, All-tail}
 use Rattle.std.proofs.lemmas.Str.Parse.{tells_digits}
 use Rattle.csv_face.specs.Csv.{BeginsWithDigit, HasRows, IsCopyText, IsCsvOf, csv_text, rows_text}
@@ -18,11 +18,13 @@ use Rattle.life_intervals.specs.Generator.{generator_of, last_unit, table_of}
 use Rattle.life_intervals.specs.Intervals.{is_live}
 use Rattle.life_intervals.specs.Keys.{key_of}
 use Rattle.row_lines.specs.Lines.{deleted_text, inserted_text, table_text, updated_text}
-use Rattle.row_text.specs.Fields.{IsDelimiter, field_text}
+use Rattle.row_text.specs.Fields.{IsDelimiter, escaped_text, field_text}
+use Rattle.row_text.specs.Lines.{line_text}
 use Rattle.schema_plan.specs.Dictionaries.{Project}
 use Rattle.schema_plan.specs.Layout.{layout_of}
 use Rattle.schema_plan.specs.Limits.{IsInLimits}
 use Rattle.stream_apply.specs.KeyedLines.{lines_text}
+use Rattle.stream_apply.specs.Streams.{text_fields}
 use Rattle.stream_apply.proofs.NumberedLineLemmas.{lines_in}
 use Rattle.update_box.specs.Candidates.{dies_at}
 use Rattle.update_box.specs.Packages.{chosen_places}
@@ -69,6 +71,15 @@ lines-begin key text p a (suc n) each = elim (cases_Bool (p a)) [
   | inr fails ↦ rw fails (lines-begin key text p (a + 1) n (λ j low high. each j (omega (arith, low)) (omega (arith, high))))
 ]
 
+-- a line begins with its first field
+line-begins : (delimiter : ℕ) (front : List (List ℕ)) (others : List (Option (List ℕ))) → length front ≡ 1 →
+    (more : List ℕ) × (line_text delimiter (text_fields front ++ others) ≡ line_text delimiter (text_fields front) ++ more)
+line-begins delimiter [] others one = absurd (omega (arith, one))
+line-begins delimiter (first ∷ []) others one =
+    let more : List ℕ = flat_map (λ (field : Option (List ℕ)). (delimiter ∷ []) ++ field_text delimiter field) others in
+    (more, ap (λ (text : List ℕ). text ++ more) (sym (append-nil (escaped_text delimiter first))))
+line-begins delimiter (first ∷ second ∷ front) others one = absurd (omega (arith, one))
+
 module _ (plan : Project) (limits : IsInLimits plan) (place : ℕ) (below : place < length plan.schema.tables) where
   by_last : (unit ordinal : ℕ) → unit ≤ last_unit plan → ordinal < born_count (table_of plan place).births unit → ordinal < born_count (table_of plan place).births (last_unit plan)
   by_last unit ordinal within born = omega (arith, born, born_count-le (table_of plan place).births unit (last_unit plan) within)
@@ -89,10 +100,9 @@ module _ (plan : Project) (limits : IsInLimits plan) (place : ℕ) (below : plac
   body-starts unit ordinal within born =
       let keyed = keyed-text plan limits place below unit within ordinal born in
       let small = key-small plan limits (last_unit plan) (omega arith) place below ordinal (by_last unit ordinal within born) in
-      let tail : List ℕ =
-      flat_map (λ (field : Option (List ℕ)). ((generator_of plan).delimiter ∷ []) ++ field_text (generator_of plan).delimiter field) keyed.others in
-      subst StartsWithDigit (sym (keyed.written ∙ ap (λ (first : List ℕ). first ++ tail) (sym keyed.key_written)))
-      (number-start (key_of (generator_of plan) place (last_unit plan) ordinal) tail small)
+      let cut = line-begins (generator_of plan).delimiter keyed.front keyed.others keyed.count in
+      subst StartsWithDigit (sym (keyed.written ∙ cut.1 ∙ ap (λ (first : List ℕ). first ++ cut.0) (sym keyed.key_written)))
+      (number-start (key_of (generator_of plan) place (last_unit plan) ordinal) cut.0 small)
 
   table-keyed : (unit : ℕ) → unit ≤ last_unit plan → IsKeyedText (layout_of plan).delimiter (length (table_of plan place).columns) (table_text (generator_of plan) unit place)
   unfolding table_text

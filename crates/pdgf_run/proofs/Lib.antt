@@ -15,4 +15,17 @@ mod KeyedTextLemmas
 mod ChunkLemmas
 mod TextShelfLemmas
 mod AppliedLemmas
+mod DetailTextLemmas
+mod DetailFilesLemmas
+mod DetailsLemmas
+mod DetailsApplyLemmas
+mod PlayLemmas
+mod TaskLemmas
 pub mod SampleLemmas
+mod UndoLawLemmas
+mod RevertLemmas
+mod RevertMadeLemmas
+mod ListLemmas
+mod RevertOutcomeLemmas
+mod RevertedLemmas
+pub mod UndoLemmas

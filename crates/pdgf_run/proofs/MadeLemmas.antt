@@ -14,6 +14,7 @@ use Rattle.refusals.specs.declared.refusal.InputCause.TheVariants.{Applying, Bad
 use Rattle.refusals.specs.declared.refusal.JobFault.{JobFault}
 use Rattle.refusals.specs.declared.refusal.JobFault.TheVariants as job
 use Rattle.stream_apply.specs.InTurn.{IsAppliedText, IsFaultAt}
+use Rattle.stream_apply.specs.declared.key_fields.KeyFields.TheVariants.{One}
 use Rattle.stream_apply.specs.declared.fault.ApplyFault.{ApplyFault}
 use Rattle.stream_apply.specs.declared.fault.ApplyFault.TheVariants.{Memory}
 use Rattle.stream_apply.specs.declared.fault.ApplyFault.TheVariants as fault
@@ -38,24 +39,24 @@ none_applied delimiter each inputs texts is = record {
 
 -- one more is
 pub applied_more : (delimiter each : ℕ) (inputs texts after : List (List ℕ)) (text : List ℕ) → after ≡ texts ++ text ∷ [] → AreApplied delimiter each inputs texts →
-    IsAppliedText delimiter (inputs_at each inputs (length texts)) text → AreApplied delimiter each inputs after
+    IsAppliedText One delimiter (inputs_at each inputs (length texts)) text → AreApplied delimiter each inputs after
 applied_more delimiter each inputs texts after text is before own = record {
   applied = λ place below.
-      subst (λ (list : List (List ℕ)). IsAppliedText delimiter (inputs_at each inputs place) (get_or list place [])) (sym is)
+      subst (λ (list : List (List ℕ)). IsAppliedText One delimiter (inputs_at each inputs place) (get_or list place [])) (sym is)
       (elim (cases_lt place (length texts)) [
-        | inl earlier ↦ subst (λ (t : List ℕ). IsAppliedText delimiter (inputs_at each inputs place) t)
+        | inl earlier ↦ subst (λ (t : List ℕ). IsAppliedText One delimiter (inputs_at each inputs place) t)
             (sym (get_or_append_left texts (text ∷ []) [] place earlier)) (before.applied place earlier)
         | inr last ↦
             let here : place ≡ length texts = omega (arith, last, below, ap length is, length-append texts (text ∷ [])) in
-            subst (λ (p : ℕ). IsAppliedText delimiter (inputs_at each inputs p) (get_or (texts ++ text ∷ []) p [])) (sym here)
-            (subst (λ (t : List ℕ). IsAppliedText delimiter (inputs_at each inputs (length texts)) t) (sym (get_or-append_seam texts text [] [])) own)
+            subst (λ (p : ℕ). IsAppliedText One delimiter (inputs_at each inputs p) (get_or (texts ++ text ∷ []) p [])) (sym here)
+            (subst (λ (t : List ℕ). IsAppliedText One delimiter (inputs_at each inputs (length texts)) t) (sym (get_or-append_seam texts text [] [])) own)
       ]);
 }
 
 -- the next one's inputs have a fault
 pub first_fault : (delimiter each : ℕ) (inputs texts : List (List ℕ)) (count place number : ℕ) (fault : ApplyFault) → AreApplied delimiter each inputs texts →
     length texts < count → place < each → number ≡ length texts * each + place →
-    IsFaultAt delimiter (inputs_at each inputs (length texts)) place fault → fault ≢ Memory →
+    IsFaultAt One delimiter (inputs_at each inputs (length texts)) place fault → fault ≢ Memory →
     IsFirstFault delimiter each inputs count number fault
 first_fault delimiter each inputs texts count place number fault before within below is has told = record {
   texts = texts;
@@ -80,7 +81,7 @@ inputs_in_turn view each place from files own inputs are at is =
 -- why a table's inputs aren't applied
 pub unapplied_at : (delimiter : ℕ) (directory : List ℕ) (paths : List (List ℕ)) (each : ℕ) (inputs texts : List (List ℕ)) (count place number : ℕ) (path file : List ℕ) (fault : ApplyFault) (told : JobFault) →
     AreApplied delimiter each inputs texts → length texts < count → place < each → number ≡ length texts * each + place →
-    IsFaultAt delimiter (inputs_at each inputs (length texts)) place fault → fault ≢ Memory → slice_get paths number ≡ Some path →
+    IsFaultAt One delimiter (inputs_at each inputs (length texts)) place fault → fault ≢ Memory → slice_get paths number ≡ Some path →
     told ≡ job.Input (record { file = file_named (drop (length directory + 1) path); cause = Applying fault }) → IsUnapplied delimiter directory paths each inputs count told
 unapplied_at delimiter directory paths each inputs texts count place number path file fault told before within below is has not_memory at told_is =
     inr (
@@ -97,7 +98,7 @@ taken_few (suc count) [] = omega arith
 taken_few (suc count) (file ∷ files) = omega (arith, taken_few count files)
 
 -- what is made of the inputs is what they come to
-in_all : (count each texts place number : ℕ) → texts < count → place < each → number ≡ texts * each + place → number < count * each
+pub in_all : (count each texts place number : ℕ) → texts < count → place < each → number ≡ texts * each + place → number < count * each
 in_all count each texts place number within below is =
     let rows : suc texts * each ≤ count * each = mul-le (suc texts) each count each within (omega arith) in
     let next : suc texts * each ≡ texts * each + each = grind (arith) in

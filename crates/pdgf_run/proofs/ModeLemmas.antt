@@ -1,5 +1,5 @@
 -- What a mode comes to that asks nothing of the library.
-use Rattle.std.proofs.Common.{◌≡◌, ◌≢◌, ℕ, Bool, List, Option, None, Some, Result, Ok, Err, inl, inr, refl, sym, subst, arith}
+use Rattle.std.proofs.Common.{◌≡◌, ◌≢◌, ℕ, Bool, List, [], ◌∷◌, Option, None, Some, Result, Ok, Err, inl, inr, refl, sym, subst, arith}
 use Rattle.std.specs.Prelude.{◌⊎◌, IfErr, IfSome}
 use Rattle.pd_outside.specs.Files.{File}
 use Rattle.pd_outside.specs.Library.{AskedPrefixOf, Content}
@@ -7,7 +7,7 @@ use Rattle.plan_stages.specs.Stages.{Decides, IsReadOut, ended, told_files}
 use Rattle.plan_stages.proofs.DictionaryLemmas.{none_asked}
 use Rattle.refusals.specs.Statuses.{job_status}
 use Rattle.refusals.specs.declared.refusal.JobFault.{JobFault}
-use Rattle.request_words.specs.declared.usage.Mode.TheVariants.{Check, Snapshot, Unit, Row, Apply}
+use Rattle.request_words.specs.declared.usage.Mode.TheVariants.{Check, Snapshot, Unit, Row, Apply, Details, DetailsUnit, DetailsApply, Revert}
 use Rattle.request_words.specs.declared.usage.Mode.{Mode}
 use Rattle.request_words.specs.declared.usage.Request.{Request}
 use Rattle.schema_plan.specs.Dictionaries.{Project}
@@ -17,10 +17,14 @@ use Rattle.pdgf_run.specs.TopCall.{IsLimitTold, LibraryLeft}
 use Rattle.pdgf_run.specs.Verdict.{IsDecided, IsInMode}
 use Rattle.pdgf_run.specs.modes.Apply.{paths_asked, paths_possible, tables_asked}
 use Rattle.pdgf_run.specs.modes.Check.{check_due}
+use Rattle.pdgf_run.specs.modes.Details.{details_due}
+use Rattle.pdgf_run.specs.modes.DetailsApply.{details_apply_asked, details_apply_possible}
+use Rattle.pdgf_run.specs.modes.Revert.{tables_reverted, undo_paths_asked, undo_paths_possible}
 use Rattle.pdgf_run.specs.modes.Row.{row_due}
 use Rattle.pdgf_run.specs.modes.Snapshot.{IsSnapshotDue}
 use Rattle.pdgf_run.specs.modes.Unit.{IsUnitDue}
 use Rattle.pdgf_run.specs.declared.job.Job.{Job}
+use Rattle.pdgf_run.specs.declared.job.Told.TheVariants.{Changes, Text}
 use Rattle.pdgf_run.proofs.ApplyLemmas.{left_alone}
 
 -- ---- what it answers
@@ -85,8 +89,8 @@ left_untouched answer content taken is_started faults refused out =
     left_alone (ended job_status answer) (IsLimitTold answer) content taken is_started faults others.2 others.3 out
 
 pub asks_nothing : (r : Request) (plan : Project) (told : Option (List File)) (before : Option (List (List ℕ))) → AsksInMode r plan told before before
-asks_nothing r plan None before = record { told = tt; untold = record { count = 0; asked = none_asked before } }
-asks_nothing r plan (Some files) before = record { told = record { count = 0; asked = none_asked before }; untold = record { count = 0; asked = none_asked before } }
+asks_nothing r plan None before = record { told = tt; details = []; untold = record { count = 0; asked = none_asked before } }
+asks_nothing r plan (Some files) before = record { told = record { count = 0; asked = none_asked before }; details = []; untold = record { count = 0; asked = none_asked before } }
 
 -- ---- mode apply
 
@@ -101,5 +105,75 @@ pub apply_asks : (r : Request) (plan : Project) (told : Option (List File)) (bef
     AskedPrefixOf (paths_possible plan r (tables_asked plan r)) before now → AsksInMode r plan told before now
 apply_asks r plan told before now is first possible = record {
   told = subst (λ (m : Mode). IfSome told (λ (f : List File). AskedPrefixOf (names_in_mode m r plan f) before now)) (sym is) first;
-  untold = subst (λ (m : Mode). AskedPrefixOf (possible_in_mode m r plan) before now) (sym is) possible;
+  details = [];
+  untold = subst (λ (m : Mode). AskedPrefixOf (possible_in_mode m r plan []) before now) (sym is) possible;
 }
+
+-- ---- mode details-apply
+
+pub details_apply_decided : (told : Option (List File)) (r : Request) (plan : Project) (made : Result Job JobFault) → r.mode ≡ DetailsApply →
+    IfSome told (λ files. IsDecided job_status due_of (IsInMode DetailsApply r plan files) made) →
+    IfSome told (λ files. IsDecided job_status due_of (IsInMode r.mode r plan files) made)
+details_apply_decided told r plan made is decided =
+    subst (λ (m : Mode). IfSome told (λ files. IsDecided job_status due_of (IsInMode m r plan files) made)) (sym is) decided
+
+pub details_apply_asks : (r : Request) (plan : Project) (told : Option (List File)) (before now : Option (List (List ℕ))) → r.mode ≡ DetailsApply →
+    IfSome told (λ files. AskedPrefixOf (details_apply_asked plan r files) before now) →
+    (details : List ℕ) × AskedPrefixOf (details_apply_possible plan r details) before now → AsksInMode r plan told before now
+details_apply_asks r plan told before now is first possible = record {
+  told = subst (λ (m : Mode). IfSome told (λ (f : List File). AskedPrefixOf (names_in_mode m r plan f) before now)) (sym is) first;
+  details = possible.0;
+  untold = subst (λ (m : Mode). AskedPrefixOf (possible_in_mode m r plan possible.0) before now) (sym is) possible.1;
+}
+
+-- ---- mode revert
+
+pub revert_decided : (told : Option (List File)) (r : Request) (plan : Project) (made : Result Job JobFault) → r.mode ≡ Revert →
+    IfSome told (λ files. IsDecided job_status due_of (IsInMode Revert r plan files) made) →
+    IfSome told (λ files. IsDecided job_status due_of (IsInMode r.mode r plan files) made)
+revert_decided told r plan made is decided =
+    subst (λ (m : Mode). IfSome told (λ files. IsDecided job_status due_of (IsInMode m r plan files) made)) (sym is) decided
+
+pub revert_asks : (r : Request) (plan : Project) (told : Option (List File)) (before now : Option (List (List ℕ))) → r.mode ≡ Revert →
+    IfSome told (λ files. AskedPrefixOf (undo_paths_asked plan r files (tables_reverted plan r)) before now) →
+    AskedPrefixOf (undo_paths_possible plan r (tables_reverted plan r)) before now → AsksInMode r plan told before now
+revert_asks r plan told before now is first possible = record {
+  told = subst (λ (m : Mode). IfSome told (λ (f : List File). AskedPrefixOf (names_in_mode m r plan f) before now)) (sym is) first;
+  details = [];
+  untold = subst (λ (m : Mode). AskedPrefixOf (possible_in_mode m r plan []) before now) (sym is) possible;
+}
+
+-- ---- modes details and details-unit
+
+pub details_decided : (told : Option (List File)) (r : Request) (plan : Project) (made : Result Job JobFault) → r.mode ≡ Details →
+    IfSome told (λ files. IsDecided job_status due_of (λ answer. answer ≡ details_due Text plan r files) made) →
+    IfSome told (λ files. IsDecided job_status due_of (IsInMode r.mode r plan files) made)
+details_decided told r plan made is decided =
+    subst (λ (m : Mode). IfSome told (λ files. IsDecided job_status due_of (IsInMode m r plan files) made)) (sym is) decided
+
+pub details_unit_decided : (told : Option (List File)) (r : Request) (plan : Project) (made : Result Job JobFault) → r.mode ≡ DetailsUnit →
+    IfSome told (λ files. IsDecided job_status due_of (λ answer. answer ≡ details_due Changes plan r files) made) →
+    IfSome told (λ files. IsDecided job_status due_of (IsInMode r.mode r plan files) made)
+details_unit_decided told r plan made is decided =
+    subst (λ (m : Mode). IfSome told (λ files. IsDecided job_status due_of (IsInMode m r plan files) made)) (sym is) decided
+
+-- the declaration's name is asked at most
+asks_declaration : (mode : Mode) (r : Request) (plan : Project) (told : Option (List File)) (before now : Option (List (List ℕ))) → r.mode ≡ mode →
+    ((files : List File) → names_in_mode mode r plan files ≡ r.spec ∷ []) → possible_in_mode mode r plan [] ≡ r.spec ∷ [] → AskedPrefixOf (r.spec ∷ []) before now → AsksInMode r plan told before now
+asks_declaration mode r plan told before now is names possible asked = record {
+  told =
+      where_told told (λ f. AskedPrefixOf (names_in_mode r.mode r plan f) before now)
+      (λ f. subst (λ (m : Mode). AskedPrefixOf (names_in_mode m r plan f) before now) (sym is) (subst (λ (list : List (List ℕ)). AskedPrefixOf list before now) (sym (names f)) asked));
+  details = [];
+  untold =
+      subst (λ (m : Mode). AskedPrefixOf (possible_in_mode m r plan []) before now) (sym is)
+      (subst (λ (list : List (List ℕ)). AskedPrefixOf list before now) (sym possible) asked);
+}
+
+pub details_asks : (r : Request) (plan : Project) (told : Option (List File)) (before now : Option (List (List ℕ))) → r.mode ≡ Details → AskedPrefixOf (r.spec ∷ []) before now →
+    AsksInMode r plan told before now
+details_asks r plan told before now is asked = asks_declaration Details r plan told before now is (λ f. refl) refl asked
+
+pub details_unit_asks : (r : Request) (plan : Project) (told : Option (List File)) (before now : Option (List (List ℕ))) → r.mode ≡ DetailsUnit → AskedPrefixOf (r.spec ∷ []) before now →
+    AsksInMode r plan told before now
+details_unit_asks r plan told before now is asked = asks_declaration DetailsUnit r plan told before now is (λ f. refl) refl asked

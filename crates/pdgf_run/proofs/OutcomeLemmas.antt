@@ -1,7 +1,7 @@
 -- Words and files come to one verdict.
 use Rattle.std.specs.Prelude.{nat_lt}
 use Rattle.std.specs.List.{range_with_len, sum_by}
-use Rattle.std.proofs.Common.{◌≡◌, ◌≢◌, ◌<◌, ◌+◌, ◌*◌, ℕ, suc, Bool, true, false, List, [], ◌∷◌, get_or, length, Option, Result, Ok, Err, ap, arith, inl, inr, refl, subst, sym, ◌∙◌}
+use Rattle.std.proofs.Common.{◌≡◌, ◌≢◌, ◌<◌, ◌+◌, ◌*◌, ℕ, suc, Bool, true, false, List, [], ◌∷◌, get_or, length, Option, Result, Ok, Err, ap, arith, inl, inr, refl, subst, sym, ◌∙◌, None, Some}
 use Rattle.std.proofs.lemmas.Bool.{cases_eq, cases_lt}
 use Rattle.pd_outside.specs.Files.{File}
 use Rattle.plan_stages.specs.Stages.{in_stage}
@@ -27,6 +27,8 @@ use Rattle.stream_apply.specs.InTurn.{IsAppliedText, IsFaultAt}
 use Rattle.stream_apply.specs.KeyedLines.{lines_text}
 use Rattle.stream_apply.specs.declared.fault.ApplyFault.{ApplyFault}
 use Rattle.stream_apply.specs.declared.fault.ApplyFault.TheVariants.{Memory}
+use Rattle.stream_apply.specs.declared.key_fields.KeyFields.{KeyFields}
+use Rattle.stream_apply.specs.declared.key_fields.KeyFields.TheVariants.{One, Two}
 use Rattle.pdgf_run.specs.Verdict.{IsInMode, IsOfRequest, IsPlanned, IsVerdict, plan_for}
 use Rattle.update_box.specs.Packages.{chosen_places}
 use Rattle.update_box.specs.Parts.{parts_of, snapshot_contents, unit_contents}
@@ -37,49 +39,46 @@ use Rattle.pdgf_run.specs.DueFiles.{most_page_bytes, package_of, page_bytes, tex
 use Rattle.pdgf_run.specs.Formats.{file_name, made_files}
 use Rattle.pdgf_run.specs.modes.Apply.{AreApplied, AreDueFor, IsApplyDue, IsAskedAndMade, IsCsvMade, IsFirstFault, IsMadeIn, IsMadeOf, IsReadAndMade, input_limit, input_names, input_paths, inputs_at, inputs_each, tables_asked, text_name, unapplied, unread_record}
 use Rattle.pdgf_run.specs.modes.Sample.{IsLaterText, IsSampleUnless, later_units, summary_of, text_and_changes}
+use Rattle.detail_plan.specs.declared.detail.Detail.{Detail}
+use Rattle.refusals.specs.declared.refusal.DetailsCause.{DetailsCause}
+use Rattle.pdgf_run.specs.Details.{detail_in}
+use Rattle.pdgf_run.specs.modes.DetailsApply.{AreDeclared, AreDetailsAsked, AreDetailsMade, AreDetailsRead, detail_due, detail_input_names, detail_input_paths, units_refused}
 use Rattle.pdgf_run.specs.modes.Snapshot.{snapshot_asked}
 use Rattle.pdgf_run.specs.modes.Unit.{unit_asked}
+use Rattle.pdgf_run.proofs.ListLemmas.{same_items}
+use Rattle.pdgf_run.proofs.RevertOutcomeLemmas.{one_revert}
 use Rattle.pdgf_run.proofs.CsvLemmas.{no_bad, one_bad, one_copies, one_image, one_written}
 
 -- ---- one table
 
-one_text : (delimiter : ℕ) (inputs : List (List ℕ)) (text other : List ℕ) → IsDelimiter delimiter → IsAppliedText delimiter inputs text → IsAppliedText delimiter inputs other → text ≡ other
-one_text delimiter inputs text other delimits is other_is =
-    is.is ∙ ap lines_text (one-made delimiter _ [] is.lines other_is.lines delimits is.made other_is.made) ∙ sym other_is.is
+pub one_text : (keys : KeyFields) (delimiter : ℕ) (inputs : List (List ℕ)) (text other : List ℕ) → IsDelimiter delimiter → IsAppliedText keys delimiter inputs text → IsAppliedText keys delimiter inputs other → text ≡ other
+one_text keys delimiter inputs text other delimits is other_is =
+    is.is ∙ ap lines_text (one-made keys delimiter _ [] is.lines other_is.lines delimits is.made other_is.made) ∙ sym other_is.is
 
-pub never_both : (delimiter : ℕ) (inputs : List (List ℕ)) (text : List ℕ) (place : ℕ) (fault : ApplyFault) → IsDelimiter delimiter → IsAppliedText delimiter inputs text →
-    fault ≢ Memory → ¬ IsFaultAt delimiter inputs place fault
-never_both delimiter inputs text place fault delimits is told = made-no_fault delimiter _ [] is.lines place fault delimits is.made told
+pub never_both : (keys : KeyFields) (delimiter : ℕ) (inputs : List (List ℕ)) (text : List ℕ) (place : ℕ) (fault : ApplyFault) → IsDelimiter delimiter → IsAppliedText keys delimiter inputs text →
+    fault ≢ Memory → ¬ IsFaultAt keys delimiter inputs place fault
+never_both keys delimiter inputs text place fault delimits is told = made-no_fault keys delimiter _ [] is.lines place fault delimits is.made told
 
 -- ---- all tables
-
--- lists of the same items are one
-same_items : (xs ys : List (List ℕ)) → length xs ≡ length ys → ((i : ℕ) → i < length xs → get_or xs i [] ≡ get_or ys i []) → xs ≡ ys
-same_items [] [] count same = refl
-same_items [] (y ∷ ys) count same = absurd (omega (arith, count))
-same_items (x ∷ xs) [] count same = absurd (omega (arith, count))
-same_items (x ∷ xs) (y ∷ ys) count same =
-    ap (λ (first : List ℕ). first ∷ xs) (same 0 (omega arith))
-    ∙ ap (λ (rest : List (List ℕ)). y ∷ rest) (same_items xs ys (omega (arith, count)) (λ i below. same (suc i) (omega (arith, below))))
 
 one_list : (delimiter each : ℕ) (inputs texts others : List (List ℕ)) → IsDelimiter delimiter → length texts ≡ length others →
     AreApplied delimiter each inputs texts → AreApplied delimiter each inputs others → texts ≡ others
 one_list delimiter each inputs texts others delimits count are others_are =
-    same_items texts others count (λ i below. one_text delimiter (inputs_at each inputs i) _ _ delimits (are.applied i below) (others_are.applied i (omega (arith, below, count))))
+    same_items texts others count (λ i below. one_text One delimiter (inputs_at each inputs i) _ _ delimits (are.applied i below) (others_are.applied i (omega (arith, below, count))))
 
 -- a table's inputs have no fault where they are applied
 no_fault_within : (delimiter each : ℕ) (inputs texts : List (List ℕ)) (count number : ℕ) (fault : ApplyFault) → IsDelimiter delimiter → AreApplied delimiter each inputs texts →
     (is_first : IsFirstFault delimiter each inputs count number fault) → length is_first.texts < length texts → ⊥
 no_fault_within delimiter each inputs texts count number fault delimits are is_first below =
-    never_both delimiter (inputs_at each inputs (length is_first.texts)) _ is_first.place fault delimits (are.applied (length is_first.texts) below) is_first.told is_first.has
+    never_both One delimiter (inputs_at each inputs (length is_first.texts)) _ is_first.place fault delimits (are.applied (length is_first.texts) below) is_first.told is_first.has
 
 one_fault : (delimiter each : ℕ) (inputs : List (List ℕ)) (count number other_number : ℕ) (fault other : ApplyFault) → IsDelimiter delimiter →
     IsFirstFault delimiter each inputs count number fault → IsFirstFault delimiter each inputs count other_number other → (number ≡ other_number) × (fault ≡ other)
 one_fault delimiter each inputs count number other_number fault other delimits is other_is = elim (cases_eq (length is.texts) (length other_is.texts)) [
   | inl same ↦
-      let here : IsFaultAt delimiter (inputs_at each inputs (length is.texts)) other_is.place other =
-      subst (λ (t : ℕ). IsFaultAt delimiter (inputs_at each inputs t) other_is.place other) (sym same) other_is.has in
-      let one = one-first delimiter _ [] is.place other_is.place fault other delimits is.has here is.told other_is.told in
+      let here : IsFaultAt One delimiter (inputs_at each inputs (length is.texts)) other_is.place other =
+      subst (λ (t : ℕ). IsFaultAt One delimiter (inputs_at each inputs t) other_is.place other) (sym same) other_is.has in
+      let one = one-first One delimiter _ [] is.place other_is.place fault other delimits is.has here is.told other_is.told in
       (is.number_is ∙ ap (λ (t : ℕ). t * each + is.place) same ∙ ap (λ (p : ℕ). length other_is.texts * each + p) one.0 ∙ sym other_is.number_is, one.1)
   | inr apart ↦ elim (cases_lt (length is.texts) (length other_is.texts)) [
     | inl earlier ↦ absurd (no_fault_within delimiter each inputs other_is.texts count number fault delimits other_is.before is earlier)
@@ -173,7 +172,7 @@ one_due_in Csv contents r plan job answer other delimits is other_is = one_csv_a
 -- a sample's summary
 one_later : (plan : Project) (place : ℕ) (text other : List ℕ) → IsDelimiter (layout_of plan).delimiter → IsLaterText plan place text → IsLaterText plan place other → text ≡ other
 one_later plan place text other delimits is other_is =
-    one_text (layout_of plan).delimiter (text_and_changes plan place (later_units plan)) text other delimits is other_is
+    one_text One (layout_of plan).delimiter (text_and_changes plan place (later_units plan)) text other delimits is other_is
 
 one_sample : (past : Bool) (plan : Project) (answer other : Result (List File) JobFault) → IsDelimiter (layout_of plan).delimiter →
     IsSampleUnless past plan answer → IsSampleUnless past plan other → answer ≡ other
@@ -185,6 +184,36 @@ one_sample false plan answer other delimits is other_is =
     one_image (IsLaterText plan) (range_with_len 0 (length plan.schema.tables)) one.0 two.0 (λ place text another. one_later plan place text another delimits) one.1 two.1 in
     is.2 ∙ ap (λ (text : List ℕ). Ok (text_files text)) (one.2 ∙ ap (summary_of plan) same ∙ sym two.2) ∙ sym other_is.2
 
+-- a detail table's inputs come to one answer, and so does what is behind a declaration
+one_details_made : (plan : Project) (r : Request) (detail : Detail) (inputs : List (List ℕ)) (answer other : Result (List File) JobFault) → IsDelimiter (layout_of plan).delimiter →
+    AreDetailsMade plan r detail inputs answer → AreDetailsMade plan r detail inputs other → answer ≡ other
+one_details_made plan r detail inputs (Ok due) (Ok other) delimits made other_made =
+    ap Ok (made.2 ∙ ap (detail_due r detail) (one_text Two (layout_of plan).delimiter inputs made.0 other_made.0 delimits made.1 other_made.1) ∙ sym other_made.2)
+one_details_made plan r detail inputs (Ok due) (Err fault) delimits made other_made =
+    absurd (never_both Two (layout_of plan).delimiter inputs made.0 other_made.0 other_made.1 delimits made.1 other_made.4 other_made.3)
+one_details_made plan r detail inputs (Err fault) (Ok due) delimits made other_made =
+    absurd (never_both Two (layout_of plan).delimiter inputs other_made.0 made.0 made.1 delimits other_made.1 made.4 made.3)
+one_details_made plan r detail inputs (Err fault) (Err other) delimits made other_made =
+    let one = one-first Two (layout_of plan).delimiter _ [] made.0 other_made.0 made.1 other_made.1 delimits made.3 other_made.3 made.4 other_made.4 in
+    let names : List (List ℕ) = detail_input_names r detail in
+    ap Err (made.5 ∙ ap (λ (n : ℕ). unapplied names n made.1) one.0 ∙ ap (unapplied names other_made.0) one.1 ∙ sym other_made.5)
+
+one_details_read : (plan : Project) (r : Request) (detail : Detail) (inputs : Result (List (List ℕ)) InputFault) (answer other : Result (List File) JobFault) → IsDelimiter (layout_of plan).delimiter →
+    AreDetailsRead plan r detail inputs answer → AreDetailsRead plan r detail inputs other → answer ≡ other
+one_details_read plan r detail (Ok inputs) answer other delimits is other_is = one_details_made plan r detail inputs answer other delimits is other_is
+one_details_read plan r detail (Err fault) answer other delimits is other_is = is ∙ sym other_is
+
+one_details_asked : (plan : Project) (r : Request) (files : List File) (detail : Detail) (refused : Option JobFault) (answer other : Result (List File) JobFault) → IsDelimiter (layout_of plan).delimiter →
+    AreDetailsAsked plan r files detail refused answer → AreDetailsAsked plan r files detail refused other → answer ≡ other
+one_details_asked plan r files detail (Some fault) answer other delimits is other_is = is ∙ sym other_is
+one_details_asked plan r files detail None answer other delimits is other_is =
+    one_details_read plan r detail (inputs_in files (detail_input_paths r detail) input_limit) answer other delimits is other_is
+
+one_declared : (plan : Project) (r : Request) (files : List File) (declared : Result Detail DetailsCause) (answer other : Result (List File) JobFault) → IsDelimiter (layout_of plan).delimiter →
+    AreDeclared plan r files declared answer → AreDeclared plan r files declared other → answer ≡ other
+one_declared plan r files (Ok detail) answer other delimits is other_is = one_details_asked plan r files detail (units_refused plan r) answer other delimits is other_is
+one_declared plan r files (Err cause) answer other delimits is other_is = is ∙ sym other_is
+
 one_in_mode : (mode : Mode) (r : Request) (plan : Project) (files : List File) (answer other : Result (List File) JobFault) → IsDelimiter (layout_of plan).delimiter →
     IsInMode mode r plan files answer → IsInMode mode r plan files other → answer ≡ other
 one_in_mode Check r plan files answer other delimits is other_is = is ∙ sym other_is
@@ -194,12 +223,12 @@ one_in_mode Row r plan files answer other delimits is other_is = is ∙ sym othe
 one_in_mode Apply r plan files answer other delimits is other_is = one_apply plan r files answer other delimits is other_is
 one_in_mode Sample r plan files answer other delimits is other_is =
     one_sample (nat_lt most_page_bytes (page_bytes r.workers (package_of plan r) (reach (layout_of plan)))) plan answer other delimits is other_is
-one_in_mode Play r plan files answer other delimits is other_is = absurd is
-one_in_mode Details r plan files answer other delimits is other_is = absurd is
-one_in_mode DetailsUnit r plan files answer other delimits is other_is = absurd is
-one_in_mode DetailsApply r plan files answer other delimits is other_is = absurd is
-one_in_mode Undo r plan files answer other delimits is other_is = absurd is
-one_in_mode Revert r plan files answer other delimits is other_is = absurd is
+one_in_mode Play r plan files answer other delimits is other_is = is ∙ sym other_is
+one_in_mode Details r plan files answer other delimits is other_is = is ∙ sym other_is
+one_in_mode DetailsUnit r plan files answer other delimits is other_is = is ∙ sym other_is
+one_in_mode DetailsApply r plan files answer other delimits is other_is = one_declared plan r files (detail_in plan files r.spec) answer other delimits is other_is
+one_in_mode Undo r plan files answer other delimits is other_is = is ∙ sym other_is
+one_in_mode Revert r plan files answer other delimits is other_is = one_revert plan r files answer other delimits is other_is
 
 one_planned : (r : Request) (files : List File) (made : Result Project PlanFault) (answer other : Result (List File) JobFault) →
     ((plan : Project) → IsDelimiter (layout_of plan).delimiter) → IsPlanned r files made answer → IsPlanned r files made other → answer ≡ other

@@ -14,7 +14,7 @@ use Rattle.pdgf_run.specs.modes.Apply.{change_fields, fields_in, input_names, in
 
 -- ---- names
 
-flat_map_more : {A : Type 0} (f : ℕ → List A) (first count : ℕ) → flat_map f (range_with_len first (count + 1)) ≡ flat_map f (range_with_len first count) ++ f (first + count)
+pub flat_map_more : {A : Type 0} (f : ℕ → List A) (first count : ℕ) → flat_map f (range_with_len first (count + 1)) ≡ flat_map f (range_with_len first count) ++ f (first + count)
 flat_map_more f first zero =
     let here : first ≡ first + 0 = omega arith in
     append-nil (f first) ∙ ap f here
@@ -50,7 +50,7 @@ parts_more name contents first number mid now so_far step =
     ∙ ap (map name) (sym (flat_map_more (parts_at contents) first number))
 
 -- one more behind what is mapped
-names_more : (directory : List ℕ) (f : ℕ → List (List ℕ)) (first count : ℕ) →
+pub names_more : (directory : List ℕ) (f : ℕ → List (List ℕ)) (first count : ℕ) →
     map (in_directory directory) (flat_map f (range_with_len first (count + 1)))
     ≡ map (in_directory directory) (flat_map f (range_with_len first count)) ++ map (in_directory directory) (f (first + count))
 names_more directory f first count =

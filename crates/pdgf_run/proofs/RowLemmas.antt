@@ -22,6 +22,7 @@ use Rattle.life_intervals.proofs.AcceptedLemmas.{place-below}
 use Rattle.row_lines.specs.Lines.{field, key_line_of, line}
 use Rattle.stream_apply.specs.InTurn.{IsAppliedText}
 use Rattle.stream_apply.specs.KeyedLines.{KeyedLine, lines_text}
+use Rattle.stream_apply.specs.declared.key_fields.KeyFields.TheVariants.{One}
 use Rattle.stream_apply.proofs.KeptLineLemmas.{AllTexts, AreTrueOfChanges, AreTrueOfTable, IsTrueOfLines, applied-all}
 use Rattle.stream_apply.proofs.KeyedLineLemmas.{join_with_byte-by}
 use Rattle.stream_apply.proofs.LineLemmas.{first-cut, keyed-line_feed}
@@ -182,13 +183,13 @@ lines-of_fields delimiter count delimits some (line ∷ lines) (row ∷ rows) la
     behind (x ∷ xs) (y ∷ ys) more others is same = let tails : xs ≡ ys = cc is in let rests : xs ++ 10 ∷ more ≡ ys ++ 10 ∷ others = cc same in behind xs ys more others tails rests
 
 -- so do the lines of a stream
-stream-fields : (delimiter count : ℕ) → IsDelimiter delimiter → (bytes : List ℕ) → IsOfFields delimiter count bytes → IsTrueOfLines (HasFields delimiter count) delimiter bytes
+stream-fields : (delimiter count : ℕ) → IsDelimiter delimiter → (bytes : List ℕ) → IsOfFields delimiter count bytes → IsTrueOfLines (HasFields delimiter count) One delimiter bytes
 stream-fields delimiter count delimits bytes of kind table lines stream =
     lines-of_fields delimiter count delimits of.1.some lines of.0
-    (λ k d inside. keyed-line_feed delimiter delimits kind _ (stream.keyed k d inside)) of.1.alike (sym stream.text ∙ of.1.written)
+    (λ k d inside. keyed-line_feed One delimiter delimits kind _ (stream.keyed k d inside)) of.1.alike (sym stream.text ∙ of.1.written)
 
 changes-fields : (delimiter columns : ℕ) → IsDelimiter delimiter → (first units : ℕ) (inputs : List (List ℕ)) →
-    AllZip (IsOfFields delimiter) (flat_map (λ (unit : ℕ). change_fields columns) (range_with_len first units)) inputs → AreTrueOfChanges (HasFields delimiter columns) delimiter inputs
+    AllZip (IsOfFields delimiter) (flat_map (λ (unit : ℕ). change_fields columns) (range_with_len first units)) inputs → AreTrueOfChanges (HasFields delimiter columns) One delimiter inputs
 changes-fields delimiter columns delimits first zero [] are = tt
 changes-fields delimiter columns delimits first zero (input ∷ inputs) are = absurd are
 changes-fields delimiter columns delimits first (suc units) [] are = absurd are
@@ -203,7 +204,7 @@ changes-fields delimiter columns delimits first (suc units) (deletes ∷ updates
 )
 
 table-fields : (delimiter columns units : ℕ) → IsDelimiter delimiter → (inputs : List (List ℕ)) → AllZip (IsOfFields delimiter) (fields_in columns units) inputs →
-    AreTrueOfTable (HasFields delimiter columns) delimiter inputs
+    AreTrueOfTable (HasFields delimiter columns) One delimiter inputs
 table-fields delimiter columns units delimits [] are = absurd are
 table-fields delimiter columns units delimits (text ∷ inputs) are =
     (stream-fields delimiter columns delimits text are.0, changes-fields delimiter columns delimits 0 units inputs are.1)
@@ -222,8 +223,8 @@ rows-of_lines delimiter count (line ∷ lines) all =
     )
 
 pub applied-rows : (delimiter columns units : ℕ) → IsDelimiter delimiter → 0 < columns → (inputs : List (List ℕ)) (text : List ℕ) → AllZip (IsOfFields delimiter) (fields_in columns units) inputs →
-    IsAppliedText delimiter inputs text → HasRows delimiter text
+    IsAppliedText One delimiter inputs text → HasRows delimiter text
 applied-rows delimiter columns units delimits some inputs text are is =
-    let all = applied-all (HasFields delimiter columns) delimiter inputs text (table-fields delimiter columns units delimits inputs are) is in
+    let all = applied-all (HasFields delimiter columns) One delimiter inputs text (table-fields delimiter columns units delimits inputs are) is in
     let rows = rows-of_lines delimiter columns is.lines all in
     record { fields = columns; rows = rows.0; copy = record { some = some; alike = rows.2; written = is.is ∙ rows.1 } }

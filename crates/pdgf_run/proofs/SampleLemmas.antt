@@ -26,6 +26,7 @@ use Rattle.update_box.specs.declared.parts.Content.TheVariants as content
 use Rattle.update_box.proofs.ApplyLawLemmas.{units-applied}
 use Rattle.update_box.proofs.ShareLawLemmas.{share-alone}
 use Rattle.stream_apply.specs.InTurn.{IsFaultAt}
+use Rattle.stream_apply.specs.declared.key_fields.KeyFields.TheVariants.{One}
 use Rattle.stream_apply.specs.declared.fault.ApplyFault.{ApplyFault}
 use Rattle.stream_apply.specs.declared.fault.ApplyFault.TheVariants.{Memory}
 use Rattle.pdgf_run.specs.DueFiles.{most_page_bytes, package_of, page_bytes, table_files, text_files}
@@ -164,11 +165,11 @@ sums-next plan count total more text made are total_is is more_is = (
 
 -- what the units change can be applied
 pub no-fault : (plan : Project) → IsInLimits plan → (place : ℕ) → place < length plan.schema.tables → (inputs : List (List ℕ)) → inputs ≡ text_and_changes plan place (later_units plan) →
-    (at : ℕ) (fault : ApplyFault) → fault ≢ Memory → IsFaultAt (layout_of plan).delimiter inputs at fault → ⊥
+    (at : ℕ) (fault : ApplyFault) → fault ≢ Memory → IsFaultAt One (layout_of plan).delimiter inputs at fault → ⊥
 no-fault plan limits place below inputs is at fault told has =
-    never_both (layout_of plan).delimiter (text_and_changes plan place (later_units plan)) _ at fault (delimits plan)
+    never_both One (layout_of plan).delimiter (text_and_changes plan place (later_units plan)) _ at fault (delimits plan)
     (units-applied plan limits place below 0 (last_unit plan) (omega arith)) told
-    (subst (λ (list : List (List ℕ)). IsFaultAt (layout_of plan).delimiter list at fault) is has)
+    (subst (λ (list : List (List ℕ)). IsFaultAt One (layout_of plan).delimiter list at fault) is has)
 
 -- ---- what is due
 

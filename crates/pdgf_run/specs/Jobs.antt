@@ -1,19 +1,30 @@
 -- What a job is due.
-use Rattle.std.specs.Prelude.{◌≡◌, ℕ, ◌≤◌, IfSome, List, length, ⊤}
+use Rattle.std.specs.Prelude.{◌≡◌, ℕ, ◌-◌, ◌≤◌, Bool, true, false, IfSome, List, Some, Vec, length, map, ⊤}
+use Rattle.std.specs.Global.{Global}
 use Rattle.pd_outside.specs.Files.{File}
 use Rattle.request_words.specs.declared.usage.Request.{Request}
+use Rattle.detail_plan.specs.Rules.{KeepsRules}
+use Rattle.detail_rows.specs.Lines.{parent_place}
+use Rattle.life_intervals.specs.Generator.{last_unit}
+use Rattle.life_intervals.specs.JobOrders.{AreOrdersOf}
 use Rattle.schema_plan.specs.Layout.{layout_of}
 use Rattle.schema_plan.specs.TableFacts.{reach}
-use Rattle.update_box.specs.Packages.{IsJobOf}
+use Rattle.update_box.specs.Packages.{IsJobOf, chosen_places}
 use Rattle.update_box.specs.Parts.{snapshot_contents, unit_contents}
 use Rattle.update_box.specs.Prepared.{AreChosen, ArePrepared}
-use Rattle.update_box.specs.TableLists.{HoldLists}
+use Rattle.undo_streams.specs.Places.{places_of}
+use Rattle.update_box.specs.TableLists.{HoldLists, table_lists_at}
+use Rattle.update_box.specs.UnitLists.{UnitLists}
 use Rattle.pdgf_run.specs.DueFiles.{most_page_bytes, page_bytes, table_files, text_files}
+use Rattle.pdgf_run.specs.declared.job.DetailsJob.{DetailsJob}
 use Rattle.pdgf_run.specs.declared.job.Job.{Job}
-use Rattle.pdgf_run.specs.declared.job.Job.TheVariants.{Files, Text, Page, Snapshot, Unit}
+use Rattle.pdgf_run.specs.declared.job.Job.TheVariants.{Details, Files, Text, Page, Snapshot, Undo, Unit}
 use Rattle.pdgf_run.specs.declared.job.TablesJob.{TablesJob}
+use Rattle.pdgf_run.specs.declared.job.UndoJob.{UndoJob}
 use Rattle.pdgf_run.specs.declared.job.UnitJob.{UnitJob}
 use Rattle.pdgf_run.specs.Formats.{named_files}
+use Rattle.pdgf_run.specs.modes.Details.{contents_of, files_by, told_by, told_texts}
+use Rattle.pdgf_run.specs.modes.Undo.{undo_files, undo_reach}
 
 -- the numbers of a request that asks of tables are within their ranges: the workers, and the lines of a package where they are given
 abbrev pub IsPackageSize : ℕ → Type 0
@@ -35,7 +46,9 @@ due_of (Text bytes) = text_files bytes.items
 due_of (Page page) = text_files page.text
 due_of (Snapshot job) = table_files snapshot_contents job.plan job.out job.asked
 due_of (Unit job) = table_files unit_contents job.of.plan job.of.out job.of.asked
+due_of (Undo job) = undo_files job.of.of.plan job.of.of.out job.of.of.asked
 due_of (Files job) = named_files job.names job.texts
+due_of (Details job) = files_by job.names (told_texts (told_by job.changes) job.plan job.detail job.unit)
 
 -- a job can be cut into packages: what is asked is of the plan, the tables are prepared, and the pages of its workers, 1 to 64, have no
 -- more bytes than they may
@@ -53,9 +66,40 @@ pub record CanPackUnit (job : UnitJob) : Type 0 where
   pub later : 1 ≤ job.of.asked.unit
   pub found : HoldLists job.of.plan job.of.asked.unit job.of.asked.table job.rows
 
+-- the places that the rows which a unit deletes had at the unit before, table by table
+abbrev pub HasPlaces : UnitJob → List (Vec ℕ Global) → Type 0
+HasPlaces job places =
+    map (λ (found : Vec ℕ Global). found.items) places
+    ≡ map (λ place. places_of job.of.plan place (job.of.asked.unit - 1) (table_lists_at job.rows place).deleted) (chosen_places job.of.plan job.of.asked.table)
+
+-- and so were the places, and the pages take lines of undo texts too
+pub record CanUndo (job : UndoJob) : Type 0 where
+  pub of : CanPackUnit job.of
+  pub found : HasPlaces job.of job.places.items
+  pub pages : page_bytes job.of.of.workers job.of.of.asked.package (undo_reach job.of.of.plan) ≤ most_page_bytes
+
+-- whether it is a text alone
+abbrev pub is_text : Job → Bool
+is_text (Text bytes) = true
+is_text _ = false
+
+-- a detail table's lines can be told: it keeps the rules, at a unit of the plan, in packages of 1 to 1,000,000 rows of its parent, whose orders
+-- are the plan's; there are 1 to 64 workers, and a name for each file, where they have names; and what the unit changes in the parent was found
+pub record CanPackDetails (job : DetailsJob) : Type 0 where
+  pub keeps : KeepsRules job.plan job.detail
+  pub unit : job.unit ≤ last_unit job.plan
+  pub rows : IsPackageSize job.size
+  pub orders : AreOrdersOf job.plan job.orders
+  pub some_worker : 1 ≤ job.workers
+  pub worker_limit : job.workers ≤ 64
+  pub named : IfSome job.names (λ (names : List (List ℕ)). length names ≡ length (contents_of (told_by job.changes)))
+  pub found : IfSome job.changes (λ (lists : UnitLists). (1 ≤ job.unit) × HoldLists job.plan job.unit (Some (parent_place job.plan job.detail)) lists)
+
 abbrev pub CanFill : Job → Type 0
 CanFill (Text bytes) = ⊤
 CanFill (Page page) = ⊤
 CanFill (Snapshot job) = CanPack job
 CanFill (Unit job) = CanPackUnit job
+CanFill (Undo job) = CanUndo job
 CanFill (Files job) = length job.names ≡ length job.texts
+CanFill (Details job) = CanPackDetails job

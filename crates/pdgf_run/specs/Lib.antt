@@ -2,10 +2,13 @@ pub mod DueFiles
 pub mod Formats
 pub mod InMemory
 pub mod CsvFiles
+pub mod Details
 pub mod Jobs
 pub mod Joined
+pub mod Playing
 pub mod ReadingList
 pub mod TopCall
 pub mod Verdict
 pub mod modes
 pub mod Sampled
+pub mod UndoLaws

@@ -1,5 +1,5 @@
 -- The names that are asked of a library, each in its turn.
-use Rattle.std.specs.Prelude.{ℕ, Bool, false, true, List, [], ◌++◌, Option, Result, Ok, Err, IfSome, if◌then◌else◌}
+use Rattle.std.specs.Prelude.{ℕ, Bool, false, true, List, [], ◌∷◌, ◌++◌, Option, Result, Ok, Err, IfSome, if◌then◌else◌}
 use Rattle.pd_outside.specs.Files.{File}
 use Rattle.pd_outside.specs.Library.{AskedPrefixOf}
 use Rattle.plan_stages.specs.PlanNames.{plan_names, possible_names}
@@ -12,6 +12,8 @@ use Rattle.schema_model.specs.declared.table.Schema.{Schema}
 use Rattle.schema_plan.specs.Dictionaries.{Project, project_of}
 use Rattle.schema_read.specs.Schema.{schema_of}
 use Rattle.pdgf_run.specs.modes.Apply.{paths_asked, paths_possible, tables_asked}
+use Rattle.pdgf_run.specs.modes.DetailsApply.{details_apply_asked, details_apply_possible}
+use Rattle.pdgf_run.specs.modes.Revert.{tables_reverted, undo_paths_asked, undo_paths_possible}
 
 -- ---- what words ask for
 
@@ -33,7 +35,8 @@ reads_on DetailsApply = true
 reads_on Revert = true
 reads_on mode = false
 
--- the names that a mode asks for over a plan and files: in mode apply its inputs', up to and with the first with which they are too long
+-- the names that a mode asks for over a plan and files: in modes apply and revert their inputs', up to and with the first with which they are too long;
+-- in modes details and details-unit the declaration's, and in mode details-apply this and then its inputs'
 abbrev pub names_in_mode : Mode → Request → Project → List File → List (List ℕ)
 names_in_mode Check request plan files = []
 names_in_mode Snapshot request plan files = []
@@ -42,11 +45,11 @@ names_in_mode Row request plan files = []
 names_in_mode Apply request plan files = paths_asked plan request files (tables_asked plan request)
 names_in_mode Sample request plan files = []
 names_in_mode Play request plan files = []
-names_in_mode Details request plan files = []
-names_in_mode DetailsUnit request plan files = []
-names_in_mode DetailsApply request plan files = []
+names_in_mode Details request plan files = request.spec ∷ []
+names_in_mode DetailsUnit request plan files = request.spec ∷ []
+names_in_mode DetailsApply request plan files = details_apply_asked plan request files
 names_in_mode Undo request plan files = []
-names_in_mode Revert request plan files = []
+names_in_mode Revert request plan files = undo_paths_asked plan request files (tables_reverted plan request)
 
 abbrev pub names_behind : {F : Type 0} → Request → List File → Result Project F → List (List ℕ)
 names_behind request files (Err fault) = []
@@ -58,40 +61,42 @@ abbrev pub reading_list : Result Request UsageFault → List File → List (List
 reading_list (Err fault) files = []
 reading_list (Ok request) files = if_read request (plan_names files request.schema) ++ names_behind request files (plan_in files request.schema)
 
--- the names that a mode may ask for of a schema
-abbrev pub possible_in_mode : Mode → Request → Project → List (List ℕ)
-possible_in_mode Check request plan = []
-possible_in_mode Snapshot request plan = []
-possible_in_mode Unit request plan = []
-possible_in_mode Row request plan = []
-possible_in_mode Apply request plan = paths_possible plan request (tables_asked plan request)
-possible_in_mode Sample request plan = []
-possible_in_mode Play request plan = []
-possible_in_mode Details request plan = []
-possible_in_mode DetailsUnit request plan = []
-possible_in_mode DetailsApply request plan = []
-possible_in_mode Undo request plan = []
-possible_in_mode Revert request plan = []
+-- the names that a mode may ask for of a schema, where the file that declares a detail table has these bytes
+abbrev pub possible_in_mode : Mode → Request → Project → List ℕ → List (List ℕ)
+possible_in_mode Check request plan details = []
+possible_in_mode Snapshot request plan details = []
+possible_in_mode Unit request plan details = []
+possible_in_mode Row request plan details = []
+possible_in_mode Apply request plan details = paths_possible plan request (tables_asked plan request)
+possible_in_mode Sample request plan details = []
+possible_in_mode Play request plan details = []
+possible_in_mode Details request plan details = request.spec ∷ []
+possible_in_mode DetailsUnit request plan details = request.spec ∷ []
+possible_in_mode DetailsApply request plan details = details_apply_possible plan request details
+possible_in_mode Undo request plan details = []
+possible_in_mode Revert request plan details = undo_paths_possible plan request (tables_reverted plan request)
 
-abbrev pub possible_behind : {F : Type 0} → Request → Result Schema F → List (List ℕ)
-possible_behind request (Err fault) = []
-possible_behind request (Ok schema) = possible_in_mode request.mode request (project_of schema [])
+abbrev pub possible_behind : {F : Type 0} → Request → List ℕ → Result Schema F → List (List ℕ)
+possible_behind request details (Err fault) = []
+possible_behind request details (Ok schema) = possible_in_mode request.mode request (project_of schema []) details
 
--- the names that a request may ask for where its schema has these bytes
-abbrev pub possible_list : Result Request UsageFault → List ℕ → List (List ℕ)
-possible_list (Err fault) bytes = []
-possible_list (Ok request) bytes = if_read request (possible_names bytes request.schema) ++ possible_behind request (schema_of bytes)
+-- the names that a request may ask for where its schema has these bytes, and the file that declares a detail table has these
+abbrev pub possible_list : Result Request UsageFault → List ℕ → List ℕ → List (List ℕ)
+possible_list (Err fault) bytes details = []
+possible_list (Ok request) bytes details = if_read request (possible_names bytes request.schema) ++ possible_behind request details (schema_of bytes)
 
 -- ---- what was asked
 
 -- The names asked meanwhile are the first of the reading list, in its order, where files are told; and they are always the
--- first of those that may be asked for, given some bytes of the schema.
+-- first of those that may be asked for, given some bytes of the schema and of the declaration of a detail table.
 pub record AsksInTurn (request : Result Request UsageFault) (files : Option (List File)) (before now : Option (List (List ℕ))) : Type 0 where
   pub told : IfSome files (λ (f : List File). AskedPrefixOf (reading_list request f) before now)
   pub bytes : List ℕ
-  pub untold : AskedPrefixOf (possible_list request bytes) before now
+  pub details : List ℕ
+  pub untold : AskedPrefixOf (possible_list request bytes details) before now
 
 -- the same of a mode over a plan
 pub record AsksInMode (request : Request) (plan : Project) (files : Option (List File)) (before now : Option (List (List ℕ))) : Type 0 where
   pub told : IfSome files (λ (f : List File). AskedPrefixOf (names_in_mode request.mode request plan f) before now)
-  pub untold : AskedPrefixOf (possible_in_mode request.mode request plan) before now
+  pub details : List ℕ
+  pub untold : AskedPrefixOf (possible_in_mode request.mode request plan details) before now

@@ -20,6 +20,7 @@ use Rattle.schema_plan.specs.Dictionaries.{Project}
 use Rattle.pdgf_run.specs.declared.report.Report.{Report}
 use Rattle.pdgf_run.specs.ReadingList.{reads_schema}
 use Rattle.pdgf_run.specs.modes.Apply.{AreLaterFiles, HoldInputs, input_limit, tables_asked}
+use Rattle.pdgf_run.specs.modes.Revert.{AreEarlierFiles, HoldUndoInputs, tables_reverted}
 
 -- The report is the verdict's: the due files were finished, in order, and none is begun; or the shelf is as it was.
 abbrev pub Carries : Result (List File) Refusal → Report → Option Held → Option Held → Type 0
@@ -89,3 +90,11 @@ GivesLater request files report before now =
     IfOk (plan_in files request.schema) (λ (plan : Project). IfOk (tables_asked plan request) (λ (table : Option ℕ).
     HoldInputs plan request table files →
     (due : List File) × AreLaterFiles plan request table due × Carries (Ok due) report before now))
+
+-- Where files hold what a plain simulation gives as the texts at a unit and the undo texts back to an earlier one, all is done, and what the tables
+-- hold at the earlier unit is finished.
+abbrev pub GivesEarlier : Request → List File → Report → Option Held → Option Held → Type 0
+GivesEarlier request files report before now =
+    IfOk (plan_in files request.schema) (λ (plan : Project). IfOk (tables_reverted plan request) (λ (table : Option ℕ).
+    HoldUndoInputs plan request table files →
+    (due : List File) × AreEarlierFiles plan request table due × Carries (Ok due) report before now))

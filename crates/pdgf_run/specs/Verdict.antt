@@ -20,9 +20,15 @@ use Rattle.schema_plan.specs.Dictionaries.{Project}
 use Rattle.pdgf_run.specs.ReadingList.{reads_schema}
 use Rattle.pdgf_run.specs.modes.Apply.{IsApplyDue}
 use Rattle.pdgf_run.specs.modes.Check.{check_due}
+use Rattle.pdgf_run.specs.declared.job.Told.TheVariants.{Changes, Text}
+use Rattle.pdgf_run.specs.modes.Details.{details_due}
+use Rattle.pdgf_run.specs.modes.DetailsApply.{IsDetailsApplyDue}
+use Rattle.pdgf_run.specs.modes.Play.{play_due}
+use Rattle.pdgf_run.specs.modes.Revert.{IsRevertDue}
 use Rattle.pdgf_run.specs.modes.Row.{row_due}
 use Rattle.pdgf_run.specs.modes.Sample.{IsSampleOf}
 use Rattle.pdgf_run.specs.modes.Snapshot.{IsSnapshotDue}
+use Rattle.pdgf_run.specs.modes.Undo.{undo_due}
 use Rattle.pdgf_run.specs.modes.Unit.{IsUnitDue}
 
 -- what a request over a plan and files comes to, by its mode
@@ -33,12 +39,12 @@ IsInMode Unit request plan files answer = IsUnitDue request plan answer
 IsInMode Row request plan files answer = answer ≡ row_due request plan
 IsInMode Apply request plan files answer = IsApplyDue plan request files answer
 IsInMode Sample request plan files answer = IsSampleOf plan request answer
-IsInMode Play request plan files answer = ⊥
-IsInMode Details request plan files answer = ⊥
-IsInMode DetailsUnit request plan files answer = ⊥
-IsInMode DetailsApply request plan files answer = ⊥
-IsInMode Undo request plan files answer = ⊥
-IsInMode Revert request plan files answer = ⊥
+IsInMode Play request plan files answer = answer ≡ play_due request plan
+IsInMode Details request plan files answer = answer ≡ details_due Text plan request files
+IsInMode DetailsUnit request plan files answer = answer ≡ details_due Changes plan request files
+IsInMode DetailsApply request plan files answer = IsDetailsApplyDue plan request files answer
+IsInMode Undo request plan files answer = answer ≡ undo_due request plan
+IsInMode Revert request plan files answer = IsRevertDue plan request files answer
 
 -- the plan that a request is carried out over: of the schema that it names, or in mode sample of a schema of its own
 abbrev pub plan_by : Bool → Request → List File → Result Project PlanFault

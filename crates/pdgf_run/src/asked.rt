@@ -17,10 +17,10 @@ use schema_plan::Plan;
 use update_box::Job;
 
 /// The most bytes that the pages of all workers may have together.
-const MOST_PAGE_BYTES: u64 = 67_108_864;
+pub(crate) const MOST_PAGE_BYTES: u64 = 67_108_864;
 
 /// How many pages a worker has.
-const PAGES: u64 = 8;
+pub(crate) const PAGES: u64 = 8;
 
 /// The most lines of a package where none is given.
 const MOST_LINES: u64 = 1000;
@@ -95,14 +95,14 @@ fn preset_package(plan: &Plan, workers: u32) -> u64
     default_package(workers, plan.reach())
 }
 
-/// How many bytes the pages of the workers have together.
-fn page_bytes(plan: &Plan, workers: u32, lines: u64) -> u64
+/// Whether the pages of so many workers have more bytes together than they may, with packages of so many lines of at most so many bytes.
+pub(crate) fn is_past_pages(workers: u32, lines: u64, bytes: u64) -> bool
     requires worker_limit { workers ≤ 64 }
     requires line_limit { lines ≤ 1000000 }
-    ensures { result ≡ page_bytes workers lines (reach (layout_of plan.now)) }
+    requires byte_limit { bytes ≤ 131072 }
+    ensures { result ≡ nat_lt most_page_bytes (page_bytes workers lines bytes) }
 {
-    let _limits = plan.schema(); // a line has at most 65,536 bytes
-    PAGES * u64::from(workers) * lines * plan.reach()
+    MOST_PAGE_BYTES < PAGES * u64::from(workers) * lines * bytes
 }
 
 /// Whether the pages of a request's workers have more bytes together than they may, with packages of as many lines as it asks for.
@@ -110,7 +110,8 @@ pub(crate) fn is_past_room(plan: &Plan, request: &Request) -> bool
     requires { CanPackBy request.now }
     ensures { result ≡ nat_lt most_page_bytes (page_bytes request.now.workers (package_of plan.now request.now) (reach (layout_of plan.now))) }
 {
-    MOST_PAGE_BYTES < page_bytes(plan, request.workers, package_of(plan, request))
+    let _limits = plan.schema(); // a line has at most 65,536 bytes
+    is_past_pages(request.workers, package_of(plan, request), plan.reach())
 }
 
 /// What a request asks of a plan's tables at one of its units; or the first of these options that is out of its range: the table, the

@@ -1,6 +1,6 @@
 //! The program's run, from what the system tells of its words to the report.
 
-ghost use Rattle.std.specs.Prelude.{◌≡◌, ◌≢◌, ◌≤◌, ◌+◌, ◌⊎◌, ◌↔◌, [], false, true, map, string_bytes, IfErr, IfOk, IfSome, IsErr, IsOkAnd, IsTrue, OnErr};
+ghost use Rattle.std.specs.Prelude.{◌≡◌, ◌≢◌, ◌≤◌, ◌+◌, ◌⊎◌, ◌↔◌, [], false, true, map, string_bytes, IfErr, IfOk, IfSome, IsErr, IsOk, IsOkAnd, IsTrue, OnErr};
 ghost use Rattle.std.specs.IoError.{error_kind};
 ghost use Rattle.std.specs.Option.{option_map};
 ghost use Rattle.pd_outside.specs.Faults.{Rose, counted};
@@ -8,19 +8,22 @@ ghost use Rattle.pd_outside.specs.Library.{Content, left};
 ghost use Rattle.pd_outside.specs.Shelf.{HoldsPrefixOf};
 ghost use Rattle.plan_stages.specs.Limits.{dictionary_limit, schema_limit};
 ghost use Rattle.plan_stages.specs.PlanNames.{AskedAlone};
+ghost use Rattle.plan_stages.specs.Plans.{plan_in};
 ghost use Rattle.plan_stages.specs.Stages.{told_files};
 ghost use Rattle.refusals.specs.Messages.{fixed_text, message_of};
 ghost use Rattle.refusals.specs.Statuses.{is_status};
 ghost use Rattle.request_words.specs.Words.{request};
-ghost use Rattle.request_words.specs.declared.usage.Mode.TheVariants.{Apply};
+ghost use Rattle.request_words.specs.declared.usage.Mode.TheVariants.{Apply, Revert};
+ghost use Rattle.pdgf_run.specs.Playing.{IsBrokenOff, is_play, played_store, plays_for};
 ghost use Rattle.pdgf_run.specs.ReadingList.{AsksInTurn, reads_on, reads_schema};
-ghost use Rattle.pdgf_run.specs.TopCall.{Carries, GivesLater, IsPastLimit, reads_for};
+ghost use Rattle.pdgf_run.specs.TopCall.{Carries, GivesEarlier, GivesLater, IsPastLimit, reads_for};
 ghost use Rattle.pdgf_run.specs.Verdict.{WhereTold};
 ghost use Rattle.pdgf_run.specs.modes.Apply.{input_limit};
 
 use crate::report::refused;
 use crate::run::pdgf;
 use crate::{Refusal, Report, UsageFault};
+use keeper_play::Keeper;
 use pd_outside::{Library, OpenGate, Shelf};
 use std::alloc::Global;
 use std::io;
@@ -29,14 +32,16 @@ use std::thread::Threads;
 
 /// What the program does with its words, the program's name first, as the system gives them: all that `pdgf` does, where they are
 /// text. Words of which one isn't UTF-8 are told as bad words, and where there was no memory for them, that is told.
-pub fn run_program<R: Threads + Sync, L: Library, S: Shelf>(
+pub fn run_program<R: Threads + Sync, L: Library, S: Shelf, K: Keeper>(
     rt: &R,
     alloc: Global,
     words: io::Result<Vec<String>>,
     library: &mut L,
     shelf: &mut S,
+    keeper: &mut K,
 ) -> Report
-    requires { S.is_begun shelf.old ≡ false }
+    requires none_begun { S.is_begun shelf.old ≡ false }
+    requires closed { (K.store keeper.old).is_open ≡ false }
 
     // Words that can't be read: one isn't UTF-8, or there was no memory for them. Then nothing is read or written.
     ensures not_utf8 { IfErr words (λ error. error_kind error ≢ ErrorKind.OutOfMemory →
@@ -45,10 +50,11 @@ pub fn run_program<R: Threads + Sync, L: Library, S: Shelf>(
         result ≡ record { status = 7; message = message_of (Refusal.Words UsageFault.Memory) }) }
     ensures nothing_read { OnErr words (library.new ≡ library.old) }
     ensures nothing_written { OnErr words (shelf.new ≡ shelf.old) }
+    ensures nothing_kept { OnErr words (keeper.new ≡ keeper.old) }
 
     // For words that are read, all that `pdgf` promises. The headline: unless a read, a write or an allocation failed, the report and
     // the finished files are the verdict's.
-    ensures verdict { IfOk words (λ words. result.status ≢ 5 → result.status ≢ 6 → result.status ≢ 7 →
+    ensures verdict { IfOk words (λ words. result.status ≢ 5 → result.status ≢ 6 → result.status ≢ 7 → result.status ≢ 12 →
         WhereTold (map string_bytes words.items) (L.content library.old)
         (λ verdict. Carries verdict result (S.held shelf.old) (S.held shelf.new))) }
 
@@ -56,6 +62,11 @@ pub fn run_program<R: Threads + Sync, L: Library, S: Shelf>(
     ensures applied { IfOk words (λ words. result.status ≢ 5 → result.status ≢ 6 → result.status ≢ 7 →
         IfOk (request (map string_bytes words.items)) (λ asked. asked.mode ≡ Apply →
         IfSome (told_files (L.content library.old)) (λ files. GivesLater asked files result (S.held shelf.old) (S.held shelf.new)))) }
+
+    // And where those that mode revert reads hold it and the undo texts back to an earlier unit, what it held then is finished.
+    ensures reverted { IfOk words (λ words. result.status ≢ 5 → result.status ≢ 6 → result.status ≢ 7 →
+        IfOk (request (map string_bytes words.items)) (λ asked. asked.mode ≡ Revert →
+        IfSome (told_files (L.content library.old)) (λ files. GivesEarlier asked files result (S.held shelf.old) (S.held shelf.new)))) }
 
     // Each status has its cause.
     ensures known { IsTrue (is_status result.status) }
@@ -99,9 +110,38 @@ pub fn run_program<R: Threads + Sync, L: Library, S: Shelf>(
     ensures files { told_files (L.content library.new) ≡ told_files (L.content library.old) }
     ensures library_never_falls { L.faults library.old ≤ L.faults library.new }
     ensures shelf_never_falls { S.faults shelf.old ≤ S.faults shelf.new }
+
+    // A keeper is touched by mode play alone, and not where the request is refused.
+    ensures unplayed { IfOk words (λ words. plays_for (request (map string_bytes words.items)) ≡ false → keeper.new ≡ keeper.old) }
+    ensures keeper_kept { result.status ≢ 0 → result.status ≢ 6 → result.status ≢ 7 → result.status ≢ 12 → keeper.new ≡ keeper.old }
+
+    // Once its files are due it is finished: it has exactly the rows that the tables hold at the request's unit.
+    ensures played { (result.status ≡ 0) ⊎ (result.status ≡ 6) → IfOk words (λ words. IfOk (request (map string_bytes words.items)) (λ asked. is_play asked.mode ≡ true →
+        IfSome (told_files (L.content library.old)) (λ files. IfOk (plan_in files asked.schema) (λ plan.
+        K.store keeper.new ≡ played_store plan asked.to asked.store (K.store keeper.old))))) }
+
+    // Where a call of it failed, or memory ran out, it stays open after some statements, or as it was.
+    ensures broken_off { (K.store keeper.new).is_open ≡ true → IfOk words (λ words. IfOk (request (map string_bytes words.items)) (λ asked.
+        IfSome (told_files (L.content library.old)) (λ files. IfOk (plan_in files asked.schema) (λ plan.
+        IsBrokenOff plan asked.to asked.store (K.store keeper.old) (K.store keeper.new))))) }
+    ensures left_open { (K.store keeper.new).is_open ≡ true → (result.status ≡ 7) ⊎ (result.status ≡ 12) }
+    ensures not_opened { (result.status ≡ 7) ⊎ (result.status ≡ 12) → (K.store keeper.new).is_open ≡ false → K.store keeper.new ≡ K.store keeper.old }
+    ensures keeper_failed { result.status ≡ 12 → Rose (K.faults keeper.old) (K.faults keeper.new) }
+    ensures keeper_failed_once { result.status ≡ 12 → K.faults keeper.new ≡ counted (K.faults keeper.old) }
+    ensures keeper_failed_last { result.status ≡ 12 → IsTrue (K.last_failed keeper.new) }
+    ensures keeper_faults { result.status ≢ 12 → K.faults keeper.new ≡ K.faults keeper.old }
+    ensures keeper_due { IfOk words (λ words. result.status ≡ 12 → WhereTold (map string_bytes words.items) (L.content library.old) IsOk) }
 {
     match words {
-        Ok(words) => pdgf(rt, alloc, words.as_slice(), library, shelf, &OpenGate),
+        Ok(words) => pdgf(
+            rt,
+            alloc,
+            words.as_slice(),
+            library,
+            shelf,
+            &OpenGate,
+            keeper,
+        ),
         Err(error) if error.kind() == ErrorKind::OutOfMemory => {
             refused(Refusal::Words(UsageFault::Memory))
         }

@@ -2,27 +2,31 @@
 
 ghost use Rattle.std.specs.Prelude.{◌≡◌, ◌≢◌, ◌≤◌, ◌+◌, ◌⊎◌, false, true, map, string_bytes, Err, IfErr, IfOk, IfSome, Ok, OnOk};
 ghost use Rattle.plan_stages.specs.Limits.{dictionary_limit, schema_limit};
-ghost use Rattle.plan_stages.specs.PlanNames.{AskedAlone};
+ghost use Rattle.plan_stages.specs.PlanNames.{AskedAlone, AskedNone};
 ghost use Rattle.plan_stages.specs.Plans.{plan_in};
-ghost use Rattle.plan_stages.specs.Stages.{ended, told_files};
+ghost use Rattle.plan_stages.specs.Stages.{IsReadOut, ended, told_files};
 ghost use Rattle.refusals.specs.Statuses.{is_free, job_status, status_of};
 ghost use Rattle.request_words.specs.Ranges.{AreWithinRanges};
 ghost use Rattle.request_words.specs.Words.{request};
 ghost use Rattle.schema_plan.specs.Limits.{IsInLimits};
-ghost use Rattle.pdgf_run.specs.Jobs.{due_of, CanFill};
-ghost use Rattle.pdgf_run.specs.ReadingList.{AsksInTurn, reads_on, reads_schema};
+ghost use Rattle.pdgf_run.specs.Playing.{CanDo, IsTaskOf, IsTaskOver, task_due};
+ghost use Rattle.pdgf_run.specs.ReadingList.{AsksInMode, AsksInTurn, reads_on, reads_schema};
 ghost use Rattle.pdgf_run.specs.TopCall.{IsLimitRefused, IsLimitTold, LibraryDone, LibraryLeft, reads_for};
-ghost use Rattle.pdgf_run.specs.Verdict.{IsDecided, IsJobOver, IsPlanned, IsVerdict};
+ghost use Rattle.pdgf_run.specs.Verdict.{IsDecided, IsInMode, IsJobOver, IsPlanned, IsVerdict};
 ghost use Rattle.pdgf_run.specs.modes.Apply.{input_limit};
 
-use crate::job::Job;
+use crate::job::Task;
 use crate::modes::job_of;
+use crate::modes::play::plan_play;
 use crate::modes::sample::plan_sample;
 use pd_outside::{Gate, Library};
 use plan_stages::plan_of;
 use refusals::{JobFault, Refusal};
 use request_words::{Mode, Request, UsageFault, read_words};
+use schema_plan::Plan;
 use std::alloc::Global;
+use std::marker::Brand;
+use std::sync::ledger::Blank;
 use std::thread::Threads;
 
 /// Decides what the words come to: a job, or why there is none. Nothing but the names of the reading list is started.
@@ -32,10 +36,11 @@ pub(crate) fn decide<R: Threads + Sync, L: Library, G: Gate + Sync>(
     words: &[String],
     library: &mut L,
     gate: &G,
-) -> Result<Job, Refusal>
+) -> Result<Task, Refusal>
     ensures verdict { IfSome (told_files (L.content library.old)) (λ files.
-        IsDecided status_of due_of (IsVerdict (map string_bytes words.now) files) result) }
-    ensures can { IfOk result CanFill }
+        IsDecided status_of task_due (IsVerdict (map string_bytes words.now) files) result) }
+    ensures can { IfOk result CanDo }
+    ensures task { IfOk (request (map string_bytes words.now)) (λ asked. IfOk result (IsTaskOf asked (told_files (L.content library.old)))) }
     ensures usage { IfErr (request (map string_bytes words.now)) (λ fault. result ≡ Err (Refusal.Words fault)) }
     ensures no_memory { IfErr (request (map string_bytes words.now)) (λ fault. fault ≢ UsageFault.Memory) }
     ensures no_usage { OnOk (request (map string_bytes words.now)) (ended status_of result ≢ 2) }
@@ -64,10 +69,11 @@ fn job_of_request<R: Threads + Sync, L: Library, G: Gate + Sync>(
     library: &mut L,
     gate: &G,
     request: &Request,
-) -> Result<Job, JobFault>
+) -> Result<Task, JobFault>
     requires { AreWithinRanges request.now }
-    ensures job { IfSome (told_files (L.content library.old)) (λ files. IsDecided job_status due_of (IsJobOver request.now files) result) }
-    ensures can { IfOk result CanFill }
+    ensures job { IfSome (told_files (L.content library.old)) (λ files. IsDecided job_status task_due (IsJobOver request.now files) result) }
+    ensures can { IfOk result CanDo }
+    ensures task { IfOk result (IsTaskOf request.now (told_files (L.content library.old))) }
     ensures left { LibraryDone (reads_schema request.now.mode) (ended job_status result) (IsLimitTold result) (told_files (L.content library.old)) (L.content library.new)
         (L.taken library.new) (L.is_started library.new) (L.faults library.old) (L.faults library.new) }
     ensures unread { reads_schema request.now.mode ≡ false → library.new ≡ library.old }
@@ -83,7 +89,7 @@ fn job_of_request<R: Threads + Sync, L: Library, G: Gate + Sync>(
     ensures asked { AsksInTurn (Ok request.now) (told_files (L.content library.old)) (L.asked library.old) (L.asked library.new) }
 {
     match request.mode {
-        Mode::Sample => plan_sample(rt, alloc, gate, request),
+        Mode::Sample => Ok(Task::Write(plan_sample(rt, alloc, gate, request)?)),
         _ => planned_job(rt, alloc, library, gate, request),
     }
 }
@@ -95,11 +101,12 @@ fn planned_job<R: Threads + Sync, L: Library, G: Gate + Sync>(
     library: &mut L,
     gate: &G,
     request: &Request,
-) -> Result<Job, JobFault>
+) -> Result<Task, JobFault>
     requires ranges { AreWithinRanges request.now }
     requires reads { reads_schema request.now.mode ≡ true }
-    ensures job { IfSome (told_files (L.content library.old)) (λ files. IsDecided job_status due_of (IsPlanned request.now files (plan_in files request.now.schema)) result) }
-    ensures can { IfOk result CanFill }
+    ensures job { IfSome (told_files (L.content library.old)) (λ files. IsDecided job_status task_due (IsPlanned request.now files (plan_in files request.now.schema)) result) }
+    ensures can { IfOk result CanDo }
+    ensures task { IfOk result (IsTaskOf request.now (told_files (L.content library.old))) }
     ensures left { LibraryLeft (ended job_status result) (IsLimitTold result) (told_files (L.content library.old)) (L.content library.new)
         (L.taken library.new) (L.is_started library.new) (L.faults library.old) (L.faults library.new) }
     ensures longer_schema { AskedAlone request.now.schema (L.asked library.old) (L.asked library.new) →
@@ -114,5 +121,35 @@ fn planned_job<R: Threads + Sync, L: Library, G: Gate + Sync>(
 {
     let plan = plan_of(alloc, library, request.schema.as_str())?;
     let _limits = plan.schema(); // a plan is in its limits
-    job_of(rt, alloc, library, gate, plan, request)
+    task_of(rt, alloc, library, gate, plan, request)
+}
+
+/// What a request comes to over a plan of the schema that it names: units to play, or files to write.
+fn task_of<R: Threads + Sync, L: Library, G: Gate + Sync>(
+    rt: &R,
+    alloc: Global,
+    library: &mut L,
+    gate: &G,
+    plan: Plan,
+    request: &Request,
+) -> Result<Task, JobFault>
+    requires ranges { AreWithinRanges request.now }
+    requires reads { reads_schema request.now.mode ≡ true }
+    requires read_out { IsReadOut (L.content library.old) }
+    ensures job { IfSome (told_files (L.content library.old)) (λ files. IsDecided job_status task_due (IsInMode request.now.mode request.now plan files) result) }
+    ensures can { IfOk result CanDo }
+    ensures task { IfOk result (IsTaskOver request.now plan) }
+    ensures left { LibraryLeft (ended job_status result) (IsLimitTold result) (told_files (L.content library.old)) (L.content library.new)
+        (L.taken library.new) (L.is_started library.new) (L.faults library.old) (L.faults library.new) }
+    ensures usable { ended job_status result ≢ 2 }
+    ensures schema_read { ended job_status result ≡ 3 → L.taken library.new ≤ schema_limit }
+    ensures unread { reads_on request.now.mode ≡ false → library.new ≡ library.old }
+    ensures within { L.taken library.old ≤ input_limit → (ended job_status result ≡ 0) ⊎ (ended job_status result ≡ 9) → L.taken library.new ≤ input_limit }
+    ensures asked { AsksInMode request.now plan (told_files (L.content library.old)) (L.asked library.old) (L.asked library.new) }
+    ensures unasked { AskedNone (L.asked library.old) (L.asked library.new) → L.taken library.new ≤ L.taken library.old }
+{
+    match request.mode {
+        Mode::Play => Ok(Task::Play(plan_play::<Brand>(alloc, plan, request, Blank::new(1))?)),
+        _ => Ok(Task::Write(job_of(rt, alloc, library, gate, plan, request)?)),
+    }
 }

@@ -1,14 +1,14 @@
 //! The files of a job, onto a shelf.
 
-ghost use Rattle.std.specs.Prelude.{◌≡◌, ◌≤◌, ◌⊎◌, [], ◌∷◌, false, length, IsErrOf, OnErr, OnOk};
+ghost use Rattle.std.specs.Prelude.{◌≡◌, ◌≤◌, ◌⊎◌, [], ◌∷◌, false, true, length, IsErrOf, OnErr, OnOk};
 ghost use Rattle.std.specs.Option.{option_copied, option_map};
 ghost use Rattle.pd_outside.specs.Faults.{FailsAtLast, Rose};
 ghost use Rattle.pd_outside.specs.Shelf.{HoldsPrefixOf, finish_files};
-ghost use Rattle.pdgf_run.specs.Jobs.{due_of, CanFill};
+ghost use Rattle.pdgf_run.specs.Jobs.{due_of, is_text, CanFill};
 ghost use Rattle.pdgf_run.specs.Formats.{named_files};
 
 use crate::job::{FilesJob, Job};
-use crate::modes::{snapshot, unit};
+use crate::modes::{details, snapshot, undo, unit};
 use pd_outside::{Failed, Gate, Shelf, WriteFailed, write_all};
 use range_workers::RunFault;
 use schema_model::Text as Name;
@@ -16,7 +16,7 @@ use std::alloc::Global;
 use std::thread::Threads;
 
 /// The name of the standard output.
-const STANDARD_OUTPUT: &str = "-";
+pub(crate) const STANDARD_OUTPUT: &str = "-";
 
 /// The name of a directory, where there is one.
 pub(crate) fn name_of(name: &Option<Name>) -> Option<&str>
@@ -88,6 +88,7 @@ pub(crate) fn fill<R: Threads + Sync, S: Shelf, G: Gate + Sync>(
     ensures prefix { IsErrOf result RunFault.Write → HoldsPrefixOf (due_of job.now) (S.held shelf.old) (S.held shelf.new) }
     ensures cause { IsErrOf result RunFault.Write → Rose (S.faults shelf.old) (S.faults shelf.new) }
     ensures memory { IsErrOf result RunFault.Memory → shelf.new ≡ shelf.old }
+    ensures text { is_text job.now ≡ true → OnErr result (IsErrOf result RunFault.Write) }
     ensures no_fault { OnOk result (S.faults shelf.new ≡ S.faults shelf.old) }
     ensures at_last { IsErrOf result RunFault.Memory ⊎ FailsAtLast result (S.faults shelf.old) (S.faults shelf.new) (S.last_failed shelf.new) }
     ensures never_falls { S.faults shelf.old ≤ S.faults shelf.new }
@@ -99,5 +100,7 @@ pub(crate) fn fill<R: Threads + Sync, S: Shelf, G: Gate + Sync>(
         Job::Files(job) => write_files(shelf, job),
         Job::Snapshot(job) => snapshot::write_snapshot(rt, alloc, job, shelf, gate),
         Job::Unit(job) => unit::write_unit(rt, alloc, job, shelf, gate),
+        Job::Undo(job) => undo::write_undo(rt, alloc, job, shelf, gate),
+        Job::Details(job) => details::write_details(rt, alloc, job, shelf, gate),
     }
 }

@@ -7,6 +7,8 @@ ghost use Rattle.update_box.specs.Packages.{IsJobOf};
 ghost use Rattle.pdgf_run.specs.DueFiles.{most_page_bytes, page_bytes};
 ghost use Rattle.pdgf_run.specs.Jobs.{CanPack, CanPackBy};
 
+use detail_plan::DetailPlan;
+use life_intervals::JobOrders;
 use line_pages::PageBuf;
 use plan_stages::Inputs;
 use request_words::Request;
@@ -26,8 +28,31 @@ pub(crate) enum Job {
     Snapshot(TablesJob),
     /// What a unit changes in tables.
     Unit(UnitJob),
+    /// What takes tables' texts back from a unit to the one before.
+    Undo(UndoJob),
     /// Texts, each in a file of its own.
     Files(FilesJob),
+    /// The lines of a detail table.
+    Details(DetailsJob),
+}
+
+/// What a request comes to.
+#[derive(Drop)]
+pub(crate) enum Task {
+    /// Files are written.
+    Write(Job),
+    /// Units are played into a store, and a summary is written.
+    Play(PlayJob),
+}
+
+/// The units of a plan that are played, up to one, the name of the store, and the summary: for each table how many rows it holds at the
+/// last of the units.
+#[derive(Drop)]
+pub(crate) struct PlayJob {
+    pub(crate) plan: Plan,
+    pub(crate) to: u64,
+    pub(crate) store: Name,
+    pub(crate) summary: Vec<u8>,
 }
 
 /// Texts, and the names of their files.
@@ -55,6 +80,34 @@ pub(crate) struct UnitJob {
     pub(crate) rows: UnitRows,
 }
 
+/// The same, with the places of the rows that the unit deletes, table by table.
+#[derive(Drop)]
+pub(crate) struct UndoJob {
+    pub(crate) of: UnitJob,
+    pub(crate) places: Vec<Vec<u64>>,
+}
+
+/// What is told of a detail table: its text at a unit, or what a unit changes in it.
+#[derive(Clone, Copy)]
+pub(crate) enum Told {
+    Text,
+    Changes,
+}
+
+/// A detail table at a unit, of whose parent `size` rows make a package, with the orders that are kept for its parent's rows. Without changes its text
+/// is told, and with them these: they are what the unit changes in the parent. The files have these names, where they don't go to the standard output.
+#[derive(Drop)]
+pub(crate) struct DetailsJob {
+    pub(crate) plan: Plan,
+    pub(crate) detail: DetailPlan,
+    pub(crate) orders: JobOrders,
+    pub(crate) unit: u64,
+    pub(crate) size: u64,
+    pub(crate) workers: u32,
+    pub(crate) names: Option<Texts>,
+    pub(crate) changes: Option<UnitRows>,
+}
+
 /// The job of what a request asks of a plan's tables, with its files in a directory or on the standard output. At `Memory` there is none.
 pub(crate) fn tables_job(
     alloc: Global,
@@ -69,6 +122,7 @@ pub(crate) fn tables_job(
     ensures plan { IfOk result (λ job. job.plan ≡ plan) }
     ensures asked { IfOk result (λ job. job.asked ≡ asked) }
     ensures out { IfOk result (λ job. job.out ≡ out) }
+    ensures workers { IfOk result (λ job. job.workers ≡ request.now.workers) }
     ensures can { IfOk result CanPack }
 {
     let tables = PreparedTables::new(alloc, &plan, asked.unit, asked.table)?;
@@ -81,15 +135,22 @@ pub(crate) fn tables_job(
     })
 }
 
+/// A text of its own.
+pub(crate) fn copied_text(alloc: Global, text: &Name) -> Result<Name, Memory>
+    ensures { IfOk result (λ made. made ≡ text.now) }
+{
+    match Name::of(alloc, text.as_str()) {
+        Ok(made) => Ok(made),
+        Err(_) => Err(Memory),
+    }
+}
+
 /// A name of its own, where there is one.
 pub(crate) fn copied(alloc: Global, name: &Option<Name>) -> Result<Option<Name>, Memory>
     ensures { IfOk result (λ made. made ≡ name.now) }
 {
     match name {
         None => Ok(None),
-        Some(name) => match Name::of(alloc, name.as_str()) {
-            Ok(made) => Ok(Some(made)),
-            Err(_) => Err(Memory),
-        },
+        Some(name) => Ok(Some(copied_text(alloc, name)?)),
     }
 }

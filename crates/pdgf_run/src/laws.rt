@@ -1,12 +1,29 @@
 //! The laws of what words and files come to, each the contract of a function that does nothing.
 
-ghost use Rattle.std.specs.Prelude.{◌≡◌, ℕ, List, Result};
+ghost use Rattle.std.specs.Prelude.{◌≡◌, ◌+◌, ◌<◌, ◌≤◌, ◌∷◌, ℕ, List, Result, length};
 ghost use Rattle.pd_outside.specs.Files.{File};
 ghost use Rattle.refusals.specs.declared.refusal.Refusal.{Refusal};
+ghost use Rattle.schema_plan.specs.Dictionaries.{Project};
+ghost use Rattle.schema_plan.specs.Layout.{layout_of};
+ghost use Rattle.schema_plan.specs.Limits.{IsInLimits};
+ghost use Rattle.life_intervals.specs.Generator.{generator_of, last_unit};
+ghost use Rattle.row_lines.specs.Lines.{table_text};
+ghost use Rattle.undo_streams.specs.InTurn.{IsRevertedText};
+ghost use Rattle.pdgf_run.specs.UndoLaws.{undo_texts};
 ghost use Rattle.pdgf_run.specs.Verdict.{IsVerdict};
 
 /// Words and files come to one verdict.
 pub fn words_and_files_have_one_verdict()
     ensures { (words : List (List ℕ)) (files : List File) (verdict other : Result (List File) Refusal) →
         IsVerdict words files verdict → IsVerdict words files other → verdict ≡ other }
+{}
+
+/// The undo text of a unit, taken from a table's text at it, makes the text at the unit before, and so do those of further units, each in
+/// its turn, back to any unit.
+pub fn undo_texts_give_the_earlier_text()
+    ensures { (plan : Project) → IsInLimits plan → (place : ℕ) → place < length plan.schema.tables →
+        (to count : ℕ) → to + count ≤ last_unit plan →
+        IsRevertedText (layout_of plan).delimiter
+        (table_text (generator_of plan) (to + count) place ∷ undo_texts plan place to count)
+        (table_text (generator_of plan) to place) }
 {}

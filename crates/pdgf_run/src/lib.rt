@@ -2,9 +2,11 @@
 #![tactic(auto)]
 
 mod asked;
+mod carry_out;
 mod command_line;
 mod csv;
 mod decide;
+mod details;
 mod fill;
 mod job;
 mod joined;
@@ -12,9 +14,11 @@ pub mod laws;
 mod modes;
 mod names;
 mod numbers;
+mod play;
 mod report;
 mod run;
 mod text_shelf;
+mod unit_sources;
 
 pub use asked::default_package;
 pub use command_line::run_program;

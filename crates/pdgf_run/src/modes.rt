@@ -1,10 +1,12 @@
 //! The modes, each in a file of its own.
 
 ghost use Rattle.std.specs.Prelude.{◌≡◌, ◌≢◌, ◌≤◌, ◌⊎◌, false, true, IfOk, IfSome};
+ghost use Rattle.plan_stages.specs.Limits.{schema_limit};
 ghost use Rattle.plan_stages.specs.PlanNames.{AskedNone};
 ghost use Rattle.plan_stages.specs.Stages.{ended, told_files, IsReadOut};
 ghost use Rattle.refusals.specs.Statuses.{job_status};
 ghost use Rattle.request_words.specs.Ranges.{AreWithinRanges};
+ghost use Rattle.request_words.specs.declared.usage.Mode.TheVariants.{Play};
 ghost use Rattle.pdgf_run.specs.Jobs.{due_of, CanFill};
 ghost use Rattle.pdgf_run.specs.ReadingList.{AsksInMode, reads_on, reads_schema};
 ghost use Rattle.pdgf_run.specs.TopCall.{IsLimitTold, LibraryLeft};
@@ -13,12 +15,17 @@ ghost use Rattle.pdgf_run.specs.modes.Apply.{input_limit};
 
 mod apply;
 mod check;
+pub(crate) mod details;
+mod details_apply;
+pub(crate) mod play;
+mod revert;
 mod row;
 pub(crate) mod sample;
 pub(crate) mod snapshot;
+pub(crate) mod undo;
 pub(crate) mod unit;
 
-use crate::job::Job;
+use crate::job::{Job, Told};
 use pd_outside::{Gate, Library};
 use refusals::JobFault;
 use request_words::{Mode, Request};
@@ -28,7 +35,7 @@ use std::marker::Brand;
 use std::sync::ledger::Blank;
 use std::thread::Threads;
 
-/// The job of a request over a plan of the schema that it names. Mode apply reads its inputs; every other leaves the library as it is. What is due in CSV is made here,
+/// The job of a request over a plan of the schema that it names. Modes that read on read their inputs; every other leaves the library as it is. What is due in CSV is made here,
 /// by the workers where it is of rows, and each package of lines enters the gate then.
 pub(crate) fn job_of<R: Threads + Sync, L: Library, G: Gate + Sync>(
     rt: &R,
@@ -40,13 +47,14 @@ pub(crate) fn job_of<R: Threads + Sync, L: Library, G: Gate + Sync>(
 ) -> Result<Job, JobFault>
     requires ranges { AreWithinRanges request.now }
     requires reads { reads_schema request.now.mode ≡ true }
+    requires unplayed { request.now.mode ≢ Play }
     requires read_out { IsReadOut (L.content library.old) }
     ensures job { IfSome (told_files (L.content library.old)) (λ files. IsDecided job_status due_of (IsInMode request.now.mode request.now plan files) result) }
     ensures can { IfOk result CanFill }
     ensures left { LibraryLeft (ended job_status result) (IsLimitTold result) (told_files (L.content library.old)) (L.content library.new)
         (L.taken library.new) (L.is_started library.new) (L.faults library.old) (L.faults library.new) }
     ensures usable { ended job_status result ≢ 2 }
-    ensures is_schema { ended job_status result ≢ 3 }
+    ensures schema_read { ended job_status result ≡ 3 → L.taken library.new ≤ schema_limit }
     ensures unread { reads_on request.now.mode ≡ false → library.new ≡ library.old }
     ensures within { L.taken library.old ≤ input_limit → (ended job_status result ≡ 0) ⊎ (ended job_status result ≡ 9) → L.taken library.new ≤ input_limit }
     ensures asked { AsksInMode request.now plan (told_files (L.content library.old)) (L.asked library.old) (L.asked library.new) }
@@ -59,11 +67,25 @@ pub(crate) fn job_of<R: Threads + Sync, L: Library, G: Gate + Sync>(
         Mode::Row => row::plan_row::<Brand>(alloc, plan, request, Blank::new(1)),
         Mode::Apply => apply::plan_apply(alloc, library, &plan, request),
         Mode::Sample => unreachable!(), // it has a schema of its own
-        Mode::Play => Err(JobFault::Memory),
-        Mode::Details => Err(JobFault::Memory),
-        Mode::DetailsUnit => Err(JobFault::Memory),
-        Mode::DetailsApply => Err(JobFault::Memory),
-        Mode::Undo => Err(JobFault::Memory),
-        Mode::Revert => Err(JobFault::Memory),
+        Mode::Play => unreachable!(), // it gives no job, but units to play
+        Mode::Details => details::plan_details::<Brand, L>(
+            alloc,
+            library,
+            plan,
+            request,
+            Told::Text,
+            Blank::new(1),
+        ),
+        Mode::DetailsUnit => details::plan_details::<Brand, L>(
+            alloc,
+            library,
+            plan,
+            request,
+            Told::Changes,
+            Blank::new(1),
+        ),
+        Mode::DetailsApply => details_apply::plan_details_apply(alloc, library, &plan, request),
+        Mode::Undo => undo::plan_undo(alloc, plan, request),
+        Mode::Revert => revert::plan_revert(alloc, library, &plan, request),
     }
 }

@@ -4,7 +4,9 @@ ghost use Rattle.std.specs.Prelude.{◌≡◌, ◌<◌, ◌≤◌, ◌+◌, ◌+
 ghost use Rattle.std.specs.List.{range_with_len};
 ghost use Rattle.update_box.specs.Parts.{name_at, parts_at, parts_of};
 ghost use Rattle.pdgf_run.specs.Formats.{ending_in, file_name, in_directory};
+ghost use Rattle.pdgf_run.specs.modes.Undo.{undo_path};
 
+use itoa::Buffer;
 use request_words::Format;
 use schema_model::{Text, Texts};
 use schema_plan::Plan;
@@ -20,7 +22,7 @@ pub(crate) struct Directory<'a> {
 }
 
 /// Appends a piece to a path.
-fn push(path: &mut Text, piece: &str) -> Result<(), Memory>
+pub(crate) fn push(path: &mut Text, piece: &str) -> Result<(), Memory>
     ensures { OnOk result (path.new ≡ path.old ++ piece.now) }
 {
     match path.push(piece) {
@@ -88,6 +90,41 @@ impl Directory<'_> {
             Format::Csv => push_csv_name(&mut path, self.plan, table, unit, content)?,
         }
         Ok(path)
+    }
+
+    /// The path of the file that holds the undo text of a table at a unit.
+    pub(crate) fn undo_path(&self, alloc: Global, table: u32, unit: u64) -> Result<Text, Memory>
+        requires { table < length self.now.plan.now.schema.tables }
+        ensures { IfOk result (λ path. path ≡ undo_path self.now.plan.now unit self.now.name.now table) }
+    {
+        let mut digits = Buffer::new();
+        let mut path = Text::new(alloc);
+        push(&mut path, self.name)?;
+        push(&mut path, "/")?;
+        push(&mut path, name_of(self.plan, table))?;
+        push(&mut path, ".")?;
+        push(&mut path, digits.format(unit))?;
+        push(&mut path, ".undo")?;
+        Ok(path)
+    }
+
+    /// Those of tables.
+    pub(crate) fn undo_paths(
+        &self,
+        alloc: Global,
+        places: Places,
+        unit: u64,
+    ) -> Result<Texts, Memory>
+        requires { places.from + places.count ≤ length self.now.plan.now.schema.tables }
+        ensures { IfOk result (λ paths. paths ≡ map (undo_path self.now.plan.now unit self.now.name.now) (range_with_len places.from places.count)) }
+    {
+        let _limits = self.plan.schema(); // there are 1 to 64 tables
+        let mut paths = Texts::new(alloc);
+        for number in 0..places.count {
+            let path = self.undo_path(alloc, places.from + number, unit)?;
+            put(&mut paths, path)?;
+        }
+        Ok(paths)
     }
 
     /// Puts the paths of such contents of a table at a unit behind others.

@@ -7,7 +7,7 @@ ghost use Rattle.refusals.specs.Messages as text;
 ghost use Rattle.refusals.specs.Statuses as status;
 
 use pd_outside::Message;
-use refusals::{Refusal, write_failed_message};
+use refusals::{Refusal, keeper_failed_message, write_failed_message};
 use std::io;
 use std::io::Write;
 use std::process::ExitCode;
@@ -54,6 +54,16 @@ pub(crate) fn write_failed() -> Report
     Report {
         status: 6,
         message: write_failed_message(),
+    }
+}
+
+/// A call of the keeper failed.
+pub(crate) fn keeper_failed() -> Report
+    ensures { result ≡ record { status = status.keeper_failed_status; message = text.keeper_failed_text } }
+{
+    Report {
+        status: 12,
+        message: keeper_failed_message(),
     }
 }
 

@@ -1,28 +1,30 @@
 //! The top call.
 
-ghost use Rattle.std.specs.Prelude.{◌≡◌, ◌≢◌, ◌≤◌, ◌+◌, ◌⊎◌, ◌↔◌, [], false, true, map, string_bytes, IfErr, IfOk, IfSome, IsErr, IsOkAnd, IsTrue};
+ghost use Rattle.std.specs.Prelude.{◌≡◌, ◌≢◌, ◌≤◌, ◌+◌, ◌⊎◌, ◌↔◌, [], false, true, map, string_bytes, IfErr, IfOk, IfSome, IsErr, IsOk, IsOkAnd, IsTrue};
 ghost use Rattle.std.specs.Option.{option_map};
 ghost use Rattle.pd_outside.specs.Faults.{Rose, counted};
 ghost use Rattle.pd_outside.specs.Library.{Content, left};
 ghost use Rattle.pd_outside.specs.Shelf.{HoldsPrefixOf};
 ghost use Rattle.plan_stages.specs.Limits.{dictionary_limit, schema_limit};
 ghost use Rattle.plan_stages.specs.PlanNames.{AskedAlone};
+ghost use Rattle.plan_stages.specs.Plans.{plan_in};
 ghost use Rattle.plan_stages.specs.Stages.{told_files};
 ghost use Rattle.refusals.specs.Messages.{fixed_text, message_of};
 ghost use Rattle.refusals.specs.Statuses.{is_status};
 ghost use Rattle.request_words.specs.Words.{request};
-ghost use Rattle.request_words.specs.declared.usage.Mode.TheVariants.{Apply};
+ghost use Rattle.request_words.specs.declared.usage.Mode.TheVariants.{Apply, Revert};
+ghost use Rattle.pdgf_run.specs.Playing.{IsBrokenOff, is_play, played_store, plays_for};
 ghost use Rattle.pdgf_run.specs.ReadingList.{AsksInTurn, reads_on, reads_schema};
-ghost use Rattle.pdgf_run.specs.TopCall.{Carries, GivesLater, IsPastLimit, reads_for};
+ghost use Rattle.pdgf_run.specs.TopCall.{Carries, GivesEarlier, GivesLater, IsPastLimit, reads_for};
 ghost use Rattle.pdgf_run.specs.Verdict.{WhereTold};
 ghost use Rattle.pdgf_run.specs.modes.Apply.{input_limit};
 
+use crate::carry_out::carry_out;
 use crate::decide::decide;
-use crate::fill::fill;
-use crate::report::{done, refused, write_failed};
-use crate::{JobFault, Refusal, Report};
+use crate::report::refused;
+use crate::{Refusal, Report};
+use keeper_play::Keeper;
 use pd_outside::{Gate, Library, Shelf};
-use range_workers::RunFault;
 use std::alloc::Global;
 use std::thread::Threads;
 
@@ -31,28 +33,34 @@ use std::thread::Threads;
 /// made.
 ///
 /// What words and files come to is the definition `IsVerdict`: due files by a plain simulation that steps from unit to unit, or by
-/// applying what units change to what tables hold; or a refusal. The statuses are 0 (all is done), 2 (the words give no request), 3 (the schema's text isn't a schema), 4
+/// applying what units change to what tables hold, or undoing it; or a refusal. The statuses are 0 (all is done), 2 (the words give no request), 3 (the schema's text isn't a schema), 4
 /// (the schema breaks a rule, or what it cites is no dictionary), 5 (a read failed), 6 (a write failed), 7 (memory ran out), 8
-/// (an option's value is out of the schema's range), 9 (what is read in mode apply can't be applied) and 10 (the schema's text, a
-/// dictionary or an input is too long). Where a library or a shelf doesn't tell its files, the clauses say only what can be said.
-pub fn pdgf<R: Threads + Sync, L: Library, S: Shelf, G: Gate + Sync>(
+/// (an option's value is out of the schema's range), 9 (what is read in mode apply or revert can't be applied or undone), 10 (the schema's text, a
+/// dictionary or an input is too long) and 12 (the store failed into which units are played). Where a library, a shelf or a keeper doesn't tell what it holds, the clauses say only what can be said.
+pub fn pdgf<R: Threads + Sync, L: Library, S: Shelf, G: Gate + Sync, K: Keeper>(
     rt: &R,
     alloc: Global,
     words: &[String],
     library: &mut L,
     shelf: &mut S,
     gate: &G,
+    keeper: &mut K,
 ) -> Report
-    requires { S.is_begun shelf.old ≡ false }
+    requires none_begun { S.is_begun shelf.old ≡ false }
+    requires closed { (K.store keeper.old).is_open ≡ false }
 
     // The headline: unless a read, a write or an allocation failed, the report and the finished files are the verdict's.
-    ensures verdict { result.status ≢ 5 → result.status ≢ 6 → result.status ≢ 7 →
+    ensures verdict { result.status ≢ 5 → result.status ≢ 6 → result.status ≢ 7 → result.status ≢ 12 →
         WhereTold (map string_bytes words.now) (L.content library.old)
         (λ verdict. Carries verdict result (S.held shelf.old) (S.held shelf.new)) }
 
     // Its third part: where the files that mode apply reads hold what that simulation gives, what it holds later is finished.
     ensures applied { result.status ≢ 5 → result.status ≢ 6 → result.status ≢ 7 → IfOk (request (map string_bytes words.now)) (λ asked. asked.mode ≡ Apply →
         IfSome (told_files (L.content library.old)) (λ files. GivesLater asked files result (S.held shelf.old) (S.held shelf.new))) }
+
+    // And where those that mode revert reads hold it and the undo texts back to an earlier unit, what it held then is finished.
+    ensures reverted { result.status ≢ 5 → result.status ≢ 6 → result.status ≢ 7 → IfOk (request (map string_bytes words.now)) (λ asked. asked.mode ≡ Revert →
+        IfSome (told_files (L.content library.old)) (λ files. GivesEarlier asked files result (S.held shelf.old) (S.held shelf.new))) }
 
     // Each status has its cause.
     ensures known { IsTrue (is_status result.status) }
@@ -96,14 +104,30 @@ pub fn pdgf<R: Threads + Sync, L: Library, S: Shelf, G: Gate + Sync>(
     ensures files { told_files (L.content library.new) ≡ told_files (L.content library.old) }
     ensures library_never_falls { L.faults library.old ≤ L.faults library.new }
     ensures shelf_never_falls { S.faults shelf.old ≤ S.faults shelf.new }
+
+    // A keeper is touched by mode play alone, and not where the request is refused.
+    ensures unplayed { plays_for (request (map string_bytes words.now)) ≡ false → keeper.new ≡ keeper.old }
+    ensures keeper_kept { result.status ≢ 0 → result.status ≢ 6 → result.status ≢ 7 → result.status ≢ 12 → keeper.new ≡ keeper.old }
+
+    // Once its files are due it is finished: it has exactly the rows that the tables hold at the request's unit.
+    ensures played { (result.status ≡ 0) ⊎ (result.status ≡ 6) → IfOk (request (map string_bytes words.now)) (λ asked. is_play asked.mode ≡ true →
+        IfSome (told_files (L.content library.old)) (λ files. IfOk (plan_in files asked.schema) (λ plan.
+        K.store keeper.new ≡ played_store plan asked.to asked.store (K.store keeper.old)))) }
+
+    // Where a call of it failed, or memory ran out, it stays open after some statements, or as it was.
+    ensures broken_off { (K.store keeper.new).is_open ≡ true → IfOk (request (map string_bytes words.now)) (λ asked.
+        IfSome (told_files (L.content library.old)) (λ files. IfOk (plan_in files asked.schema) (λ plan.
+        IsBrokenOff plan asked.to asked.store (K.store keeper.old) (K.store keeper.new)))) }
+    ensures left_open { (K.store keeper.new).is_open ≡ true → (result.status ≡ 7) ⊎ (result.status ≡ 12) }
+    ensures not_opened { (result.status ≡ 7) ⊎ (result.status ≡ 12) → (K.store keeper.new).is_open ≡ false → K.store keeper.new ≡ K.store keeper.old }
+    ensures keeper_failed { result.status ≡ 12 → Rose (K.faults keeper.old) (K.faults keeper.new) }
+    ensures keeper_failed_once { result.status ≡ 12 → K.faults keeper.new ≡ counted (K.faults keeper.old) }
+    ensures keeper_failed_last { result.status ≡ 12 → IsTrue (K.last_failed keeper.new) }
+    ensures keeper_faults { result.status ≢ 12 → K.faults keeper.new ≡ K.faults keeper.old }
+    ensures keeper_due { result.status ≡ 12 → WhereTold (map string_bytes words.now) (L.content library.old) IsOk }
 {
-    let job = match decide(rt, alloc, words, library, gate) {
-        Ok(job) => job,
-        Err(refusal) => return refused(refusal),
-    };
-    match fill(rt, alloc, &job, shelf, gate) {
-        Ok(()) => done(),
-        Err(RunFault::Write) => write_failed(),
-        Err(RunFault::Memory) => refused(Refusal::Job(JobFault::Memory)),
+    match decide(rt, alloc, words, library, gate) {
+        Ok(task) => carry_out(rt, alloc, task, shelf, gate, keeper),
+        Err(refusal) => refused(refusal),
     }
 }

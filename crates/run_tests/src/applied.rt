@@ -1,6 +1,6 @@
 //! Mode apply over files in memory: what the modes snapshot and unit write gives the later snapshot, and an input at fault is told.
 
-use crate::run::{REFUSED, Run, assert_run_over, words_of};
+use crate::run::{REFUSED, Run, assert_run_over, idle_keeper, words_of};
 use crate::schemas::{ONE, SALES};
 use pd_outside::{Files, LibraryFails, MemLibrary, MemShelf, OpenGate, ShelfFails};
 use pdgf_run::{Report, pdgf};
@@ -31,7 +31,16 @@ fn push_written<R: Threads + Sync + Abort>(
     let mut shelf = MemShelf::new(alloc, ShelfFails::new(alloc), 1000);
     assert!(rt; shelf.begun().is_none());
     let words = words_of(rt, alloc, line);
-    let Report { status, .. } = pdgf(rt, alloc, &words, library, &mut shelf, &OpenGate);
+    let mut keeper = idle_keeper(alloc);
+    let Report { status, .. } = pdgf(
+        rt,
+        alloc,
+        &words,
+        library,
+        &mut shelf,
+        &OpenGate,
+        &mut keeper,
+    );
     assert_eq!(rt; status, 0, "{line}");
     let written = shelf.finished();
     for number in 0..written.len() {

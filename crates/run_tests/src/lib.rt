@@ -6,6 +6,10 @@ mod applied;
 #[cfg(test)]
 mod citations;
 #[cfg(test)]
+mod details;
+#[cfg(test)]
+mod details_applied;
+#[cfg(test)]
 mod devices;
 #[cfg(test)]
 mod inputs;
@@ -14,7 +18,11 @@ mod outside;
 #[cfg(test)]
 mod pages;
 #[cfg(test)]
+mod plays;
+#[cfg(test)]
 mod refused;
+#[cfg(test)]
+mod revert;
 #[cfg(test)]
 mod run;
 #[cfg(test)]
@@ -27,5 +35,7 @@ mod simulations;
 mod sure;
 #[cfg(test)]
 mod texts;
+#[cfg(test)]
+mod undo;
 #[cfg(test)]
 mod workers;

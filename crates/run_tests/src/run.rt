@@ -1,6 +1,10 @@
 //! A run of the program over files in memory: what it is given and what it is to come to.
 
+ghost use Rattle.std.specs.Prelude.{◌≡◌, false};
+ghost use Rattle.keeper_play.specs.MapKeeper.{keeping_of};
+
 use crate::schemas::ONE;
+use keeper_play::{KeeperFails, MapKeeper};
 use pd_outside::{Files, LibraryFails, MemLibrary, MemShelf, OpenGate, ShelfFail, ShelfFails};
 use pdgf_run::{Report, pdgf};
 use std::alloc::Global;
@@ -138,6 +142,14 @@ fn assert_files(rt: &impl Abort, shelf: &MemShelf, run: &Run<'_>) {
     }
 }
 
+/// A store into which nothing is played.
+pub fn idle_keeper(alloc: Global) -> MapKeeper
+    ensures closed { (keeping_of result).is_open ≡ false }
+    ensures no_fault { (keeping_of result).faults ≡ 0 }
+{
+    MapKeeper::new(alloc, KeeperFails::new(alloc))
+}
+
 /// Runs the words over a library and compares all that they come to.
 pub fn assert_run_over<R: Threads + Sync + Abort>(
     rt: &R,
@@ -151,7 +163,16 @@ pub fn assert_run_over<R: Threads + Sync + Abort>(
     let mut shelf = MemShelf::new(alloc, fails, run.step);
     assert!(rt; shelf.begun().is_none());
     let words = words_of(rt, alloc, run.words);
-    let Report { status, message } = pdgf(rt, alloc, &words, library, &mut shelf, &OpenGate);
+    let mut keeper = idle_keeper(alloc);
+    let Report { status, message } = pdgf(
+        rt,
+        alloc,
+        &words,
+        library,
+        &mut shelf,
+        &OpenGate,
+        &mut keeper,
+    );
     let name = run.name;
     assert_eq!(rt; status, run.status, "{name}");
     assert_eq!(rt; message.text(), run.message.as_bytes(), "{name}");

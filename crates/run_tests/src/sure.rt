@@ -2,10 +2,14 @@
 
 ghost use Rattle.std.specs.Prelude.{◌≡◌, ◌⊎◌, List, Ok, map, string_bytes, false};
 ghost use Rattle.pd_outside.specs.Files.{File};
+ghost use Rattle.keeper_play.specs.MapKeeper.{keeping_of};
+ghost use Rattle.pdgf_run.specs.Playing.{plays_for};
 ghost use Rattle.pdgf_run.specs.Verdict.{IsVerdict};
+ghost use Rattle.request_words.specs.Words.{request};
 
-use crate::run::words_of;
+use crate::run::{idle_keeper, words_of};
 use crate::schemas::TRADE;
+use keeper_play::MapKeeper;
 use pd_outside::{Files, OpenGate, SureLibrary, SureShelf};
 use pdgf_run::laws::words_and_files_have_one_verdict;
 use pdgf_run::{Report, pdgf};
@@ -13,19 +17,22 @@ use std::alloc::Global;
 use std::process::Abort;
 use std::thread::Threads;
 
-/// What `pdgf` does over them: where files are due all is done, or memory ran out.
+/// What `pdgf` does over them, where it plays nothing: where files are due all is done, or memory ran out.
 fn run_surely<R: Threads + Sync>(
     rt: &R,
     alloc: Global,
     words: &[String],
     library: &mut SureLibrary,
     shelf: &mut SureShelf,
+    keeper: &mut MapKeeper,
 ) -> Report
-    requires { shelf.old.is_begun ≡ false }
-    ensures complete { (due : List File) → IsVerdict (map string_bytes words.now) library.old.content.files (Ok due) → (result.status ≡ 0) ⊎ (result.status ≡ 7) }
+    requires none_begun { shelf.old.is_begun ≡ false }
+    requires closed { (keeping_of keeper.old).is_open ≡ false }
+    requires no_fault { (keeping_of keeper.old).faults ≡ 0 }
+    ensures complete { plays_for (request (map string_bytes words.now)) ≡ false → (due : List File) → IsVerdict (map string_bytes words.now) library.old.content.files (Ok due) → (result.status ≡ 0) ⊎ (result.status ≡ 7) }
 {
     words_and_files_have_one_verdict();
-    pdgf(rt, alloc, words, library, shelf, &OpenGate)
+    pdgf(rt, alloc, words, library, shelf, &OpenGate, keeper)
 }
 
 fn assert_done<R: Threads + Sync + Abort>(rt: &R, alloc: Global, line: &str) {
@@ -34,7 +41,15 @@ fn assert_done<R: Threads + Sync + Abort>(rt: &R, alloc: Global, line: &str) {
     let mut library = SureLibrary::new(files);
     let words = words_of(rt, alloc, line);
     let mut shelf = SureShelf::new();
-    let Report { status, .. } = run_surely(rt, alloc, &words, &mut library, &mut shelf);
+    let mut keeper = idle_keeper(alloc);
+    let Report { status, .. } = run_surely(
+        rt,
+        alloc,
+        &words,
+        &mut library,
+        &mut shelf,
+        &mut keeper,
+    );
     assert_eq!(rt; status, 0, "{line}");
 }
 

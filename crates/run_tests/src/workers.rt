@@ -1,7 +1,9 @@
 //! Jobs by several workers, by packages of other sizes, and in shares: the same bytes. The texts are worked out by hand from the rules.
 
 use crate::run::Held::Text;
-use crate::run::{DONE, Held, REFUSED, Run, STOPPED, assert_runs, library_of, words_of};
+use crate::run::{
+    DONE, Held, REFUSED, Run, STOPPED, assert_runs, idle_keeper, library_of, words_of,
+};
 use crate::schemas::SALES;
 use pd_outside::{Gate, MemShelf, ShelfFail, ShelfFails};
 use pdgf_run::{Report, default_package, pdgf};
@@ -317,7 +319,16 @@ fn assert_held<R: Threads + Sync + Abort>(rt: &R, alloc: std::alloc::Global, oth
     assert!(rt; shelf.begun().is_none());
     let words = "pdgf snapshot s.toml --unit 0 --workers 2 --package 1";
     let words = words_of(rt, alloc, words);
-    let Report { status, .. } = pdgf(rt, alloc, &words, &mut library, &mut shelf, &gate);
+    let mut keeper = idle_keeper(alloc);
+    let Report { status, .. } = pdgf(
+        rt,
+        alloc,
+        &words,
+        &mut library,
+        &mut shelf,
+        &gate,
+        &mut keeper,
+    );
     assert_eq!(rt; status, 0);
     let files = shelf.finished();
     assert!(rt; files.len() == 1 && files.bytes(0) == b"1\n2\n3\n4\n5\n6\n7\n8\n".as_slice());

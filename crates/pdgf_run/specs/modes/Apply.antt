@@ -18,6 +18,7 @@ use Rattle.schema_model.specs.declared.table.Schema.{Schema}
 use Rattle.schema_plan.specs.Dictionaries.{Project}
 use Rattle.schema_plan.specs.Layout.{layout_of}
 use Rattle.stream_apply.specs.InTurn.{IsAppliedText, IsFaultAt}
+use Rattle.stream_apply.specs.declared.key_fields.KeyFields.TheVariants.{One}
 use Rattle.stream_apply.specs.declared.fault.ApplyFault.{ApplyFault}
 use Rattle.stream_apply.specs.declared.fault.ApplyFault.TheVariants.{Memory}
 use Rattle.update_box.specs.Packages.{chosen_places}
@@ -79,7 +80,7 @@ file_named name = take 64 name
 
 -- the texts that the first tables' inputs make
 pub record AreApplied (delimiter each : ℕ) (inputs texts : List (List ℕ)) : Type 0 where
-  pub applied : (place : ℕ) → place < length texts → IsAppliedText delimiter (inputs_at each inputs place) (get_or texts place [])
+  pub applied : (place : ℕ) → place < length texts → IsAppliedText One delimiter (inputs_at each inputs place) (get_or texts place [])
 
 -- the first fault: that of an input of a table, where the tables before it have none
 pub record IsFirstFault (delimiter each : ℕ) (inputs : List (List ℕ)) (count number : ℕ) (fault : ApplyFault) : Type 0 where
@@ -89,7 +90,7 @@ pub record IsFirstFault (delimiter each : ℕ) (inputs : List (List ℕ)) (count
   pub within : length texts < count
   pub below : place < each
   pub number_is : number ≡ length texts * each + place
-  pub has : IsFaultAt delimiter (inputs_at each inputs (length texts)) place fault
+  pub has : IsFaultAt One delimiter (inputs_at each inputs (length texts)) place fault
   pub told : fault ≢ Memory
 
 -- paths that lie in a directory: each has the directory's name and one byte more before its own

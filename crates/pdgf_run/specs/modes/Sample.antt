@@ -14,6 +14,7 @@ use Rattle.schema_plan.specs.Dictionaries.{Project}
 use Rattle.schema_plan.specs.Layout.{layout_of}
 use Rattle.schema_plan.specs.TableFacts.{reach}
 use Rattle.stream_apply.specs.InTurn.{IsAppliedText}
+use Rattle.stream_apply.specs.declared.key_fields.KeyFields.TheVariants.{One}
 use Rattle.update_box.specs.Parts.{content_text, name_at}
 use Rattle.update_box.specs.TextLaws.{unit_streams}
 use Rattle.update_box.specs.declared.parts.Content.{Content}
@@ -55,7 +56,7 @@ text_and_changes plan place units = table_text (generator_of plan) 0 place ∷ f
 
 -- what it makes with what all units change
 abbrev pub IsLaterText : Project → ℕ → List ℕ → Type 0
-IsLaterText plan place text = IsAppliedText (layout_of plan).delimiter (text_and_changes plan place (later_units plan)) text
+IsLaterText plan place text = IsAppliedText One (layout_of plan).delimiter (text_and_changes plan place (later_units plan)) text
 
 -- the sum of all bytes of some texts, as numbers from 0 to 255
 abbrev pub sum_of_bytes : List (List ℕ) → ℕ

@@ -29,18 +29,18 @@ use request_words::{Format, OptionName, Request};
 use schema_model::{Text, Texts};
 use schema_plan::Plan;
 use std::alloc::Global;
-use stream_apply::{ApplyFault, apply_in_turn};
+use stream_apply::{ApplyFault, KeyFields, apply_in_turn};
 use update_box::{Content, Memory, Places, places_of};
 
 /// The most bytes that all inputs have together.
-const INPUT_LIMIT: u64 = 268_435_456;
+pub(crate) const INPUT_LIMIT: u64 = 268_435_456;
 
 /// The tables whose texts are made, the ones of consecutive places, and how many inputs each has.
 #[derive(Clone, Copy)]
-struct Tables {
-    first: u32,
-    count: u32,
-    inputs: usize,
+pub(super) struct Tables {
+    pub(super) first: u32,
+    pub(super) count: u32,
+    pub(super) inputs: usize,
 }
 
 /// The job of a request, whose inputs are read and applied before any file is written.
@@ -180,7 +180,7 @@ fn push_paths(
 }
 
 /// The name of an input by its path, without the directory.
-fn file_of(path: &Text, request: &Request) -> FileName
+pub(crate) fn file_of(path: &Text, request: &Request) -> FileName
     requires { length request.now.source + 1 ≤ length path.now }
     ensures { result ≡ file_named (drop (length request.now.source + 1) path.now) }
 {
@@ -433,7 +433,7 @@ fn applied_texts(
     for place in 0..tables.count as usize {
         let from = place * tables.inputs;
         let own = &inputs.as_slice()[from..from + tables.inputs];
-        match apply_in_turn(alloc, own, delimiter) {
+        match apply_in_turn(alloc, own, KeyFields::One, delimiter) {
             Ok(text) => match texts.push(text) {
                 Ok(()) => {}
                 Err(_) => return Err(JobFault::Memory),
@@ -458,7 +458,7 @@ pub(crate) fn is_memory(fault: ApplyFault) -> bool
 }
 
 /// Why the input of a path can't be applied.
-fn unapplied(path: &Text, request: &Request, fault: ApplyFault) -> JobFault
+pub(crate) fn unapplied(path: &Text, request: &Request, fault: ApplyFault) -> JobFault
     requires { length request.now.source + 1 ≤ length path.now }
     ensures { result ≡ JobFault.Input (record { file = file_named (drop (length request.now.source + 1) path.now); cause = InputCause.Applying fault }) }
 {
@@ -469,7 +469,11 @@ fn unapplied(path: &Text, request: &Request, fault: ApplyFault) -> JobFault
 }
 
 /// The paths of the files of tables' texts.
-fn text_paths(alloc: Global, directory: &Directory<'_>, tables: Tables) -> Result<Texts, Memory>
+pub(super) fn text_paths(
+    alloc: Global,
+    directory: &Directory<'_>,
+    tables: Tables,
+) -> Result<Texts, Memory>
     requires within { tables.first + tables.count ≤ length directory.now.plan.now.schema.tables }
     ensures { IfOk result (λ names. names
         ≡ map (λ place. in_directory directory.now.name.now (text_name directory.now.format directory.now.plan.now.schema place)) (range_with_len tables.first tables.count)) }

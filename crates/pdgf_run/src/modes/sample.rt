@@ -32,7 +32,7 @@ use std::alloc::Global;
 use std::marker::Brand;
 use std::sync::ledger::Blank;
 use std::thread::Threads;
-use stream_apply::apply_in_turn;
+use stream_apply::{KeyFields, apply_in_turn};
 use update_box::Memory;
 
 /// How many lines the rows have that the units delete, update and insert.
@@ -279,7 +279,12 @@ fn later_sum(alloc: Global, plan: &Plan, table: u32, texts: &TableTexts) -> Resu
     ensures few { IfOk result (λ total. total < 2 ^ 72) }
 {
     let _limits = plan.schema(); // a plan is in its limits
-    match apply_in_turn(alloc, texts.inputs.as_slice(), plan.delimiter()) {
+    match apply_in_turn(
+        alloc,
+        texts.inputs.as_slice(),
+        KeyFields::One,
+        plan.delimiter(),
+    ) {
         Ok(text) => Ok(sum_of(&text)),
         Err(told) if is_memory(told.fault) => Err(Memory),
         Err(_) => unreachable!(), // what the units change can be applied

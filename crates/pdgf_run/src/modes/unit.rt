@@ -151,6 +151,7 @@ pub(crate) fn found_job<B: Ledger>(
     ensures plan { IfOk result (λ job. job.of.plan ≡ plan) }
     ensures asked { IfOk result (λ job. job.of.asked ≡ asked) }
     ensures out { IfOk result (λ job. job.of.out ≡ out) }
+    ensures workers { IfOk result (λ job. job.of.workers ≡ request.now.workers) }
     ensures can { IfOk result CanPackUnit }
 {
     let of = tables_job(alloc, plan, asked, request, out)?;

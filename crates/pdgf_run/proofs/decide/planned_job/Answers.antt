@@ -17,16 +17,16 @@ returns-in_err-plan-clause-asked g c = asks_of_name c.args.request.now c.as_str.
 
 pub returns-clause-job : goal.returns-clause-job
 returns-clause-job g c =
-    decided_with_plan _ _ c.args.request.now c.as_str.result.now c.in_ok-plan.plan c.job_of.result c.as_str.ensures.value c.in_ok-plan.ensures.plan
-    c.in_ok-plan.ensures.after.files c.job_of.ensures.job
+    decided_with_plan _ _ c.args.request.now c.as_str.result.now c.in_ok-plan.plan c.task_of.result c.as_str.ensures.value c.in_ok-plan.ensures.plan
+    c.in_ok-plan.ensures.after.files c.task_of.ensures.job
 
 pub returns-clause-left : goal.returns-clause-left
-returns-clause-left g c = left_with_plan _ _ _ _ _ _ _ _ _ _ _ _ _ c.in_ok-plan.ensures.after c.job_of.ensures.left
+returns-clause-left g c = left_with_plan _ _ _ _ _ _ _ _ _ _ _ _ _ c.in_ok-plan.ensures.after c.task_of.ensures.left
 
 pub returns-clause-asked : goal.returns-clause-asked
 returns-clause-asked g c =
     asks_with_plan c.args.request.now c.as_str.result.now c.in_ok-plan.plan _ _ _ _ _ c.requires.reads c.as_str.ensures.value c.in_ok-plan.ensures.plan c.in_ok-plan.ensures.read
-    c.in_ok-plan.ensures.after.files c.job_of.ensures.asked
+    c.in_ok-plan.ensures.after.files c.task_of.ensures.asked
 
 pub returns-in_err-plan-clause-limits : goal.returns-in_err-plan-clause-limits
 returns-in_err-plan-clause-limits g c =

@@ -5,9 +5,11 @@ use Rattle.plan_stages.specs.Stages.{told_files}
 use Rattle.request_words.specs.Words.{request}
 use Rattle.pdgf_run.specs.declared.report.Report.{Report}
 use Rattle.pdgf_run.specs.TopCall.{IsPastLimit}
-use Rattle.pdgf_run.proofs.AppliedLemmas.{applied_done, applied_refused}
+use Rattle.pdgf_run.proofs.AppliedLemmas.{applied_carried, applied_refused}
 use Rattle.pdgf_run.proofs.DecideLemmas.{refused-usage, rose}
+use Rattle.pdgf_run.proofs.RevertedLemmas.{reverted_carried, reverted_refused}
 use Rattle.pdgf_run.proofs.ReportLemmas.{past_limit}
+use Rattle.pdgf_run.proofs.TaskLemmas.{broken_where_asked, played_where_asked, plays_not}
 use Rattle.pdgf_run.proofs.run.pdgf.Goals as goal
 
 pub returns-in-Err-clause-usage : goal.returns-in-Err-clause-usage
@@ -44,7 +46,32 @@ returns-in-Err-clause-applied g c = λ five six seven.
     applied_refused (map string_bytes c.args.words.now) (told_files (g.L.Library.content c.args.library.now)) (request (map string_bytes c.args.words.now)) c.in-Err.refusal
     c.refused.result _ _ refl c.in-Err.ensures.limits c.in-Err.ensures.verdict c.refused.ensures refl five seven
 
-pub returns-in-Ok-fill-clause-applied : goal.returns-in-Ok-fill-clause-applied
-returns-in-Ok-fill-clause-applied g c = λ five six seven.
-    applied_done (map string_bytes c.args.words.now) (told_files (g.L.Library.content c.args.library.now)) (request (map string_bytes c.args.words.now)) c.in-Ok.job
-    c.done.result _ _ refl c.in-Ok.ensures.limits c.in-Ok.ensures.verdict c.done.ensures c.in-Ok-fill.ensures.files
+pub returns-in-Ok-clause-applied : goal.returns-in-Ok-clause-applied
+returns-in-Ok-clause-applied g c = λ five six seven.
+    applied_carried (map string_bytes c.args.words.now) (told_files (g.L.Library.content c.args.library.now)) (request (map string_bytes c.args.words.now)) c.in-Ok.task c.carry_out.result _ _
+    refl c.in-Ok.ensures.limits c.in-Ok.ensures.verdict c.in-Ok.ensures.task c.carry_out.ensures.unfailed c.carry_out.ensures.carries six seven
+
+pub returns-in-Err-clause-reverted : goal.returns-in-Err-clause-reverted
+returns-in-Err-clause-reverted g c = λ five six seven.
+    reverted_refused (map string_bytes c.args.words.now) (told_files (g.L.Library.content c.args.library.now)) (request (map string_bytes c.args.words.now)) c.in-Err.refusal
+    c.refused.result _ _ refl c.in-Err.ensures.limits c.in-Err.ensures.verdict c.refused.ensures refl five seven
+
+pub returns-in-Ok-clause-reverted : goal.returns-in-Ok-clause-reverted
+returns-in-Ok-clause-reverted g c = λ five six seven.
+    reverted_carried (map string_bytes c.args.words.now) (told_files (g.L.Library.content c.args.library.now)) (request (map string_bytes c.args.words.now)) c.in-Ok.task c.carry_out.result _ _
+    refl c.in-Ok.ensures.limits c.in-Ok.ensures.verdict c.in-Ok.ensures.task c.carry_out.ensures.unfailed c.carry_out.ensures.carries six seven
+
+pub returns-in-Ok-clause-played : goal.returns-in-Ok-clause-played
+returns-in-Ok-clause-played g c = λ ended.
+    played_where_asked (request (map string_bytes c.args.words.now)) (told_files (g.L.Library.content c.args.library.now)) c.in-Ok.task _ _
+    c.in-Ok.ensures.task (c.carry_out.ensures.played ended)
+
+pub returns-in-Ok-clause-broken_off : goal.returns-in-Ok-clause-broken_off
+returns-in-Ok-clause-broken_off g c = λ is_open.
+    broken_where_asked (request (map string_bytes c.args.words.now)) (told_files (g.L.Library.content c.args.library.now)) c.in-Ok.task _ _
+    c.in-Ok.ensures.task (c.carry_out.ensures.broken_off is_open)
+
+pub returns-in-Ok-clause-unplayed : goal.returns-in-Ok-clause-unplayed
+returns-in-Ok-clause-unplayed g c = λ is.
+    c.carry_out.ensures.unplayed
+    (plays_not (request (map string_bytes c.args.words.now)) (told_files (g.L.Library.content c.args.library.now)) c.in-Ok.task c.in-Ok.ensures.usage c.in-Ok.ensures.task is)

@@ -1,5 +1,6 @@
 use Rattle.std.proofs.Common.{◌≡◌, ◌≢◌, ◌<◌, ◌+◌, ◌-◌, ◌*◌, ℕ, List, [], ◌∷◌, ap, arith, drop, length, length-append, refl, subst, sym, take}
 use Rattle.stream_apply.specs.InTurn.{IsAppliedText, IsFaultAt}
+use Rattle.stream_apply.specs.declared.key_fields.KeyFields.TheVariants.{One}
 use Rattle.stream_apply.specs.declared.fault.ApplyFault.TheVariants.{Memory}
 use Rattle.pdgf_run.specs.modes.Apply.{inputs_at}
 use Rattle.pdgf_run.proofs.MadeLemmas.{applied_more, inputs_in_turn, taken_few, unapplied_at}
@@ -15,9 +16,9 @@ returns-in-Err c =
     let size : from + each - from ≡ each = omega arith in
     let own = inputs_in_turn _ each c.loop-place.place from c.as_slice.result.now _ c.args.inputs.now c.as_slice.ensures refl (ap (λ (n : ℕ). take n (drop from c.as_slice.result.now)) size) in
     let below : c.in-Err.told.place < each = omega (arith, found.0, taken_few (from + each - from) (drop from c.as_slice.result.now), size) in
-    let has : IsFaultAt c.args.delimiter (inputs_at each c.args.inputs.now (length c.loop-place.texts)) c.in-Err.told.place c.in-Err.told.fault =
-    subst (λ (p : ℕ). IsFaultAt c.args.delimiter (inputs_at each c.args.inputs.now p) c.in-Err.told.place c.in-Err.told.fault) (sym inv.count)
-    (subst (λ (l : List (List ℕ)). IsFaultAt c.args.delimiter l c.in-Err.told.place c.in-Err.told.fault) own found.1) in
+    let has : IsFaultAt One c.args.delimiter (inputs_at each c.args.inputs.now (length c.loop-place.texts)) c.in-Err.told.place c.in-Err.told.fault =
+    subst (λ (p : ℕ). IsFaultAt One c.args.delimiter (inputs_at each c.args.inputs.now p) c.in-Err.told.place c.in-Err.told.fault) (sym inv.count)
+    (subst (λ (l : List (List ℕ)). IsFaultAt One c.args.delimiter l c.in-Err.told.place c.in-Err.told.fault) own found.1) in
     record {
       count = tt;
       applied = tt;
@@ -39,6 +40,6 @@ loop-place-preserved c =
       count = omega (arith, ap length appended, length-append c.loop-place.texts (c.in-Ok.text.items ∷ []), inv.count);
       applied =
           applied_more c.args.delimiter each c.args.inputs.now c.loop-place.texts c.push.new.self c.in-Ok.text.items appended inv.applied
-          (subst (λ (p : ℕ). IsAppliedText c.args.delimiter (inputs_at each c.args.inputs.now p) c.in-Ok.text.items) (sym inv.count)
-          (subst (λ (l : List (List ℕ)). IsAppliedText c.args.delimiter l c.in-Ok.text.items) own c.in-Ok.ensures.applied));
+          (subst (λ (p : ℕ). IsAppliedText One c.args.delimiter (inputs_at each c.args.inputs.now p) c.in-Ok.text.items) (sym inv.count)
+          (subst (λ (l : List (List ℕ)). IsAppliedText One c.args.delimiter l c.in-Ok.text.items) own c.in-Ok.ensures.applied));
     }

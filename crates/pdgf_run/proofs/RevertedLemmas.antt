@@ -1,0 +1,172 @@
+-- Inputs that a plain simulation gives make what it held earlier.
+use Rattle.std.proofs.Common.{◌≡◌, ◌≢◌, ◌<◌, ◌≤◌, ◌+◌, ◌-◌, ℕ, zero, suc, Bool, true, false, List, [], flat_map, get_or, length, map, Option, None, Some, Result, Ok, Err, ap, arith, refl, subst, sym, ◌∙◌}
+use Rattle.std.specs.Prelude.{IfOk, IfSome, nat_lt}
+use Rattle.std.specs.Option.{option_map}
+use Rattle.std.proofs.lemmas.List.{get_or-map, length-map}
+use Rattle.pd_outside.specs.Files.{File}
+use Rattle.pd_outside.specs.Shelf.{Held, finish_files}
+use Rattle.plan_stages.specs.Inputs.{inputs_of}
+use Rattle.plan_stages.specs.Plans.{plan_in}
+use Rattle.refusals.specs.Messages.{message_of}
+use Rattle.refusals.specs.Statuses.{done_status, is_free, status_of}
+use Rattle.refusals.specs.declared.refusal.JobFault.{JobFault}
+use Rattle.refusals.specs.declared.refusal.JobFault.TheVariants as job
+use Rattle.refusals.specs.declared.refusal.PlanFault.{PlanFault}
+use Rattle.refusals.specs.declared.refusal.Refusal.{Refusal}
+use Rattle.request_words.specs.Words.{request}
+use Rattle.request_words.specs.declared.usage.Mode.TheVariants.{Play, Revert}
+use Rattle.request_words.specs.declared.usage.Mode.{Mode}
+use Rattle.request_words.specs.declared.usage.OptionName.TheVariants as option
+use Rattle.request_words.specs.declared.usage.Request.{Request}
+use Rattle.request_words.specs.declared.usage.UsageFault.{UsageFault}
+use Rattle.row_lines.specs.Lines.{table_text}
+use Rattle.life_intervals.specs.Generator.{generator_of, last_unit}
+use Rattle.schema_plan.specs.Dictionaries.{Project}
+use Rattle.schema_plan.specs.Layout.{layout_of}
+use Rattle.schema_plan.specs.Limits.{IsInLimits}
+use Rattle.undo_streams.specs.InTurn.{IsRevertedText}
+use Rattle.update_box.specs.Packages.{chosen_places}
+use Rattle.pdgf_run.specs.DueFiles.{chosen_table}
+use Rattle.pdgf_run.specs.Jobs.{due_of}
+use Rattle.pdgf_run.specs.Playing.{IsTaskOf, is_playing, task_due}
+use Rattle.pdgf_run.specs.ReadingList.{reads_schema}
+use Rattle.pdgf_run.specs.TopCall.{Carries, GivesEarlier}
+use Rattle.pdgf_run.specs.UndoLaws.{undo_texts}
+use Rattle.pdgf_run.specs.Verdict.{IsDecided, IsInMode, IsJobOver, IsPlanned, IsVerdict, plan_by}
+use Rattle.pdgf_run.specs.declared.job.Task.{Task}
+use Rattle.pdgf_run.specs.declared.report.Report.{Report}
+use Rattle.pdgf_run.proofs.TaskLemmas.{plays_no_other}
+use Rattle.pdgf_run.specs.modes.Apply.{inputs_at}
+use Rattle.pdgf_run.specs.modes.Revert.{AreEarlierFiles, AreReverted, HoldUndoInputs, IsRevertDue, files_reverted, tables_reverted, undo_input_paths, undo_inputs, undo_inputs_each}
+use Rattle.pdgf_run.proofs.AppliedLemmas.{all_read, choice_is, chosen_within, delimits, not_free, not_less, passes, place_within}
+use Rattle.pdgf_run.proofs.ChunkLemmas.{chunk}
+use Rattle.pdgf_run.proofs.DecideLemmas.{of_words}
+use Rattle.pdgf_run.proofs.OutcomeLemmas.{one_verdict}
+use Rattle.pdgf_run.proofs.RevertLemmas.{read_and_made}
+use Rattle.pdgf_run.proofs.UndoLawLemmas.{units-reverted}
+
+-- ---- the inputs of a table among all
+
+length-undo_texts : (plan : Project) (place to count : ℕ) → length (undo_texts plan place to count) ≡ count
+length-undo_texts plan place to zero = refl
+length-undo_texts plan place to (suc count) = ap suc (length-undo_texts plan place to count)
+
+length-undo_inputs : (plan : Project) (r : Request) (place : ℕ) → length (undo_inputs plan r.to (r.from - r.to) place) ≡ undo_inputs_each r
+length-undo_inputs plan r place = omega (arith, length-undo_texts plan place r.to (r.from - r.to))
+
+-- ---- they make what the tables held earlier
+
+earlier_reverted : (plan : Project) (r : Request) (table : Option ℕ) (inputs : List (List ℕ)) → IsInLimits plan → r.to ≤ r.from → r.from ≤ last_unit plan →
+    IfSome table (λ place. place < length plan.schema.tables) →
+    inputs ≡ flat_map (undo_inputs plan r.to (r.from - r.to)) (chosen_places plan table) →
+    AreReverted (layout_of plan).delimiter (undo_inputs_each r) inputs (map (table_text (generator_of plan) r.to) (chosen_places plan table))
+earlier_reverted plan r table inputs limits order units within are = record {
+  reverted = λ i below.
+      let places : List ℕ = chosen_places plan table in
+      let inside : i < length places = omega (arith, below, length-map places (table_text (generator_of plan) r.to)) in
+      let place : ℕ = get_or places i 0 in
+      let at_start : r.to + (r.from - r.to) ≤ last_unit plan = omega (arith, order, units) in
+      let own : inputs_at (undo_inputs_each r) inputs i ≡ undo_inputs plan r.to (r.from - r.to) place =
+      ap (λ (l : List (List ℕ)). inputs_at (undo_inputs_each r) l i) are
+      ∙ chunk (undo_inputs plan r.to (r.from - r.to)) (undo_inputs_each r) places i (length-undo_inputs plan r) inside in
+      let text : get_or (map (table_text (generator_of plan) r.to) places) i [] ≡ table_text (generator_of plan) r.to place =
+      get_or-map (table_text (generator_of plan) r.to) places i 0 [] inside in
+      subst (λ (t : List ℕ). IsRevertedText (layout_of plan).delimiter (inputs_at (undo_inputs_each r) inputs i) t) (sym text)
+      (subst (λ (l : List (List ℕ)). IsRevertedText (layout_of plan).delimiter l (table_text (generator_of plan) r.to place)) (sym own)
+      (units-reverted plan limits place (place_within plan table i within inside) r.to (r.from - r.to) at_start));
+}
+
+earlier_due : (plan : Project) (r : Request) (files : List File) (table : Option ℕ) → IsInLimits plan → tables_reverted plan r ≡ Ok table →
+    HoldUndoInputs plan r table files → (due : List File) × AreEarlierFiles plan r table due × IsRevertDue plan r files (Ok due)
+earlier_due plan r files table limits asked hold =
+    let first = passes (nat_lt (layout_of plan).units r.from) (job.Range option.From) _ table asked in
+    let second = passes (nat_lt r.from r.to) (job.Range option.To) _ table first.1 in
+    let chosen : chosen_table plan.schema r.table ≡ Some table = choice_is (chosen_table plan.schema r.table) table second.1 in
+    let paths : List (List ℕ) = undo_input_paths plan r table in
+    let earlier : List (List ℕ) = map (table_text (generator_of plan) r.to) (chosen_places plan table) in
+    let due : List File = files_reverted plan r table earlier in
+    let within : r.from ≤ last_unit plan = not_less (layout_of plan).units r.from first.0 in
+    let order : r.to ≤ r.from = not_less r.from r.to second.0 in (
+      due,
+      refl,
+      read_and_made plan r files table (Ok (inputs_of files paths)) (Ok due) (sym asked) (all_read files paths hold.within) (
+        earlier,
+        length-map (chosen_places plan table) (table_text (generator_of plan) r.to),
+        earlier_reverted plan r table (inputs_of files paths) limits order within (there table chosen) hold.texts,
+        refl,
+      ),
+    )
+  where
+    there : (table : Option ℕ) → chosen_table plan.schema r.table ≡ Some table → IfSome table (λ place. place < length plan.schema.tables)
+    there None chosen = tt
+    there (Some place) chosen = chosen_within plan r.table place chosen
+
+-- ---- the verdict
+
+of_asked : (words : List (List ℕ)) (files : List File) (r : Request) (plan : Project) (asked : Result (Option ℕ) JobFault) (verdict : Result (List File) Refusal) (report : Report)
+    (before now : Option Held) → request words ≡ Ok r → r.mode ≡ Revert → plan_in files r.schema ≡ Ok plan → tables_reverted plan r ≡ asked → IsInLimits plan →
+    IsVerdict words files verdict → Carries verdict report before now →
+    IfOk asked (λ (table : Option ℕ). HoldUndoInputs plan r table files → (due : List File) × AreEarlierFiles plan r table due × Carries (Ok due) report before now)
+of_asked words files r plan (Err fault) verdict report before now given mode planned asked limits is carries = tt
+of_asked words files r plan (Ok table) verdict report before now given mode planned asked limits is carries = λ hold.
+    let found = earlier_due plan r files table limits asked hold in
+    let answer : Result (List File) JobFault = Ok found.0 in
+    let due : IsInMode r.mode r plan files answer = subst (λ (m : Mode). IsInMode m r plan files answer) (sym mode) found.2 in
+    let reads : reads_schema r.mode ≡ true = ap reads_schema mode in
+    let over : IsJobOver r files answer =
+    subst (λ (b : Bool). IsPlanned r files (plan_by b r files) answer) (sym reads)
+    (subst (λ (made : Result Project PlanFault). IsPlanned r files made answer) (sym planned) due) in
+    let later : IsVerdict words files (Ok found.0) = of_words words files (Ok r) (Ok found.0) given (answer, over, refl) in
+    (found.0, found.1, subst (λ (v : Result (List File) Refusal). Carries v report before now) (one_verdict words files verdict (Ok found.0) delimits is later) carries)
+
+of_plan : (words : List (List ℕ)) (files : List File) (r : Request) (made : Result Project PlanFault) (verdict : Result (List File) Refusal) (report : Report) (before now : Option Held) →
+    request words ≡ Ok r → r.mode ≡ Revert → plan_in files r.schema ≡ made → IfOk made IsInLimits → IsVerdict words files verdict → Carries verdict report before now →
+    IfOk made (λ (plan : Project). IfOk (tables_reverted plan r) (λ (table : Option ℕ).
+    HoldUndoInputs plan r table files → (due : List File) × AreEarlierFiles plan r table due × Carries (Ok due) report before now))
+of_plan words files r (Err fault) verdict report before now given mode planned limits is carries = tt
+of_plan words files r (Ok plan) verdict report before now given mode planned limits is carries =
+    of_asked words files r plan (tables_reverted plan r) verdict report before now given mode planned refl limits is carries
+
+pub gives_earlier : (words : List (List ℕ)) (files : List File) (r : Request) (verdict : Result (List File) Refusal) (report : Report) (before now : Option Held) →
+    request words ≡ Ok r → r.mode ≡ Revert → IfOk (plan_in files r.schema) IsInLimits → IsVerdict words files verdict → Carries verdict report before now →
+    GivesEarlier r files report before now
+gives_earlier words files r verdict report before now given mode limits is carries =
+    of_plan words files r (plan_in files r.schema) verdict report before now given mode refl limits is carries
+
+-- ---- the report
+
+apart : Revert ≡ Play → ⊥
+apart is = cc
+
+-- a request that is refused
+pub reverted_refused : (words : List (List ℕ)) (told : Option (List File)) (q : Result Request UsageFault) (r : Refusal) (report : Report) (before now : Option Held) → request words ≡ q →
+    IfOk q (λ asked. reads_schema asked.mode ≡ true → is_free (status_of r) ≡ false → IfSome told (λ files. IfOk (plan_in files asked.schema) IsInLimits)) →
+    IfSome told (λ files. IsDecided status_of due_of (IsVerdict words files) (Err r)) → report ≡ record { status = status_of r; message = message_of r } → now ≡ before →
+    report.status ≢ 5 → report.status ≢ 7 → IfOk q (λ asked. asked.mode ≡ Revert → IfSome told (λ files. GivesEarlier asked files report before now))
+reverted_refused words told (Err fault) r report before now given limits decided is same five seven = tt
+reverted_refused words None (Ok asked) r report before now given limits decided is same five seven = λ mode. tt
+reverted_refused words (Some files) (Ok asked) r report before now given limits decided is same five seven = λ mode.
+    let status : report.status ≡ status_of r = ap (λ (t : Report). t.status) is in
+    let free : is_free (status_of r) ≡ false = subst (λ (s : ℕ). is_free s ≡ false) status (not_free report.status five seven) in
+    gives_earlier words files asked (Err r) report before now given mode (limits (ap reads_schema mode) free) (decided free) (is, same)
+
+-- a request that is carried out
+pub reverted_done : (words : List (List ℕ)) (told : Option (List File)) (q : Result Request UsageFault) (made due : List File) (report : Report) (before now : Option Held) → request words ≡ q →
+    IfOk q (λ asked. reads_schema asked.mode ≡ true → is_free 0 ≡ false → IfSome told (λ files. IfOk (plan_in files asked.schema) IsInLimits)) →
+    IfSome told (λ files. IsVerdict words files (Ok due)) → made ≡ due → report ≡ record { status = done_status; message = [] } →
+    now ≡ option_map (finish_files made) before → IfOk q (λ asked. asked.mode ≡ Revert → IfSome told (λ files. GivesEarlier asked files report before now))
+reverted_done words told (Err fault) made due report before now given limits decided alike is same = tt
+reverted_done words None (Ok asked) made due report before now given limits decided alike is same = λ mode. tt
+reverted_done words (Some files) (Ok asked) made due report before now given limits decided alike is same = λ mode.
+    gives_earlier words files asked (Ok due) report before now given mode (limits (ap reads_schema mode) refl) decided
+    (is, same ∙ ap (λ (l : List File). option_map (finish_files l) before) alike)
+
+pub reverted_carried : (words : List (List ℕ)) (told : Option (List File)) (q : Result Request UsageFault) (t : Task) (report : Report) (before now : Option Held) → request words ≡ q →
+    IfOk q (λ asked. reads_schema asked.mode ≡ true → is_free 0 ≡ false → IfSome told (λ files. IfOk (plan_in files asked.schema) IsInLimits)) →
+    IfSome told (λ files. IsVerdict words files (Ok (task_due t))) → IfOk q (λ asked. IsTaskOf asked told t) → (is_playing t ≡ false → report.status ≢ 12) →
+    (report.status ≢ 6 → report.status ≢ 7 → report.status ≢ 12 → Carries (Ok (task_due t)) report before now) → report.status ≢ 6 → report.status ≢ 7 →
+    IfOk q (λ asked. asked.mode ≡ Revert → IfSome told (λ files. GivesEarlier asked files report before now))
+reverted_carried words told (Err fault) t report before now given limits decided of unfailed carries six seven = tt
+reverted_carried words told (Ok asked) t report before now given limits decided of unfailed carries six seven = λ mode.
+    let made = carries six seven (unfailed (plays_no_other asked told t of (λ plays. apart (sym mode ∙ plays)))) in
+    reverted_done words told (Ok asked) (task_due t) (task_due t) report before now given limits decided refl made.0 made.1 mode

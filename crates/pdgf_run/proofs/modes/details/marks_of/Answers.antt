@@ -1,0 +1,8 @@
+use Rattle.pdgf_run.proofs.DetailFilesLemmas.{files-each, one-file}
+use Rattle.pdgf_run.proofs.modes.details.marks_of.Goals as goal
+
+pub returns-in-Ok-clause-files : goal.returns-in-Ok-clause-files
+returns-in-Ok-clause-files c = one-file _ c.args.job.now.names c.args.packers.now.parts.items _ c.in-None.is c.requires.texts c.in-Ok.ensures.files
+
+pub returns-in-Ok-marks-clause-files : goal.returns-in-Ok-marks-clause-files
+returns-in-Ok-marks-clause-files c = files-each _ c.args.job.now.names c.in-Some.names c.args.packers.now.parts.items _ c.in-Some.is c.requires.texts c.in-Ok-marks.ensures.files

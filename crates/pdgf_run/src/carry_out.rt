@@ -1,0 +1,107 @@
+//! A task, carried out.
+
+ghost use Rattle.std.specs.Prelude.{◌≡◌, ◌≢◌, ◌≤◌, ◌⊎◌, false, true, IfSome, IsTrue, Ok};
+ghost use Rattle.pd_outside.specs.Faults.{Rose, counted};
+ghost use Rattle.pd_outside.specs.Shelf.{HoldsPrefixOf};
+ghost use Rattle.refusals.specs.Messages.{fixed_text};
+ghost use Rattle.refusals.specs.Statuses.{is_status};
+ghost use Rattle.pdgf_run.specs.Jobs.{CanFill, due_of, is_text};
+ghost use Rattle.pdgf_run.specs.Playing.{CanDo, HasBrokenOff, HasPlayed, is_playing, task_due};
+ghost use Rattle.pdgf_run.specs.TopCall.{Carries};
+
+use crate::fill::fill;
+use crate::job::{Job, Task};
+use crate::play::{PlayFault, played};
+use crate::report::{done, keeper_failed, refused, write_failed};
+use crate::{JobFault, Refusal, Report};
+use keeper_play::Keeper;
+use pd_outside::{Gate, Shelf};
+use range_workers::RunFault;
+use std::alloc::Global;
+use std::thread::Threads;
+
+/// Carries a task out: plays its units, where it has any, and writes its files. The status is 0 (all is done), 6 (a write failed), 7
+/// (memory ran out) or 12 (the store failed).
+pub(crate) fn carry_out<R: Threads + Sync, S: Shelf, G: Gate + Sync, K: Keeper>(
+    rt: &R,
+    alloc: Global,
+    task: Task,
+    shelf: &mut S,
+    gate: &G,
+    keeper: &mut K,
+) -> Report
+    requires can { CanDo task }
+    requires none_begun { S.is_begun shelf.old ≡ false }
+    requires closed { (K.store keeper.old).is_open ≡ false }
+
+    // What is due is finished.
+    ensures carries { result.status ≢ 6 → result.status ≢ 7 → result.status ≢ 12 → Carries (Ok (task_due task)) result (S.held shelf.old) (S.held shelf.new) }
+    ensures known { IsTrue (is_status result.status) }
+    ensures message { IfSome (fixed_text result.status) (λ text. result.message ≡ text) }
+
+    // It is no refusal of the request.
+    ensures usable { result.status ≢ 2 }
+    ensures parsed { result.status ≢ 3 }
+    ensures read { result.status ≢ 5 }
+    ensures short { result.status ≢ 10 }
+
+    // At 6 one write failed, the last, and a prefix of the due files stands. At 7 and 12 the shelf is as it was.
+    ensures prefix { result.status ≡ 6 → HoldsPrefixOf (task_due task) (S.held shelf.old) (S.held shelf.new) }
+    ensures write_failed { result.status ≡ 6 → Rose (S.faults shelf.old) (S.faults shelf.new) }
+    ensures write_failed_once { result.status ≡ 6 → S.faults shelf.new ≡ counted (S.faults shelf.old) }
+    ensures write_failed_last { result.status ≡ 6 → IsTrue (S.last_failed shelf.new) }
+    ensures shelf_faults { result.status ≢ 6 → S.faults shelf.new ≡ S.faults shelf.old }
+    ensures held { result.status ≢ 0 → result.status ≢ 6 → S.held shelf.new ≡ S.held shelf.old }
+    ensures none_begun { result.status ≢ 6 → S.is_begun shelf.new ≡ false }
+    ensures shelf_never_falls { S.faults shelf.old ≤ S.faults shelf.new }
+
+    // A task that plays no units leaves the keeper as it was.
+    ensures unplayed { is_playing task ≡ false → keeper.new ≡ keeper.old }
+    ensures unfailed { is_playing task ≡ false → result.status ≢ 12 }
+
+    // Its units are played before its files are written, or the keeper stays open after some statements, or as it was.
+    ensures played { (result.status ≡ 0) ⊎ (result.status ≡ 6) → HasPlayed task (K.store keeper.old) (K.store keeper.new) }
+    ensures broken_off { (K.store keeper.new).is_open ≡ true → HasBrokenOff task (K.store keeper.old) (K.store keeper.new) }
+    ensures left_open { (K.store keeper.new).is_open ≡ true → (result.status ≡ 7) ⊎ (result.status ≡ 12) }
+    ensures not_opened { (result.status ≡ 7) ⊎ (result.status ≡ 12) → (K.store keeper.new).is_open ≡ false → K.store keeper.new ≡ K.store keeper.old }
+    ensures keeper_failed { result.status ≡ 12 → Rose (K.faults keeper.old) (K.faults keeper.new) }
+    ensures keeper_failed_once { result.status ≡ 12 → K.faults keeper.new ≡ counted (K.faults keeper.old) }
+    ensures keeper_failed_last { result.status ≡ 12 → IsTrue (K.last_failed keeper.new) }
+    ensures keeper_faults { result.status ≢ 12 → K.faults keeper.new ≡ K.faults keeper.old }
+{
+    match played(alloc, task, keeper) {
+        Ok(job) => written(rt, alloc, job, shelf, gate),
+        Err(PlayFault::Keeper) => keeper_failed(),
+        Err(PlayFault::Memory) => refused(Refusal::Job(JobFault::Memory)),
+    }
+}
+
+/// Writes the files of a job. The status is 0 (all is done), 6 (a write failed) or 7 (memory ran out).
+fn written<R: Threads + Sync, S: Shelf, G: Gate + Sync>(
+    rt: &R,
+    alloc: Global,
+    job: Job,
+    shelf: &mut S,
+    gate: &G,
+) -> Report
+    requires can { CanFill job }
+    requires none_begun { S.is_begun shelf.old ≡ false }
+    ensures carries { result.status ≢ 6 → result.status ≢ 7 → Carries (Ok (due_of job)) result (S.held shelf.old) (S.held shelf.new) }
+    ensures known { (result.status ≡ 0) ⊎ ((result.status ≡ 6) ⊎ (result.status ≡ 7)) }
+    ensures message { IfSome (fixed_text result.status) (λ text. result.message ≡ text) }
+    ensures text { is_text job ≡ true → result.status ≢ 7 }
+    ensures prefix { result.status ≡ 6 → HoldsPrefixOf (due_of job) (S.held shelf.old) (S.held shelf.new) }
+    ensures failed { result.status ≡ 6 → Rose (S.faults shelf.old) (S.faults shelf.new) }
+    ensures failed_once { result.status ≡ 6 → S.faults shelf.new ≡ counted (S.faults shelf.old) }
+    ensures failed_last { result.status ≡ 6 → IsTrue (S.last_failed shelf.new) }
+    ensures faults { result.status ≢ 6 → S.faults shelf.new ≡ S.faults shelf.old }
+    ensures held { result.status ≢ 0 → result.status ≢ 6 → S.held shelf.new ≡ S.held shelf.old }
+    ensures none_begun { result.status ≢ 6 → S.is_begun shelf.new ≡ false }
+    ensures never_falls { S.faults shelf.old ≤ S.faults shelf.new }
+{
+    match fill(rt, alloc, &job, shelf, gate) {
+        Ok(()) => done(),
+        Err(RunFault::Write) => write_failed(),
+        Err(RunFault::Memory) => refused(Refusal::Job(JobFault::Memory)),
+    }
+}

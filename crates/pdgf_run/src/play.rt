@@ -1,0 +1,153 @@
+//! Units, played into a store.
+
+ghost use Rattle.std.specs.Prelude.{◌≡◌, ◌<◌, ◌≤◌, [], false, true, IfOk, IsErrOf, IsTrue, OnErr, OnOk};
+ghost use Rattle.pd_outside.specs.Faults.{FailsAtLast};
+ghost use Rattle.keeper_play.specs.Statements.{statements_to, unit_statements};
+ghost use Rattle.keeper_play.specs.Store.{perform_all};
+ghost use Rattle.life_intervals.specs.Generator.{generator_of, last_unit};
+ghost use Rattle.schema_plan.specs.Layout.{layout_of};
+ghost use Rattle.schema_plan.specs.TableFacts.{reach};
+ghost use Rattle.pdgf_run.specs.Jobs.{CanFill, due_of, is_text};
+ghost use Rattle.pdgf_run.specs.Playing.{AreMade, CanDo, CanPlay, DoesPlay, DoesTask, is_playing, task_due};
+ghost use Rattle.pdgf_run.specs.declared.play.PlayFault.TheVariants as fault;
+
+use crate::job::{Job, PlayJob, Task};
+use crate::unit_sources::{Births, Changed};
+use keeper_play::{KeepFailed, Keeper, play_unit};
+use line_pages::PageBuf;
+use schema_plan::Plan;
+use std::alloc::Global;
+use std::marker::Brand;
+use std::sync::ledger::{Blank, Ledger};
+use step_count::Steps;
+use update_box::unit_rows;
+
+/// Why units weren't played whole.
+#[derive(Clone, Copy, Debug, PartialEq, Eq)]
+pub(crate) enum PlayFault {
+    /// A call of the keeper failed.
+    Keeper,
+    /// Memory ran out.
+    Memory,
+}
+
+impl From<KeepFailed> for PlayFault {
+    ghost from_gives = { λ _ e. e ≡ fault.Keeper };
+
+    fn from(_error: KeepFailed) -> PlayFault {
+        PlayFault::Keeper
+    }
+}
+
+impl From<update_box::Memory> for PlayFault {
+    ghost from_gives = { λ _ e. e ≡ fault.Memory };
+
+    fn from(_error: update_box::Memory) -> PlayFault {
+        PlayFault::Memory
+    }
+}
+
+impl From<line_pages::Memory> for PlayFault {
+    ghost from_gives = { λ _ e. e ≡ fault.Memory };
+
+    fn from(_error: line_pages::Memory) -> PlayFault {
+        PlayFault::Memory
+    }
+}
+
+/// Plays units into the store of a name, and finishes it. The memory of a unit is taken before its first statement, and none behind the
+/// last.
+pub(crate) fn play<K: Keeper>(alloc: Global, job: &PlayJob, keeper: &mut K) -> Result<(), PlayFault>
+    requires can { CanPlay job.now }
+    requires closed { (K.store keeper.old).is_open ≡ false }
+    ensures plays { DoesPlay job.now result (K.store keeper.old) (K.store keeper.new) }
+    ensures no_fault { OnOk result (K.faults keeper.new ≡ K.faults keeper.old) }
+    ensures memory { IsErrOf result fault.Memory → K.faults keeper.new ≡ K.faults keeper.old }
+    ensures failed { IsErrOf result fault.Keeper → FailsAtLast result (K.faults keeper.old) (K.faults keeper.new) (K.last_failed keeper.new) }
+{
+    let plan = &job.plan;
+    let _limits = plan.schema(); // a line has at most 65,536 bytes
+    let mut page = PageBuf::with_room(alloc, plan.reach() as usize)?;
+    keeper.start(job.store.as_str())?;
+    play_units::<K, Brand>(alloc, plan, job.to, keeper, &mut page, Blank::new(1))?;
+    keeper.finish()?;
+    Ok(())
+}
+
+/// Plays the units up to one.
+fn play_units<K: Keeper, B: Ledger>(
+    alloc: Global,
+    plan: &Plan,
+    to: u64,
+    keeper: &mut K,
+    page: &mut PageBuf,
+    blank: Blank,
+) -> Result<(), PlayFault>
+    requires name { blank.name ≡ B.name }
+    requires parts { blank.parts ≡ B.parts }
+    requires some { 0 < blank.parts }
+    requires unit { to ≤ last_unit plan.now }
+    requires is_open { IsTrue (K.store keeper.old).is_open }
+    requires empty { page.old.text ≡ [] }
+    requires room { reach (layout_of plan.now) ≤ page.old.room }
+    ensures made { OnOk result (K.store keeper.new ≡ perform_all (statements_to (generator_of plan.now) to) (K.store keeper.old)) }
+    ensures some { OnErr result (AreMade (statements_to (generator_of plan.now) to) (K.store keeper.old) (K.store keeper.new)) }
+    ensures no_fault { OnOk result (K.faults keeper.new ≡ K.faults keeper.old) }
+    ensures memory { IsErrOf result fault.Memory → K.faults keeper.new ≡ K.faults keeper.old }
+    ensures failed { IsErrOf result fault.Keeper → FailsAtLast result (K.faults keeper.old) (K.faults keeper.new) (K.last_failed keeper.new) }
+{
+    let mut steps = Steps::<B>::new(blank);
+    play_unit(plan, 0, &Births { plan }, keeper, page, &mut steps)?;
+    for before in 0..to {
+        play_changes(alloc, plan, before + 1, keeper, page, &mut steps)?;
+    }
+    Ok(())
+}
+
+/// Plays a later unit. Its memory is taken before its first statement.
+fn play_changes<K: Keeper, L: Ledger>(
+    alloc: Global,
+    plan: &Plan,
+    unit: u64,
+    keeper: &mut K,
+    page: &mut PageBuf,
+    steps: &mut Steps<L>,
+) -> Result<(), PlayFault>
+    requires later { 1 ≤ unit }
+    requires unit { unit ≤ last_unit plan.now }
+    requires is_open { IsTrue (K.store keeper.old).is_open }
+    requires empty { page.old.text ≡ [] }
+    requires room { reach (layout_of plan.now) ≤ page.old.room }
+    ensures made { OnOk result (K.store keeper.new ≡ perform_all (unit_statements (generator_of plan.now) unit) (K.store keeper.old)) }
+    ensures some { OnErr result (AreMade (unit_statements (generator_of plan.now) unit) (K.store keeper.old) (K.store keeper.new)) }
+    ensures no_fault { OnOk result (K.faults keeper.new ≡ K.faults keeper.old) }
+    ensures memory { IsErrOf result fault.Memory → K.faults keeper.new ≡ K.faults keeper.old }
+    ensures failed { IsErrOf result fault.Keeper → FailsAtLast result (K.faults keeper.old) (K.faults keeper.new) (K.last_failed keeper.new) }
+    ensures page { page.new ≡ page.old }
+{
+    let rows = unit_rows(alloc, plan, unit, steps)?;
+    play_unit(plan, unit, &Changed { rows: &rows }, keeper, page, steps)?;
+    Ok(())
+}
+
+/// The job that is left of a task: what is to be written, once the units are played.
+pub(crate) fn played<K: Keeper>(alloc: Global, task: Task, keeper: &mut K) -> Result<Job, PlayFault>
+    requires can { CanDo task }
+    requires closed { (K.store keeper.old).is_open ≡ false }
+    ensures due { IfOk result (λ job. due_of job ≡ task_due task) }
+    ensures can { IfOk result CanFill }
+    ensures text { is_playing task ≡ true → IfOk result (λ job. is_text job ≡ true) }
+    ensures does { DoesTask task result (K.store keeper.old) (K.store keeper.new) }
+    ensures kept { is_playing task ≡ false → keeper.new ≡ keeper.old }
+    ensures no_fault { OnOk result (K.faults keeper.new ≡ K.faults keeper.old) }
+    ensures memory { IsErrOf result fault.Memory → K.faults keeper.new ≡ K.faults keeper.old }
+    ensures failed { IsErrOf result fault.Keeper → FailsAtLast result (K.faults keeper.old) (K.faults keeper.new) (K.last_failed keeper.new) }
+{
+    match task {
+        Task::Write(job) => Ok(job),
+        Task::Play(job) => {
+            play(alloc, &job, keeper)?;
+            Ok(Job::Text(job.summary))
+        }
+    }
+}
