@@ -1,4 +1,4 @@
--- The tables of shop.toml for PostgreSQL, as `examples/load/ddl examples/shop/shop.toml` makes them.
+-- The tables of shop.toml, card.toml and order_line.toml for PostgreSQL, as `examples/load/ddl shop.toml card.toml order_line.toml` makes them.
 CREATE TABLE "customer" (
     "id" bigint PRIMARY KEY,
     "family" text NOT NULL,
@@ -17,3 +17,23 @@ CREATE TABLE "orders" (
     FOREIGN KEY ("customer", "city") REFERENCES "customer" ("id", "city") ON DELETE CASCADE
 );
 CREATE INDEX ON "orders" ("customer");
+
+CREATE TABLE "card" (
+    "customer" bigint NOT NULL,
+    "number" bigint NOT NULL,
+    "kind" text NOT NULL,
+    "owed" bigint NOT NULL,
+    PRIMARY KEY ("customer", "number"),
+    FOREIGN KEY ("customer") REFERENCES "customer" ("id") ON DELETE CASCADE
+);
+
+CREATE TABLE "order_line" (
+    "orders" bigint NOT NULL,
+    "number" bigint NOT NULL,
+    "product" bigint NOT NULL,
+    "quantity" bigint NOT NULL,
+    "cents" bigint NOT NULL,
+    "state" text NOT NULL,
+    PRIMARY KEY ("orders", "number"),
+    FOREIGN KEY ("orders") REFERENCES "orders" ("id") ON DELETE CASCADE
+);

@@ -60,7 +60,7 @@ class Database:
 
     def delete(self, session, table, path, lines):
         if deleted := lines(path):
-            self.give(session, table, [table.key], path)
+            self.give(session, table, table.keys, path)
             session.execute(self.deletion(table))
             session.drop_given()
             self.held[table.name] -= deleted
@@ -68,7 +68,7 @@ class Database:
     def update(self, session, table, path, lines):
         if lines(path):
             self.give(session, table, self.columns(table), path)
-            if len(table.columns) > 1:
+            if table.values:
                 session.execute(self.changing(table))
             session.drop_given()
 
@@ -76,24 +76,22 @@ class Database:
         """Takes the lines of a file into the table `Given`, each of which has to have its row."""
         session.make_given(table, columns)
         session.copy(GIVEN, columns, path)
-        key, name = self.quoted(table.key), self.quoted(table.name)
-        absent = f"SELECT count(*) FROM {self.quoted(GIVEN)} g WHERE NOT EXISTS (SELECT 1 FROM {name} t WHERE t.{key} = g.{key})"
+        absent = f"SELECT count(*) FROM {self.quoted(GIVEN)} g WHERE NOT EXISTS (SELECT 1 FROM {self.quoted(table.name)} t WHERE {self.same(table)})"
         session.expect(0, absent, f"{os.path.basename(path)} has keys that {table.name} has not")
 
+    def same(self, table):
+        """That a row `t` of a table has the key of a row `g` of `Given`."""
+        return " AND ".join(f"t.{it} = g.{it}" for it in map(self.quoted, table.keys))
+
     def settings(self, table, prefix=""):
-        columns = [self.quoted(it) for it in self.columns(table)[1:]]
-        return ", ".join(f"{prefix}{it} = g.{it}" for it in columns)
+        return ", ".join(f"{prefix}{it} = g.{it}" for it in map(self.quoted, table.values))
 
     def deletion(self, table):
-        key = self.quoted(table.key)
-        return f"DELETE FROM {self.quoted(table.name)} WHERE {key} IN (SELECT {key} FROM {self.quoted(GIVEN)})"
+        keys = self.quoted(*table.keys)
+        return f"DELETE FROM {self.quoted(table.name)} WHERE ({keys}) IN (SELECT {keys} FROM {self.quoted(GIVEN)})"
 
     def changing(self, table):
-        key = self.quoted(table.key)
-        return (
-            f"UPDATE {self.quoted(table.name)} AS t SET {self.settings(table)} FROM {self.quoted(GIVEN)} g"
-            f" WHERE t.{key} = g.{key}"
-        )
+        return f"UPDATE {self.quoted(table.name)} AS t SET {self.settings(table)} FROM {self.quoted(GIVEN)} g WHERE {self.same(table)}"
 
     def difference(self, table, path, lines):
         """How a table differs from the text of a snapshot, as lines to be shown; none where it doesn't.
@@ -104,8 +102,8 @@ class Database:
         session = self.session()
         session.make_given(table, columns)
         session.copy(GIVEN, columns, path)
-        key, name = self.quoted(table.key), self.quoted(table.name)
-        equal = " AND ".join([f"t.{key} = g.{key}", *(f"NOT ({self.differ(it)})" for it in columns[1:])])
+        name = self.quoted(table.name)
+        equal = " AND ".join([self.same(table), *(f"NOT ({self.differ(it)})" for it in table.values)])
         wanted = lines(path)
         absent = f"SELECT count(*) FROM {self.quoted(GIVEN)} g WHERE NOT EXISTS (SELECT 1 FROM {name} t WHERE {equal})"
         answer = session.answer(f"SELECT (SELECT count(*) FROM {self.quoted(GIVEN)}), (SELECT count(*) FROM {name}), ({absent})")
@@ -123,23 +121,22 @@ class Database:
         session = self.session()
         session.make_given(table, columns)
         session.copy(GIVEN, columns, path)
-        key, name, given = self.quoted(table.key), self.quoted(table.name), self.quoted(GIVEN)
-        shown = f"{self.text('t', table.key)}"
+        name, given, same = self.quoted(table.name), self.quoted(GIVEN), self.same(table)
+        held, wanted = (", ".join(self.text(side, it) for it in table.keys) for side in "tg")
         queries = [
-            f"SELECT {shown}, '{it}', {self.text('t', it)}, {self.text('g', it)} FROM {name} t JOIN {given} g ON t.{key} = g.{key} WHERE {self.differ(it)}"
-            for it in columns[1:]
+            f"SELECT {held}, '{it}', {self.text('t', it)}, {self.text('g', it)} FROM {name} t JOIN {given} g ON {same} WHERE {self.differ(it)}"
+            for it in table.values
         ]
-        queries.append(f"SELECT {shown}, '', 'there', 'no such row' FROM {name} t WHERE NOT EXISTS (SELECT 1 FROM {given} g WHERE t.{key} = g.{key})")
-        queries.append(
-            f"SELECT {self.text('g', table.key)}, '', 'no such row', 'there' FROM {given} g WHERE NOT EXISTS (SELECT 1 FROM {name} t WHERE t.{key} = g.{key})"
-        )
+        queries.append(f"SELECT {held}, '', 'there', 'no such row' FROM {name} t WHERE NOT EXISTS (SELECT 1 FROM {given} g WHERE {same})")
+        queries.append(f"SELECT {wanted}, '', 'no such row', 'there' FROM {given} g WHERE NOT EXISTS (SELECT 1 FROM {name} t WHERE {same})")
         answer = session.answer(" UNION ALL ".join(queries) + " LIMIT 5")
         session.finish()
         return [self.example(table, *it) for it in answer()]
 
     @staticmethod
-    def example(table, key, column, held, wanted):
-        place = f"{table.key} {key}" + (f", {column}" if column else "")
+    def example(table, *fields):
+        *key, column, held, wanted = fields
+        place = ", ".join([*(f"{name} {it}" for name, it in zip(table.keys, key)), *([column] if column else [])])
         return f"{place}: {held} in the table, {wanted} in the snapshot"
 
 

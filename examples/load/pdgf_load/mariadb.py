@@ -82,7 +82,7 @@ class Session(Script):
     def make_given(self, table, columns):
         quoted = self.database.quoted
         kept = f"SELECT {quoted(*columns)} FROM {quoted(table.name)} LIMIT 0"
-        self.execute(f"CREATE TEMPORARY TABLE {quoted(GIVEN)} (PRIMARY KEY ({quoted(table.key)})) {self.database.dialect.options} {kept}")
+        self.execute(f"CREATE TEMPORARY TABLE {quoted(GIVEN)} (PRIMARY KEY ({quoted(*table.keys)})) {self.database.dialect.options} {kept}")
 
     def drop_given(self):
         self.execute(f"DROP TEMPORARY TABLE {self.given}")
@@ -142,13 +142,11 @@ class Mariadb(Database):
         self.run("".join(f"ANALYZE TABLE {self.quoted(it.name)};\n" for it in self.schema.tables))
 
     def deletion(self, table):
-        key = self.quoted(table.key)
-        return f"DELETE t FROM {self.quoted(table.name)} t JOIN {self.quoted(GIVEN)} g ON t.{key} = g.{key}"
+        return f"DELETE t FROM {self.quoted(table.name)} t JOIN {self.quoted(GIVEN)} g ON {self.same(table)}"
 
     def changing(self, table):
-        key = self.quoted(table.key)
         name, given = self.quoted(table.name), self.quoted(GIVEN)
-        return f"UPDATE {name} t JOIN {given} g ON t.{key} = g.{key} SET {self.settings(table, 't.')}"
+        return f"UPDATE {name} t JOIN {given} g ON {self.same(table)} SET {self.settings(table, 't.')}"
 
     def differ(self, column):
         name = self.quoted(column)

@@ -14,7 +14,8 @@ USAGE = """usage: examples/load/replicate [--units N] [--publish LIST] FOLDER|SC
 
 Starts two servers of PostgreSQL, makes a schema's tables in both and loads unit 0 into the first one. Then it publishes them there,
 subscribes to them in the second, plays what the units 1 to N (10, or the schema's last one) do in the first, and compares both
-with the snapshot of each unit. LIST is what is published, `insert, update, delete` where it isn't named.
+with the snapshot of each unit. The detail tables that files of FOLDER declare go with them. LIST is what is published, `insert, update,
+delete` where it isn't named.
 
 The status is 0 where all is equal, 1 where a table differs or a step fails, 2 for words that aren't known, and 3 where something
 that is needed isn't installed. The variable PDGF names another program than the repository's own.
@@ -78,10 +79,10 @@ def replicate(words):
     request = Request(words)
     if request.command or not last.isascii() or not last.isdigit():
         raise Words
-    path = request.schema_path()
-    program = Program(path)
+    path, details = request.schema_path(), request.detail_paths()
+    program = Program(path, details)
     program.check()
-    schema = read_schema(path)
+    schema = read_schema(path, details)
     with room() as first, room() as second, served(first, "wal_level = logical\n") as there, served(second) as here:
         source, target = Postgres(schema, first, there), Postgres(schema, second, here)
         sql = tables_of(request, source, schema, program.folder)

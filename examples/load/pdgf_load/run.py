@@ -7,20 +7,21 @@ import subprocess
 import sys
 
 from .database import Database
-from .schema import Unreadable, read_schema
+from .schema import Unreadable, declares_details, read_schema
 from .server import Failed, Missing, end_by_signals, room
 from .tables import tables_as_sql
 from .text import lines
 
-USAGE = """usage: examples/load/{name} [--from T] [--last] [--streams DIR] [--tables FILE] FOLDER|SCHEMA [COMMAND ..]
+USAGE = """usage: examples/load/{name} [--from T] [--last] [--details FILE].. [--streams DIR] [--tables FILE] FOLDER|SCHEMA [COMMAND ..]
 
 Loads the tables of a schema into {title} as they stand at unit 0, or at T, does to them what each later unit does, each
 as a transaction and with the foreign keys on, and compares them with the snapshot of each unit.
 
-FOLDER has the schema, which is its one file *.toml, and the word lists that it names; or SCHEMA is its path. The tables
-are made by FILE, else by FOLDER/{tables}, else they are those of examples/load/ddl. With --last they are
-compared after the last unit alone. With --streams the texts that are loaded lie in DIR, written before by the
-modes snapshot (unit 0, or T) and unit. COMMAND runs at the end, if all is equal, with the database in its environment.
+FOLDER has the schema, which is its one file *.toml that declares no detail table, and the word lists that it names; or SCHEMA is its
+path. Detail tables are those that the files of --details declare, else those of the other files *.toml of FOLDER. The tables
+are made by the file of --tables, else by FOLDER/{tables}, else they are those of examples/load/ddl. With --last they are
+compared after the last unit alone. With --streams the texts that are loaded lie in DIR, written before by the modes snapshot and
+details (unit 0, or T), unit and details-unit. COMMAND runs at the end, if all is equal, with the database in its environment.
 
 {server}
 
@@ -37,6 +38,7 @@ class Request:
     def __init__(self, words):
         self.first = 0
         self.last = False
+        self.details = []
         self.streams = None
         self.tables = None
         words = list(words)
@@ -46,6 +48,8 @@ class Request:
                     self.first = int(words.pop(0))
                 case "--last":
                     self.last = True
+                case "--details" if words and os.path.isfile(words[0]):
+                    self.details.append(os.path.abspath(words.pop(0)))
                 case "--streams" if words and os.path.isdir(words[0]):
                     self.streams = os.path.abspath(words.pop(0))
                 case "--tables" if words and os.path.isfile(words[0]):
@@ -56,19 +60,25 @@ class Request:
             raise Words
         self.path, *self.command = words
 
+    def in_folder(self):
+        return sorted(glob.glob(f"{glob.escape(os.path.abspath(self.path))}/*.toml"))
+
     def schema_path(self):
         if not os.path.isdir(self.path):
             return os.path.abspath(self.path)
-        found = glob.glob(f"{glob.escape(self.path)}/*.toml")
+        found = [it for it in self.in_folder() if not declares_details(it)]
         if len(found) != 1:
             raise Failed(f"{self.path} has no schema, or several")
-        return os.path.abspath(found[0])
+        return found[0]
+
+    def detail_paths(self):
+        return self.details or [it for it in self.in_folder() if declares_details(it)]
 
 
 class Program:
-    """The program pdgf, with a schema, in its folder."""
+    """The program pdgf, with a schema, in its folder, and the files that declare detail tables over it."""
 
-    def __init__(self, path):
+    def __init__(self, path, details=()):
         self.top = os.path.dirname(os.path.dirname(os.path.dirname(os.path.dirname(os.path.realpath(__file__)))))
         named = os.environ.get("PDGF") or f"{self.top}/pdgf"
         found = shutil.which(named)
@@ -76,6 +86,7 @@ class Program:
             raise Failed(f"there is no program {named}")
         self.program = os.path.abspath(found)
         self.folder, self.name = os.path.split(path)
+        self.details = details
 
     def call(self, mode, *options):
         ran = subprocess.run([self.program, mode, self.name, *options], cwd=self.folder, stdin=subprocess.DEVNULL, stdout=subprocess.DEVNULL)
@@ -90,10 +101,12 @@ class Program:
             self.program = built
 
     def texts(self, mode, unit, folder):
-        """The folder, emptied, with what the mode writes at a unit."""
+        """The folder, emptied, with what the mode, `snapshot` or `unit`, writes at a unit, and of the detail tables the mode that does the same."""
         shutil.rmtree(folder, ignore_errors=True)
         os.mkdir(folder)
         self.call(mode, "--unit", str(unit), "--out", folder)
+        for path in self.details:
+            self.call({"snapshot": "details", "unit": "details-unit"}[mode], "--spec", path, "--unit", str(unit), "--out", folder)
         return folder
 
 
@@ -155,10 +168,10 @@ def replay(request, program, database, folder):
 
 def load(words, kind):
     request = Request(words)
-    path = request.schema_path()
-    program = Program(path)
+    path, details = request.schema_path(), request.detail_paths()
+    program = Program(path, details)
     program.check()
-    schema = read_schema(path)
+    schema = read_schema(path, details)
     with room() as folder, kind.opened(schema, folder, path) as database:
         try:
             database.make_tables(tables_of(request, database, schema, program.folder))

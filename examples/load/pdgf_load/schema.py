@@ -39,10 +39,20 @@ class Table:
     name: str
     columns: tuple
     references: tuple
+    is_detail: bool = False
 
     @property
     def key(self):
         return self.columns[0].name
+
+    @property
+    def keys(self):
+        """The columns by which a row is known: of a detail table the key of the parent's row and the number of the line."""
+        return [it.name for it in self.columns[: 2 if self.is_detail else 1]]
+
+    @property
+    def values(self):
+        return [it.name for it in self.columns[len(self.keys) :]]
 
     def column(self, name):
         return next(it for it in self.columns if it.name == name)
@@ -52,30 +62,61 @@ class Table:
 class Schema:
     units: int
     delimiter: str
-    tables: tuple
+    tables: tuple  # the detail tables behind the others
     word_lists: tuple  # the names of their files
 
     def table(self, name):
         return next(it for it in self.tables if it.name == name)
 
 
-def read_schema(path):
-    """The schema of a file."""
+WRONG = (KeyError, TypeError, ValueError, IndexError, AttributeError, StopIteration)
+
+
+def read_toml(path):
     try:
         with open(path, "rb") as file:
-            text = tomllib.load(file)
+            return tomllib.load(file)
     except (tomllib.TOMLDecodeError, UnicodeDecodeError) as error:
         raise Unreadable(f"{path} is no TOML 1.0, which this is read as: {error}") from None
     except OSError as error:
         raise Unreadable(f"{path} can't be read: {error.strerror}") from None
+
+
+def declares_details(path):
+    """Whether a file declares a detail table. What can't be read is taken for a schema."""
+    try:
+        return "parent" in read_toml(path)
+    except Unreadable:
+        return False
+
+
+def read_schema(path, details=()):
+    """The schema of a file, with the detail tables that others declare."""
+    text = read_toml(path)
     try:
         tables = []
         for table in text["table"]:
             tables.append(read_table(table, tables))
         delimiter = {"tab": "\t", "bar": "|"}[text.get("delimiter", "tab")]
-        return Schema(text["units"], delimiter, tuple(tables), word_lists_of(text))
-    except (KeyError, TypeError, ValueError, IndexError, AttributeError, StopIteration) as error:
+        schema = Schema(text["units"], delimiter, tuple(tables), word_lists_of(text))
+    except WRONG as error:
         raise Unreadable(f"{path} is no schema, as `pdgf check` will tell: {error!r}") from None
+    return dataclasses.replace(schema, tables=(*tables, *(read_details(it, schema) for it in details)))
+
+
+def read_details(path, schema):
+    """The detail table of a file. Its key has no names there: the first column gets the parent's, the second `number`."""
+    text = read_toml(path)
+    try:
+        parent = schema.table(text["parent"])
+        columns = [Column(it["name"], type_of(it), False) for it in text["column"]]
+        for name in ("number", parent.name):
+            while name in [it.name for it in columns]:
+                name += "_"
+            columns.insert(0, Column(name, whole_of(0, 2**63), False))
+        return Table(text["name"], tuple(columns), (Reference(columns[0].name, parent.name, "CASCADE", ()),), is_detail=True)
+    except WRONG as error:
+        raise Unreadable(f"{path} declares no detail table, as `pdgf details` will tell: {error!r}") from None
 
 
 def word_lists_of(text):

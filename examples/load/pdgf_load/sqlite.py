@@ -50,7 +50,7 @@ class Session:
     def make_given(self, table, columns):
         quoted = self.database.quoted
         self.execute(f"CREATE TEMP TABLE {quoted(GIVEN)} AS SELECT {quoted(*columns)} FROM {quoted(table.name)} WHERE 0")
-        self.execute(f"CREATE UNIQUE INDEX temp.\"Given key\" ON {quoted(GIVEN)} ({quoted(table.key)})")
+        self.execute(f"CREATE UNIQUE INDEX temp.\"Given key\" ON {quoted(GIVEN)} ({quoted(*table.keys)})")
 
     def drop_given(self):
         self.execute(f"DROP TABLE temp.{self.database.quoted(GIVEN)}")

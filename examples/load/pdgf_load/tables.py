@@ -78,6 +78,8 @@ def tables_as_sql(schema, dialect):
 def table_as_sql(schema, table, dialect):
     quoted = dialect.quoted
     parts = [column_as_sql(table, column, dialect) for column in table.columns]
+    if table.is_detail:
+        parts.append(f"PRIMARY KEY ({list_of(table.keys, dialect)})")
     for columns in shown_together(schema, table, dialect):
         parts.append(f"UNIQUE ({list_of([table.key, *columns], dialect)})")
     for reference in table.references:
@@ -88,7 +90,8 @@ def table_as_sql(schema, table, dialect):
             parts.append(f"FOREIGN KEY ({own}) REFERENCES {quoted(parent.name)} ({other}) ON DELETE {reference.on_delete}")
     lines = ",\n".join(f"    {it}" for it in parts)
     text = f"CREATE TABLE {quoted(table.name)} (\n{lines}\n){dialect.options};\n"
-    if not dialect.indexes_references:
+    # The primary key of a detail table begins with its reference, and so is the index of it.
+    if not dialect.indexes_references and not table.is_detail:
         for reference in table.references:
             text += dialect.index(table.name, reference.column) + "\n"
     return text
@@ -96,7 +99,7 @@ def table_as_sql(schema, table, dialect):
 
 def column_as_sql(table, column, dialect):
     name = dialect.quoted(column.name)
-    if column.name == table.key:
+    if [column.name] == table.keys:
         return f"{name} {dialect.key_type} PRIMARY KEY"
     return f"{name} {dialect.type(column.type)}{'' if column.may_be_null else ' NOT NULL'}"
 
