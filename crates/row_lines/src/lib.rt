@@ -20,6 +20,7 @@ mod run_lines;
 mod run_lookups;
 mod run_parents;
 mod runs;
+mod spare;
 mod table_lines;
 
 pub use cohort_lines::CohortLines;
@@ -29,4 +30,5 @@ pub use rows::{live, put_key, put_line};
 pub use run_buf::RunBuf;
 pub use run_keys::{KEY_LINE, put_keys};
 pub use runs::RunLines;
+pub use spare::SpareBufs;
 pub use table_lines::TableLines;

@@ -16,7 +16,6 @@ mod memory;
 mod part;
 mod reverter;
 mod row_places;
-mod spare;
 pub mod text_laws;
 mod undo_lines;
 mod undo_packer;

@@ -15,11 +15,10 @@ ghost use Rattle.undo_streams.specs.UndoText.{undo_lines_of};
 
 use crate::Memory;
 use crate::changes::Changes;
-use crate::spare::SpareBufs;
 use life_intervals::Rows;
 use line_pages::{PageBuf, Piece};
 use range_workers::Packer;
-use row_lines::{RunBuf, RunLines};
+use row_lines::{RunBuf, RunLines, SpareBufs};
 use schema_plan::Plan;
 use std::alloc::Global;
 use std::marker::{Brand, Model};

@@ -19,7 +19,6 @@ mod parts;
 mod prepared;
 mod shares;
 mod snapshot_packer;
-mod spare;
 mod table_rows;
 mod units;
 mod updates;

@@ -1,7 +1,7 @@
 //! What the loops of runs work on, kept from package to package.
 
-use crate::Memory;
-use row_lines::RunBuf;
+use crate::RunBuf;
+use line_pages::Memory;
 use std::alloc::Global;
 use std::sync::{Mutex, MutexGuard};
 
@@ -10,13 +10,13 @@ const KEPT: u64 = 8;
 
 /// What the loops of runs work on, each for one package at a time. To make it anew costs as much as some hundred short rows.
 #[derive(Drop)]
-pub(crate) struct SpareBufs {
+pub struct SpareBufs {
     kept: Vec<Mutex<RunBuf>>,
 }
 
 impl SpareBufs {
     /// Some of them. At `Memory` there are none.
-    pub(crate) fn new(alloc: Global) -> Result<SpareBufs, Memory> {
+    pub fn new(alloc: Global) -> Result<SpareBufs, Memory> {
         let mut kept = Vec::new(alloc);
         for _ in 0..KEPT {
             kept.push(Mutex::new(RunBuf::new()))?;
@@ -25,7 +25,7 @@ impl SpareBufs {
     }
 
     /// The one for the package of this number, where no other package has it.
-    pub(crate) fn of(&self, n: u64) -> Option<MutexGuard<'_, RunBuf>> {
+    pub fn of(&self, n: u64) -> Option<MutexGuard<'_, RunBuf>> {
         self.kept.get((n % KEPT) as usize)?.try_lock()
     }
 }
