@@ -20,7 +20,7 @@ use Rattle.life_intervals.specs.Keys.{key_of}
 use Rattle.life_intervals.specs.Rows.{Row}
 use Rattle.life_intervals.proofs.AcceptedLemmas.{row_at-parents}
 use Rattle.life_intervals.proofs.CohortParentLemmas.{ready_is, references_before-all}
-use Rattle.life_intervals.proofs.FoundLemmas.{found-birth, found-held}
+use Rattle.life_intervals.proofs.FoundLemmas.{found-birth, found-by, found-held}
 use Rattle.life_intervals.proofs.ReferenceLemmas.{references_before, references_before-none, references_before-some}
 use Rattle.row_lines.proofs.LineLemmas.{key_of-by}
 use Rattle.keeper_play.specs.Statements.{reference_to, refs_of, row_key}
@@ -97,3 +97,9 @@ row_key-at generator last place unit ordinal within born =
     let births : Births = (table_at generator.tables place).births in
     let found = LiesIn-birth births unit ordinal born in
     sym (key_of-by generator last (birth births unit ordinal) place ordinal (omega (arith, found.0, within)) (born-at_birth births unit ordinal born))
+
+-- so a row that is found has the key of its ordinal
+pub row_key-found : (plan : Project) (table t : ℕ) (row : FoundRow) → IsFound plan table row → row.born ≤ t → t ≤ last_unit plan →
+    key_of (generator_of plan) table (last_unit plan) row.ordinal ≡ row_key (generator_of plan) table (row_at (generator_of plan) table t row.ordinal)
+row_key-found plan table t row found later within =
+    sym (row_key-at (generator_of plan) (last_unit plan) table t row.ordinal within (found-by plan table row found t later))

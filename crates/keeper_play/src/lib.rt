@@ -18,5 +18,5 @@ mod source;
 pub use keeper::{KeepFailed, Keeper, RefTo};
 pub use map_keeper::{KeeperFails, MapKeeper};
 pub use memory::Memory;
-pub use play::play_unit;
+pub use play::{play_rows, play_unit};
 pub use source::UnitSource;

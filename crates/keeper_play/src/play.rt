@@ -7,6 +7,7 @@ ghost use Rattle.pd_outside.specs.Faults.{FailsAtLast, Rose};
 ghost use Rattle.schema_plan.specs.Layout.{layout_of};
 ghost use Rattle.schema_plan.specs.TableFacts.{reach};
 ghost use Rattle.life_intervals.specs.CohortKeys.{IsCohort};
+ghost use Rattle.life_intervals.specs.Found.{IsFound};
 ghost use Rattle.life_intervals.specs.Generator.{generator_of, last_unit, rows_in_all, table_of};
 ghost use Rattle.life_intervals.specs.Intervals.{is_live};
 ghost use Rattle.keeper_play.specs.Played.{TellsUnit, drop_at, put_at};
@@ -16,9 +17,9 @@ ghost use Rattle.keeper_play.specs.Store.{StoppedIn, perform_all};
 
 use crate::refs::{NO_REFS, find_refs};
 use crate::{KeepFailed, Keeper, RefTo, UnitSource};
-use life_intervals::{Cohort, Rows, find};
+use life_intervals::{Cohort, FoundRow, Rows, find};
 use line_pages::PageBuf;
-use row_lines::put_line;
+use row_lines::CohortLines;
 use schema_plan::Plan;
 use std::sync::ledger::Ledger;
 use step_count::Steps;
@@ -47,11 +48,33 @@ pub fn play_unit<K: Keeper, U: UnitSource, L: Ledger>(
     ensures cause { OnErr result (Rose (K.faults keeper.old) (K.faults keeper.new)) }
     ensures page { buf.new ≡ buf.old }
 {
-    let _limits = plan.schema(); // so the rows of unit 0 are its insertions
-    let rows = Rows::of(plan);
-    put_updates(&rows, unit, source, keeper, buf, steps)?;
-    drop_deletions(&rows, unit, source, keeper, steps)?;
-    put_insertions(&rows, unit, source, keeper, buf, steps)
+    play_rows(&Rows::of(plan), unit, source, keeper, buf, steps)
+}
+
+/// The same for rows of a plan, by the orders that are kept for it.
+pub fn play_rows<K: Keeper, U: UnitSource, L: Ledger>(
+    rows: &Rows<'_>,
+    unit: u64,
+    source: &U,
+    keeper: &mut K,
+    buf: &mut PageBuf,
+    steps: &mut Steps<L>,
+) -> Result<(), KeepFailed>
+    requires unit { unit ≤ last_unit rows.now }
+    requires source { TellsUnit rows.now unit (U.tables source.now) (U.changes source.now) }
+    requires is_open { IsTrue (K.store keeper.old).is_open }
+    requires empty { buf.old.text ≡ [] }
+    requires room { reach (layout_of rows.now) ≤ buf.old.room }
+    ensures made { OnOk result (K.store keeper.new ≡ perform_all (unit_statements (generator_of rows.now) unit) (K.store keeper.old)) }
+    ensures stopped { OnErr result (StoppedIn (unit_statements (generator_of rows.now) unit) (K.store keeper.old) (K.store keeper.new)) }
+    ensures at_last { FailsAtLast result (K.faults keeper.old) (K.faults keeper.new) (K.last_failed keeper.new) }
+    ensures cause { OnErr result (Rose (K.faults keeper.old) (K.faults keeper.new)) }
+    ensures page { buf.new ≡ buf.old }
+{
+    let _limits = rows.plan().schema(); // so the rows of unit 0 are its insertions
+    put_updates(rows, unit, source, keeper, buf, steps)?;
+    drop_deletions(rows, unit, source, keeper, steps)?;
+    put_insertions(rows, unit, source, keeper, buf, steps)
 }
 
 /// Puts the rows that a unit updates, table by table.
@@ -154,7 +177,9 @@ fn put_listed<K: Keeper, L: Ledger>(
 {
     let mut refs = NO_REFS;
     for j in ordinals {
-        put_row(rows, unit, table, *j, keeper, &mut refs, buf, steps)?;
+        let row = find(rows.plan(), table, *j);
+        let lines = CohortLines::new(&*rows, table, row.born, unit);
+        put_row(rows, &lines, table, row, unit, keeper, &mut refs, buf, steps)?;
     }
     Ok(())
 }
@@ -182,17 +207,14 @@ fn put_cohort<K: Keeper, L: Ledger>(
 {
     let _limits = rows.plan().schema(); // so its rows are alive
     let mut refs = NO_REFS;
+    let lines = CohortLines::new(rows, table, unit, unit);
     for index in 0..cohort.size {
-        put_row(
-            rows,
-            unit,
-            table,
-            cohort.first + index,
-            keeper,
-            &mut refs,
-            buf,
-            steps,
-        )?;
+        let row = FoundRow {
+            ordinal: cohort.first + index,
+            born: unit,
+            index,
+        };
+        put_row(rows, &lines, table, row, unit, keeper, &mut refs, buf, steps)?;
     }
     Ok(())
 }
@@ -219,35 +241,39 @@ fn drop_listed<K: Keeper, L: Ledger>(
     Ok(())
 }
 
-/// Puts the row of ordinal `j` as it is at a unit, by which it is born and at which it is alive. `refs` has room for its references.
+/// Puts a row that is found as it is at a unit, by which it is born and at which it is alive, by the lines of its cohort. `refs` has room for
+/// its references.
 fn put_row<K: Keeper, L: Ledger>(
     rows: &Rows<'_>,
-    unit: u64,
+    lines: &CohortLines<'_>,
     table: u32,
-    j: u64,
+    row: FoundRow,
+    unit: u64,
     keeper: &mut K,
     refs: &mut [RefTo],
     buf: &mut PageBuf,
     steps: &mut Steps<L>,
 ) -> Result<(), KeepFailed>
+    requires lines { lines.now ≡ record { plan = rows.now; table = table; born = row.born; unit = unit } }
     requires table { table < length rows.now.schema.tables }
     requires unit { unit ≤ last_unit rows.now }
-    requires born { j < born_count (table_of rows.now table).births unit }
-    requires alive { is_live (generator_of rows.now) table unit j ≡ true }
+    requires row { IsFound rows.now table row }
+    requires born { row.born ≤ unit }
+    requires alive { is_live (generator_of rows.now) table unit row.ordinal ≡ true }
     requires is_open { IsTrue (K.store keeper.old).is_open }
     requires refs { MOST_REFS ≤ length refs.old }
     requires empty { buf.old.text ≡ [] }
     requires room { reach (layout_of rows.now) ≤ buf.old.room }
-    ensures made { OnOk result (K.store keeper.new ≡ perform_all (put_at rows.now unit table j ∷ []) (K.store keeper.old)) }
-    ensures stopped { OnErr result (StoppedIn (put_at rows.now unit table j ∷ []) (K.store keeper.old) (K.store keeper.new)) }
+    ensures made { OnOk result (K.store keeper.new ≡ perform_all (put_at rows.now unit table row.ordinal ∷ []) (K.store keeper.old)) }
+    ensures stopped { OnErr result (StoppedIn (put_at rows.now unit table row.ordinal ∷ []) (K.store keeper.old) (K.store keeper.new)) }
     ensures at_last { FailsAtLast result (K.faults keeper.old) (K.faults keeper.new) (K.last_failed keeper.new) }
     ensures page { buf.new ≡ buf.old }
 {
     let _limits = rows.plan().schema(); // so each line is within the reach
-    let row = find(rows.plan(), table, j);
     let key = rows.found_key(table, row, steps);
     let count = find_refs(rows, table, row, unit, refs, steps);
-    put_line(rows.plan(), table, j, unit, buf, steps);
+    let changed = rows.found_change(table, row, unit, steps);
+    lines.put_changed_line(row.index, key, changed, buf, steps);
     let kept = keeper.put(table, key, &refs[..count], buf.text());
     buf.clear();
     kept

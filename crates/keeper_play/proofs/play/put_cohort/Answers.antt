@@ -27,6 +27,14 @@ put_row-requires-clause-alive g c =
     ap (λ (first : ℕ). is_live (generator_of plan) c.args.table c.args.unit (first + c.loop-index.index)) c.requires.cohort.first
     ∙ newborn-alive plan limits c.args.table c.requires.table c.args.unit c.requires.unit c.loop-index.index inside
 
+pub put_row-requires-clause-row : goal.put_row-requires-clause-row
+put_row-requires-clause-row g c =
+    record {
+      born = c.requires.unit;
+      index = omega (arith, c.loop-index-test.true, c.requires.cohort.size);
+      ordinal = ap (λ (first : ℕ). first + c.loop-index.index) c.requires.cohort.first;
+    }
+
 pub returns-in_err-put_row-clause-stopped : goal.returns-in_err-put_row-clause-stopped
 returns-in_err-put_row-clause-stopped g c =
     let made = err_from_is_err_and c.from_residual.result c.from_residual.ensures.1 in

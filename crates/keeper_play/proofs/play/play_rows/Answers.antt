@@ -18,7 +18,7 @@ use Rattle.keeper_play.proofs.StoreLemmas.{backwards-at, backwards-more, items-a
 use Rattle.keeper_play.proofs.UnitLemmas.{deletions-born, deletions-told, insertions-cohort, insertions-told, updates-alive, updates-born, updates-told, changing-alive, changing-born, cohort-limit, deleted-ordinals, deletions-at, dying-born, insertions-at, newborn-alive, unit_statements-parts, updated-ordinals, updates-at}
 use Rattle.life_intervals.proofs.AcceptedLemmas.{length-tables}
 use Rattle.life_intervals.proofs.Ranges.{flat_map-range_with_len_more}
-use Rattle.keeper_play.proofs.play.play_unit.Goals as goal
+use Rattle.keeper_play.proofs.play.play_rows.Goals as goal
 
 -- the three parts of a unit, by the plan of its rows
 abbrev updates_in : Project → ℕ → List Statement
@@ -30,50 +30,53 @@ deletions_in plan unit = flat_map (deletions (generator_of plan) unit) (reverse 
 abbrev insertions_in : Project → ℕ → List Statement
 insertions_in plan unit = flat_map (insertions (generator_of plan) unit) (places (generator_of plan))
 
-parts : (plan rows : Project) (unit : ℕ) → IsInLimits plan → rows ≡ plan →
-    unit_statements (generator_of plan) unit ≡ updates_in rows unit ++ deletions_in rows unit ++ insertions_in rows unit
-parts plan rows unit limits is =
-    unit_statements-parts plan limits unit ∙ ap (λ (p : Project). updates_in p unit ++ deletions_in p unit ++ insertions_in p unit) (sym is)
+parts : (rows : Project) (unit : ℕ) → IsInLimits rows →
+    unit_statements (generator_of rows) unit ≡ updates_in rows unit ++ deletions_in rows unit ++ insertions_in rows unit
+parts rows unit limits = unit_statements-parts rows limits unit
 
 pub returns-in_err-put_updates-clause-stopped : goal.returns-in_err-put_updates-clause-stopped
 returns-in_err-put_updates-clause-stopped g c =
     let made = err_from_is_err_and c.from_residual.result c.from_residual.ensures.1 in
-    let rows : Project = c.of-rows.result in
+    let rows : Project = c.args.rows.now in
+    let limits : IsInLimits rows = subst IsInLimits c.plan.ensures c.schema-limits.ensures.limits in
     let unit : ℕ = c.args.unit in
     rw made.1
-    (stopped-behind (unit_statements (generator_of c.args.plan.now) unit) [] (updates_in rows unit) (deletions_in rows unit ++ insertions_in rows unit) _ _ _
-    (parts c.args.plan.now rows unit c.schema-limits.ensures.limits c.of-rows.ensures ∙ append_assoc (updates_in rows unit) (deletions_in rows unit) (insertions_in rows unit))
+    (stopped-behind (unit_statements (generator_of rows) unit) [] (updates_in rows unit) (deletions_in rows unit ++ insertions_in rows unit) _ _ _
+    (parts rows unit limits ∙ append_assoc (updates_in rows unit) (deletions_in rows unit) (insertions_in rows unit))
     (made-none (g.K.Keeper.store c.args.keeper.now)) c.in_err-put_updates.ensures.stopped)
 
 pub returns-in_err-drop_deletions-clause-stopped : goal.returns-in_err-drop_deletions-clause-stopped
 returns-in_err-drop_deletions-clause-stopped g c =
     let made = err_from_is_err_and c.from_residual-in_err-drop_deletions.result c.from_residual-in_err-drop_deletions.ensures.1 in
-    let rows : Project = c.of-rows.result in
+    let rows : Project = c.args.rows.now in
+    let limits : IsInLimits rows = subst IsInLimits c.plan.ensures c.schema-limits.ensures.limits in
     let unit : ℕ = c.args.unit in
     rw made.1
-    (stopped-behind (unit_statements (generator_of c.args.plan.now) unit) (updates_in rows unit) (deletions_in rows unit) (insertions_in rows unit) _ _ _
-    (parts c.args.plan.now rows unit c.schema-limits.ensures.limits c.of-rows.ensures ∙ append_assoc (updates_in rows unit) (deletions_in rows unit) (insertions_in rows unit))
+    (stopped-behind (unit_statements (generator_of rows) unit) (updates_in rows unit) (deletions_in rows unit) (insertions_in rows unit) _ _ _
+    (parts rows unit limits ∙ append_assoc (updates_in rows unit) (deletions_in rows unit) (insertions_in rows unit))
     c.in_ok-put_updates.ensures.made c.in_err-drop_deletions.ensures.stopped)
 
 pub returns-clause-made : goal.returns-clause-made
 returns-clause-made g c =
-    let rows : Project = c.of-rows.result in
+    let rows : Project = c.args.rows.now in
+    let limits : IsInLimits rows = subst IsInLimits c.plan.ensures c.schema-limits.ensures.limits in
     let unit : ℕ = c.args.unit in
     on_ok _ _ c.put_insertions.result
     (λ last.
     made-more (updates_in rows unit ++ deletions_in rows unit) (insertions_in rows unit) _ _ _
     (made-more (updates_in rows unit) (deletions_in rows unit) _ _ _ c.in_ok-put_updates.ensures.made c.in_ok-drop_deletions.ensures.made) last
-    ∙ ap (λ (statements : List Statement). perform_all statements (g.K.Keeper.store c.args.keeper.now)) (sym (parts c.args.plan.now rows unit c.schema-limits.ensures.limits c.of-rows.ensures)))
+    ∙ ap (λ (statements : List Statement). perform_all statements (g.K.Keeper.store c.args.keeper.now)) (sym (parts rows unit limits)))
     c.put_insertions.ensures.made
 
 pub returns-clause-stopped : goal.returns-clause-stopped
 returns-clause-stopped g c =
-    let rows : Project = c.of-rows.result in
+    let rows : Project = c.args.rows.now in
+    let limits : IsInLimits rows = subst IsInLimits c.plan.ensures c.schema-limits.ensures.limits in
     let unit : ℕ = c.args.unit in
     on_err _ _ c.put_insertions.result
     (λ last.
-    stopped-behind (unit_statements (generator_of c.args.plan.now) unit) (updates_in rows unit ++ deletions_in rows unit) (insertions_in rows unit) [] _ _ _
-    (parts c.args.plan.now rows unit c.schema-limits.ensures.limits c.of-rows.ensures
+    stopped-behind (unit_statements (generator_of rows) unit) (updates_in rows unit ++ deletions_in rows unit) (insertions_in rows unit) [] _ _ _
+    (parts rows unit limits
     ∙ ap (λ (last : List Statement). updates_in rows unit ++ deletions_in rows unit ++ last) (sym (append-nil (insertions_in rows unit))))
     (made-more (updates_in rows unit) (deletions_in rows unit) _ _ _ c.in_ok-put_updates.ensures.made c.in_ok-drop_deletions.ensures.made) last)
     c.put_insertions.ensures.stopped
