@@ -15,7 +15,7 @@ use Rattle.stream_apply.specs.declared.kind.Kind.{Kind}
 use Rattle.stream_apply.proofs.LineLemmas.{first-cut, front-same, keyed-line_feed}
 
 -- two lines of a stream with one text are one line
-same-line : (keys : KeyFields) (delimiter : ℕ) → IsDelimiter delimiter → (kind : Kind) (line other : KeyedLine) → IsKeyedLine keys delimiter kind line → IsKeyedLine keys delimiter kind other → line.text ≡ other.text → line ≡ other
+pub same-line : (keys : KeyFields) (delimiter : ℕ) → IsDelimiter delimiter → (kind : Kind) (line other : KeyedLine) → IsKeyedLine keys delimiter kind line → IsKeyedLine keys delimiter kind other → line.text ≡ other.text → line ≡ other
 same-line keys delimiter delimits kind line other is other_is texts =
     let fields = IsLineBody-same delimiter delimits is.fields other_is.fields other.text (subst (IsLineBody delimiter is.fields) texts is.body) other_is.body in
     let parts : text_fields is.front ++ is.others ≡ text_fields other_is.front ++ other_is.others = sym is.parts.is ∙ fields ∙ other_is.parts.is in

@@ -25,7 +25,7 @@ pub record IsKeyedText (keys : KeyFields) (delimiter : ℕ) (key text : List ℕ
   pub key_written : key ≡ line_text delimiter (text_fields front)
 
 -- it is a line of each stream but of one of keys alone
-keyed-whole : (keys : KeyFields) (delimiter : ℕ) (kind : Kind) (key text : List ℕ) → holds_keys_alone kind ≡ false → IsKeyedText keys delimiter key text →
+pub keyed-whole : (keys : KeyFields) (delimiter : ℕ) (kind : Kind) (key text : List ℕ) → holds_keys_alone kind ≡ false → IsKeyedText keys delimiter key text →
     IsKeyedLine keys delimiter kind (keyed key text)
 keyed-whole keys delimiter kind key text whole is = record {
   fields = text_fields is.front ++ is.others;
@@ -40,7 +40,7 @@ keyed-whole keys delimiter kind key text whole is = record {
 }
 
 -- and its key is a line of keys alone
-keyed-alone : (keys : KeyFields) (delimiter : ℕ) (key text : List ℕ) → IsKeyedText keys delimiter key text → IsKeyedLine keys delimiter Deletes (keyed key key)
+pub keyed-alone : (keys : KeyFields) (delimiter : ℕ) (key text : List ℕ) → IsKeyedText keys delimiter key text → IsKeyedLine keys delimiter Deletes (keyed key key)
 keyed-alone keys delimiter key text is = record {
   fields = text_fields is.front;
   front = is.front;

@@ -10,7 +10,7 @@ use crate::fault::ApplyFault;
 use crate::key_fields::KeyFields;
 use crate::key_table::KeyTable;
 use crate::kind::Kind;
-use crate::stream::read_stream;
+use crate::stream::{read_stream, read_table};
 use row_text::Memory;
 use std::alloc::{AllocError, Global};
 use std::marker::Model;
@@ -49,8 +49,7 @@ impl<'a> Applier<'a> {
         ensures loaded { IfOk result (IsLoaded snapshot.now keys delimiter) }
         ensures fault { IfErr result (IsFaultOf keys delimiter Snapshot [] snapshot.now) }
     {
-        let none = KeyTable::new(alloc);
-        let table = read_stream(alloc, Kind::Snapshot, &none, snapshot, keys, delimiter)?;
+        let table = read_table(alloc, snapshot, keys, delimiter)?;
         Ok(Applier {
             alloc,
             keys,

@@ -5,11 +5,15 @@ ghost use Rattle.stream_apply.specs.InTurn.{next_kind};
 ghost use Rattle.stream_apply.specs.Streams as streams;
 
 /// What bytes hold: a table's own lines, or those of a stream for it.
-#[derive(Clone, Copy)]
-pub(crate) enum Kind {
+#[derive(Clone, Copy, Debug, PartialEq, Eq)]
+pub enum Kind {
+    /// The lines of a table.
     Snapshot,
+    /// Keys, each alone in a line, of lines that are dropped.
     Deletes,
+    /// Lines that take the places of those with their keys.
     Updates,
+    /// Lines that go behind those of the table.
     Inserts,
 }
 

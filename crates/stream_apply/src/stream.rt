@@ -5,6 +5,7 @@ ghost use Rattle.row_text.specs.Fields.{IsDelimiter, escaped_text};
 ghost use Rattle.row_text.specs.Lines.{line_text};
 ghost use Rattle.stream_apply.specs.KeyedLines.{has_key, keyed};
 ghost use Rattle.stream_apply.specs.Streams.{IsFaultOf, IsFields, IsKeyFault, IsKeyedLine, IsStream, StartsNone, text_fields, wants_held};
+ghost use Rattle.stream_apply.specs.declared.kind.Kind.TheVariants.{Snapshot};
 
 use crate::fault::ApplyFault;
 use crate::key_fields::KeyFields;
@@ -19,6 +20,21 @@ struct ReadLine<'a> {
     key: &'a [u8],
     text: &'a [u8],
     rest: &'a [u8],
+}
+
+/// The lines of a table's text, by their keys. Refused at the first line that is at fault: a `BadLine` or a `DoubleKey`.
+pub fn read_table<'a>(
+    alloc: Global,
+    snapshot: &'a [u8],
+    keys: KeyFields,
+    delimiter: u8,
+) -> Result<KeyTable<'a>, ApplyFault>
+    requires { IsDelimiter delimiter }
+    ensures read { IfOk result (IsStream keys delimiter Snapshot [] snapshot.now) }
+    ensures fault { IfErr result (IsFaultOf keys delimiter Snapshot [] snapshot.now) }
+{
+    let none = KeyTable::new(alloc);
+    read_stream(alloc, Kind::Snapshot, &none, snapshot, keys, delimiter)
 }
 
 /// The lines of a stream for a table, by their keys.
@@ -108,8 +124,8 @@ fn cut_line(bytes: &[u8]) -> Option<(&[u8], &[u8])>
     Some((&bytes[..line.end], &bytes[line.end + 1..]))
 }
 
-/// How many bytes of a line are its key; None where it is no line of this kind.
-fn key_size(
+/// How many bytes of a line, which is given without its line feed, are its key; None where it is no line of this kind.
+pub fn key_size(
     alloc: Global,
     kind: Kind,
     text: &[u8],

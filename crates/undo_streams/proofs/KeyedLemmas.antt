@@ -1,42 +1,19 @@
--- The lines of a table as those to which streams are applied, known by their first field.
-use Rattle.std.proofs.Common.{◌≡◌, ℕ, true, List, [], ◌∷◌, ◌++◌, Some, length, refl, ap, arith, sym, ◌∙◌, true≢false}
-use Rattle.std.proofs.lemmas.List.{append-nil}
-use Rattle.row_text.specs.Fields.{escaped_text}
-use Rattle.row_text.specs.Lines.{line_text}
-use Rattle.stream_apply.specs.KeyedLines.{keyed}
-use Rattle.stream_apply.specs.Streams.{text_fields}
+-- Lines of a table, known by their first field, as undo texts tell them.
+use Rattle.std.proofs.Common.{◌≡◌, ℕ, false, List}
+use Rattle.stream_apply.specs.KeyedLines.{KeyedLine, keyed}
+use Rattle.stream_apply.specs.Streams.{IsKeyedLine, holds_keys_alone}
 use Rattle.stream_apply.specs.declared.key_fields.KeyFields.TheVariants.{One}
-use Rattle.stream_apply.proofs.UnitLemmas.{IsKeyedText}
-use Rattle.undo_streams.specs.Reverting.{IsLine}
-use Rattle.undo_streams.specs.declared.lines.Shape.TheVariants.{KeyAlone, Row}
+use Rattle.stream_apply.specs.declared.kind.Kind.{Kind}
+use Rattle.stream_apply.specs.declared.kind.Kind.TheVariants.{Deletes}
+use Rattle.stream_apply.proofs.UnitLemmas.{IsKeyedText, keyed-alone, keyed-whole}
 
--- one text in front
-pub one-front : (front : List (List ℕ)) → length front ≡ 1 → (first : List ℕ) × (front ≡ first ∷ [])
-one-front [] count = absurd (omega (arith, count))
-one-front (first ∷ []) count = (first, refl)
-one-front (first ∷ second ∷ rest) count = absurd (omega (arith, count))
+-- a line of each kind but of one of keys alone
+abbrev pub IsRow : ℕ → KeyedLine → Type 0
+IsRow delimiter line = (kind : Kind) → holds_keys_alone kind ≡ false → IsKeyedLine One delimiter kind line
 
--- a line that is written from its fields is one of a table, and so is its key alone
-pub row-line : (delimiter : ℕ) (key text : List ℕ) → IsKeyedText One delimiter key text → IsLine delimiter Row (keyed key text)
-row-line delimiter key text is =
-    let one = one-front is.front is.count in record {
-      first = one.0;
-      others = is.others;
-      body = record {
-        some = omega arith;
-        written = is.written ∙ ap (λ (front : List (List ℕ)). line_text delimiter (text_fields front ++ is.others)) one.1;
-      };
-      alone = λ alone. absurd (true≢false (sym alone));
-      key = is.key_written ∙ ap (λ (front : List (List ℕ)). line_text delimiter (text_fields front)) one.1 ∙ append-nil (escaped_text delimiter one.0);
-    }
+-- a line that is written from its fields is such a line, and its key alone is one of keys alone
+pub row-line : (delimiter : ℕ) (key text : List ℕ) → IsKeyedText One delimiter key text → IsRow delimiter (keyed key text)
+row-line delimiter key text is = λ kind whole. keyed-whole One delimiter kind key text whole is
 
-pub key-line : (delimiter : ℕ) (key text : List ℕ) → IsKeyedText One delimiter key text → IsLine delimiter KeyAlone (keyed key key)
-key-line delimiter key text is =
-    let one = one-front is.front is.count in
-    let written : key ≡ line_text delimiter (Some one.0 ∷ []) = is.key_written ∙ ap (λ (front : List (List ℕ)). line_text delimiter (text_fields front)) one.1 in record {
-      first = one.0;
-      others = [];
-      body = record { some = omega arith; written = written };
-      alone = λ alone. refl;
-      key = written ∙ append-nil (escaped_text delimiter one.0);
-    }
+pub key-line : (delimiter : ℕ) (key text : List ℕ) → IsKeyedText One delimiter key text → IsKeyedLine One delimiter Deletes (keyed key key)
+key-line delimiter key text is = keyed-alone One delimiter key text is

@@ -3,17 +3,23 @@ use Rattle.std.proofs.Common.{◌≡◌, ◌≢◌, ℕ, ◌<◌, ◌^◌, List,
 use Rattle.std.specs.List.{Contains}
 use Rattle.std.proofs.lemmas.Fmt.{decimal_injective}
 use Rattle.std.proofs.lemmas.List.{append_cancel_left}
-use Rattle.std.proofs.lemmas.List.Elements.{Contains-append_cases}
+use Rattle.std.proofs.lemmas.List.Elements.{Contains-append_cases, Contains-append_right, Contains-get_or}
 use Rattle.row_text.specs.Fields.{IsDelimiter}
 use Rattle.stream_apply.specs.KeyedLines.{keyed}
-use Rattle.stream_apply.proofs.LineLemmas.{first-cut}
+use Rattle.stream_apply.specs.Streams.{IsKeyedLine}
+use Rattle.stream_apply.specs.declared.key_fields.KeyFields.TheVariants.{One}
+use Rattle.stream_apply.proofs.LineLemmas.{first-cut, keyed-line_feed}
 use Rattle.undo_streams.specs.ReadLines.{IsLead, LeadsNone}
-use Rattle.undo_streams.specs.Reverting.{IsLine, IsPlaceOf, IsUndoLine, StartsNone, UndoLine, place_text, rank_of, shape_of, undo_line_text, word_of}
+use Rattle.undo_streams.specs.Reverting.{IsPlaceOf, IsUndoLine, StartsNone, UndoLine, kind_of, place_text, rank_of, undo_line_text, word_of}
 use Rattle.undo_streams.specs.declared.part.Part.{Part}
 use Rattle.undo_streams.specs.declared.part.Part.TheVariants.{Adds, Drops, Sets}
 use Rattle.undo_streams.specs.declared.undo_lines.Lead.{Lead}
 use Rattle.undo_streams.proofs.DigitLemmas.{decimal-lacks}
-use Rattle.undo_streams.proofs.LineLemmas.{lacks-no_cut, line-line_feed}
+
+-- bytes with no such byte don't hold a text and that byte behind it
+lacks-no_cut : (byte : ℕ) (bytes text rest : List ℕ) → ¬ Contains bytes byte → bytes ≡ text ++ byte ∷ rest → ⊥
+lacks-no_cut byte bytes text rest none is =
+    none (subst (λ (xs : List ℕ). Contains xs byte) (sym is) (Contains-append_right text (byte ∷ rest) byte (Contains-get_or (byte ∷ rest) 0 byte (omega arith))))
 
 -- a word holds neither a delimiter nor a line feed
 low : (delimiter : ℕ) → IsDelimiter delimiter → (delimiter ≡ 9) ⊎ (delimiter ≡ 124)
@@ -113,7 +119,7 @@ module _ (delimiter : ℕ) (delimits : IsDelimiter delimiter) where
       | inl between ↦ no_line_feed delimiter delimits (alone between)
       | inr later ↦ elim (Contains-append_cases (place_text delimiter undo.part undo.place) undo.line.text 10 later) [
         | inl place ↦ place-line_feed undo.part undo.place is.place place
-        | inr line ↦ line-line_feed delimiter delimits (shape_of undo.part) undo.line is.keyed line
+        | inr line ↦ keyed-line_feed One delimiter delimits (kind_of undo.part) undo.line is.keyed line
       ]
     ]
   ]
@@ -172,14 +178,14 @@ module _ (delimiter : ℕ) (delimits : IsDelimiter delimiter) where
     pub starts-earlier : rank_of lead.part < rank_of part → StartsNone delimiter part bytes
     starts-earlier early undo behind is line order = omega (arith, early, order, ap rank_of (same-lead undo behind line is).0)
 
-    pub starts-no_key : ((key : List ℕ) → ¬ IsLine delimiter (shape_of lead.part) (keyed key lead.body.now)) → StartsNone delimiter part bytes
+    pub starts-no_key : ((key : List ℕ) → ¬ IsKeyedLine One delimiter (kind_of lead.part) (keyed key lead.body.now)) → StartsNone delimiter part bytes
     starts-no_key none undo behind is line order =
         let same = same-lead undo behind line is in
         none undo.line.key
-        (subst (λ (p : Part). IsLine delimiter (shape_of p) (keyed undo.line.key lead.body.now)) (sym same.0)
-        (subst (λ (t : List ℕ). IsLine delimiter (shape_of undo.part) (keyed undo.line.key t)) (sym same.2) line.keyed))
+        (subst (λ (p : Part). IsKeyedLine One delimiter (kind_of p) (keyed undo.line.key lead.body.now)) (sym same.0)
+        (subst (λ (t : List ℕ). IsKeyedLine One delimiter (kind_of undo.part) (keyed undo.line.key t)) (sym same.2) line.keyed))
 
-    pub starts-line : (key : List ℕ) → IsLine delimiter (shape_of lead.part) (keyed key lead.body.now) →
+    pub starts-line : (key : List ℕ) → IsKeyedLine One delimiter (kind_of lead.part) (keyed key lead.body.now) →
         let undo : UndoLine = record { part = lead.part; place = lead.place; line = keyed key lead.body.now } in
         IsUndoLine delimiter undo × (bytes ≡ undo_line_text delimiter undo ++ 10 ∷ rest)
     starts-line key line = (record { place = begins.place; keyed = line }, cut ∙ ap (λ (t : List ℕ). t ++ 10 ∷ rest) begins.written)

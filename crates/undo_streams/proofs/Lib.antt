@@ -2,9 +2,7 @@ pub mod ListLemmas
 pub mod PlaceLemmas
 pub mod UndoLineLemmas
 pub mod PackageLemmas
-pub mod LineLemmas
 pub mod KeyedLemmas
-pub mod TableReadLemmas
 pub mod DigitLemmas
 pub mod LeadLemmas
 pub mod WeaverLemmas

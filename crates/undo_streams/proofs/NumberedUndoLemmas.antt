@@ -1,6 +1,6 @@
 -- The lines that undo what a unit changes in lines of numbers, each with a key of its own: numbers of a first one on are dropped, others are
 -- set to what they were, and numbers below the first one are added again.
-use Rattle.std.proofs.Common.{◌≡◌, ℕ, zero, suc, ◌+◌, ◌<◌, ◌≤◌, ◌^◌, ◌⊎◌, All, Bool, true, false, ◌||◌, List, [], ◌∷◌, ◌++◌, Some, drop, filter, length, map, take, inl, inr, refl, ap, arith, sym, subst, ◌∙◌, append_assoc, length-append}
+use Rattle.std.proofs.Common.{◌≡◌, ℕ, zero, suc, ◌+◌, ◌<◌, ◌≤◌, ◌^◌, ◌⊎◌, All, Bool, true, false, ◌||◌, List, [], ◌∷◌, ◌++◌, drop, filter, length, map, take, inl, inr, refl, ap, arith, sym, subst, ◌∙◌, append_assoc, length-append}
 use Rattle.std.specs.Prelude.{codes, decimal}
 use Rattle.std.specs.List.{flat_map, range_with_len}
 use Rattle.std.specs.Str.{bytes_eq}
@@ -9,18 +9,17 @@ use Rattle.std.proofs.lemmas.Bool.{cases_Bool, true≢false}
 use Rattle.std.proofs.lemmas.List.{append-nil}
 use Rattle.std.proofs.lemmas.List.Folds.{flat_map-map}
 use Rattle.std.proofs.lemmas.List.Elements.{All-head, All-nil, All-push, All-tail}
-use Rattle.row_text.specs.Fields.{field_text}
 use Rattle.stream_apply.specs.KeyedLines.{KeyedLine, has_key, keyed, lines_text, put}
-use Rattle.stream_apply.specs.Streams.{IsLoaded, without}
+use Rattle.stream_apply.specs.Streams.{IsKeyedLine, IsLoaded, without}
 use Rattle.stream_apply.specs.declared.key_fields.KeyFields.TheVariants.{One}
+use Rattle.stream_apply.specs.declared.kind.Kind.TheVariants.{Deletes, Inserts, Snapshot, Updates}
 use Rattle.stream_apply.proofs.KeyedLineLemmas.{bytes_eq-apart, bytes_eq-same}
 use Rattle.stream_apply.proofs.NumberedLineLemmas.{AreKeys, has_key-outside, lines_in, lines_in-all, lines_in-apart, lines_in-append}
-use Rattle.undo_streams.specs.Reverting.{AreTaken, IsLine, IsTaken, IsUndoneBy, UndoLine, Undoing, begun, behind, behind_all, rank_of, undo_line_text, undos_text}
-use Rattle.undo_streams.specs.declared.lines.Shape.TheVariants.{KeyAlone, Row}
+use Rattle.undo_streams.specs.Reverting.{AreTaken, IsTaken, IsUndoneBy, UndoLine, Undoing, begun, behind, behind_all, rank_of, undo_line_text, undos_text}
 use Rattle.undo_streams.specs.declared.part.Part.{Part}
 use Rattle.undo_streams.specs.declared.part.Part.TheVariants.{Adds, Drops, Sets}
 use Rattle.undo_streams.specs.InTurn.{table_with}
-use Rattle.undo_streams.proofs.TableReadLemmas.{table-loaded}
+use Rattle.undo_streams.proofs.KeyedLemmas.{IsRow}
 use Rattle.undo_streams.proofs.WeaverLemmas.{has_key-append}
 
 -- ---- undo lines
@@ -170,7 +169,7 @@ module _ (delimiter : ℕ) (key : ℕ → List ℕ) (size : ℕ) (one_to_one : A
 
   -- ---- numbers that are dropped
 
-  module _ (kept : List KeyedLine) (new : ℕ → List ℕ) (live : ℕ → Bool) (first : ℕ) (keys_alone : (j : ℕ) → j < size → IsLine delimiter KeyAlone (keyed (key j) (key j)))
+  module _ (kept : List KeyedLine) (new : ℕ → List ℕ) (live : ℕ → Bool) (first : ℕ) (keys_alone : (j : ℕ) → j < size → IsKeyedLine One delimiter Deletes (keyed (key j) (key j)))
       (free : (j : ℕ) → first ≤ j → j < size → has_key kept (key j) ≡ false) where
     abbrev IsDroppedBelow : ℕ → ℕ → Type 0
     IsDroppedBelow a i = (first ≤ i) × (i < a)
@@ -209,7 +208,7 @@ module _ (delimiter : ℕ) (key : ℕ → List ℕ) (size : ℕ) (one_to_one : A
   -- ---- numbers that are set
 
   module _ (old new : ℕ → List ℕ) (live changes : ℕ → Bool) (first : ℕ) (within : first ≤ size)
-      (rows : (j : ℕ) → j < first → IsLine delimiter Row (keyed (key j) (new j)))
+      (rows : (j : ℕ) → j < first → IsRow delimiter (keyed (key j) (new j)))
       (among : (j : ℕ) → j < first → changes j ≡ true → live j ≡ true)
       (still : (j : ℕ) → j < first → live j ≡ true → changes j ≡ false → old j ≡ new j) where
     abbrev IsSetBelow : ℕ → ℕ → Type 0
@@ -263,7 +262,7 @@ module _ (delimiter : ℕ) (key : ℕ → List ℕ) (size : ℕ) (one_to_one : A
                     let set : put undoing.lines undo.line ≡ lines_in key new live 0 (a + 1) ++ rest =
                     ap (λ (ls : List KeyedLine). put ls undo.line) now ∙ put-there done rest (key a) (old a) (new a) done_free ∙ sym longer in
                     let taken : IsTaken delimiter undoing undo = record {
-                      is = record { place = refl; keyed = rows a below };
+                      is = record { place = refl; keyed = rows a below Updates refl };
                       order = order;
                       free = told-free (IsSetBelow a) undoing.told a small told (λ is. not_told below is);
                       held = ap (λ (ls : List KeyedLine). has_key ls (key a)) now ∙ has_key-there done rest (key a) (old a);
@@ -291,7 +290,7 @@ module _ (delimiter : ℕ) (key : ℕ → List ℕ) (size : ℕ) (one_to_one : A
   -- ---- numbers that are added
 
   module _ (text : ℕ → List ℕ) (before after dies : ℕ → Bool) (place : ℕ → ℕ) (first : ℕ) (within : first ≤ size)
-      (rows : (j : ℕ) → j < first → IsLine delimiter Row (keyed (key j) (text j)))
+      (rows : (j : ℕ) → j < first → IsRow delimiter (keyed (key j) (text j)))
       (dead : (j : ℕ) → j < first → dies j ≡ true → (before j ≡ true) × (after j ≡ false))
       (same : (j : ℕ) → j < first → dies j ≡ false → before j ≡ after j)
       (places : (j : ℕ) → j < first → dies j ≡ true → (place j ≡ length (lines_in key text before 0 j)) × (place j < 10 ^ 13)) where
@@ -357,7 +356,7 @@ module _ (delimiter : ℕ) (key : ℕ → List ℕ) (size : ℕ) (one_to_one : A
               let rest_free : has_key rest (key a) ≡ false =
               has_key-outside key size one_to_one text after (a + 1) n a (omega (arith, next, within)) small (λ k low high is. omega (arith, low, is)) in
               let taken : IsTaken delimiter undoing undo = record {
-                is = record { place = at.1; keyed = rows a below };
+                is = record { place = at.1; keyed = rows a below Inserts refl };
                 order = order;
                 free = told-free (IsAddedBelow a) undoing.told a small told (λ is. not_told below were.1 is);
                 held = ap (λ (ls : List KeyedLine). has_key ls (key a)) now ∙ has_key-append done rest (key a) ∙ rw (done_free, rest_free) refl;
@@ -382,8 +381,8 @@ module _ (delimiter : ℕ) (key : ℕ → List ℕ) (size : ℕ) (one_to_one : A
   -- ---- all of a unit
 
   pub unit-undone : (old new : ℕ → List ℕ) (before after dies changes : ℕ → Bool) (place : ℕ → ℕ) (first count : ℕ) → first + count ≤ size →
-      ((j : ℕ) → j < size → IsLine delimiter KeyAlone (keyed (key j) (key j))) →
-      ((j : ℕ) → j < first → IsLine delimiter Row (keyed (key j) (old j))) →
+      ((j : ℕ) → j < size → IsKeyedLine One delimiter Deletes (keyed (key j) (key j))) →
+      ((j : ℕ) → j < first → IsRow delimiter (keyed (key j) (old j))) →
       ((j : ℕ) → first ≤ j → j < first + count → after j ≡ true) →
       ((j : ℕ) → j < first → dies j ≡ true → (before j ≡ true) × (after j ≡ false)) →
       ((j : ℕ) → j < first → dies j ≡ false → before j ≡ after j) →
@@ -428,11 +427,15 @@ module _ (delimiter : ℕ) (key : ℕ → List ℕ) (size : ℕ) (one_to_one : A
 
 -- lines of numbers are those of a table's text
 pub lines_in-loaded : (delimiter : ℕ) (key : ℕ → List ℕ) (size : ℕ) → AreKeys key size → (text : ℕ → List ℕ) (p : ℕ → Bool) (n : ℕ) (bytes : List ℕ) → n ≤ size →
-    ((j : ℕ) → j < n → IsLine delimiter Row (keyed (key j) (text j))) → bytes ≡ lines_text (lines_in key text p 0 n) → IsLoaded bytes One delimiter (table_with delimiter (lines_in key text p 0 n))
+    ((j : ℕ) → j < n → IsRow delimiter (keyed (key j) (text j))) → bytes ≡ lines_text (lines_in key text p 0 n) → IsLoaded bytes One delimiter (table_with delimiter (lines_in key text p 0 n))
 lines_in-loaded delimiter key size one_to_one text p n bytes within rows is =
-    let lines : List KeyedLine = lines_in key text p 0 n in
-    table-loaded delimiter lines bytes [] (record {
-      text = is ∙ sym (append-nil (lines_text lines));
-      rows = lines_in-all (IsLine delimiter Row) key text p 0 n (λ j low high passes. rows j (omega (arith, high)));
-      apart = lines_in-apart key size one_to_one text p 0 n (omega (arith, within));
-    }) refl
+    record {
+      known_by = refl;
+      delimits = refl;
+      read = record {
+        text = is;
+        keyed = lines_in-all (IsKeyedLine One delimiter Snapshot) key text p 0 n (λ j low high passes. rows j (omega (arith, high)) Snapshot refl);
+        apart = lines_in-apart key size one_to_one text p 0 n (omega (arith, within));
+        held = λ i d below. refl;
+      };
+    }

@@ -1,27 +1,18 @@
 -- What an undo text is read as: one list of lines, or one first fault.
-use Rattle.std.proofs.Common.{◌≡◌, ◌≢◌, ℕ, ◌+◌, ◌≤◌, ◌<◌, List, [], ◌∷◌, ◌++◌, ◌⊎◌, inl, inr, Some, length, refl, ap, sym, subst, ◌∙◌, arith, append_assoc, length-append}
+use Rattle.std.proofs.Common.{◌≡◌, ◌≢◌, ℕ, ◌+◌, ◌≤◌, ◌<◌, List, [], ◌∷◌, ◌++◌, ◌⊎◌, inl, inr, length, refl, ap, sym, subst, ◌∙◌, arith, append_assoc, length-append}
 use Rattle.std.proofs.lemmas.Bool.{both_ways}
 use Rattle.std.proofs.lemmas.List.{append-nil, append_cancel_left}
-use Rattle.row_text.specs.Fields.{IsDelimiter, escaped_text}
-use Rattle.row_text.specs.Lines.{IsLineBody}
-use Rattle.row_text.proofs.ReadLemmas.{IsLineBody-same}
-use Rattle.stream_apply.specs.KeyedLines.{KeyedLine, keyed}
+use Rattle.row_text.specs.Fields.{IsDelimiter}
+use Rattle.stream_apply.specs.KeyedLines.{KeyedLine}
+use Rattle.stream_apply.specs.Streams.{IsKeyedLine}
+use Rattle.stream_apply.specs.declared.key_fields.KeyFields.TheVariants.{One}
 use Rattle.stream_apply.proofs.LineLemmas.{first-cut}
-use Rattle.undo_streams.specs.Reverting.{AreTaken, HasBadUndo, HasLineFault, IsLine, IsLineFault, IsReadTo, IsTaken, IsUndoFault, IsUndoLine, IsUndoneBy, UndoLine, Undoing, begun, behind, behind_all, rank_of, shape_of, undo_line_text, undos_text}
+use Rattle.stream_apply.proofs.OutcomeLemmas.{same-line}
+use Rattle.undo_streams.specs.Reverting.{AreTaken, HasBadUndo, HasLineFault, IsLineFault, IsReadTo, IsTaken, IsUndoFault, IsUndoLine, IsUndoneBy, UndoLine, Undoing, begun, behind, behind_all, kind_of, rank_of, undo_line_text, undos_text}
 use Rattle.undo_streams.specs.declared.fault.RevertFault.{RevertFault}
 use Rattle.undo_streams.specs.declared.fault.RevertFault.TheVariants.{BadLine, BadPlace, DoubleKey, KeyExists, Memory, NoSuchKey}
-use Rattle.undo_streams.specs.declared.lines.Shape.{Shape}
 use Rattle.undo_streams.specs.declared.part.Part.{Part}
 use Rattle.undo_streams.proofs.LeadLemmas.{one-lead, undo-line_feed}
-
--- two lines with one text have one key
-same-keys : (delimiter : ℕ) → IsDelimiter delimiter → (shape other_shape : Shape) (line other : KeyedLine) → IsLine delimiter shape line → IsLine delimiter other_shape other → line.text ≡ other.text → line ≡ other
-same-keys delimiter delimits shape other_shape line other is other_is texts =
-    let fields : Some is.first ∷ is.others ≡ Some other_is.first ∷ other_is.others =
-    IsLineBody-same delimiter delimits (Some is.first ∷ is.others) (Some other_is.first ∷ other_is.others) other.text (subst (IsLineBody delimiter (Some is.first ∷ is.others)) texts is.body) other_is.body in
-    let firsts : is.first ≡ other_is.first = cc in
-    let keys : line.key ≡ other.key = is.key ∙ ap (escaped_text delimiter) firsts ∙ sym other_is.key in
-    ap (λ (k : List ℕ). keyed k line.text) keys ∙ ap (keyed other.key) texts
 
 module _ (delimiter : ℕ) (delimits : IsDelimiter delimiter) where
   -- two starts with a line are one
@@ -33,7 +24,8 @@ module _ (delimiter : ℕ) (delimits : IsDelimiter delimiter) where
       append_cancel_left (undo_line_text delimiter other) (10 ∷ rest) (10 ∷ behind_rest) (ap (λ (t : List ℕ). t ++ 10 ∷ rest) (sym texts) ∙ same) in
       let rests : rest ≡ behind_rest = cc in
       let lead = one-lead delimiter delimits undo.part other.part undo.place other.place undo.line.text other.line.text is.place other_is.place texts in
-      let lines : undo.line ≡ other.line = same-keys delimiter delimits (shape_of undo.part) (shape_of other.part) undo.line other.line is.keyed other_is.keyed lead.2 in (
+      let other_keyed : IsKeyedLine One delimiter (kind_of undo.part) other.line = subst (λ (p : Part). IsKeyedLine One delimiter (kind_of p) other.line) (sym lead.0) other_is.keyed in
+      let lines : undo.line ≡ other.line = same-line One delimiter delimits (kind_of undo.part) undo.line other.line is.keyed other_keyed lead.2 in (
         ap (λ (p : Part). record { part = p; place = undo.place; line = undo.line }) lead.0
             ∙ ap (λ (n : ℕ). record { part = other.part; place = n; line = undo.line }) lead.1
             ∙ ap (λ (l : KeyedLine). record { part = other.part; place = other.place; line = l }) lines,

@@ -1,33 +1,19 @@
 -- Undo texts: their lines, what undoing them makes of a table, and their faults.
-use Rattle.std.specs.Prelude.{◌≡◌, ℕ, ◌+◌, ◌<◌, ◌≤◌, ◌^◌, ⊤, Bool, true, false, List, [], ◌∷◌, ◌++◌, Option, Some, codes, decimal, drop, flat_map, fold, length, take}
+use Rattle.std.specs.Prelude.{◌≡◌, ℕ, ◌+◌, ◌<◌, ◌≤◌, ◌^◌, ⊤, Bool, true, false, List, [], ◌∷◌, ◌++◌, codes, decimal, drop, flat_map, fold, length, take}
 use Rattle.stream_apply.specs.KeyedLines.{KeyedLine, has_key, put}
-use Rattle.row_text.specs.Fields.{escaped_text}
-use Rattle.row_text.specs.Lines.{IsLineBody}
 use Rattle.stream_apply.specs.InTurn.{IsFaultAt}
-use Rattle.stream_apply.specs.Streams.{Table, without}
+use Rattle.stream_apply.specs.Streams.{IsKeyedLine, Table, without}
+use Rattle.stream_apply.specs.declared.fault.ApplyFault.{ApplyFault}
 use Rattle.stream_apply.specs.declared.fault.ApplyFault.TheVariants as applying
 use Rattle.stream_apply.specs.declared.key_fields.KeyFields.TheVariants.{One}
+use Rattle.stream_apply.specs.declared.kind.Kind.{Kind}
+use Rattle.stream_apply.specs.declared.kind.Kind.TheVariants.{Deletes, Inserts, Updates}
 use Rattle.undo_streams.specs.declared.fault.RevertFault.{RevertFault}
 use Rattle.undo_streams.specs.declared.fault.RevertFault.TheVariants.{BadLine, BadPlace, DoubleKey, KeyExists, Memory, NoSuchKey}
-use Rattle.undo_streams.specs.declared.lines.Shape.{Shape}
-use Rattle.undo_streams.specs.declared.lines.Shape.TheVariants.{KeyAlone, Row}
 use Rattle.undo_streams.specs.declared.part.Part.{Part}
 use Rattle.undo_streams.specs.declared.part.Part.TheVariants.{Adds, Drops, Sets}
 
 -- ---- lines
-
--- whether a line is a key alone
-abbrev pub is_key_alone : Shape → Bool
-is_key_alone KeyAlone = true
-is_key_alone Row = false
-
--- a line of a shape: fields, of which the first isn't null and is its key as it is written; a key alone has no others
-pub record IsLine (delimiter : ℕ) (shape : Shape) (line : KeyedLine) : Type 0 where
-  pub first : List ℕ
-  pub others : List (Option (List ℕ))
-  pub body : IsLineBody delimiter (Some first ∷ others) line.text
-  pub alone : is_key_alone shape ≡ true → others ≡ []
-  pub key : line.key ≡ escaped_text delimiter first
 
 -- a line of an undo text: the part that it stands in, the place from 0 at which it adds a line (0 where it adds none), and the line that it
 -- drops, sets or adds, of which a drop has the key alone
@@ -49,10 +35,10 @@ rank_of Sets = 1
 rank_of Adds = 2
 
 -- what such a line drops is told by its key alone, and what it sets or adds is a line of the table
-abbrev pub shape_of : Part → Shape
-shape_of Drops = KeyAlone
-shape_of Sets = Row
-shape_of Adds = Row
+abbrev pub kind_of : Part → Kind
+kind_of Drops = Deletes
+kind_of Sets = Updates
+kind_of Adds = Inserts
 
 -- whether the table has to hold its key; else it may not hold it
 abbrev pub wants_held : Part → Bool
@@ -83,7 +69,7 @@ undos_text delimiter undos = flat_map (λ undo. undo_line_text delimiter undo ++
 -- a line of an undo text
 pub record IsUndoLine (delimiter : ℕ) (undo : UndoLine) : Type 0 where
   pub place : IsPlaceOf undo.part undo.place
-  pub keyed : IsLine delimiter (shape_of undo.part) undo.line
+  pub keyed : IsKeyedLine One delimiter (kind_of undo.part) undo.line
 
 -- ---- what they make of a table
 
@@ -207,6 +193,14 @@ IsLoadFault delimiter bytes (NoSuchKey line) = ⊥
 IsLoadFault delimiter bytes (KeyExists line) = ⊥
 IsLoadFault delimiter bytes (BadPlace line) = ⊥
 IsLoadFault delimiter bytes Memory = Unit {0}
+
+-- the fault as it is told of a table that is taken back
+abbrev pub revert_fault_of : ApplyFault → RevertFault
+revert_fault_of (applying.BadLine line) = BadLine line
+revert_fault_of (applying.DoubleKey line) = DoubleKey line
+revert_fault_of (applying.NoSuchKey line) = NoSuchKey line
+revert_fault_of (applying.KeyExists line) = KeyExists line
+revert_fault_of applying.Memory = Memory
 
 -- ---- an undo text
 

@@ -3,6 +3,7 @@
 ghost use Rattle.std.specs.Prelude.{◌≡◌};
 
 use row_text::Memory;
+use stream_apply::ApplyFault;
 
 /// Why bytes aren't read as lines of a table, or not taken as an undo text of one: what is wrong with the first line that is at fault,
 /// by its number, which counts from 1.
@@ -29,5 +30,21 @@ impl From<Memory> for RevertFault {
 
     fn from(_memory: Memory) -> RevertFault {
         RevertFault::Memory
+    }
+}
+
+impl From<ApplyFault> for RevertFault {
+    ghost use Rattle.undo_streams.specs.Reverting.{revert_fault_of};
+
+    ghost from_gives = { λ applied fault. fault ≡ revert_fault_of applied };
+
+    fn from(applied: ApplyFault) -> RevertFault {
+        match applied {
+            ApplyFault::BadLine { line } => RevertFault::BadLine { line },
+            ApplyFault::DoubleKey { line } => RevertFault::DoubleKey { line },
+            ApplyFault::NoSuchKey { line } => RevertFault::NoSuchKey { line },
+            ApplyFault::KeyExists { line } => RevertFault::KeyExists { line },
+            ApplyFault::Memory => RevertFault::Memory,
+        }
     }
 }

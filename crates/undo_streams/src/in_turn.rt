@@ -6,8 +6,7 @@ ghost use Rattle.undo_streams.specs.InTurn.{HasUndoFaultAt, IsRevertFaultAt, IsR
 ghost use Rattle.undo_streams.specs.declared.fault.RevertFault.TheVariants.{Memory};
 
 use crate::fault::RevertFault;
-use crate::lines::read_table;
-use crate::reverter::text_of;
+use crate::reverter::{load_table, text_of};
 use crate::weaver::undo_table;
 use std::alloc::Global;
 use stream_apply::KeyTable;
@@ -35,7 +34,7 @@ pub fn revert_in_turn(
         (told.place < length inputs.now)
         × IsRevertFaultAt delimiter (map (λ input. input.items) inputs.now) told.place told.fault) }
 {
-    let table = match read_table(alloc, &inputs[0], delimiter) {
+    let table = match load_table(alloc, &inputs[0], delimiter) {
         Ok(table) => table,
         Err(fault) => return Err(RevertedAt { place: 0, fault }),
     };

@@ -11,7 +11,6 @@ mod changes;
 mod fault;
 mod in_turn;
 pub mod laws;
-mod lines;
 mod memory;
 mod part;
 mod reverter;

@@ -1,10 +1,10 @@
 //! The three parts of an undo text.
 
 ghost use Rattle.std.specs.Prelude.{◌≡◌, ◌≢◌, IfSome, MatchOption};
-ghost use Rattle.undo_streams.specs.Reverting.{rank_of, shape_of, wants_held, word_of};
+ghost use Rattle.undo_streams.specs.Reverting.{kind_of, rank_of, wants_held, word_of};
 ghost use Rattle.undo_streams.specs.declared.part.Part.{Part};
 
-use crate::lines::Shape;
+use stream_apply::Kind;
 
 /// The parts of an undo text, in their order: lines that are dropped, set and added.
 #[derive(Clone, Copy)]
@@ -42,12 +42,13 @@ impl Part {
     }
 
     /// What its lines hold behind the word and the place.
-    pub(crate) fn shape(self) -> Shape
-        ensures { result ≡ shape_of self }
+    pub(crate) fn kind(self) -> Kind
+        ensures { result ≡ kind_of self }
     {
         match self {
-            Part::Drops => Shape::KeyAlone,
-            Part::Sets | Part::Adds => Shape::Row,
+            Part::Drops => Kind::Deletes,
+            Part::Sets => Kind::Updates,
+            Part::Adds => Kind::Inserts,
         }
     }
 

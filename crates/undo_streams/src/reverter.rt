@@ -5,15 +5,15 @@ ghost use Rattle.row_text.specs.Fields.{IsDelimiter};
 ghost use Rattle.stream_apply.specs.KeyedLines.{lines_text};
 ghost use Rattle.stream_apply.specs.Streams.{IsLoaded};
 ghost use Rattle.stream_apply.specs.declared.key_fields.KeyFields.TheVariants.{One};
+ghost use Rattle.undo_streams.specs.InTurn.{table_with};
 ghost use Rattle.undo_streams.specs.Reverting.{IsLoadFault, IsUndoFault, IsUndone};
 
 use crate::fault::RevertFault;
-use crate::lines::read_table;
 use crate::weaver::undo_table;
 use row_text::Memory;
 use std::alloc::{AllocError, Global};
 use std::marker::Model;
-use stream_apply::KeyTable;
+use stream_apply::{KeyFields, KeyTable, read_table};
 
 /// A table, from which undo texts are taken back one after the other. Its lines stay where they were read, and in the table's order.
 #[derive(Drop)]
@@ -47,7 +47,7 @@ impl<'a> Reverter<'a> {
         ensures loaded { IfOk result (IsLoaded snapshot.now One delimiter) }
         ensures fault { IfErr result (IsLoadFault delimiter snapshot.now) }
     {
-        let table = read_table(alloc, snapshot, delimiter)?;
+        let table = load_table(alloc, snapshot, delimiter)?;
         Ok(Reverter {
             alloc,
             delimiter,
@@ -80,6 +80,20 @@ impl<'a> Reverter<'a> {
     {
         Ok(text_of(self.alloc, &self.table)?)
     }
+}
+
+/// The lines of a table's text, by their keys.
+pub(crate) fn load_table<'a>(
+    alloc: Global,
+    snapshot: &'a [u8],
+    delimiter: u8,
+) -> Result<KeyTable<'a>, RevertFault>
+    requires { IsDelimiter delimiter }
+    ensures loaded { IfOk result (λ lines. IsLoaded snapshot.now One delimiter (table_with delimiter lines)) }
+    ensures fault { IfErr result (IsLoadFault delimiter snapshot.now) }
+{
+    let table = read_table(alloc, snapshot, KeyFields::One, delimiter)?;
+    Ok(table)
 }
 
 /// The lines of a table in order, each with its line feed.

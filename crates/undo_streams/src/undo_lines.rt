@@ -1,6 +1,6 @@
 //! The lines of an undo text at the start of bytes.
 
-ghost use Rattle.std.specs.Prelude.{◌≡◌, ◌≢◌, ◌≤◌, ◌<◌, ◌^◌, ℕ, List, [], ◌∷◌, ◌++◌, true, decimal, length, IfOk, MatchOption};
+ghost use Rattle.std.specs.Prelude.{◌≡◌, ◌≢◌, ◌≤◌, ◌<◌, ◌^◌, ℕ, List, [], ◌∷◌, ◌++◌, true, decimal, length, Contains, IfOk, MatchOption};
 ghost use Rattle.std.specs.Char.{is_ascii_digit};
 ghost use Rattle.std.specs.List.{list_all};
 ghost use Rattle.std.specs.Str.Parse.{digits_value};
@@ -9,10 +9,10 @@ ghost use Rattle.undo_streams.specs.ReadLines.{IsLead, LeadsNone, undo_of};
 ghost use Rattle.undo_streams.specs.Reverting.{IsUndoLine, StartsNone, rank_of, undo_line_text};
 ghost use Rattle.undo_streams.specs.declared.part.Part.TheVariants.{Adds};
 
-use crate::lines::{cut, key_size};
 use crate::part::Part;
 use row_text::Memory;
 use std::alloc::Global;
+use stream_apply::{KeyFields, key_size};
 
 /// A place has this many digits at most.
 const PLACE_DIGITS: usize = 13;
@@ -57,7 +57,13 @@ pub(crate) fn read_undo<'a>(
     if lead.part.rank() < part.rank() {
         return Ok(None);
     }
-    match key_size(alloc, lead.part.shape(), lead.body, delimiter)? {
+    match key_size(
+        alloc,
+        lead.part.kind(),
+        lead.body,
+        KeyFields::One,
+        delimiter,
+    )? {
         None => Ok(None),
         Some(size) => Ok(Some(ReadUndo {
             part: lead.part,
@@ -67,6 +73,20 @@ pub(crate) fn read_undo<'a>(
             rest,
         })),
     }
+}
+
+/// What stands before the first byte of a kind, and what behind it; None where there is none.
+fn cut(bytes: &[u8], byte: u8) -> Option<(&[u8], &[u8])>
+    ensures { MatchOption result
+        (¬ Contains bytes.now byte)
+        (λ parts. (bytes.now ≡ parts.0.now ++ byte ∷ parts.1.now) × ¬ Contains parts.0.now byte) }
+{
+    for end in 0..bytes.len() {
+        if bytes[end] == byte {
+            return Some((&bytes[..end], &bytes[end + 1..]));
+        }
+    }
+    None
 }
 
 /// What a line begins with; None where it is that of no undo line.
