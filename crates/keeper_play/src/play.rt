@@ -179,7 +179,9 @@ fn put_listed<K: Keeper, L: Ledger>(
     for j in ordinals {
         let row = find(rows.plan(), table, *j);
         let lines = CohortLines::new(&*rows, table, row.born, unit);
-        put_row(rows, &lines, table, row, unit, keeper, &mut refs, buf, steps)?;
+        put_row(
+            rows, &lines, table, row, unit, keeper, &mut refs, buf, steps,
+        )?;
     }
     Ok(())
 }
@@ -214,7 +216,9 @@ fn put_cohort<K: Keeper, L: Ledger>(
             born: unit,
             index,
         };
-        put_row(rows, &lines, table, row, unit, keeper, &mut refs, buf, steps)?;
+        put_row(
+            rows, &lines, table, row, unit, keeper, &mut refs, buf, steps,
+        )?;
     }
     Ok(())
 }
