@@ -3,7 +3,7 @@ use Rattle.std.proofs.Common.{◌≡◌, ℕ, ◌*◌, take, get_or, subst, zero
 use Rattle.std.specs.List.{position_or_len, range_with_len}
 use Rattle.std.proofs.lemmas.Bool.{cases_Bool, cases_lt}
 use Rattle.std.proofs.Math.Nat.{mul_comm}
-use Rattle.std.proofs.lemmas.List.{map_more}
+use Rattle.std.proofs.lemmas.List.{length-map, map_more}
 use Rattle.std.proofs.lemmas.Nat.{mul-le}
 use Rattle.std.proofs.lemmas.List.Sums.{sum_by-append, sum_by-cons}
 use Rattle.std.proofs.lemmas.List.FromFn.{get_or-range_with_len}
@@ -16,7 +16,7 @@ use Rattle.schema_plan.specs.Limits.{IsInLimits}
 use Rattle.life_intervals.specs.CohortLives.{survival_at}
 use Rattle.life_intervals.specs.CohortParents.{asked_for_death}
 use Rattle.life_intervals.specs.Generator.{Generator, generator_of, last_unit, table_of}
-use Rattle.life_intervals.specs.Intervals.{is_live, row_at}
+use Rattle.life_intervals.specs.Intervals.{is_live, living, row_at}
 use Rattle.life_intervals.specs.Rows.{Row}
 use Rattle.life_intervals.specs.Runs.{IsRun}
 use Rattle.life_intervals.specs.Simulation.{holds_row, rows_at}
@@ -126,6 +126,28 @@ place_of-living units generator table unit ordinal sound within born alive =
     ap (position_or_len (λ (row : Row). row.ordinal == ordinal)) (rows_at-rows_of units generator table unit sound within)
     ∙ place-among generator table unit 0 (born_count (table_at generator.tables table).births unit) ordinal (omega arith) (omega (arith, born)) alive
     ∙ (let whole : ordinal - 0 ≡ ordinal = omega arith in ap (λ n. count_by (is_live generator table unit) (range_with_len 0 n)) whole)
+
+filter-passes : (p : ℕ → Bool) (x : ℕ) (xs : List ℕ) → p x ≡ true → length (filter p (x ∷ xs)) ≡ 1 + length (filter p xs)
+filter-passes p x xs is = rw is (omega arith)
+
+filter-fails : (p : ℕ → Bool) (x : ℕ) (xs : List ℕ) → p x ≡ false → length (filter p (x ∷ xs)) ≡ length (filter p xs)
+filter-fails p x xs is = rw is refl
+
+length-filter : (p : ℕ → Bool) (xs : List ℕ) → length (filter p xs) ≡ count_by p xs
+length-filter p [] = refl
+length-filter p (x ∷ xs) = elim (cases_Bool (p x)) [
+  | inl passes ↦ filter-passes p x xs passes ∙ ap (λ n. 1 + n) (length-filter p xs) ∙ sym (count_by-passes p x xs passes)
+  | inr fails ↦ filter-fails p x xs fails ∙ length-filter p xs ∙ sym (count_by-fails p x xs fails)
+]
+
+-- and it holds as many rows as are alive of those that are born
+pub living_among-all : (plan : Project) → IsInLimits plan → (table unit : ℕ) → unit ≤ last_unit plan → (count : ℕ) → count ≡ born_count (table_of plan table).births unit →
+    living_among plan table unit 0 count ≡ length (rows_at (generator_of plan) table unit)
+living_among-all plan limits table unit within count all =
+    ap (living_among plan table unit 0) all
+    ∙ sym (length-filter (is_live (generator_of plan) table unit) (range_with_len 0 (born_count (table_of plan table).births unit)))
+    ∙ sym (ap length (rows_at-rows_of (last_unit plan) (generator_of plan) table unit (AreSound-accepted plan limits) within)
+    ∙ length-map (living (generator_of plan) table unit) (row_at (generator_of plan) table unit))
 
 -- ---- rows that a table holds
 

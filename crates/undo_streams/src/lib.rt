@@ -25,5 +25,5 @@ pub use fault::RevertFault;
 pub use in_turn::{RevertedAt, revert_in_turn};
 pub use memory::Memory;
 pub use reverter::Reverter;
-pub use row_places::places;
+pub use row_places::{count_living, places};
 pub use undo_packer::{UndoPacker, WORD_AND_PLACE};

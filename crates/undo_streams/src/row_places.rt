@@ -12,7 +12,7 @@ ghost use Rattle.life_intervals.specs.Simulation.{holds_row, rows_at};
 ghost use Rattle.undo_streams.specs.Places.{AreBornAt, living_among, places_of};
 
 use crate::Memory;
-use life_intervals::{MOST_ROWS, Rows, Survival, birth, cohort, survival_at};
+use life_intervals::{MOST_ROWS, Rows, Survival, birth, born, cohort, survival_at};
 use std::alloc::Global;
 use std::sync::ledger::Ledger;
 use step_count::Steps;
@@ -215,6 +215,19 @@ fn living_between<L: Ledger>(
         from = until;
     }
     living
+}
+
+/// How many rows a table holds at unit `t`. They are counted by life, and no row is made: it takes at most as many steps as a row's death
+/// costs for each row that is born by the unit.
+pub fn count_living<L: Ledger>(rows: &Rows<'_>, table: u32, t: u64, steps: &mut Steps<L>) -> u64
+    requires table { table < length rows.now.schema.tables }
+    requires unit { t ≤ last_unit rows.now }
+    ensures count { result ≡ length (rows_at (generator_of rows.now) table t) }
+    ensures steps { steps.new ≤ steps.old + death_cost (layout_of rows.now).tables table * born_count (table_of rows.now table).births t }
+{
+    let _sound = rows.plan().schema(); // so the simulation is its closed form
+    let end = born(rows.plan(), table, t);
+    living_between(rows, table, t, 0, end, &mut LivesBuf::new(), steps)
 }
 
 /// The places, from 0, of these rows of a table in the list of those that it holds at unit `t`. The ordinals rise, and the table holds each
