@@ -39,7 +39,9 @@ impl<D: Databases + Drop> SqlKeeper<D> {
     }
 
     /// The open database, with what was put so far, in its transaction; None where the store isn't open.
-    pub fn into_tables(self) -> Option<D::Tables> {
+    pub fn into_tables(self) -> Option<D::Tables>
+        ensures { result ≡ self.tables }
+    {
         let SqlKeeper { tables, .. } = self;
         tables
     }

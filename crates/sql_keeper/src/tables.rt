@@ -9,7 +9,7 @@ use sqlite::{Alter, Connection, Constraint, Error, ErrorCode, Statement, params}
 const COUNT_OBJECTS: &str = "SELECT count(*) FROM sqlite_schema";
 
 /// The tables. A row has its number, the place of its table, its key and its line; a reference has its number and that of the row to which it
-/// leads. The index finds the references to a row.
+/// leads.
 const CREATE_TABLES: &str = "BEGIN;
 CREATE TABLE kept_row (
   row_id INTEGER PRIMARY KEY,
@@ -20,8 +20,10 @@ CREATE TABLE kept_row (
 CREATE TABLE kept_reference (
   reference_id INTEGER PRIMARY KEY,
   parent_id INTEGER NOT NULL REFERENCES kept_row (row_id)
-);
-CREATE INDEX kept_reference_by_parent ON kept_reference (parent_id);";
+);";
+
+/// The index that finds the references to a row.
+const CREATE_INDEX: &str = "CREATE INDEX kept_reference_by_parent ON kept_reference (parent_id)";
 
 const ADD_ROW: &str =
     "INSERT INTO kept_row (row_id, table_place, row_key, line) VALUES (?1, ?2, ?3, ?4)";
@@ -49,6 +51,9 @@ const COLUMNS: u32 = 64;
 
 /// How far apart, at most, the keys of a table may lie.
 const KEYS: u64 = 1 << 47;
+
+/// How many references are put at most without the index. To make it takes some 120 bytes of memory for each of them.
+const UNINDEXED: u64 = 1 << 19;
 
 /// A row: its number, the place of its table, and its key.
 #[derive(Clone, Copy)]
@@ -107,10 +112,16 @@ impl Statements {
 }
 
 /// An open database with the two tables, in a transaction.
+///
+/// The index is made once a row is dropped or replaced, once there are many references, or at the end: to keep it up to date for each
+/// reference that comes costs some three times as much as to make it at once.
 #[derive(Drop)]
 pub(crate) struct Tables<S: Alter + Drop> {
     database: Connection<S>,
     statements: Statements,
+    is_indexed: bool,
+    /// How many references were put without the index.
+    unindexed: u64,
 }
 
 impl<S: Alter + Drop> Tables<S> {
@@ -120,6 +131,8 @@ impl<S: Alter + Drop> Tables<S> {
         Ok(Tables {
             database,
             statements,
+            is_indexed: false,
+            unindexed: 0,
         })
     }
 
@@ -142,6 +155,7 @@ impl<S: Alter + Drop> Tables<S> {
     /// Drops a row with its references.
     pub(crate) fn drop_row(&mut self, table: u32, key: u64) -> Result<(), Refused> {
         let row = RowName::of(table, key)?;
+        self.index()?;
         self.drop_refs(row)?;
         let values = params![row.number, row.key];
         make(&mut self.database, &self.statements.drop_row, values)?;
@@ -150,7 +164,17 @@ impl<S: Alter + Drop> Tables<S> {
 
     /// Commits what was put and dropped.
     pub(crate) fn commit(&mut self) -> Result<(), Refused> {
+        self.index()?;
         batch(&mut self.database, COMMIT)
+    }
+
+    /// Makes the index, where it isn't made.
+    fn index(&mut self) -> Result<(), Refused> {
+        if self.is_indexed {
+            return Ok(());
+        }
+        self.is_indexed = true;
+        batch(&mut self.database, CREATE_INDEX)
     }
 
     /// Puts a row without references, in place of one with the same key.
@@ -165,6 +189,7 @@ impl<S: Alter + Drop> Tables<S> {
 
     /// Sets the line of a row that is there, and drops its references.
     fn set_line(&mut self, row: RowName, line: &[u8]) -> Result<(), Refused> {
+        self.index()?;
         self.drop_refs(row)?;
         let values = params![row.number, row.key, line];
         let set = make(&mut self.database, &self.statements.set_line, values)?;
@@ -176,7 +201,12 @@ impl<S: Alter + Drop> Tables<S> {
         let parent = RowName::of(to.table, to.key)?;
         let values = params![row.reference(to.column)?, parent.number];
         make(&mut self.database, &self.statements.put_reference, values)?;
-        Ok(())
+        self.unindexed = self.unindexed.saturating_add(1);
+        if self.unindexed < UNINDEXED {
+            Ok(())
+        } else {
+            self.index()
+        }
     }
 
     /// Drops the references of a row.
