@@ -107,20 +107,6 @@ finished plan unit name before now limits within made =
     ∙ ap₂ (λ (rows : Option KeptRows) (n : ℕ). record { rows = rows; name = option_map (λ (last : List ℕ). name) before.name; is_open = false; done = n })
     (rows-started all before.rows ∙ ap (λ (rows : KeptRows). option_map (λ (r : KeptRows). rows) before.rows) (statements-give plan limits unit within)) count
 
--- ---- rows that are counted
-
-pub count-more : (p : ℕ → Bool) (n : ℕ) → length (filter p (range_with_len 0 (n + 1))) ≡ length (filter p (range_with_len 0 n)) + (if p n then 1 else 0)
-count-more p n =
-    let at : 0 + n ≡ n = omega arith in
-    let parts : range_with_len 0 (n + 1) ≡ range_with_len 0 n ++ n ∷ [] = range_with_len-add 0 n 1 ∙ ap (λ (m : ℕ). range_with_len 0 n ++ m ∷ []) at in
-    ap (λ (xs : List ℕ). length (filter p xs)) parts
-    ∙ ap length (filter-append p (range_with_len 0 n) (n ∷ []))
-    ∙ length-append (filter p (range_with_len 0 n)) (filter p (n ∷ []))
-    ∙ ap (λ (m : ℕ). length (filter p (range_with_len 0 n)) + m) (one p n)
-  where
-    one : (p : ℕ → Bool) (n : ℕ) → length (filter p (n ∷ [])) ≡ (if p n then 1 else 0)
-    one p n = elim (cases_Bool (p n)) [ inl passes ↦ rw passes refl | inr fails ↦ rw fails refl ]
-
 -- a store that is started stays open while statements are made
 pub still-open : (plan : Project) (unit : ℕ) (name : List ℕ) (before now : Store) → AreMade (statements_to (generator_of plan) unit) (start_store name before) now → now.is_open ≡ true
 still-open plan unit name before now are = ap (λ (s : Store). s.is_open) are.made

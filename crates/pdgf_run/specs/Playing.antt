@@ -9,6 +9,7 @@ use Rattle.request_words.specs.declared.usage.Request.{Request}
 use Rattle.request_words.specs.declared.usage.UsageFault.{UsageFault}
 use Rattle.schema_plan.specs.Dictionaries.{Project}
 use Rattle.life_intervals.specs.Generator.{generator_of, last_unit}
+use Rattle.life_intervals.specs.JobOrders.{AreOrdersOf}
 use Rattle.keeper_play.specs.Kept.{KeptRows, Statement}
 use Rattle.keeper_play.specs.Played.{Changes}
 use Rattle.keeper_play.specs.Statements.{rows_after, rows_of_unit, statements_to}
@@ -60,9 +61,10 @@ abbrev pub task_due : Task → List File
 task_due (task.Write job) = due_of job
 task_due (task.Play job) = text_files job.summary.items
 
--- units of the plan are played
+-- units of the plan are played, by orders of its own
 pub record CanPlay (job : PlayJob) : Type 0 where
   pub unit : job.to ≤ last_unit job.plan
+  pub orders : AreOrdersOf job.plan job.orders
 
 abbrev pub CanDo : Task → Type 0
 CanDo (task.Write job) = CanFill job

@@ -45,11 +45,12 @@ pub(crate) enum Task {
     Play(PlayJob),
 }
 
-/// The units of a plan that are played, up to one, the name of the store, and the summary: for each table how many rows it holds at the
-/// last of the units.
+/// The units of a plan that are played, up to one, with the orders that are kept for its rows, the name of the store, and the summary: for each
+/// table how many rows it holds at the last of the units.
 #[derive(Drop)]
 pub(crate) struct PlayJob {
     pub(crate) plan: Plan,
+    pub(crate) orders: JobOrders,
     pub(crate) to: u64,
     pub(crate) store: Name,
     pub(crate) summary: Vec<u8>,

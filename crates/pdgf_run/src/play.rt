@@ -13,9 +13,9 @@ ghost use Rattle.pdgf_run.specs.declared.play.PlayFault.TheVariants as fault;
 
 use crate::job::{Job, PlayJob, Task};
 use crate::unit_sources::{Births, Changed};
-use keeper_play::{KeepFailed, Keeper, play_unit};
+use keeper_play::{KeepFailed, Keeper, play_rows};
+use life_intervals::Rows;
 use line_pages::PageBuf;
-use schema_plan::Plan;
 use std::alloc::Global;
 use std::marker::Brand;
 use std::sync::ledger::{Blank, Ledger};
@@ -69,7 +69,8 @@ pub(crate) fn play<K: Keeper>(alloc: Global, job: &PlayJob, keeper: &mut K) -> R
     let _limits = plan.schema(); // a line has at most 65,536 bytes
     let mut page = PageBuf::with_room(alloc, plan.reach() as usize)?;
     keeper.start(job.store.as_str())?;
-    play_units::<K, Brand>(alloc, plan, job.to, keeper, &mut page, Blank::new(1))?;
+    let rows = Rows::with(plan, &job.orders);
+    play_units::<K, Brand>(alloc, &rows, job.to, keeper, &mut page, Blank::new(1))?;
     keeper.finish()?;
     Ok(())
 }
@@ -77,7 +78,7 @@ pub(crate) fn play<K: Keeper>(alloc: Global, job: &PlayJob, keeper: &mut K) -> R
 /// Plays the units up to one.
 fn play_units<K: Keeper, B: Ledger>(
     alloc: Global,
-    plan: &Plan,
+    rows: &Rows<'_>,
     to: u64,
     keeper: &mut K,
     page: &mut PageBuf,
@@ -86,20 +87,21 @@ fn play_units<K: Keeper, B: Ledger>(
     requires name { blank.name ≡ B.name }
     requires parts { blank.parts ≡ B.parts }
     requires some { 0 < blank.parts }
-    requires unit { to ≤ last_unit plan.now }
+    requires unit { to ≤ last_unit rows.now }
     requires is_open { IsTrue (K.store keeper.old).is_open }
     requires empty { page.old.text ≡ [] }
-    requires room { reach (layout_of plan.now) ≤ page.old.room }
-    ensures made { OnOk result (K.store keeper.new ≡ perform_all (statements_to (generator_of plan.now) to) (K.store keeper.old)) }
-    ensures some { OnErr result (AreMade (statements_to (generator_of plan.now) to) (K.store keeper.old) (K.store keeper.new)) }
+    requires room { reach (layout_of rows.now) ≤ page.old.room }
+    ensures made { OnOk result (K.store keeper.new ≡ perform_all (statements_to (generator_of rows.now) to) (K.store keeper.old)) }
+    ensures some { OnErr result (AreMade (statements_to (generator_of rows.now) to) (K.store keeper.old) (K.store keeper.new)) }
     ensures no_fault { OnOk result (K.faults keeper.new ≡ K.faults keeper.old) }
     ensures memory { IsErrOf result fault.Memory → K.faults keeper.new ≡ K.faults keeper.old }
     ensures failed { IsErrOf result fault.Keeper → FailsAtLast result (K.faults keeper.old) (K.faults keeper.new) (K.last_failed keeper.new) }
 {
     let mut steps = Steps::<B>::new(blank);
-    play_unit(plan, 0, &Births { plan }, keeper, page, &mut steps)?;
+    let births = Births { plan: rows.plan() };
+    play_rows(rows, 0, &births, keeper, page, &mut steps)?;
     for before in 0..to {
-        play_changes(alloc, plan, before + 1, keeper, page, &mut steps)?;
+        play_changes(alloc, rows, before + 1, keeper, page, &mut steps)?;
     }
     Ok(())
 }
@@ -107,26 +109,26 @@ fn play_units<K: Keeper, B: Ledger>(
 /// Plays a later unit. Its memory is taken before its first statement.
 fn play_changes<K: Keeper, L: Ledger>(
     alloc: Global,
-    plan: &Plan,
+    rows: &Rows<'_>,
     unit: u64,
     keeper: &mut K,
     page: &mut PageBuf,
     steps: &mut Steps<L>,
 ) -> Result<(), PlayFault>
     requires later { 1 ≤ unit }
-    requires unit { unit ≤ last_unit plan.now }
+    requires unit { unit ≤ last_unit rows.now }
     requires is_open { IsTrue (K.store keeper.old).is_open }
     requires empty { page.old.text ≡ [] }
-    requires room { reach (layout_of plan.now) ≤ page.old.room }
-    ensures made { OnOk result (K.store keeper.new ≡ perform_all (unit_statements (generator_of plan.now) unit) (K.store keeper.old)) }
-    ensures some { OnErr result (AreMade (unit_statements (generator_of plan.now) unit) (K.store keeper.old) (K.store keeper.new)) }
+    requires room { reach (layout_of rows.now) ≤ page.old.room }
+    ensures made { OnOk result (K.store keeper.new ≡ perform_all (unit_statements (generator_of rows.now) unit) (K.store keeper.old)) }
+    ensures some { OnErr result (AreMade (unit_statements (generator_of rows.now) unit) (K.store keeper.old) (K.store keeper.new)) }
     ensures no_fault { OnOk result (K.faults keeper.new ≡ K.faults keeper.old) }
     ensures memory { IsErrOf result fault.Memory → K.faults keeper.new ≡ K.faults keeper.old }
     ensures failed { IsErrOf result fault.Keeper → FailsAtLast result (K.faults keeper.old) (K.faults keeper.new) (K.last_failed keeper.new) }
     ensures page { page.new ≡ page.old }
 {
-    let rows = unit_rows(alloc, plan, unit, steps)?;
-    play_unit(plan, unit, &Changed { rows: &rows }, keeper, page, steps)?;
+    let changed = unit_rows(alloc, rows.plan(), unit, steps)?;
+    play_rows(rows, unit, &Changed { rows: &changed }, keeper, page, steps)?;
     Ok(())
 }
 

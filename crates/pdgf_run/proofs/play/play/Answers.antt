@@ -13,7 +13,10 @@ pub returns-clause-plays : goal.returns-clause-plays
 returns-clause-plays g c =
     let plan : Project = c.args.job.now.plan in
     let start = c.in_ok-start.ensures.started ∙ ap (λ (name : List ℕ). start_store name (g.K.Keeper.store c.args.keeper.now)) c.as_str.ensures.value in
-    let made = c.in_ok-play_units.ensures.made ∙ ap (perform_all (statements_to (generator_of plan) c.args.job.now.to)) start in
+    let made =
+    c.in_ok-play_units.ensures.made
+    ∙ ap (λ (p : Project). perform_all (statements_to (generator_of p) c.args.job.now.to) (g.K.Keeper.store c.start.new.self)) c.with-rows.ensures
+    ∙ ap (perform_all (statements_to (generator_of plan) c.args.job.now.to)) start in
     record {
       played = finished plan c.args.job.now.to c.args.job.now.store (g.K.Keeper.store c.args.keeper.now) (g.K.Keeper.store c.finish.new.self) c.schema-limits.ensures.limits c.requires.can.unit (c.in_ok-finish.ensures.finished ∙ ap finish_store made);
       broken_off = tt;
@@ -25,7 +28,8 @@ returns-in_err-play_units-clause-plays g c =
     let answer = err_from_is_err_and c.from_residual-in_err-play_units.result c.from_residual-in_err-play_units.ensures.1 in
     let plan : Project = c.args.job.now.plan in
     let start = c.in_ok-start.ensures.started ∙ ap (λ (name : List ℕ). start_store name (g.K.Keeper.store c.args.keeper.now)) c.as_str.ensures.value in
-    let are = subst (λ (store : Store). AreMade (statements_to (generator_of plan) c.args.job.now.to) store (g.K.Keeper.store c.play_units.new.keeper)) start c.in_err-play_units.ensures.some in
+    let are = subst (λ (store : Store). AreMade (statements_to (generator_of plan) c.args.job.now.to) store (g.K.Keeper.store c.play_units.new.keeper)) start
+    (subst (λ (p : Project). AreMade (statements_to (generator_of p) c.args.job.now.to) (g.K.Keeper.store c.start.new.self) (g.K.Keeper.store c.play_units.new.keeper)) c.with-rows.ensures c.in_err-play_units.ensures.some) in
     rw answer.1
     (record {
       played = tt;
@@ -38,7 +42,10 @@ returns-in_err-finish-clause-plays g c =
     let answer = err_from_is_err_and c.from_residual-in_err-finish.result c.from_residual-in_err-finish.ensures.1 in
     let plan : Project = c.args.job.now.plan in
     let start = c.in_ok-start.ensures.started ∙ ap (λ (name : List ℕ). start_store name (g.K.Keeper.store c.args.keeper.now)) c.as_str.ensures.value in
-    let made = c.in_ok-play_units.ensures.made ∙ ap (perform_all (statements_to (generator_of plan) c.args.job.now.to)) start in
+    let made =
+    c.in_ok-play_units.ensures.made
+    ∙ ap (λ (p : Project). perform_all (statements_to (generator_of p) c.args.job.now.to) (g.K.Keeper.store c.start.new.self)) c.with-rows.ensures
+    ∙ ap (perform_all (statements_to (generator_of plan) c.args.job.now.to)) start in
     let are = all-made (statements_to (generator_of plan) c.args.job.now.to) (start_store c.args.job.now.store (g.K.Keeper.store c.args.keeper.now)) (g.K.Keeper.store c.finish.new.self) (c.in_err-finish.ensures.unchanged ∙ made) in
     rw answer.1
     (record {

@@ -1,5 +1,9 @@
+use Rattle.std.proofs.Common.{ap, ◌∙◌}
+use Rattle.schema_plan.specs.Dictionaries.{Project}
+use Rattle.update_box.specs.UnitLists.{unit_lists}
 use Rattle.pdgf_run.proofs.PlayLemmas.{later-told}
 use Rattle.pdgf_run.proofs.play.play_changes.Goals as goal
 
-pub play_unit-requires-clause-source : goal.play_unit-requires-clause-source
-play_unit-requires-clause-source g c = later-told c.args.plan.now c.args.unit c.in_ok-rows.rows c.in_ok-rows.ensures.lists
+pub play_rows-requires-clause-source : goal.play_rows-requires-clause-source
+play_rows-requires-clause-source g c = later-told c.args.rows.now c.args.unit c.in_ok-changed.changed
+    (c.in_ok-changed.ensures.lists ∙ ap (λ (plan : Project). unit_lists plan c.args.unit) c.plan.ensures)

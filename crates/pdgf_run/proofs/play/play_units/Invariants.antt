@@ -8,7 +8,7 @@ use Rattle.pdgf_run.proofs.play.play_units.Given as goal
 -- the units so far are played
 abbrev pub invariant-loop-before : goal.invariant-loop-before
 invariant-loop-before g l = record {
-  made : g.K.Keeper.store l.keeper ≡ perform_all (flat_map (unit_statements (generator_of l.plan)) (range_with_len 0 (l.before + 1))) (g.K.Keeper.store l.fn.keeper);
+  made : g.K.Keeper.store l.keeper ≡ perform_all (flat_map (unit_statements (generator_of l.rows)) (range_with_len 0 (l.before + 1))) (g.K.Keeper.store l.fn.keeper);
   faults : g.K.Keeper.faults l.keeper ≡ g.K.Keeper.faults l.fn.keeper;
   page : l.page ≡ l.fn.page;
 }

@@ -1,4 +1,6 @@
-use Rattle.std.proofs.Common.{◌≡◌, ◌+◌, ◌++◌, List, [], ℕ, ap, refl, sym, ◌∙◌}
+use Rattle.std.proofs.Common.{◌≡◌, ◌+◌, ◌++◌, List, [], ℕ, length, codes, decimal, ap, ap₂, arith, refl, sym, ◌∙◌}
+use Rattle.life_intervals.specs.Generator.{generator_of, last_unit}
+use Rattle.life_intervals.specs.Simulation.{rows_at}
 use Rattle.life_intervals.proofs.Ranges.{flat_map-range_with_len_more}
 use Rattle.schema_plan.specs.Dictionaries.{Project}
 use Rattle.pdgf_run.specs.modes.Play.{play_line, play_lines}
@@ -16,8 +18,21 @@ play_lines-add_one plan unit count = flat_map-range_with_len_more (play_line pla
 pub loop-table-init : goal.loop-table-init
 loop-table-init g c = c.new-text.ensures.items ∙ sym (play_lines-zero c.args.plan.now c.args.unit)
 
+pub count_living-count-requires-clause-table : goal.count_living-count-requires-clause-table
+count_living-count-requires-clause-table g c =
+    omega (arith, c.loop-table-test.true, c.tables-table-end.ensures, ap (λ (p : Project). length p.schema.tables) c.with-rows.ensures)
+
+pub count_living-count-requires-clause-unit : goal.count_living-count-requires-clause-unit
+count_living-count-requires-clause-unit g c = omega (arith, c.requires.unit, ap last_unit c.with-rows.ensures)
+
 pub loop-table-preserved : goal.loop-table-preserved
 loop-table-preserved g c =
+    let plan : Project = c.args.plan.now in
+    let unit : ℕ = c.args.unit in
+    let table : ℕ = c.loop-table.table in
+    let line : c.name_of.result.now ++ codes "\t" ++ decimal c.count_living-count.result ++ codes "\n" ≡ play_line plan unit table =
+    ap₂ (λ (name : List ℕ) (count : ℕ). name ++ codes "\t" ++ decimal count ++ codes "\n") c.name_of.ensures
+    (c.count_living-count.ensures.count ∙ ap (λ (p : Project). length (rows_at (generator_of p) table unit)) c.with-rows.ensures) in
     c.in_ok-push_line.ensures
-    ∙ ap (λ (text : List ℕ). text ++ play_line c.args.plan.now c.args.unit c.loop-table.table) c.loop-table.invariant
-    ∙ sym (play_lines-add_one c.args.plan.now c.args.unit c.loop-table.table)
+    ∙ ap₂ (λ (text last : List ℕ). text ++ last) c.loop-table.invariant line
+    ∙ sym (play_lines-add_one plan unit table)
