@@ -8,12 +8,10 @@ use sqlite::{Alter, Connection, Constraint, Error, ErrorCode, Statement, params}
 /// Whether a database has any table, index or view.
 const COUNT_OBJECTS: &str = "SELECT count(*) FROM sqlite_schema";
 
-/// The tables. A row has its number, the place of its table, its key and its line; a reference has its number and that of the row to which it
-/// leads.
+/// The tables. A row has its number, its key and its line; a reference has its number and that of the row to which it leads.
 const CREATE_TABLES: &str = "BEGIN;
 CREATE TABLE kept_row (
   row_id INTEGER PRIMARY KEY,
-  table_place INTEGER NOT NULL,
   row_key INTEGER NOT NULL,
   line BLOB NOT NULL
 );
@@ -25,8 +23,7 @@ CREATE TABLE kept_reference (
 /// The index that finds the references to a row.
 const CREATE_INDEX: &str = "CREATE INDEX kept_reference_by_parent ON kept_reference (parent_id)";
 
-const ADD_ROW: &str =
-    "INSERT INTO kept_row (row_id, table_place, row_key, line) VALUES (?1, ?2, ?3, ?4)";
+const ADD_ROW: &str = "INSERT INTO kept_row (row_id, row_key, line) VALUES (?1, ?2, ?3)";
 
 const SET_LINE: &str = "UPDATE kept_row SET line = ?3 WHERE row_id = ?1 AND row_key = ?2";
 
@@ -49,31 +46,30 @@ const TABLES: u64 = 64;
 /// How many columns a table may have.
 const COLUMNS: u32 = 64;
 
-/// How far apart, at most, the keys of a table may lie.
-const KEYS: u64 = 1 << 47;
+/// How far apart, at most, the keys of a table may lie: it has no more rows.
+const KEYS: u64 = 1 << 40;
 
 /// How many references are put at most without the index. To make it takes some 120 bytes of memory for each of them.
 const UNINDEXED: u64 = 1 << 19;
 
-/// A row: its number, the place of its table, and its key.
+/// A row: its number, and its key.
 #[derive(Clone, Copy)]
 struct RowName {
     number: i64,
-    table: u32,
     key: i64,
 }
 
 impl RowName {
-    /// The row of a table that has a key. Its number is made of the remainder of its key and the place of its table, so that all rows have
-    /// numbers of their own where the keys of each table lie near enough to one another.
+    /// The row of a table that has a key. Its number is made of the place of its table and the remainder of its key, so that all rows have
+    /// numbers of their own where the keys of each table lie near enough to one another, and the rows of a table stand together.
     fn of(table: u32, key: u64) -> Result<RowName, Refused> {
         let place = u64::from(table);
         if place >= TABLES {
             return Err(Refused);
         }
-        let number = (key % KEYS * TABLES + place) as i64;
+        let number = (place * KEYS + key % KEYS) as i64;
         match i64::try_from(key) {
-            Ok(key) => Ok(RowName { number, table, key }),
+            Ok(key) => Ok(RowName { number, key }),
             Err(_) => Err(Refused),
         }
     }
@@ -179,7 +175,7 @@ impl<S: Alter + Drop> Tables<S> {
 
     /// Puts a row without references, in place of one with the same key.
     fn put_line(&mut self, row: RowName, line: &[u8]) -> Result<(), Refused> {
-        let values = params![row.number, row.table, row.key, line];
+        let values = params![row.number, row.key, line];
         match make(&mut self.database, &self.statements.add_row, values) {
             Ok(_) => Ok(()),
             Err(error) if is_taken(error) => self.set_line(row, line),
