@@ -1,5 +1,6 @@
 -- The values of the rows of a table that are born at one unit and changed last at another, and what the code keeps of them.
 use Rattle.std.specs.Prelude.{◌≡◌, ◌≤◌, ℕ, List, Bool, Option}
+use Rattle.philox_seeds.specs.SeedTree.{table_seed}
 use Rattle.schema_plan.specs.declared.ready.ReadyColumn.{ReadyColumn}
 use Rattle.schema_plan.specs.Layout.{column_at, layout_of, table_at, TableLayout}
 use Rattle.schema_plan.specs.Limits.{IsTableInLimits}
@@ -9,7 +10,6 @@ use Rattle.draw_values.specs.declared.cohort_values.Seeds.{Seeds}
 use Rattle.draw_values.specs.declared.cohort_values.Seeds.TheVariants as seeds
 use Rattle.draw_values.specs.declared.values.RowAt.{RowAt}
 use Rattle.draw_values.specs.Runs.{AreColumnsOf}
-use Rattle.draw_values.specs.UnitDraws.{unit_draws}
 use Rattle.draw_values.specs.Values.{draws_at, is_null, size_at, value_at}
 
 -- the values of the rows that are born at a unit and changed last at another, in the table at a place
@@ -41,10 +41,9 @@ is_null_for values column ordinal =
 abbrev pub value_size_for : ValuesOf → ℕ → ℕ
 value_size_for values column = size_at (layout_of values.plan) values.table column
 
--- what the seeds of the columns are taken from: the draws at the two units, or the prepared columns of the table
+-- what the seeds of the columns are taken from: the seed of the table, or its prepared columns
 abbrev pub AreSeedsOf : ValuesOf → Seeds → Type 0
-AreSeedsOf values (seeds.Units births changes) =
-    (births.now ≡ unit_draws values.plan values.table values.born) × (changes.now ≡ unit_draws values.plan values.table values.changed)
+AreSeedsOf values (seeds.Table seed) = seed ≡ table_seed (layout_of values.plan).seed values.table
 AreSeedsOf values (seeds.Columns columns) = AreColumnsOf values.plan values.table columns.now
 
 -- what is kept is of the table's columns, at units of the plan

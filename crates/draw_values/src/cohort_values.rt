@@ -2,31 +2,27 @@
 //! once.
 
 ghost use Rattle.std.specs.Prelude.{◌≡◌, ◌<◌, ◌≤◌, ℕ, ◌+◌, ◌++◌, true, length, map, slice_index};
-ghost use Rattle.philox_seeds.specs.SeedTree.{unit_seed};
+ghost use Rattle.philox_seeds.specs.SeedTree.{unit_seed as unit_seed_of};
 ghost use Rattle.row_text.specs.Fields.{field_text};
 ghost use Rattle.schema_plan.specs.Layout.{column_at, layout_of};
 ghost use Rattle.draw_values.specs.CohortValues.{is_null_for, table_for, row_for, value_size_for, value_for};
 ghost use Rattle.draw_values.specs.ReadyValues.{row_draws};
 ghost use Rattle.draw_values.specs.Runs.{AreColumnsOf, RunColumnOf};
-ghost use Rattle.draw_values.specs.UnitDraws.{unit_draws};
 ghost use Rattle.draw_values.specs.Values.{draws_at, is_own, put_of, written};
 
 use crate::Put;
-use crate::draws::UnitDraws;
 use crate::fields::{Drawn, Units, chooser_of, is_null, put_field};
 use crate::run_column::RunColumn;
 use line_pages::PageBuf;
+use philox_seeds::{column_seed, table_seed, unit_seed};
 use schema_plan::{Plan, ReadyColumn};
 use std::marker::Model;
 
-/// What the seeds of the columns of a table are taken from, at two units.
+/// What the seeds of the columns of a table are taken from.
 #[derive(Drop)]
 pub(crate) enum Seeds<'a> {
-    /// The draws at both.
-    Units {
-        births: &'a UnitDraws,
-        changes: &'a UnitDraws,
-    },
+    /// The seed of the table.
+    Table(u64),
     /// The prepared columns of the table.
     Columns(&'a [RunColumn]),
 }
@@ -54,32 +50,26 @@ impl<'a> Model for CohortValues<'a> {
 }
 
 impl<'a> CohortValues<'a> {
-    /// The values of the rows of a table that are born at the unit of `births` and changed last at that of `changes`, which are the
-    /// same draws for rows that never changed.
+    /// The values of the rows of a table that are born at the unit `born` and changed last at the unit `changed`, which is the same for
+    /// rows that never changed.
     #[inline(always)]
-    pub fn new(
-        plan: &'a Plan,
-        table: u32,
-        births: &'a UnitDraws,
-        changes: &'a UnitDraws,
-    ) -> CohortValues<'a>
+    pub fn new(plan: &'a Plan, table: u32, born: u64, changed: u64) -> CohortValues<'a>
         requires table { table < length plan.now.schema.tables }
-        requires births { births.now ≡ unit_draws plan.now table births.now.unit }
-        requires changes { changes.now ≡ unit_draws plan.now table changes.now.unit }
-        ensures { result ≡ record { plan = plan.now; table = table; born = births.now.unit; changed = changes.now.unit } }
+        requires born { born ≤ (layout_of plan.now).units }
+        requires changed { changed ≤ (layout_of plan.now).units }
+        ensures { result ≡ record { plan = plan.now; table = table; born = born; changed = changed } }
     {
         CohortValues {
             plan,
             table,
             columns: plan.columns(table),
-            born: births.small_unit(),
-            changed: changes.small_unit(),
-            seeds: Seeds::Units { births, changes },
+            born,
+            changed,
+            seeds: Seeds::Table(table_seed(plan.seed(), table)),
         }
     }
 
-    /// The values of the rows of a table that are born at the unit `born` and changed last at the unit `changed`, from the prepared
-    /// columns of the table, so that none of its seeds that is kept is made anew.
+    /// The same from the prepared columns of the table, so that none of its seeds that is kept is made anew.
     #[inline(always)]
     pub fn kept(
         plan: &'a Plan,
@@ -111,18 +101,14 @@ impl<'a> CohortValues<'a> {
         ensures { (ordinal : ℕ) → row_draws result ordinal ≡ draws_at (layout_of self.now.plan) self.now.table (row_for self.now ordinal) column }
     {
         let columns = self.columns;
-        let changes_here = columns[column].changes;
-        match &self.seeds {
-            Seeds::Units { births, changes } if changes_here => changes.seed(column),
-            Seeds::Units { births, changes } => births.seed(column),
-            Seeds::Columns(kept) => {
-                let unit = if changes_here {
-                    self.changed
-                } else {
-                    self.born
-                };
-                kept_seed(kept, column, unit)
-            }
+        let unit = if columns[column].changes {
+            self.changed
+        } else {
+            self.born
+        };
+        match self.seeds {
+            Seeds::Table(seed) => unit_seed(column_seed(seed, column as u32), unit),
+            Seeds::Columns(kept) => kept_seed(kept, column, unit),
         }
     }
 
@@ -175,7 +161,7 @@ impl<'a> CohortValues<'a> {
 #[inline(always)]
 fn kept_seed(columns: &[RunColumn], column: usize, unit: u64) -> u64
     requires { column < length columns.now }
-    ensures { result ≡ unit_seed (slice_index (map (λ (run : RunColumnOf). run.seed) columns.now) column) unit }
+    ensures { result ≡ unit_seed_of (slice_index (map (λ (run : RunColumnOf). run.seed) columns.now) column) unit }
 {
     columns[column].seeds().at(unit)
 }

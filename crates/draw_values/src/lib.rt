@@ -5,7 +5,7 @@
 //! A table and a column are named by their places in the schema and in the table, and a row by its ordinal, its place in the order
 //! of birth in its table; all count from 0. A value is appended to a page as it is written (PostgreSQL's manual, "COPY", text
 //! format). A run is up to 256 rows of a table, whose fields a column makes at once, as pieces with the byte that stands behind them.
-//! Only `unit_draws`, `ColumnSeeds::new` and `RunColumn::new` take memory.
+//! Only `ColumnSeeds::new` and `RunColumn::new` take memory.
 #![tactic(auto)]
 
 mod characters;
@@ -13,7 +13,6 @@ mod cohort_values;
 mod column_seeds;
 mod dates;
 mod digits;
-mod draws;
 mod fields;
 mod fixed;
 mod items;
@@ -33,7 +32,6 @@ mod words;
 
 pub use cohort_values::CohortValues;
 pub use column_seeds::ColumnSeeds;
-pub use draws::{UnitDraws, unit_draws};
 pub use items::ItemizedField;
 pub use run_column::RunColumn;
 pub use runs::{RUN_LIMIT, RunNumbers, RunRows};

@@ -10,7 +10,6 @@ ghost use Rattle.schema_plan.specs.Layout.{layout_of};
 ghost use Rattle.schema_plan.specs.Limits.{IsStillColumn};
 ghost use Rattle.schema_plan.specs.Lineage.{one_if};
 ghost use Rattle.schema_plan.specs.TableFacts.{line_cost, max_line};
-ghost use Rattle.draw_values.specs.UnitDraws.{unit_draws};
 ghost use Rattle.life_intervals.specs.CohortParents.{asked_for_change};
 ghost use Rattle.life_intervals.specs.Generator.{last_unit, table_of};
 ghost use Rattle.row_lines.specs.CohortLines.{asked_for, asked_for_line, asked_where, change_for, is_live_for, key_for, layout_for, line_in_cohort, size_for, text_in_cohort, values_at};
@@ -19,7 +18,7 @@ ghost use Rattle.row_lines.specs.Lookups.{IsLookupOf, text_held};
 
 use crate::bytes::byte_behind;
 use crate::cohort_fields::CohortFields;
-use draw_values::{CohortValues, UnitDraws};
+use draw_values::CohortValues;
 use life_intervals::{Rows, birth, cohort};
 use line_pages::{PageBuf, Piece};
 use row_text::put_null;
@@ -139,9 +138,7 @@ impl<'a> CohortLines<'a> {
         ensures steps { steps.new ≤ steps.old + asked_for_line self.now }
     {
         let plan = self.rows.plan();
-        let births = UnitDraws::new(plan, self.place, self.born);
-        let changes = UnitDraws::new(plan, self.place, changed);
-        let values = CohortValues::new(plan, self.place, &births, &changes);
+        let values = CohortValues::new(plan, self.place, self.born, changed);
         self.put_fields(index, key, &values, buf, steps);
     }
 
@@ -258,25 +255,20 @@ impl<'a> CohortLines<'a> {
         let parent = self
             .fields
             .parent(lookup.via as u32, reference, index, steps);
-        let plan = self.rows.plan();
-        let born = birth(plan, lookup.parent, parent);
-        let draws = UnitDraws::new(plan, lookup.parent, born);
-        self.put_looked_up(lookup, parent, &draws, buf, steps);
+        self.put_looked_up(lookup, parent, buf, steps);
     }
 
-    /// Appends what a lookup shows of the row of an ordinal in the parent's table, by the draws of that one's birth.
+    /// Appends what a lookup shows of the row of an ordinal in the parent's table.
     #[inline(always)]
     fn put_looked_up<L: Ledger>(
         &self,
         lookup: &ReadyLookup,
         parent: u64,
-        draws: &UnitDraws,
         buf: &mut PageBuf,
         steps: &mut Steps<L>,
     )
         requires table { lookup.now.parent < length self.now.plan.schema.tables }
         requires born { parent < born_count (table_of self.now.plan lookup.now.parent).births self.now.unit }
-        requires draws { draws.now ≡ unit_draws self.now.plan lookup.now.parent (birth (table_of self.now.plan lookup.now.parent).births (last_unit self.now.plan) parent) }
         requires column { IsStillColumn (table_of self.now.plan lookup.now.parent) lookup.now.column }
         requires room { length buf.old.text + (bounds_at (layout_of self.now.plan).delimiter (layout_of self.now.plan).tables (table_of self.now.plan lookup.now.parent) lookup.now.column).size ≤ buf.old.room }
         ensures text { buf.new ≡ record buf.old { text = buf.old.text ++ text_held self.now.plan lookup.now.parent self.now.unit parent lookup.now.column } }
@@ -286,8 +278,8 @@ impl<'a> CohortLines<'a> {
         let table = lookup.parent;
         let plan = self.rows.plan();
         let _limits = plan.table(table); // a table has at most 2^40 rows
-        let values = CohortValues::new(plan, table, draws, draws);
-        let born = draws.unit();
+        let born = birth(plan, table, parent);
+        let values = CohortValues::new(plan, table, born, born);
         let fields = CohortFields::new(self.rows, table, born, self.unit);
         let index = parent - cohort(plan, table, born).first;
         fields.put(lookup.column as usize, index, None, &values, buf, steps);

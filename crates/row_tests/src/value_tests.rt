@@ -8,7 +8,7 @@ ghost use Rattle.schema_plan.specs.TableFacts.{max_line};
 ghost use Rattle.draw_values.specs.Values.{is_own, leaf_value, size_at};
 
 use crate::fixtures::{assert_case, plan_of, with_text};
-use draw_values::{CohortValues, Put, RowAt, UnitDraws, put_value, unit_draws};
+use draw_values::{CohortValues, Put, RowAt, put_value};
 use line_pages::PageBuf;
 use schema_plan::{Plan, ReadyKind, ReadyLeaf};
 use std::alloc::Global;
@@ -106,9 +106,7 @@ fn put_row(
     if plan.tables() != 1 || at.born > plan.units() || at.changed > plan.units() {
         return false;
     }
-    let births = UnitDraws::new(plan, 0, at.born);
-    let changes = UnitDraws::new(plan, 0, at.changed);
-    let values = CohortValues::new(plan, 0, &births, &changes);
+    let values = CohortValues::new(plan, 0, at.born, at.changed);
     let mut is_put = true;
     for column in 1..plan.columns(0).len() {
         is_put = is_put
@@ -562,23 +560,6 @@ fn numbers_keep_their_sign_and_zeros(rt: HostRuntime) {
 #[test]
 fn dates_keep_leap_days_apart(rt: HostRuntime) {
     assert_values(&rt, rt.alloc(), DATES);
-}
-
-/// Whether there are draws of so many units from a first one on, and they end with this unit.
-fn end_with(alloc: Global, plan: &Plan, first: u64, count: u64, last: u64) -> bool {
-    if plan.tables() != 1 || plan.units() != 5 || first > 3 || count != 3 {
-        return false;
-    }
-    match unit_draws(alloc, plan, 0, first, count) {
-        Ok(draws) => draws.len() == 3 && draws[2].unit() == last,
-        Err(_) => false,
-    }
-}
-
-#[test]
-fn draws_of_some_units(rt: HostRuntime) {
-    let plan = plan_of(&rt, rt.alloc(), &[FEW, COLUMNS_THAT_CHANGE]);
-    assert!(rt; end_with(rt.alloc(), &plan, 1, 3, 3));
 }
 
 /// Units with the first row that is born at each and the one past its last.

@@ -8,11 +8,10 @@ use sqlite::{Alter, Connection, Constraint, Error, ErrorCode, Statement, params}
 /// Whether a database has any table, index or view.
 const COUNT_OBJECTS: &str = "SELECT count(*) FROM sqlite_schema";
 
-/// The tables. A row has its number, its key and its line; a reference has its number and that of the row to which it leads.
+/// The tables. A row has its number and its line; a reference has its number and that of the row to which it leads.
 const CREATE_TABLES: &str = "BEGIN;
 CREATE TABLE kept_row (
   row_id INTEGER PRIMARY KEY,
-  row_key INTEGER NOT NULL,
   line BLOB NOT NULL
 );
 CREATE TABLE kept_reference (
@@ -23,15 +22,15 @@ CREATE TABLE kept_reference (
 /// The index that finds the references to a row.
 const CREATE_INDEX: &str = "CREATE INDEX kept_reference_by_parent ON kept_reference (parent_id)";
 
-const ADD_ROW: &str = "INSERT INTO kept_row (row_id, row_key, line) VALUES (?1, ?2, ?3)";
+const ADD_ROW: &str = "INSERT INTO kept_row (row_id, line) VALUES (?1, ?2)";
 
-const SET_LINE: &str = "UPDATE kept_row SET line = ?3 WHERE row_id = ?1 AND row_key = ?2";
+const SET_LINE: &str = "UPDATE kept_row SET line = ?2 WHERE row_id = ?1";
 
 const DROP_REFERENCES: &str = "DELETE FROM kept_reference WHERE reference_id BETWEEN ?1 AND ?2";
 
 const PUT_REFERENCE: &str = "INSERT INTO kept_reference (reference_id, parent_id) VALUES (?1, ?2)";
 
-const DROP_ROW: &str = "DELETE FROM kept_row WHERE row_id = ?1 AND row_key = ?2";
+const DROP_ROW: &str = "DELETE FROM kept_row WHERE row_id = ?1";
 
 const COMMIT: &str = "COMMIT";
 
@@ -41,47 +40,60 @@ DROP TABLE kept_row;
 COMMIT";
 
 /// How many tables the rows may be of.
-const TABLES: u64 = 64;
+const TABLES: usize = 64;
 
 /// How many columns a table may have.
 const COLUMNS: u32 = 64;
 
-/// How far apart, at most, the keys of a table may lie: it has no more rows.
+/// The keys of a table lie less than this apart: it has no more rows.
 const KEYS: u64 = 1 << 40;
 
 /// How many references are put at most without the index. To make it takes some 120 bytes of memory for each of them.
 const UNINDEXED: u64 = 1 << 19;
 
-/// A row: its number, and its key.
+/// From the least to the greatest of the keys that were put in a table; `NO_KEYS` where none was.
 #[derive(Clone, Copy)]
-struct RowName {
-    number: i64,
-    key: i64,
+struct KeyRange {
+    least: u64,
+    greatest: u64,
 }
 
-impl RowName {
-    /// The row of a table that has a key. Its number is made of the place of its table and the remainder of its key, so that all rows have
-    /// numbers of their own where the keys of each table lie near enough to one another, and the rows of a table stand together.
-    fn of(table: u32, key: u64) -> Result<RowName, Refused> {
-        let place = u64::from(table);
-        if place >= TABLES {
-            return Err(Refused);
-        }
-        let number = (place * KEYS + key % KEYS) as i64;
-        match i64::try_from(key) {
-            Ok(key) => Ok(RowName { number, key }),
-            Err(_) => Err(Refused),
+const NO_KEYS: KeyRange = KeyRange {
+    least: u64::MAX,
+    greatest: 0,
+};
+
+impl KeyRange {
+    /// The range with a key. Refused where that is so far from another that their rows could have one number.
+    fn with(self, key: u64) -> Result<KeyRange, Refused> {
+        let least = self.least.min(key);
+        let greatest = self.greatest.max(key);
+        if greatest - least < KEYS {
+            Ok(KeyRange { least, greatest })
+        } else {
+            Err(Refused)
         }
     }
 
-    /// The number of its reference in the column at a place.
-    fn reference(self, column: u32) -> Result<i64, Refused> {
-        if column >= COLUMNS {
-            return Err(Refused);
-        }
-        let first = self.number.checked_mul(i64::from(COLUMNS)).ok_or(Refused)?;
-        first.checked_add(i64::from(column)).ok_or(Refused)
+    fn has(self, key: u64) -> bool {
+        self.least <= key && key <= self.greatest
     }
+}
+
+/// The number of the row that has a key in the table at a place. It is made of the place and the remainder of the key, so that the rows of a
+/// table stand together, and no two have one number where their keys lie near enough to one another.
+fn row_number(table: u32, key: u64) -> Result<i64, Refused> {
+    let place = i64::from(table).checked_mul(KEYS as i64).ok_or(Refused)?;
+    place.checked_add((key % KEYS) as i64).ok_or(Refused)
+}
+
+/// The number of a row's reference in the column at a place.
+fn reference_number(row: i64, column: u32) -> Result<i64, Refused> {
+    if column >= COLUMNS {
+        return Err(Refused);
+    }
+    let first = row.checked_mul(i64::from(COLUMNS)).ok_or(Refused)?;
+    first.checked_add(i64::from(column)).ok_or(Refused)
 }
 
 /// The statements on the tables.
@@ -115,6 +127,8 @@ impl Statements {
 pub(crate) struct Tables<S: Alter + Drop> {
     database: Connection<S>,
     statements: Statements,
+    /// The keys of each table.
+    keys: [KeyRange; TABLES],
     is_indexed: bool,
     /// How many references were put without the index.
     unindexed: u64,
@@ -127,6 +141,7 @@ impl<S: Alter + Drop> Tables<S> {
         Ok(Tables {
             database,
             statements,
+            keys: [NO_KEYS; TABLES],
             is_indexed: false,
             unindexed: 0,
         })
@@ -140,7 +155,7 @@ impl<S: Alter + Drop> Tables<S> {
         refs: &[RefTo],
         line: &[u8],
     ) -> Result<(), Refused> {
-        let row = RowName::of(table, key)?;
+        let row = self.add_key(table, key)?;
         self.put_line(row, line)?;
         for to in refs {
             self.put_ref(row, to)?;
@@ -150,12 +165,32 @@ impl<S: Alter + Drop> Tables<S> {
 
     /// Drops a row with its references.
     pub(crate) fn drop_row(&mut self, table: u32, key: u64) -> Result<(), Refused> {
-        let row = RowName::of(table, key)?;
+        let Some(row) = self.row_with(table, key)? else {
+            return Ok(());
+        };
         self.index()?;
         self.drop_refs(row)?;
-        let values = params![row.number, row.key];
-        make(&mut self.database, &self.statements.drop_row, values)?;
+        make(
+            &mut self.database,
+            &self.statements.drop_row,
+            params![row],
+        )?;
         Ok(())
+    }
+
+    /// The number of the row that is put in a table with a key.
+    fn add_key(&mut self, table: u32, key: u64) -> Result<i64, Refused> {
+        let keys = self.keys.get_mut(table as usize).ok_or(Refused)?;
+        *keys = keys.with(key)?;
+        row_number(table, key)
+    }
+
+    /// The number of the row of a table with a key; None where there can be none.
+    fn row_with(&self, table: u32, key: u64) -> Result<Option<i64>, Refused> {
+        match self.keys.get(table as usize) {
+            Some(keys) if keys.has(key) => Ok(Some(row_number(table, key)?)),
+            _ => Ok(None),
+        }
     }
 
     /// Commits what was put and dropped.
@@ -174,8 +209,8 @@ impl<S: Alter + Drop> Tables<S> {
     }
 
     /// Puts a row without references, in place of one with the same key.
-    fn put_line(&mut self, row: RowName, line: &[u8]) -> Result<(), Refused> {
-        let values = params![row.number, row.key, line];
+    fn put_line(&mut self, row: i64, line: &[u8]) -> Result<(), Refused> {
+        let values = params![row, line];
         match make(&mut self.database, &self.statements.add_row, values) {
             Ok(_) => Ok(()),
             Err(error) if is_taken(error) => self.set_line(row, line),
@@ -184,18 +219,18 @@ impl<S: Alter + Drop> Tables<S> {
     }
 
     /// Sets the line of a row that is there, and drops its references.
-    fn set_line(&mut self, row: RowName, line: &[u8]) -> Result<(), Refused> {
+    fn set_line(&mut self, row: i64, line: &[u8]) -> Result<(), Refused> {
         self.index()?;
         self.drop_refs(row)?;
-        let values = params![row.number, row.key, line];
+        let values = params![row, line];
         let set = make(&mut self.database, &self.statements.set_line, values)?;
         if set == 1 { Ok(()) } else { Err(Refused) }
     }
 
     /// Puts a reference of a row.
-    fn put_ref(&mut self, row: RowName, to: &RefTo) -> Result<(), Refused> {
-        let parent = RowName::of(to.table, to.key)?;
-        let values = params![row.reference(to.column)?, parent.number];
+    fn put_ref(&mut self, row: i64, to: &RefTo) -> Result<(), Refused> {
+        let parent = self.row_with(to.table, to.key)?.ok_or(Refused)?;
+        let values = params![reference_number(row, to.column)?, parent];
         make(&mut self.database, &self.statements.put_reference, values)?;
         self.unindexed = self.unindexed.saturating_add(1);
         if self.unindexed < UNINDEXED {
@@ -206,8 +241,11 @@ impl<S: Alter + Drop> Tables<S> {
     }
 
     /// Drops the references of a row.
-    fn drop_refs(&mut self, row: RowName) -> Result<(), Refused> {
-        let values = params![row.reference(0)?, row.reference(COLUMNS - 1)?];
+    fn drop_refs(&mut self, row: i64) -> Result<(), Refused> {
+        let values = params![
+            reference_number(row, 0)?,
+            reference_number(row, COLUMNS - 1)?
+        ];
         make(&mut self.database, &self.statements.drop_references, values)?;
         Ok(())
     }

@@ -1,6 +1,6 @@
 //! A table, and streams that are applied to it.
 
-ghost use Rattle.std.specs.Prelude.{◌≡◌, [], ◌∷◌, ◌++◌, IfErr, IfOk, OnOk, fold};
+ghost use Rattle.std.specs.Prelude.{◌≡◌, IfErr, IfOk, OnOk, fold};
 ghost use Rattle.row_text.specs.Fields.{IsDelimiter};
 ghost use Rattle.stream_apply.specs.KeyedLines.{lines_text, put};
 ghost use Rattle.stream_apply.specs.Streams.{IsApplied, IsFaultOf, IsLoaded};
@@ -12,7 +12,7 @@ use crate::key_table::KeyTable;
 use crate::kind::Kind;
 use crate::stream::{read_stream, read_table};
 use row_text::Memory;
-use std::alloc::{AllocError, Global};
+use std::alloc::Global;
 use std::marker::Model;
 
 /// A table, to which streams are applied one after the other. Its lines stay where they were read, and in the table's order.
@@ -127,19 +127,8 @@ impl<'a> Applier<'a> {
     pub fn text(&self) -> Result<Vec<u8>, Memory>
         ensures { IfOk result (λ text. text.items ≡ lines_text self.now.lines) }
     {
-        Ok(text_of(self.alloc, &self.table)?)
+        Ok(self.table.text(self.alloc)?)
     }
-}
-
-/// The lines of a table in order, each with its line feed.
-pub(crate) fn text_of(alloc: Global, table: &KeyTable) -> Result<Vec<u8>, AllocError>
-    ensures { IfOk result (λ text. text.items ≡ lines_text table.now) }
-{
-    let mut text = Vec::new(alloc);
-    for index in 0..table.len() {
-        put_line(&mut text, table.text_at(index))?;
-    }
-    Ok(text)
 }
 
 /// Puts each line of others into a table, in the place of the one with its key or behind the others.
@@ -149,14 +138,5 @@ pub(crate) fn put_all<'a>(table: &mut KeyTable<'a>, lines: &KeyTable<'a>) -> Res
     for index in 0..lines.len() {
         table.put(lines.key_at(index), lines.text_at(index))?;
     }
-    Ok(())
-}
-
-/// Appends a line with its line feed.
-fn put_line(text: &mut Vec<u8>, line: &[u8]) -> Result<(), AllocError>
-    ensures { OnOk result (text.new.items ≡ text.old.items ++ (line.now ++ 10 ∷ [])) }
-{
-    text.extend_from_slice(line)?;
-    text.push(b'\n')?;
     Ok(())
 }

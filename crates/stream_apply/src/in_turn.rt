@@ -8,7 +8,7 @@ ghost use Rattle.stream_apply.specs.Streams.{IsFaultOf, IsStream, made_by};
 ghost use Rattle.stream_apply.specs.declared.fault.ApplyFault.TheVariants.{Memory};
 ghost use Rattle.stream_apply.specs.declared.kind.Kind.TheVariants.{Snapshot};
 
-use crate::applier::{put_all, text_of};
+use crate::applier::put_all;
 use crate::fault::ApplyFault;
 use crate::key_fields::KeyFields;
 use crate::key_table::KeyTable;
@@ -73,7 +73,7 @@ pub fn apply_slices(
         };
         kind = kind.next();
     }
-    match text_of(alloc, &table) {
+    match table.text(alloc) {
         Ok(text) => Ok(text),
         Err(_) => Err(TurnFault {
             place: inputs.len(),

@@ -1,14 +1,14 @@
 //! Lines in order, each found by its key.
 
-ghost use Rattle.std.specs.Prelude.{◌≡◌, ◌<◌, ◌^◌, [], filter, length, not, slice_get, IfSome, OnOk};
+ghost use Rattle.std.specs.Prelude.{◌≡◌, ◌<◌, ◌^◌, [], ◌∷◌, ◌++◌, filter, length, not, slice_get, IfOk, IfSome, OnOk};
 ghost use Rattle.std.specs.List.{IsDistinct};
 ghost use Rattle.std.specs.Prelude.{map};
 ghost use Rattle.std.specs.Str.{bytes_eq};
-ghost use Rattle.stream_apply.specs.KeyedLines.{has_key, keyed, put};
+ghost use Rattle.stream_apply.specs.KeyedLines.{has_key, keyed, lines_text, put};
 
 use indexmap::IndexMap;
 use row_text::Memory;
-use std::alloc::Global;
+use std::alloc::{AllocError, Global};
 use std::marker::Model;
 
 /// Lines in order, each found by its key. A contract sees their list.
@@ -92,4 +92,24 @@ impl<'a> KeyTable<'a> {
     {
         self.lines[index]
     }
+
+    /// The text of all lines in their order, each with its line feed.
+    pub fn text(&self, alloc: Global) -> Result<Vec<u8>, AllocError>
+        ensures { IfOk result (λ text. text.items ≡ lines_text self.now) }
+    {
+        let mut text = Vec::new(alloc);
+        for index in 0..self.len() {
+            put_line(&mut text, self.text_at(index))?;
+        }
+        Ok(text)
+    }
+}
+
+/// Appends a line with its line feed.
+fn put_line(text: &mut Vec<u8>, line: &[u8]) -> Result<(), AllocError>
+    ensures { OnOk result (text.new.items ≡ text.old.items ++ (line.now ++ 10 ∷ [])) }
+{
+    text.extend_from_slice(line)?;
+    text.push(b'\n')?;
+    Ok(())
 }

@@ -26,7 +26,7 @@ impl Kind {
     }
 
     /// Whether the table has to hold the key of each line; else it may hold none.
-    pub(crate) fn wants_held(self) -> bool
+    pub fn wants_held(self) -> bool
         ensures { result ≡ streams.wants_held self }
     {
         matches!(self, Kind::Deletes | Kind::Updates)

@@ -3,7 +3,8 @@ use Rattle.std.proofs.Common.{◌≡◌, ℕ, ◌+◌, ◌≤◌, ◌<◌, false
 use Rattle.std.proofs.lemmas.List.{append-nil, nil_from_length}
 use Rattle.std.proofs.lemmas.List.Concat.{flat_map-append}
 use Rattle.stream_apply.specs.KeyedLines.{KeyedLine, has_key}
-use Rattle.undo_streams.specs.Reverting.{AreTaken, HasLineFault, IsLineFault, IsPlaceIn, IsReadTo, IsTaken, IsUndoFault, IsUndoLine, IsUndoneBy, StartsNone, UndoLine, Undoing, begun, behind, behind_all, rank_of, undo_line_text, undos_text, wants_held}
+use Rattle.stream_apply.specs.Streams.{wants_held}
+use Rattle.undo_streams.specs.Reverting.{AreTaken, HasLineFault, IsLineFault, IsPlaceIn, IsReadTo, IsTaken, IsUndoFault, IsUndoLine, IsUndoneBy, StartsNone, UndoLine, Undoing, begun, behind, behind_all, kind_of, rank_of, undo_line_text, undos_text}
 use Rattle.undo_streams.specs.declared.fault.RevertFault.{RevertFault}
 use Rattle.undo_streams.specs.declared.fault.RevertFault.TheVariants.{BadLine, BadPlace, DoubleKey, KeyExists, Memory, NoSuchKey}
 
@@ -45,7 +46,7 @@ module _ (delimiter : ℕ) (table : List KeyedLine) (bytes rest : List ℕ) (und
       zero-plus = omega arith
 
   pub undone-more : (undo : UndoLine) (next : Undoing) (later : List ℕ) → IsUndoLine delimiter undo → rank_of undoing.part ≤ rank_of undo.part → rest ≡ undo_line_text delimiter undo ++ 10 ∷ later →
-      has_key undoing.told undo.line.key ≡ false → has_key undoing.lines undo.line.key ≡ wants_held undo.part → IsPlaceIn undoing undo.part undo.place → next ≡ behind undoing undo →
+      has_key undoing.told undo.line.key ≡ false → has_key undoing.lines undo.line.key ≡ wants_held (kind_of undo.part) → IsPlaceIn undoing undo.part undo.place → next ≡ behind undoing undo →
       IsUndoneTo delimiter table bytes later next
   undone-more undo next later is order cut free held placed next_is =
       let taken : IsTaken delimiter (behind_all (begun table) to.undos) undo =

@@ -2,7 +2,7 @@
 use Rattle.std.specs.Prelude.{◌≡◌, ℕ, ◌+◌, ◌<◌, ◌≤◌, ◌^◌, ⊤, Bool, true, false, List, [], ◌∷◌, ◌++◌, codes, decimal, drop, flat_map, fold, length, take}
 use Rattle.stream_apply.specs.KeyedLines.{KeyedLine, has_key, put}
 use Rattle.stream_apply.specs.InTurn.{IsFaultAt}
-use Rattle.stream_apply.specs.Streams.{IsKeyedLine, Table, without}
+use Rattle.stream_apply.specs.Streams.{IsKeyedLine, Table, wants_held, without}
 use Rattle.stream_apply.specs.declared.fault.ApplyFault.{ApplyFault}
 use Rattle.stream_apply.specs.declared.fault.ApplyFault.TheVariants as applying
 use Rattle.stream_apply.specs.declared.key_fields.KeyFields.TheVariants.{One}
@@ -39,12 +39,6 @@ abbrev pub kind_of : Part → Kind
 kind_of Drops = Deletes
 kind_of Sets = Updates
 kind_of Adds = Inserts
-
--- whether the table has to hold its key; else it may not hold it
-abbrev pub wants_held : Part → Bool
-wants_held Drops = true
-wants_held Sets = true
-wants_held Adds = false
 
 -- a place is written in at most 13 digits, and stands where a line is added alone
 abbrev pub IsPlaceOf : Part → ℕ → Type 0
@@ -124,7 +118,7 @@ pub record IsTaken (delimiter : ℕ) (undoing : Undoing) (undo : UndoLine) : Typ
   pub is : IsUndoLine delimiter undo
   pub order : rank_of undoing.part ≤ rank_of undo.part
   pub free : has_key undoing.told undo.line.key ≡ false
-  pub held : has_key undoing.lines undo.line.key ≡ wants_held undo.part
+  pub held : has_key undoing.lines undo.line.key ≡ wants_held (kind_of undo.part)
   pub placed : IsPlaceIn undoing undo.part undo.place
 
 -- nor has any of several in order
@@ -148,13 +142,13 @@ IsLineFault undoing undo number (BadLine line) = ⊥
 IsLineFault undoing undo number (DoubleKey line) = (line ≡ number) × (has_key undoing.told undo.line.key ≡ true)
 IsLineFault undoing undo number (NoSuchKey line) =
     (line ≡ number) × (has_key undoing.told undo.line.key ≡ false)
-    × (wants_held undo.part ≡ true) × (has_key undoing.lines undo.line.key ≡ false)
+    × (wants_held (kind_of undo.part) ≡ true) × (has_key undoing.lines undo.line.key ≡ false)
 IsLineFault undoing undo number (KeyExists line) =
     (line ≡ number) × (has_key undoing.told undo.line.key ≡ false)
-    × (wants_held undo.part ≡ false) × (has_key undoing.lines undo.line.key ≡ true)
+    × (wants_held (kind_of undo.part) ≡ false) × (has_key undoing.lines undo.line.key ≡ true)
 IsLineFault undoing undo number (BadPlace line) =
     (line ≡ number) × (has_key undoing.told undo.line.key ≡ false)
-    × (has_key undoing.lines undo.line.key ≡ wants_held undo.part) × ¬ IsPlaceIn undoing undo.part undo.place
+    × (has_key undoing.lines undo.line.key ≡ wants_held (kind_of undo.part)) × ¬ IsPlaceIn undoing undo.part undo.place
 IsLineFault undoing undo number Memory = Unit {0}
 
 -- what is behind the lines without a fault starts with no line that may stand there

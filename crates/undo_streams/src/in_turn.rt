@@ -6,7 +6,7 @@ ghost use Rattle.undo_streams.specs.InTurn.{HasUndoFaultAt, IsRevertFaultAt, IsR
 ghost use Rattle.undo_streams.specs.declared.fault.RevertFault.TheVariants.{Memory};
 
 use crate::fault::RevertFault;
-use crate::reverter::{load_table, text_of};
+use crate::reverter::load_table;
 use crate::weaver::undo_table;
 use std::alloc::Global;
 use stream_apply::KeyTable;
@@ -47,7 +47,7 @@ pub fn revert_in_turn(
             });
         }
     };
-    match text_of(alloc, &table) {
+    match table.text(alloc) {
         Ok(text) => Ok(text),
         Err(_) => Err(RevertedAt {
             place: 0,

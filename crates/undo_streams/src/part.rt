@@ -1,7 +1,7 @@
 //! The three parts of an undo text.
 
 ghost use Rattle.std.specs.Prelude.{◌≡◌, ◌≢◌, IfSome, MatchOption};
-ghost use Rattle.undo_streams.specs.Reverting.{kind_of, rank_of, wants_held, word_of};
+ghost use Rattle.undo_streams.specs.Reverting.{kind_of, rank_of, word_of};
 ghost use Rattle.undo_streams.specs.declared.part.Part.{Part};
 
 use stream_apply::Kind;
@@ -50,12 +50,5 @@ impl Part {
             Part::Sets => Kind::Updates,
             Part::Adds => Kind::Inserts,
         }
-    }
-
-    /// Whether the table has to hold the key of each line; else it may hold none.
-    pub(crate) fn wants_held(self) -> bool
-        ensures { result ≡ wants_held self }
-    {
-        !matches!(self, Part::Adds)
     }
 }

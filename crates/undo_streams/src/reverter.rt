@@ -1,6 +1,6 @@
 //! A table that is taken back.
 
-ghost use Rattle.std.specs.Prelude.{◌≡◌, [], ◌∷◌, ◌++◌, IfErr, IfOk, OnOk};
+ghost use Rattle.std.specs.Prelude.{◌≡◌, IfErr, IfOk};
 ghost use Rattle.row_text.specs.Fields.{IsDelimiter};
 ghost use Rattle.stream_apply.specs.KeyedLines.{lines_text};
 ghost use Rattle.stream_apply.specs.Streams.{IsLoaded};
@@ -11,7 +11,7 @@ ghost use Rattle.undo_streams.specs.Reverting.{IsLoadFault, IsUndoFault, IsUndon
 use crate::fault::RevertFault;
 use crate::weaver::undo_table;
 use row_text::Memory;
-use std::alloc::{AllocError, Global};
+use std::alloc::Global;
 use std::marker::Model;
 use stream_apply::{KeyFields, KeyTable, read_table};
 
@@ -78,7 +78,7 @@ impl<'a> Reverter<'a> {
     pub fn text(&self) -> Result<Vec<u8>, Memory>
         ensures { IfOk result (λ text. text.items ≡ lines_text self.now.lines) }
     {
-        Ok(text_of(self.alloc, &self.table)?)
+        Ok(self.table.text(self.alloc)?)
     }
 }
 
@@ -94,24 +94,4 @@ pub(crate) fn load_table<'a>(
 {
     let table = read_table(alloc, snapshot, KeyFields::One, delimiter)?;
     Ok(table)
-}
-
-/// The lines of a table in order, each with its line feed.
-pub(crate) fn text_of(alloc: Global, table: &KeyTable) -> Result<Vec<u8>, AllocError>
-    ensures { IfOk result (λ text. text.items ≡ lines_text table.now) }
-{
-    let mut text = Vec::new(alloc);
-    for index in 0..table.len() {
-        put_line(&mut text, table.text_at(index))?;
-    }
-    Ok(text)
-}
-
-/// Appends a line with its line feed.
-fn put_line(text: &mut Vec<u8>, line: &[u8]) -> Result<(), AllocError>
-    ensures { OnOk result (text.new.items ≡ text.old.items ++ (line.now ++ 10 ∷ [])) }
-{
-    text.extend_from_slice(line)?;
-    text.push(b'\n')?;
-    Ok(())
 }

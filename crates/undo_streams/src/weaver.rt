@@ -4,8 +4,9 @@ ghost use Rattle.std.specs.Prelude.{◌≡◌, ◌≤◌, ◌<◌, ◌+◌, [], 
 ghost use Rattle.std.specs.Bool.{OnFalse, OnTrue};
 ghost use Rattle.row_text.specs.Fields.{IsDelimiter};
 ghost use Rattle.stream_apply.specs.KeyedLines.{has_key, keyed, put};
+ghost use Rattle.stream_apply.specs.Streams.{wants_held};
 ghost use Rattle.undo_streams.specs.ReadLines.{undo_of};
-ghost use Rattle.undo_streams.specs.Reverting.{IsLineFault, IsPlaceIn, IsUndoFault, IsUndoneBy, begun, behind, rank_of, wants_held};
+ghost use Rattle.undo_streams.specs.Reverting.{IsLineFault, IsPlaceIn, IsUndoFault, IsUndoneBy, begun, behind, kind_of, rank_of};
 ghost use Rattle.undo_streams.specs.Weaving.{IsWoven, undoing_of};
 ghost use Rattle.undo_streams.specs.declared.part.Part.TheVariants.{Adds, Sets};
 
@@ -75,7 +76,7 @@ impl<'a> Weaver<'a> {
         requires order { rank_of self.old.part ≤ rank_of line.part }
         ensures sound { OnOk result (IsWoven self.new) }
         ensures free { OnOk result (has_key self.old.told line.entry.key.now ≡ false) }
-        ensures held { OnOk result (has_key (undoing_of self.old).lines line.entry.key.now ≡ wants_held line.entry.part) }
+        ensures held { OnOk result (has_key (undoing_of self.old).lines line.entry.key.now ≡ wants_held (kind_of line.entry.part)) }
         ensures placed { OnOk result (IsPlaceIn (undoing_of self.old) line.entry.part line.entry.place) }
         ensures taken { OnOk result (undoing_of self.new ≡ behind (undoing_of self.old) (undo_of line.entry)) }
         ensures fault { IfErr result (IsLineFault (undoing_of self.old) (undo_of line.entry) number) }
@@ -104,14 +105,14 @@ impl<'a> Weaver<'a> {
         requires sound { IsWoven self.now }
         requires part { self.now.part ≡ line.part }
         ensures free { OnOk result (has_key self.now.told line.entry.key.now ≡ false) }
-        ensures held { OnOk result (has_key (undoing_of self.now).lines line.entry.key.now ≡ wants_held line.entry.part) }
+        ensures held { OnOk result (has_key (undoing_of self.now).lines line.entry.key.now ≡ wants_held (kind_of line.entry.part)) }
         ensures placed { OnOk result (IsPlaceIn (undoing_of self.now) line.entry.part line.entry.place) }
         ensures fault { IfErr result (IsLineFault (undoing_of self.now) (undo_of line.entry) number) }
     {
         if self.told.has(line.key) {
             return Err(RevertFault::DoubleKey { line: number });
         }
-        match (line.part.wants_held(), self.holds(line.key)) {
+        match (line.part.kind().wants_held(), self.holds(line.key)) {
             (true, false) => return Err(RevertFault::NoSuchKey { line: number }),
             (false, true) => return Err(RevertFault::KeyExists { line: number }),
             _ => {}
@@ -154,7 +155,7 @@ impl<'a> Weaver<'a> {
         requires sound { IsWoven self.old }
         requires part { self.old.part ≡ line.part }
         requires free { has_key self.old.told line.key.now ≡ false }
-        requires held { has_key (undoing_of self.old).lines line.key.now ≡ wants_held line.part }
+        requires held { has_key (undoing_of self.old).lines line.key.now ≡ wants_held (kind_of line.part) }
         requires placed { IsPlaceIn (undoing_of self.old) line.part line.place }
         ensures sound { OnOk result (IsWoven self.new) }
         ensures put { OnOk result (undoing_of self.new ≡ behind (undoing_of self.old) (undo_of line.entry)) }

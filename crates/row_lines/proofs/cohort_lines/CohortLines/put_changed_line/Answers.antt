@@ -1,13 +1,12 @@
 use Rattle.std.proofs.Common.{ℕ, ap, arith, ◌∙◌}
 use Rattle.schema_plan.specs.Dictionaries.{Project}
-use Rattle.draw_values.specs.UnitDraws.{DrawsOf}
 use Rattle.life_intervals.specs.Generator.{last_unit}
 use Rattle.row_lines.specs.CohortLines.{LinesOf, values_at}
 use Rattle.row_lines.proofs.CohortLineLemmas.{AreLinesOf-view, change_for-le}
 use Rattle.row_lines.proofs.cohort_lines.CohortLines.put_changed_line.Goals as goal
 
-pub new-changes-requires-clause-unit : goal.new-changes-requires-clause-unit
-new-changes-requires-clause-unit g c =
+pub new-values-requires-clause-changed : goal.new-values-requires-clause-changed
+new-values-requires-clause-changed g c =
     let known = AreLinesOf-view _ c.args.self.now c.self.inside.columns.now c.self.inside.fields c.self.inside.delimiter c.self.view_is c.self.invariant in
     omega (
       arith,
@@ -21,8 +20,6 @@ new-changes-requires-clause-unit g c =
 pub put_fields-requires-clause-values : goal.put_fields-requires-clause-values
 put_fields-requires-clause-values g c =
     c.new-values.ensures
-    ∙ ap (λ (plan : Project). record { plan = plan; table = c.self.inside.place; born = c.new-births.result.unit; changed = c.new-changes.result.unit }) c.plan-plan.ensures
-    ∙ ap (λ (unit : ℕ). record { plan = c.self.inside.rows.now; table = c.self.inside.place; born = unit; changed = c.new-changes.result.unit }) (ap (λ (draws : DrawsOf). draws.unit) c.new-births.ensures)
-    ∙ ap (λ (unit : ℕ). record { plan = c.self.inside.rows.now; table = c.self.inside.place; born = c.self.inside.born; changed = unit }) (ap (λ (draws : DrawsOf). draws.unit) c.new-changes.ensures)
+    ∙ ap (λ (plan : Project). record { plan = plan; table = c.self.inside.place; born = c.self.inside.born; changed = c.args.changed }) c.plan-plan.ensures
     ∙ ap (λ (of : LinesOf). values_at of c.args.changed) c.self.view_is
     ∙ ap (values_at c.args.self.now) c.requires.changed

@@ -4,9 +4,8 @@ use Rattle.schema_plan.specs.Dictionaries.{Project}
 use Rattle.schema_plan.specs.FieldBounds.{bounds_at}
 use Rattle.schema_plan.specs.Layout.{layout_of}
 use Rattle.schema_plan.specs.Limits.{IsStillColumn, IsTableInLimits}
-use Rattle.draw_values.specs.UnitDraws.{DrawsOf}
 use Rattle.life_intervals.specs.Generator.{last_unit, table_of}
-use Rattle.cohort_sizes.proofs.CohortLemmas.{LiesIn-birth, born_count-le}
+use Rattle.cohort_sizes.proofs.CohortLemmas.{born_count-le}
 use Rattle.row_lines.specs.CohortLines.{LinesOf, asked_for, layout_for, size_for, text_in_table}
 use Rattle.row_lines.specs.Lookups.{text_held}
 use Rattle.row_lines.proofs.CohortLineLemmas.{AreLinesOf-view}
@@ -19,12 +18,8 @@ abbrev parents : LinesOf → ℕ → ℕ → LinesOf
 parents lines table born = record { plan = lines.plan; table = table; born = born; unit = lines.unit }
 
 -- the parent lies in the cohort of its birth
-lies : (lines : LinesOf) (table born ordinal : ℕ) → born ≡ birth (table_of lines.plan table).births (last_unit lines.plan) ordinal →
-    ordinal < born_count (table_of lines.plan table).births lines.unit → lines.unit ≤ last_unit lines.plan → LiesIn (table_of lines.plan table).births born ordinal
-lies lines table born ordinal born_is inside within =
-    subst (λ (unit : ℕ). LiesIn (table_of lines.plan table).births unit ordinal) (sym born_is)
-    ((LiesIn-birth (table_of lines.plan table).births (last_unit lines.plan) ordinal
-    (omega (arith, inside, born_count-le (table_of lines.plan table).births lines.unit (last_unit lines.plan) within))).1)
+lies : (lines : LinesOf) (plan : Project) (table born ordinal : ℕ) → plan ≡ lines.plan → LiesIn (table_of plan table).births born ordinal → LiesIn (table_of lines.plan table).births born ordinal
+lies lines plan table born ordinal same inside = subst (λ (of : Project). LiesIn (table_of of table).births born ordinal) same inside
 
 pub new-fields-requires-clause-born : goal.new-fields-requires-clause-born
 new-fields-requires-clause-born g c =
@@ -32,8 +27,8 @@ new-fields-requires-clause-born g c =
     let known = AreLinesOf-view _ c.args.self.now c.self.inside.columns.now c.self.inside.fields c.self.inside.delimiter c.self.view_is c.self.invariant in
     omega (
       arith,
-      c.unit-born.ensures,
-      ap (λ (draws : DrawsOf). draws.unit) c.requires.draws,
+      c.birth-born.ensures.unit,
+      ap (λ (plan : Project). birth (table_of plan c.args.lookup.now.parent).births (last_unit plan) c.args.parent) (c.plan-plan.ensures ∙ ap (λ (of : LinesOf). of.plan) c.self.view_is),
       birth-within (table_of lines.plan c.args.lookup.now.parent).births (last_unit lines.plan) lines.unit c.args.parent known.unit c.requires.born,
       ap (λ (of : LinesOf). of.unit) c.self.view_is,
     )
@@ -42,28 +37,28 @@ pub overflow_sub-index : goal.overflow_sub-index
 overflow_sub-index g c =
     let lines : LinesOf = c.args.self.now in
     let known = AreLinesOf-view _ c.args.self.now c.self.inside.columns.now c.self.inside.fields c.self.inside.delimiter c.self.view_is c.self.invariant in
-    let here = lies lines c.args.lookup.now.parent c.unit-born.result c.args.parent (c.unit-born.ensures ∙ ap (λ (draws : DrawsOf). draws.unit) c.requires.draws) c.requires.born known.unit in
+    let here = lies lines c.plan-plan.result.now c.args.lookup.now.parent c.birth-born.result c.args.parent (c.plan-plan.ensures ∙ ap (λ (of : LinesOf). of.plan) c.self.view_is) c.birth-born.ensures.lies in
     omega (
       arith,
       c.cohort.ensures.first,
       here.begun,
-      ap (λ (plan : Project). first_ordinal (table_of plan c.args.lookup.now.parent).births c.unit-born.result) (c.plan-plan.ensures ∙ ap (λ (of : LinesOf). of.plan) c.self.view_is),
+      ap (λ (plan : Project). first_ordinal (table_of plan c.args.lookup.now.parent).births c.birth-born.result) (c.plan-plan.ensures ∙ ap (λ (of : LinesOf). of.plan) c.self.view_is),
     )
 
 pub put-requires-clause-row : goal.put-requires-clause-row
 put-requires-clause-row g c =
     let lines : LinesOf = c.args.self.now in
     let known = AreLinesOf-view _ c.args.self.now c.self.inside.columns.now c.self.inside.fields c.self.inside.delimiter c.self.view_is c.self.invariant in
-    let here = lies lines c.args.lookup.now.parent c.unit-born.result c.args.parent (c.unit-born.ensures ∙ ap (λ (draws : DrawsOf). draws.unit) c.requires.draws) c.requires.born known.unit in
-    let same : c.new-fields.result ≡ parents lines c.args.lookup.now.parent c.unit-born.result =
-    c.new-fields.ensures ∙ ap (λ (of : LinesOf). parents of c.args.lookup.now.parent c.unit-born.result) c.self.view_is in
+    let here = lies lines c.plan-plan.result.now c.args.lookup.now.parent c.birth-born.result c.args.parent (c.plan-plan.ensures ∙ ap (λ (of : LinesOf). of.plan) c.self.view_is) c.birth-born.ensures.lies in
+    let same : c.new-fields.result ≡ parents lines c.args.lookup.now.parent c.birth-born.result =
+    c.new-fields.ensures ∙ ap (λ (of : LinesOf). parents of c.args.lookup.now.parent c.birth-born.result) c.self.view_is in
     subst (λ (of : LinesOf). c.args.parent - c.cohort.result.first < cohort_size (layout_for of).births of.born) (sym same)
     (omega (
       arith,
       c.cohort.ensures.first,
       here.begun,
       here.not_ended,
-      ap (λ (plan : Project). first_ordinal (table_of plan c.args.lookup.now.parent).births c.unit-born.result) (c.plan-plan.ensures ∙ ap (λ (of : LinesOf). of.plan) c.self.view_is),
+      ap (λ (plan : Project). first_ordinal (table_of plan c.args.lookup.now.parent).births c.birth-born.result) (c.plan-plan.ensures ∙ ap (λ (of : LinesOf). of.plan) c.self.view_is),
     ))
 
 -- the fields that are made are the schema's
@@ -74,8 +69,8 @@ size_is fields lines column same still = ap (λ (of : LinesOf). size_for of colu
 pub put-requires-clause-room : goal.put-requires-clause-room
 put-requires-clause-room g c =
     let lines : LinesOf = c.args.self.now in
-    let same : c.new-fields.result ≡ parents lines c.args.lookup.now.parent c.unit-born.result =
-    c.new-fields.ensures ∙ ap (λ (of : LinesOf). parents of c.args.lookup.now.parent c.unit-born.result) c.self.view_is in
+    let same : c.new-fields.result ≡ parents lines c.args.lookup.now.parent c.birth-born.result =
+    c.new-fields.ensures ∙ ap (λ (of : LinesOf). parents of c.args.lookup.now.parent c.birth-born.result) c.self.view_is in
     omega (arith, c.requires.room, size_is c.new-fields.result _ c.args.lookup.now.column same c.requires.column)
 
 -- an ordinal lies behind the first of its cohort by its index
@@ -94,43 +89,43 @@ returns-clause-text g c =
     let lines : LinesOf = c.args.self.now in
     let known = AreLinesOf-view _ c.args.self.now c.self.inside.columns.now c.self.inside.fields c.self.inside.delimiter c.self.view_is c.self.invariant in
     let table : ℕ = c.args.lookup.now.parent in
-    let here = lies lines table c.unit-born.result c.args.parent (c.unit-born.ensures ∙ ap (λ (draws : DrawsOf). draws.unit) c.requires.draws) c.requires.born known.unit in
-    let same : c.new-fields.result ≡ parents lines table c.unit-born.result =
-    c.new-fields.ensures ∙ ap (λ (of : LinesOf). parents of table c.unit-born.result) c.self.view_is in
+    let here = lies lines c.plan-plan.result.now table c.birth-born.result c.args.parent (c.plan-plan.ensures ∙ ap (λ (of : LinesOf). of.plan) c.self.view_is) c.birth-born.ensures.lies in
+    let same : c.new-fields.result ≡ parents lines table c.birth-born.result =
+    c.new-fields.ensures ∙ ap (λ (of : LinesOf). parents of table c.birth-born.result) c.self.view_is in
     c.put.ensures.text
     ∙ ap (λ (text : List ℕ). record { text = c.args.buf.now.text ++ text; room = c.args.buf.now.room })
-    (text_is c.new-fields.result (parents lines table c.unit-born.result) c.cohort.result.first c.args.parent c.new-values.result.changed c.args.lookup.now.column same
+    (text_is c.new-fields.result (parents lines table c.birth-born.result) c.cohort.result.first c.args.parent c.new-values.result.changed c.args.lookup.now.column same
     (subst (λ (plan : Project). IsTableInLimits (last_unit plan) (table_of plan table)) (c.plan-plan.ensures ∙ ap (λ (of : LinesOf). of.plan) c.self.view_is) c.table-limits.ensures.limits)
-    (c.cohort.ensures.first ∙ ap (λ (plan : Project). first_ordinal (table_of plan table).births c.unit-born.result) (c.plan-plan.ensures ∙ ap (λ (of : LinesOf). of.plan) c.self.view_is)) here.begun c.requires.column)
+    (c.cohort.ensures.first ∙ ap (λ (plan : Project). first_ordinal (table_of plan table).births c.birth-born.result) (c.plan-plan.ensures ∙ ap (λ (of : LinesOf). of.plan) c.self.view_is)) here.begun c.requires.column)
 
 pub returns-clause-size : goal.returns-clause-size
 returns-clause-size g c =
     let lines : LinesOf = c.args.self.now in
     let known = AreLinesOf-view _ c.args.self.now c.self.inside.columns.now c.self.inside.fields c.self.inside.delimiter c.self.view_is c.self.invariant in
     let table : ℕ = c.args.lookup.now.parent in
-    let here = lies lines table c.unit-born.result c.args.parent (c.unit-born.ensures ∙ ap (λ (draws : DrawsOf). draws.unit) c.requires.draws) c.requires.born known.unit in
-    let same : c.new-fields.result ≡ parents lines table c.unit-born.result =
-    c.new-fields.ensures ∙ ap (λ (of : LinesOf). parents of table c.unit-born.result) c.self.view_is in
+    let here = lies lines c.plan-plan.result.now table c.birth-born.result c.args.parent (c.plan-plan.ensures ∙ ap (λ (of : LinesOf). of.plan) c.self.view_is) c.birth-born.ensures.lies in
+    let same : c.new-fields.result ≡ parents lines table c.birth-born.result =
+    c.new-fields.ensures ∙ ap (λ (of : LinesOf). parents of table c.birth-born.result) c.self.view_is in
     omega (
       arith,
       c.put.ensures.size,
       size_is c.new-fields.result _ c.args.lookup.now.column same c.requires.column,
       ap (λ (text : List ℕ). length text)
-          (text_is c.new-fields.result (parents lines table c.unit-born.result) c.cohort.result.first c.args.parent c.new-values.result.changed c.args.lookup.now.column same
+          (text_is c.new-fields.result (parents lines table c.birth-born.result) c.cohort.result.first c.args.parent c.new-values.result.changed c.args.lookup.now.column same
           (subst (λ (plan : Project). IsTableInLimits (last_unit plan) (table_of plan table)) (c.plan-plan.ensures ∙ ap (λ (of : LinesOf). of.plan) c.self.view_is) c.table-limits.ensures.limits)
-          (c.cohort.ensures.first ∙ ap (λ (plan : Project). first_ordinal (table_of plan table).births c.unit-born.result) (c.plan-plan.ensures ∙ ap (λ (of : LinesOf). of.plan) c.self.view_is)) here.begun c.requires.column),
+          (c.cohort.ensures.first ∙ ap (λ (plan : Project). first_ordinal (table_of plan table).births c.birth-born.result) (c.plan-plan.ensures ∙ ap (λ (of : LinesOf). of.plan) c.self.view_is)) here.begun c.requires.column),
     )
 
 pub returns-clause-steps : goal.returns-clause-steps
 returns-clause-steps g c =
     let lines : LinesOf = c.args.self.now in
     let table : ℕ = c.args.lookup.now.parent in
-    let same : c.new-fields.result ≡ parents lines table c.unit-born.result =
-    c.new-fields.ensures ∙ ap (λ (of : LinesOf). parents of table c.unit-born.result) c.self.view_is in
+    let same : c.new-fields.result ≡ parents lines table c.birth-born.result =
+    c.new-fields.ensures ∙ ap (λ (of : LinesOf). parents of table c.birth-born.result) c.self.view_is in
     omega (
       arith,
       c.put.ensures.steps,
       ap (λ (of : LinesOf). asked_for false of c.args.lookup.now.column) same,
-      asked-still (parents lines table c.unit-born.result) c.args.lookup.now.column
+      asked-still (parents lines table c.birth-born.result) c.args.lookup.now.column
           (subst (λ (plan : Project). IsTableInLimits (last_unit plan) (table_of plan table)) (c.plan-plan.ensures ∙ ap (λ (of : LinesOf). of.plan) c.self.view_is) c.table-limits.ensures.limits) c.requires.column,
     )

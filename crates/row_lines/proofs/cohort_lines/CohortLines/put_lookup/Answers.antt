@@ -7,7 +7,6 @@ use Rattle.schema_plan.specs.Layout.{column_at}
 use Rattle.schema_plan.specs.Limits.{IsInLimits}
 use Rattle.draw_values.specs.CohortValues.{ValuesOf, is_null_for}
 use Rattle.schema_plan.specs.Dictionaries.{Project}
-use Rattle.draw_values.specs.UnitDraws.{unit_draws}
 use Rattle.draw_values.specs.Values.{is_null}
 use Rattle.life_intervals.specs.CohortParents.{IsReferenceOf, reference_by}
 use Rattle.life_intervals.specs.Generator.{generator_of, last_unit, rows_in_all, table_of}
@@ -77,28 +76,6 @@ parent_born lines fields lookup reference parent early same to born =
       born_count-le (table_of lines.plan reference.parent).births lines.born lines.unit early,
     ))
 
-pub birth-born-requires-clause-table : goal.birth-born-requires-clause-table
-birth-born-requires-clause-table g c =
-    let lines : LinesOf = c.args.self.now in
-    let known = AreLinesOf-view _ c.args.self.now c.self.inside.columns.now c.self.inside.fields c.self.inside.delimiter c.self.view_is c.self.invariant in
-    let found = lookup_refers lines known.sound known.table c.self.inside.columns.now known.columns_are c.args.column c.args.lookup.now c.index-columns-lookup.result c.in-Reference.reference c.requires.lookup c.index-columns-lookup.is
-    (ap (λ (column : ReadyColumn). column.kind) c.index-columns-lookup.is ∙ c.in-Reference.is) in
-    subst (λ (plan : Project). c.args.lookup.now.parent < length plan.schema.tables) (sym (c.plan-plan.ensures ∙ ap (λ (of : LinesOf). of.plan) c.self.view_is))
-    (table_below lines c.self.inside.fields c.args.lookup.now c.in-Reference.reference known.table known.fields_are found.1 c.parent-parent.ensures.table)
-
-pub birth-born-requires-clause-row : goal.birth-born-requires-clause-row
-birth-born-requires-clause-row g c =
-    let lines : LinesOf = c.args.self.now in
-    let known = AreLinesOf-view _ c.args.self.now c.self.inside.columns.now c.self.inside.fields c.self.inside.delimiter c.self.view_is c.self.invariant in
-    let found = lookup_refers lines known.sound known.table c.self.inside.columns.now known.columns_are c.args.column c.args.lookup.now c.index-columns-lookup.result c.in-Reference.reference c.requires.lookup c.index-columns-lookup.is
-    (ap (λ (column : ReadyColumn). column.kind) c.index-columns-lookup.is ∙ c.in-Reference.is) in
-    subst (λ (plan : Project). c.parent-parent.result < rows_in_all plan c.args.lookup.now.parent) (sym (c.plan-plan.ensures ∙ ap (λ (of : LinesOf). of.plan) c.self.view_is))
-    (omega (
-      arith,
-      parent_born lines c.self.inside.fields c.args.lookup.now c.in-Reference.reference c.parent-parent.result known.born known.fields_are found.1 c.parent-parent.ensures.born,
-      born_count-le (table_of lines.plan c.args.lookup.now.parent).births lines.unit (last_unit lines.plan) known.unit,
-    ))
-
 pub put_looked_up-requires-clause-table : goal.put_looked_up-requires-clause-table
 put_looked_up-requires-clause-table g c =
     let lines : LinesOf = c.args.self.now in
@@ -114,24 +91,6 @@ put_looked_up-requires-clause-born g c =
     let found = lookup_refers lines known.sound known.table c.self.inside.columns.now known.columns_are c.args.column c.args.lookup.now c.index-columns-lookup.result c.in-Reference.reference c.requires.lookup c.index-columns-lookup.is
     (ap (λ (column : ReadyColumn). column.kind) c.index-columns-lookup.is ∙ c.in-Reference.is) in
     parent_born lines c.self.inside.fields c.args.lookup.now c.in-Reference.reference c.parent-parent.result known.born known.fields_are found.1 c.parent-parent.ensures.born
-
-pub put_looked_up-requires-clause-draws : goal.put_looked_up-requires-clause-draws
-put_looked_up-requires-clause-draws g c =
-    let lines : LinesOf = c.args.self.now in
-    let table : ℕ = c.args.lookup.now.parent in
-    let same = c.plan-plan.ensures ∙ ap (λ (of : LinesOf). of.plan) c.self.view_is in
-    c.new-draws.ensures
-    ∙ ap (λ (plan : Project). unit_draws plan table c.birth-born.result) same
-    ∙ ap (unit_draws lines.plan table) (c.birth-born.ensures.unit ∙ ap (λ (plan : Project). birth (table_of plan table).births (last_unit plan) c.parent-parent.result) same)
-
-pub new-draws-requires-clause-table : goal.new-draws-requires-clause-table
-new-draws-requires-clause-table g c =
-    let lines : LinesOf = c.args.self.now in
-    let known = AreLinesOf-view _ c.args.self.now c.self.inside.columns.now c.self.inside.fields c.self.inside.delimiter c.self.view_is c.self.invariant in
-    let found = lookup_refers lines known.sound known.table c.self.inside.columns.now known.columns_are c.args.column c.args.lookup.now c.index-columns-lookup.result c.in-Reference.reference c.requires.lookup c.index-columns-lookup.is
-    (ap (λ (column : ReadyColumn). column.kind) c.index-columns-lookup.is ∙ c.in-Reference.is) in
-    subst (λ (plan : Project). c.args.lookup.now.parent < length plan.schema.tables) (sym (c.plan-plan.ensures ∙ ap (λ (of : LinesOf). of.plan) c.self.view_is))
-    (table_below lines c.self.inside.fields c.args.lookup.now c.in-Reference.reference known.table known.fields_are found.1 c.parent-parent.ensures.table)
 
 -- what is put is what the parent holds
 text_is : (lines fields : LinesOf) → IsInLimits lines.plan → lines.table < length lines.plan.schema.tables → lines.born ≤ lines.unit → lines.unit ≤ last_unit lines.plan → fields ≡ lines →
