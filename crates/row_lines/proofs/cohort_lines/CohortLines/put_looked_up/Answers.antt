@@ -1,10 +1,10 @@
 use Rattle.std.proofs.Common.{◌≡◌, ◌<◌, ◌≤◌, ◌+◌, ◌-◌, ◌++◌, ℕ, List, false, length, ap, arith, subst, sym, ◌∙◌}
-use Rattle.cohort_sizes.specs.Births.{LiesIn, birth, born_count, cohort_size, first_ordinal}
+use Rattle.cohort_sizes.specs.Births.{LiesIn, birth, cohort_size, first_ordinal}
 use Rattle.schema_plan.specs.Dictionaries.{Project}
 use Rattle.schema_plan.specs.FieldBounds.{bounds_at}
 use Rattle.schema_plan.specs.Layout.{layout_of}
 use Rattle.schema_plan.specs.Limits.{IsStillColumn, IsTableInLimits}
-use Rattle.life_intervals.specs.Generator.{last_unit, table_of}
+use Rattle.life_intervals.specs.Generator.{last_unit, rows_in_all, table_of}
 use Rattle.cohort_sizes.proofs.CohortLemmas.{born_count-le}
 use Rattle.row_lines.specs.CohortLines.{LinesOf, asked_for, layout_for, size_for, text_in_table}
 use Rattle.row_lines.specs.Lookups.{text_held}
@@ -20,6 +20,13 @@ parents lines table born = record { plan = lines.plan; table = table; born = bor
 -- the parent lies in the cohort of its birth
 lies : (lines : LinesOf) (plan : Project) (table born ordinal : ℕ) → plan ≡ lines.plan → LiesIn (table_of plan table).births born ordinal → LiesIn (table_of lines.plan table).births born ordinal
 lies lines plan table born ordinal same inside = subst (λ (of : Project). LiesIn (table_of of table).births born ordinal) same inside
+
+pub birth-born-requires-clause-row : goal.birth-born-requires-clause-row
+birth-born-requires-clause-row g c =
+    let lines : LinesOf = c.args.self.now in
+    let known = AreLinesOf-view _ c.args.self.now c.self.inside.columns.now c.self.inside.fields c.self.inside.delimiter c.self.view_is c.self.invariant in
+    subst (λ (plan : Project). c.args.parent < rows_in_all plan c.args.lookup.now.parent) (sym (c.plan-plan.ensures ∙ ap (λ (of : LinesOf). of.plan) c.self.view_is))
+    (omega (arith, c.requires.born, born_count-le (table_of lines.plan c.args.lookup.now.parent).births lines.unit (last_unit lines.plan) known.unit))
 
 pub new-fields-requires-clause-born : goal.new-fields-requires-clause-born
 new-fields-requires-clause-born g c =

@@ -2,14 +2,13 @@ use Rattle.std.proofs.Common.{◌≡◌, ◌<◌, ◌≤◌, ◌++◌, ℕ, List
 use Rattle.schema_plan.specs.declared.ready.ReadyColumn.{ReadyColumn}
 use Rattle.schema_plan.specs.declared.ready.ReadyLookup.{ReadyLookup}
 use Rattle.schema_plan.specs.declared.ready.ReadyReference.{ReadyReference}
-use Rattle.cohort_sizes.specs.Births.{birth, born_count, cohort_size}
+use Rattle.cohort_sizes.specs.Births.{born_count, cohort_size}
 use Rattle.schema_plan.specs.Layout.{column_at}
 use Rattle.schema_plan.specs.Limits.{IsInLimits}
 use Rattle.draw_values.specs.CohortValues.{ValuesOf, is_null_for}
-use Rattle.schema_plan.specs.Dictionaries.{Project}
 use Rattle.draw_values.specs.Values.{is_null}
 use Rattle.life_intervals.specs.CohortParents.{IsReferenceOf, reference_by}
-use Rattle.life_intervals.specs.Generator.{generator_of, last_unit, rows_in_all, table_of}
+use Rattle.life_intervals.specs.Generator.{generator_of, last_unit, table_of}
 use Rattle.life_intervals.specs.Intervals.{row_at}
 use Rattle.cohort_sizes.proofs.CohortLemmas.{born_count-le}
 use Rattle.row_lines.specs.CohortLines.{LinesOf, change_for, is_live_for, layout_for, ordinal_of, parent_for, text_in_cohort, values_at}
