@@ -170,11 +170,7 @@ impl<S: Alter + Drop> Tables<S> {
         };
         self.index()?;
         self.drop_refs(row)?;
-        make(
-            &mut self.database,
-            &self.statements.drop_row,
-            params![row],
-        )?;
+        make(&mut self.database, &self.statements.drop_row, params![row])?;
         Ok(())
     }
 

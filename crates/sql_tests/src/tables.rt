@@ -28,6 +28,7 @@ fn number(database: &mut Connection<MemStore>, sql: &str) -> Option<i64> {
 
 // Keys of a table that lie 2^40 apart: their rows would have one number.
 const NEAR: u64 = 1;
+
 const FAR: u64 = 1_099_511_627_777;
 
 // Whether none of these is put: an order whose customer is gone or has a key that is too far away, a customer of such a key, a row of a table that can't

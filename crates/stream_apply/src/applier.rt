@@ -1,6 +1,6 @@
 //! A table, and streams that are applied to it.
 
-ghost use Rattle.std.specs.Prelude.{◌≡◌, IfErr, IfOk, OnOk, fold};
+ghost use Rattle.std.specs.Prelude.{◌≡◌, [], IfErr, IfOk, OnOk, fold};
 ghost use Rattle.row_text.specs.Fields.{IsDelimiter};
 ghost use Rattle.stream_apply.specs.KeyedLines.{lines_text, put};
 ghost use Rattle.stream_apply.specs.Streams.{IsApplied, IsFaultOf, IsLoaded};
