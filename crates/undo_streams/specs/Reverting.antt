@@ -1,5 +1,5 @@
 -- Undo texts: their lines, what undoing them makes of a table, and their faults.
-use Rattle.std.specs.Prelude.{◌≡◌, ℕ, ◌+◌, ◌<◌, ◌≤◌, ◌^◌, ⊤, Bool, true, false, List, [], ◌∷◌, ◌++◌, codes, decimal, drop, flat_map, fold, length, take}
+use Rattle.std.specs.Prelude.{◌≡◌, ℕ, ◌+◌, ◌<◌, ◌≤◌, ◌^◌, ⊤, true, false, List, [], ◌∷◌, ◌++◌, codes, decimal, drop, flat_map, fold, length, take}
 use Rattle.stream_apply.specs.KeyedLines.{KeyedLine, has_key, put}
 use Rattle.stream_apply.specs.InTurn.{IsFaultAt}
 use Rattle.stream_apply.specs.Streams.{IsKeyedLine, Table, wants_held, without}
