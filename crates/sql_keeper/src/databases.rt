@@ -7,6 +7,8 @@ use sqlite::{Connection, MemStore};
 use std::alloc::Global;
 
 /// An open database, in a transaction, with tables that keep rows and the references between them.
+///
+/// A row that is put may wait, so that one statement puts many. Then what refuses it is told by a later call, by `commit` at the latest.
 pub trait RowTables {
     /// Puts a row with its references, in place of one with the same key.
     fn put(&mut self, table: u32, key: u64, refs: &[RefTo], line: &[u8]) -> Result<(), Refused>;
@@ -50,7 +52,12 @@ pub struct MemoryTables {
 }
 
 impl MemoryTables {
-    /// The database, in its transaction.
+    /// Puts the rows that wait.
+    pub fn put_waiting(&mut self) -> Result<(), Refused> {
+        self.tables.put_waiting()
+    }
+
+    /// The database, in its transaction, without the rows that wait.
     pub fn into_database(self) -> Connection<MemStore> {
         self.tables.into_database()
     }
@@ -60,7 +67,7 @@ impl Databases for MemoryDatabases {
     type Tables = MemoryTables;
 
     fn open(&self, _name: &str) -> Result<MemoryTables, Refused> {
-        let tables = Tables::create(Connection::open_in_memory(self.alloc)?)?;
+        let tables = Tables::create(self.alloc, Connection::open_in_memory(self.alloc)?)?;
         Ok(MemoryTables { tables })
     }
 }

@@ -10,6 +10,9 @@ use keeper_play::{KeepFailed, Keeper, RefTo};
 ///
 /// `start` opens the database of the name, which must have no table, and begins a transaction; `finish` commits it. Each call that is
 /// refused is counted as a fault. Once a statement was refused, so are all others, and the transaction can't be committed.
+///
+/// A row that is put may wait for others that one statement puts with it. Then what refuses it is told by a later call, by `finish` at
+/// the latest.
 #[derive(Drop)]
 pub struct SqlKeeper<D: Databases + Drop> {
     databases: D,

@@ -7,10 +7,14 @@
 #![tactic(auto)]
 
 mod databases;
+mod inserts;
 mod keeper;
+mod numbers;
 mod refused;
 mod system;
 mod tables;
+mod waiting;
+mod writer;
 
 pub use databases::{Databases, MemoryDatabases, MemoryTables, RowTables};
 pub use keeper::SqlKeeper;

@@ -1,7 +1,7 @@
 //! Why a database did not do what was asked.
 
 use sqlite::Error;
-use std::alloc::AllocError;
+use std::alloc::{AllocError, AllocFailed};
 
 /// The database refused a statement, wasn't opened, or isn't empty.
 #[derive(Clone, Copy, Debug, PartialEq, Eq)]
@@ -15,6 +15,12 @@ impl From<Error> for Refused {
 
 impl From<AllocError> for Refused {
     fn from(_error: AllocError) -> Refused {
+        Refused
+    }
+}
+
+impl<T: Drop> From<AllocFailed<T>> for Refused {
+    fn from(_failed: AllocFailed<T>) -> Refused {
         Refused
     }
 }

@@ -1,6 +1,7 @@
 //! Databases of the system.
 
-use crate::tables::{Tables, drop_tables};
+use crate::tables::Tables;
+use crate::writer::drop_tables;
 use crate::{Databases, Refused, RowTables};
 use keeper_play::RefTo;
 use sqlite::{Connection, File, FileStore, MemStore, Options, Unknown};
@@ -49,9 +50,9 @@ impl<'a> Databases for SystemDatabases<'a> {
         let alloc = self.rt.alloc();
         let kept_name = String::from_str(alloc, name)?;
         let place = if name == IN_MEMORY {
-            Place::Memory(Tables::create(Connection::open_in_memory(alloc)?)?)
+            Place::Memory(Tables::create(alloc, Connection::open_in_memory(alloc)?)?)
         } else {
-            Place::File(Tables::create(open_file(self.rt, name)?)?)
+            Place::File(Tables::create(alloc, open_file(self.rt, name)?)?)
         };
         Ok(SystemTables {
             rt: self.rt,

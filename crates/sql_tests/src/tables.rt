@@ -31,19 +31,31 @@ const NEAR: u64 = 1;
 
 const FAR: u64 = 1_099_511_627_777;
 
-// Whether none of these is put: an order whose customer is gone or has a key that is too far away, a customer of such a key, a row of a table that can't
-// be there, and one with a reference in a column that can't be there.
+// Whether none of these is put: an order to a customer of a key that is too far away, a customer of such a key, a row of a table that can't be there,
+// one with a reference in a column that can't be there, and an order whose customer is gone. That is told once it doesn't wait any more.
 fn are_refused(tables: &mut MemoryTables) -> bool {
     let no_column = RefTo {
         column: 64,
         table: 0,
         key: NEAR,
     };
-    !is_put(tables, 1, 2, &[to_customer(2)], b"no parent\n")
-        && !is_put(tables, 1, 3, &[to_customer(FAR)], b"no parent\n")
+    !is_put(tables, 1, 3, &[to_customer(FAR)], b"no parent\n")
         && !is_put(tables, 0, FAR, &[], b"another one's number\n")
         && !is_put(tables, 64, NEAR, &[], b"no table\n")
         && !is_put(tables, 0, 3, &[no_column], b"no column\n")
+        && tables.put_waiting().is_ok()
+        && is_put(tables, 1, 2, &[to_customer(2)], b"no parent\n")
+        && tables.put_waiting().is_err()
+}
+
+// Whether 150 customers are put, each before an order of its own: more than one statement takes.
+fn are_put(tables: &mut MemoryTables) -> bool {
+    let mut are_all = true;
+    for key in 100..250u64 {
+        are_all &= is_put(tables, 0, key, &[], b"many\n");
+        are_all &= is_put(tables, 1, key, &[to_customer(key)], b"many\n");
+    }
+    are_all && tables.put_waiting().is_ok()
 }
 
 // A row takes the place of the one with its key, an order is led from one customer to another, and a customer isn't dropped before its orders. Keys are
@@ -70,16 +82,22 @@ fn rows_and_references_come_and_go(rt: HostRuntime) -> Result<(), Fail> {
         (false, true, true, true)
     );
     assert!(rt; are_refused(&mut tables));
+    assert!(rt; are_put(&mut tables));
     let mut database = tables.into_database();
     let rows =
-        "SELECT count(*) FROM kept_row WHERE row_id IN (1, 1099511627777) AND line = x'6e65770a' OR row_id = 2 OR row_id = 70368744177662";
+        "SELECT count(*) FROM kept_row WHERE row_id IN (1, 1099511627777) AND line = x'6e65770a' OR row_id IN (2, 3, 70368744177662)";
     let leads = "SELECT parent_id FROM kept_reference WHERE reference_id = 70368744177729";
+    let many = "SELECT count(*) FROM kept_row WHERE line = x'6d616e790a'";
+    let own =
+        "SELECT count(*) FROM kept_reference WHERE reference_id / 64 - 1099511627776 = parent_id";
     let references = "SELECT count(*) FROM kept_reference";
     let kept = (
         number(&mut database, rows),
         number(&mut database, leads),
+        number(&mut database, many),
+        number(&mut database, own),
         number(&mut database, references),
     );
-    assert_eq!(rt; kept, (Some(3), Some(1), Some(1)));
+    assert_eq!(rt; kept, (Some(3), Some(1), Some(300), Some(151), Some(151)));
     Ok(())
 }

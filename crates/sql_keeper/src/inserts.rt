@@ -1,0 +1,101 @@
+//! Statements that put rows of two values.
+
+use sqlite::types::ValueRef;
+use sqlite::{Alter, Connection, Error, Statement};
+use std::alloc::{AllocError, Global};
+
+/// How many rows one statement puts at most.
+pub(crate) const MANY: usize = 32;
+
+/// How many rows one statement puts where fewer are left.
+const SOME: usize = 8;
+
+/// The values of a row.
+const WIDTH: usize = 2;
+
+/// Statements that put rows into one table. What a statement costs by itself, one that puts many rows takes but once.
+#[derive(Drop)]
+pub(crate) struct Inserts {
+    of_many: Statement,
+    of_some: Statement,
+    of_one: Statement,
+}
+
+impl Inserts {
+    /// The statements that begin with a text, which names the table and its two columns.
+    pub(crate) fn prepare<S: Alter>(
+        database: &mut Connection<S>,
+        alloc: Global,
+        begin: &str,
+    ) -> Result<Inserts, Error> {
+        Ok(Inserts {
+            of_many: prepare(database, alloc, begin, MANY)?,
+            of_some: prepare(database, alloc, begin, SOME)?,
+            of_one: prepare(database, alloc, begin, 1)?,
+        })
+    }
+
+    /// Puts rows, of which the values stand one after another.
+    pub(crate) fn make<S: Alter>(
+        &self,
+        database: &mut Connection<S>,
+        values: &[ValueRef<'_>],
+    ) -> Result<(), Error> {
+        for group in values.chunks(MANY * WIDTH) {
+            if group.len() == MANY * WIDTH {
+                self.of_many.execute(database, group)?;
+            } else {
+                self.make_few(database, group)?;
+            }
+        }
+        Ok(())
+    }
+
+    /// Puts fewer than many rows.
+    fn make_few<S: Alter>(
+        &self,
+        database: &mut Connection<S>,
+        values: &[ValueRef<'_>],
+    ) -> Result<(), Error> {
+        for group in values.chunks(SOME * WIDTH) {
+            if group.len() == SOME * WIDTH {
+                self.of_some.execute(database, group)?;
+            } else {
+                self.make_one_by_one(database, group)?;
+            }
+        }
+        Ok(())
+    }
+
+    /// Puts each row alone.
+    fn make_one_by_one<S: Alter>(
+        &self,
+        database: &mut Connection<S>,
+        values: &[ValueRef<'_>],
+    ) -> Result<(), Error> {
+        for row in values.chunks(WIDTH) {
+            self.of_one.execute(database, row)?;
+        }
+        Ok(())
+    }
+}
+
+/// Prepares the statement that puts so many rows.
+fn prepare<S: Alter>(
+    database: &mut Connection<S>,
+    alloc: Global,
+    begin: &str,
+    rows: usize,
+) -> Result<Statement, Error> {
+    let text = insert_text(alloc, begin, rows)?;
+    database.prepare(text.as_str())
+}
+
+/// The text of the statement that puts so many rows.
+fn insert_text(alloc: Global, begin: &str, rows: usize) -> Result<String, AllocError> {
+    let mut text = String::from_str(alloc, begin)?;
+    for row in 0..rows {
+        text.push_str(if row == 0 { " (?, ?)" } else { ", (?, ?)" })?;
+    }
+    Ok(text)
+}

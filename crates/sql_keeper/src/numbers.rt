@@ -1,0 +1,117 @@
+//! The numbers of rows and of references in a database.
+
+use crate::Refused;
+use sqlite::types::ValueRef;
+
+/// How many tables the rows may be of.
+const TABLES: usize = 64;
+
+/// How many columns a table may have.
+const COLUMNS: u32 = 64;
+
+/// The keys of a table lie less than this apart: it has no more rows.
+const KEYS: u64 = 1 << 40;
+
+/// The number of a row. It is made of the place of the table and the remainder of the key, so that the rows of a table stand together, and no two
+/// have one number where their keys lie near enough to one another.
+#[derive(Clone, Copy)]
+pub(crate) struct RowNumber(i64);
+
+impl RowNumber {
+    /// The number of the row that has a key in the table at a place.
+    fn new(table: u32, key: u64) -> Result<RowNumber, Refused> {
+        let first = i64::from(table).checked_mul(KEYS as i64).ok_or(Refused)?;
+        let number = first.checked_add((key % KEYS) as i64).ok_or(Refused)?;
+        Ok(RowNumber(number))
+    }
+
+    /// The number as a database has it.
+    pub(crate) fn value(self) -> ValueRef<'static> {
+        ValueRef::Int(self.0)
+    }
+
+    /// The number of the row's reference in the column at a place.
+    pub(crate) fn reference(self, column: u32) -> Result<ReferenceNumber, Refused> {
+        if column >= COLUMNS {
+            return Err(Refused);
+        }
+        let first = self.0.checked_mul(i64::from(COLUMNS)).ok_or(Refused)?;
+        let number = first.checked_add(i64::from(column)).ok_or(Refused)?;
+        Ok(ReferenceNumber(number))
+    }
+
+    /// The least and the greatest number that references of the row may have.
+    pub(crate) fn references(self) -> Result<(ReferenceNumber, ReferenceNumber), Refused> {
+        Ok((self.reference(0)?, self.reference(COLUMNS - 1)?))
+    }
+}
+
+/// The number of a reference. It is made of the number of its row and the place of its column, so that the references of a row stand together.
+#[derive(Clone, Copy)]
+pub(crate) struct ReferenceNumber(i64);
+
+impl ReferenceNumber {
+    /// The number as a database has it.
+    pub(crate) fn value(self) -> ValueRef<'static> {
+        ValueRef::Int(self.0)
+    }
+}
+
+/// From the least to the greatest of the keys that were put in a table; `NO_KEYS` where none was.
+#[derive(Clone, Copy)]
+struct KeyRange {
+    least: u64,
+    greatest: u64,
+}
+
+const NO_KEYS: KeyRange = KeyRange {
+    least: u64::MAX,
+    greatest: 0,
+};
+
+impl KeyRange {
+    /// The range with a key. Refused where that is so far from another that their rows could have one number.
+    fn with(self, key: u64) -> Result<KeyRange, Refused> {
+        let least = self.least.min(key);
+        let greatest = self.greatest.max(key);
+        if greatest - least < KEYS {
+            Ok(KeyRange { least, greatest })
+        } else {
+            Err(Refused)
+        }
+    }
+
+    fn has(self, key: u64) -> bool {
+        self.least <= key && key <= self.greatest
+    }
+}
+
+/// The keys of each table, as far as the numbers of their rows follow from them.
+#[derive(Drop)]
+pub(crate) struct Keys {
+    ranges: [KeyRange; TABLES],
+}
+
+impl Keys {
+    /// No key of any table.
+    pub(crate) fn new() -> Keys {
+        Keys {
+            ranges: [NO_KEYS; TABLES],
+        }
+    }
+
+    /// The number of the row that is put in a table with a key.
+    pub(crate) fn add(&mut self, table: u32, key: u64) -> Result<RowNumber, Refused> {
+        let range = self.ranges.get_mut(table as usize).ok_or(Refused)?;
+        *range = range.with(key)?;
+        RowNumber::new(table, key)
+    }
+
+    /// The number of the row of a table with a key; None where there can be none.
+    pub(crate) fn row(&self, table: u32, key: u64) -> Result<Option<RowNumber>, Refused> {
+        match self.ranges.get(table as usize) {
+            Some(range) if range.has(key) => Ok(Some(RowNumber::new(table, key)?)),
+            _ => Ok(None),
+        }
+    }
+}

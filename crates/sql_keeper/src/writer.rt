@@ -1,0 +1,230 @@
+//! The statements on the two tables of a store.
+
+use crate::Refused;
+use crate::inserts::Inserts;
+use crate::numbers::RowNumber;
+use crate::waiting::{Reference, Waiting, WaitingRow};
+use sqlite::types::ValueRef;
+use sqlite::{Alter, Connection, Constraint, Error, ErrorCode, Statement};
+use std::alloc::Global;
+
+/// Whether a database has any table, index or view.
+const COUNT_OBJECTS: &str = "SELECT count(*) FROM sqlite_schema";
+
+/// The tables. A row has its number and its line; a reference has its number and that of the row to which it leads.
+const CREATE_TABLES: &str = "BEGIN;
+CREATE TABLE kept_row (
+  row_id INTEGER PRIMARY KEY,
+  line BLOB NOT NULL
+);
+CREATE TABLE kept_reference (
+  reference_id INTEGER PRIMARY KEY,
+  parent_id INTEGER NOT NULL REFERENCES kept_row (row_id)
+);";
+
+/// The index that finds the references to a row.
+const CREATE_INDEX: &str = "CREATE INDEX kept_reference_by_parent ON kept_reference (parent_id)";
+
+const ADD_ROWS: &str = "INSERT INTO kept_row (row_id, line) VALUES";
+
+const ADD_REFERENCES: &str = "INSERT INTO kept_reference (reference_id, parent_id) VALUES";
+
+const SET_LINE: &str = "UPDATE kept_row SET line = ?2 WHERE row_id = ?1";
+
+const DROP_REFERENCES: &str = "DELETE FROM kept_reference WHERE reference_id BETWEEN ?1 AND ?2";
+
+const DROP_ROW: &str = "DELETE FROM kept_row WHERE row_id = ?1";
+
+const COMMIT: &str = "COMMIT";
+
+const DROP_TABLES: &str = "BEGIN;
+DROP TABLE kept_reference;
+DROP TABLE kept_row;
+COMMIT";
+
+/// How many references are put at most without the index. To make it takes some 120 bytes of memory for each of them.
+const UNINDEXED: usize = 1 << 19;
+
+/// The statements, prepared.
+#[derive(Drop)]
+struct Statements {
+    add_rows: Inserts,
+    add_references: Inserts,
+    set_line: Statement,
+    drop_references: Statement,
+    drop_row: Statement,
+}
+
+impl Statements {
+    /// The statements, prepared for a database with the tables.
+    fn prepare<S: Alter>(
+        database: &mut Connection<S>,
+        alloc: Global,
+    ) -> Result<Statements, Refused> {
+        Ok(Statements {
+            add_rows: Inserts::prepare(database, alloc, ADD_ROWS)?,
+            add_references: Inserts::prepare(database, alloc, ADD_REFERENCES)?,
+            set_line: prepare(database, SET_LINE)?,
+            drop_references: prepare(database, DROP_REFERENCES)?,
+            drop_row: prepare(database, DROP_ROW)?,
+        })
+    }
+}
+
+/// Makes the statements on the tables of an open database, in a transaction.
+///
+/// The index is made once a row is dropped or replaced, once there are many references, or at the end: to keep it up to date for each
+/// reference that comes costs some three times as much as to make it at once.
+#[derive(Drop)]
+pub(crate) struct Writer<S: Alter + Drop> {
+    database: Connection<S>,
+    statements: Statements,
+    is_indexed: bool,
+    /// How many references were put without the index.
+    unindexed: usize,
+}
+
+impl<S: Alter + Drop> Writer<S> {
+    /// Makes the tables in a database that has none.
+    pub(crate) fn create(alloc: Global, mut database: Connection<S>) -> Result<Writer<S>, Refused> {
+        let statements = make_tables(&mut database, alloc)?;
+        Ok(Writer {
+            database,
+            statements,
+            is_indexed: false,
+            unindexed: 0,
+        })
+    }
+
+    /// Puts rows, each with its references and in place of the one with its number.
+    pub(crate) fn put_all(&mut self, waiting: &Waiting) -> Result<(), Refused> {
+        let rows = waiting.row_values()?;
+        match self
+            .statements
+            .add_rows
+            .make(&mut self.database, rows.as_slice())
+        {
+            Ok(()) => self.put_references(waiting, waiting.all_references()?),
+            Err(error) if is_taken(error) => self.put_each(waiting),
+            Err(_) => Err(Refused),
+        }
+    }
+
+    /// Puts rows one by one, since there is one with a number of theirs.
+    fn put_each(&mut self, waiting: &Waiting) -> Result<(), Refused> {
+        self.index()?;
+        for row in waiting.rows() {
+            self.put_row(waiting, row)?;
+        }
+        Ok(())
+    }
+
+    /// Puts a row with its references, in place of the one with its number.
+    fn put_row(&mut self, waiting: &Waiting, row: &WaitingRow) -> Result<(), Refused> {
+        self.drop_references(row.number)?;
+        let values = [row.number.value(), ValueRef::Blob(waiting.line(row)?)];
+        if self
+            .statements
+            .set_line
+            .execute(&mut self.database, &values)?
+            == 0
+        {
+            self.statements.add_rows.make(&mut self.database, &values)?;
+        }
+        self.put_references(waiting, waiting.references(row)?)
+    }
+
+    /// Puts references of rows that were put.
+    fn put_references(
+        &mut self,
+        waiting: &Waiting,
+        references: &[Reference],
+    ) -> Result<(), Refused> {
+        let values = waiting.values_of(references)?;
+        let statements = &self.statements.add_references;
+        statements.make(&mut self.database, values.as_slice())?;
+        self.unindexed = self.unindexed.saturating_add(references.len());
+        if self.unindexed < UNINDEXED {
+            Ok(())
+        } else {
+            self.index()
+        }
+    }
+
+    /// Drops a row with its references.
+    pub(crate) fn drop_row(&mut self, row: RowNumber) -> Result<(), Refused> {
+        self.index()?;
+        self.drop_references(row)?;
+        let statement = &self.statements.drop_row;
+        statement.execute(&mut self.database, &[row.value()])?;
+        Ok(())
+    }
+
+    /// Drops the references of a row.
+    fn drop_references(&mut self, row: RowNumber) -> Result<(), Refused> {
+        let (first, last) = row.references()?;
+        let statement = &self.statements.drop_references;
+        statement.execute(&mut self.database, &[first.value(), last.value()])?;
+        Ok(())
+    }
+
+    /// Makes the index, where it isn't made.
+    fn index(&mut self) -> Result<(), Refused> {
+        if self.is_indexed {
+            return Ok(());
+        }
+        self.is_indexed = true;
+        batch(&mut self.database, CREATE_INDEX)
+    }
+
+    /// Commits what was put and dropped.
+    pub(crate) fn commit(&mut self) -> Result<(), Refused> {
+        self.index()?;
+        batch(&mut self.database, COMMIT)
+    }
+
+    /// The database, in its transaction.
+    pub(crate) fn into_database(self) -> Connection<S> {
+        self.database
+    }
+}
+
+/// Whether a row was refused since there is one with its number.
+fn is_taken(error: Error) -> bool {
+    matches!(
+        error,
+        Error::SqliteFailure(ErrorCode::ConstraintViolation(Constraint::PrimaryKey))
+    )
+}
+
+/// Begins a transaction in a database that is empty, makes the tables, and prepares the statements on them.
+fn make_tables<S: Alter>(
+    database: &mut Connection<S>,
+    alloc: Global,
+) -> Result<Statements, Refused> {
+    if count_objects(database)? != 0 {
+        return Err(Refused);
+    }
+    batch(database, CREATE_TABLES)?;
+    Statements::prepare(database, alloc)
+}
+
+/// Drops the tables of a database and commits that; it is refused where it has none.
+pub(crate) fn drop_tables<S: Alter>(database: &mut Connection<S>) -> Result<(), Refused> {
+    batch(database, DROP_TABLES)
+}
+
+/// How many objects a database has.
+fn count_objects<S: Alter>(database: &mut Connection<S>) -> Result<i64, Refused> {
+    Ok(database.query_row(COUNT_OBJECTS, &[])?.get(0)?)
+}
+
+/// Makes the statements of a text.
+fn batch<S: Alter>(database: &mut Connection<S>, text: &str) -> Result<(), Refused> {
+    Ok(database.execute_batch(text)?)
+}
+
+/// Prepares a statement.
+fn prepare<S: Alter>(database: &mut Connection<S>, text: &str) -> Result<Statement, Refused> {
+    Ok(database.prepare(text)?)
+}
