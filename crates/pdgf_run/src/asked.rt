@@ -134,9 +134,9 @@ pub(crate) fn asked(plan: &Plan, request: &Request) -> Result<Job, JobFault>
         return Err(JobFault::Range(OptionName::Package));
     }
     Ok(Job {
+        package: package_of(plan, request),
         unit: request.unit,
         table,
-        package: package_of(plan, request),
         node: request.node,
         nodes: request.nodes,
     })
