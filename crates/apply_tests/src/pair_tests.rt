@@ -79,7 +79,7 @@ fn lines_are_known_by_both_fields(rt: HostRuntime) {
 }
 
 #[test]
-fn the_first_fault_is_told(rt: HostRuntime) {
+fn the_first_fault_of_a_table_is_told(rt: HostRuntime) {
     let alloc = rt.alloc();
     assert!(&rt;
         fails(
@@ -105,6 +105,11 @@ fn the_first_fault_is_told(rt: HostRuntime) {
             ApplyFault::DoubleKey { line: 3 }
         )
     );
+}
+
+#[test]
+fn the_first_fault_of_deletions_is_told(rt: HostRuntime) {
+    let alloc = rt.alloc();
     assert!(&rt;
         fails(
             text_behind(alloc, TABLE, b"1|1\n1|2|5\n", b"", b""),
@@ -123,6 +128,11 @@ fn the_first_fault_is_told(rt: HostRuntime) {
             ApplyFault::NoSuchKey { line: 1 }
         )
     );
+}
+
+#[test]
+fn the_first_fault_of_updates_and_insertions_is_told(rt: HostRuntime) {
+    let alloc = rt.alloc();
     assert!(&rt;
         fails(
             text_behind(alloc, TABLE, b"", b"1|1|6\n4|1|6\n", b""),

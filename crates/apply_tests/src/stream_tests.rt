@@ -56,7 +56,7 @@ fn lines_are_dropped_replaced_and_appended(rt: HostRuntime) {
 }
 
 #[test]
-fn the_first_fault_is_told(rt: HostRuntime) {
+fn the_first_fault_of_a_table_is_told(rt: HostRuntime) {
     let alloc = rt.alloc();
     assert!(&rt;
         fails(
@@ -76,6 +76,11 @@ fn the_first_fault_is_told(rt: HostRuntime) {
             ApplyFault::DoubleKey { line: 3 }
         )
     );
+}
+
+#[test]
+fn the_first_fault_of_deletions_is_told(rt: HostRuntime) {
+    let alloc = rt.alloc();
     assert!(&rt;
         fails(
             text_behind(alloc, TABLE, b"1\n2\tb\n", b"", b""),
@@ -94,6 +99,11 @@ fn the_first_fault_is_told(rt: HostRuntime) {
             ApplyFault::DoubleKey { line: 2 }
         )
     );
+}
+
+#[test]
+fn the_first_fault_of_updates_and_insertions_is_told(rt: HostRuntime) {
+    let alloc = rt.alloc();
     assert!(&rt;
         fails(
             text_behind(alloc, TABLE, b"1\n", b"1\tz\n", b""),

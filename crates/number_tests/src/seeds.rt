@@ -116,6 +116,13 @@ fn slices_hold_the_single_values(rt: HostRuntime) {
             ],
         "the rows"
     );
+}
+
+// The Python program.
+#[test]
+fn runs_hold_the_single_values(rt: HostRuntime) {
+    let unit = 0x0663_a25b_d675_e282;
+    let mut seeds = [0; 4];
     // The ordinals of a run pass 2^32, or end with the last one.
     run_row_seeds(unit, 0xffff_fffe, &mut seeds);
     assert!(rt;
