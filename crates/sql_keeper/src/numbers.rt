@@ -14,7 +14,7 @@ const KEYS: u64 = 1 << 40;
 
 /// The number of a row. It is made of the place of the table and the remainder of the key, so that the rows of a table stand together, and no two
 /// have one number where their keys lie near enough to one another.
-#[derive(Clone, Copy)]
+#[derive(Clone, Copy, PartialEq, Eq, PartialOrd, Ord)]
 pub(crate) struct RowNumber(i64);
 
 impl RowNumber {

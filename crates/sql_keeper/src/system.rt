@@ -10,8 +10,12 @@ use std::hash::{BuildHasher, RandomState};
 /// The name of a database in memory, as SQLite has it.
 const IN_MEMORY: &str = ":memory:";
 
-/// How many pages of 4,096 bytes are kept in memory of those read, and how many of those written: 32 MiB each.
-const PAGES: usize = 8_192;
+/// How many pages of 4,096 bytes are kept in memory of those that were read: 32 MiB.
+const READ_PAGES: usize = 8_192;
+
+/// How many pages are kept in memory of those that were written: 128 MiB, since keys that come in no order go to
+/// any page.
+const WRITTEN_PAGES: usize = 32_768;
 
 /// Databases in files of the system. A name is a path, but for `:memory:`, a new database in memory, which is gone once it is closed.
 #[derive(Drop)]
@@ -124,8 +128,8 @@ fn open_file(rt: &HostRuntime, path: &str) -> Result<Connection<FileStore<File>>
         return Err(Refused);
     };
     let mut options = Options::new(state.hash_one(&0u8));
-    options.cache_pages = PAGES;
-    options.spill_pages = PAGES;
+    options.cache_pages = READ_PAGES;
+    options.spill_pages = WRITTEN_PAGES;
     match Connection::open_files(rt.alloc(), files, options) {
         Ok(database) => Ok(database),
         Err(_) => Err(Refused),

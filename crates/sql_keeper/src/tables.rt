@@ -1,7 +1,6 @@
 //! The two tables of a store, and what is done to them.
 
 use crate::Refused;
-use crate::inserts::MANY;
 use crate::numbers::Keys;
 use crate::waiting::Waiting;
 use crate::writer::Writer;
@@ -11,8 +10,8 @@ use std::alloc::Global;
 
 /// An open database with the two tables, in a transaction.
 ///
-/// Rows that are put wait until there are many, until one is dropped, or until the end: then few statements put them, the rows before the
-/// references between them.
+/// Rows that are put wait until there are many, until one is dropped, or until the end: then few statements put them in the order of their
+/// numbers, so that pages are written one after another, and then the references between them.
 #[derive(Drop)]
 pub(crate) struct Tables<S: Alter + Drop> {
     writer: Writer<S>,
@@ -40,7 +39,7 @@ impl<S: Alter + Drop> Tables<S> {
         line: &[u8],
     ) -> Result<(), Refused> {
         let row = self.keys.add(table, key)?;
-        if !self.waiting.has_room(MANY, line) {
+        if !self.waiting.has_room(refs, line) {
             self.put_waiting()?;
         }
         self.waiting.add(&self.keys, row, refs, line)
@@ -57,9 +56,14 @@ impl<S: Alter + Drop> Tables<S> {
 
     /// Puts the rows that wait. Where one is refused, none waits any more.
     pub(crate) fn put_waiting(&mut self) -> Result<(), Refused> {
-        let put = self.writer.put_all(&self.waiting);
+        let put = self.put_sorted();
         self.waiting.clear();
         put
+    }
+
+    fn put_sorted(&mut self) -> Result<(), Refused> {
+        self.waiting.sort()?;
+        self.writer.put_all(&self.waiting)
     }
 
     /// Commits what was put and dropped.

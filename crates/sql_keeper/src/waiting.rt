@@ -6,8 +6,14 @@ use keeper_play::RefTo;
 use sqlite::types::ValueRef;
 use std::alloc::Global;
 
-/// How many bytes the lines that wait have at most, where there is more than one.
-const MOST_BYTES: usize = 65_536;
+/// How many rows wait at most.
+const MOST_ROWS: usize = 65_536;
+
+/// How many references the rows have at most, where there is more than one row.
+const MOST_REFERENCES: usize = 131_072;
+
+/// How many bytes their lines have at most, where there is more than one row.
+const MOST_BYTES: usize = 4_194_304;
 
 /// From one place to before another one.
 #[derive(Clone, Copy)]
@@ -26,12 +32,12 @@ pub(crate) struct WaitingRow {
 
 /// A reference: its number, and that of the row to which it leads.
 #[derive(Clone, Copy)]
-pub(crate) struct Reference {
+struct Reference {
     number: ReferenceNumber,
     parent: RowNumber,
 }
 
-/// Rows that wait, in their order, with their lines and their references.
+/// Rows that wait, with their lines and their references.
 #[derive(Drop)]
 pub(crate) struct Waiting {
     alloc: Global,
@@ -51,9 +57,12 @@ impl Waiting {
         }
     }
 
-    /// Whether fewer rows than these wait, and their lines leave room for another one.
-    pub(crate) fn has_room(&self, rows: usize, line: &[u8]) -> bool {
-        self.rows.len() < rows && line.len() <= MOST_BYTES.saturating_sub(self.text.len())
+    /// Whether there is room for another row, or no row.
+    pub(crate) fn has_room(&self, refs: &[RefTo], line: &[u8]) -> bool {
+        self.rows.is_empty()
+            || self.rows.len() < MOST_ROWS
+                && refs.len() <= MOST_REFERENCES.saturating_sub(self.references.len())
+                && line.len() <= MOST_BYTES.saturating_sub(self.text.len())
     }
 
     /// Adds a row with its references to rows whose keys are known. Where that is refused, it doesn't wait.
@@ -64,10 +73,26 @@ impl Waiting {
         refs: &[RefTo],
         line: &[u8],
     ) -> Result<(), Refused> {
-        let (line_start, references_start) = self.ends();
-        // What a row that was refused has left.
-        self.text.truncate(line_start);
-        self.references.truncate(references_start);
+        let line_start = self.text.len();
+        let references_start = self.references.len();
+        let added = self.add_parts(keys, number, refs, line);
+        if added.is_err() {
+            self.text.truncate(line_start);
+            self.references.truncate(references_start);
+        }
+        added
+    }
+
+    /// Adds a row with its references, or as much of them as there is memory for and as may be.
+    fn add_parts(
+        &mut self,
+        keys: &Keys,
+        number: RowNumber,
+        refs: &[RefTo],
+        line: &[u8],
+    ) -> Result<(), Refused> {
+        let line_start = self.text.len();
+        let references_start = self.references.len();
         for to in refs {
             let parent = keys.row(to.table, to.key)?.ok_or(Refused)?;
             let number = number.reference(to.column)?;
@@ -88,14 +113,6 @@ impl Waiting {
         Ok(())
     }
 
-    /// Where the line and the references of the last row end.
-    fn ends(&self) -> (usize, usize) {
-        match self.rows.as_slice().last() {
-            Some(row) => (row.line.end, row.references.end),
-            None => (0, 0),
-        }
-    }
-
     /// Forgets all rows.
     pub(crate) fn clear(&mut self) {
         self.rows.clear();
@@ -103,9 +120,28 @@ impl Waiting {
         self.references.clear();
     }
 
+    /// Puts the rows in the order of their numbers. Of rows with one number the last keeps its references, and the others lose theirs.
+    pub(crate) fn sort(&mut self) -> Result<(), Refused> {
+        self.rows.sort_by_key(|row| row.number)?;
+        for at in 1..self.rows.len() {
+            let after = self.rows.as_slice().get(at).map(|row| row.number);
+            if let Some(row) = self.rows.as_mut_slice().get_mut(at - 1) {
+                if after == Some(row.number) {
+                    row.references = Span { start: 0, end: 0 };
+                }
+            }
+        }
+        Ok(())
+    }
+
     /// The rows.
     pub(crate) fn rows(&self) -> &[WaitingRow] {
         self.rows.as_slice()
+    }
+
+    /// How many references the rows have.
+    pub(crate) fn references(&self) -> usize {
+        self.references.len()
     }
 
     /// The line of a row.
@@ -114,37 +150,29 @@ impl Waiting {
         self.text.as_slice().get(start..end).ok_or(Refused)
     }
 
-    /// The references of a row.
-    pub(crate) fn references(&self, row: &WaitingRow) -> Result<&[Reference], Refused> {
-        let Span { start, end } = row.references;
-        self.references.as_slice().get(start..end).ok_or(Refused)
-    }
-
-    /// The references of all rows.
-    pub(crate) fn all_references(&self) -> Result<&[Reference], Refused> {
-        let (_, end) = self.ends();
-        self.references.as_slice().get(..end).ok_or(Refused)
-    }
-
-    /// Number and line of each row.
-    pub(crate) fn row_values(&self) -> Result<Vec<ValueRef<'_>>, Refused> {
+    /// Number and line of each of these rows.
+    pub(crate) fn row_values(&self, rows: &[WaitingRow]) -> Result<Vec<ValueRef<'_>>, Refused> {
         let mut values = Vec::new(self.alloc);
-        for row in self.rows.as_slice() {
+        for row in rows {
             values.push(row.number.value())?;
             values.push(ValueRef::Blob(self.line(row)?))?;
         }
         Ok(values)
     }
 
-    /// Number and parent's number of each of these references.
-    pub(crate) fn values_of(
+    /// Number and parent's number of each reference of these rows.
+    pub(crate) fn reference_values(
         &self,
-        references: &[Reference],
+        rows: &[WaitingRow],
     ) -> Result<Vec<ValueRef<'static>>, Refused> {
         let mut values = Vec::new(self.alloc);
-        for reference in references {
-            values.push(reference.number.value())?;
-            values.push(reference.parent.value())?;
+        for row in rows {
+            let Span { start, end } = row.references;
+            let references = self.references.as_slice().get(start..end);
+            for reference in references.ok_or(Refused)? {
+                values.push(reference.number.value())?;
+                values.push(reference.parent.value())?;
+            }
         }
         Ok(values)
     }

@@ -1,9 +1,9 @@
 //! The statements on the two tables of a store.
 
 use crate::Refused;
-use crate::inserts::Inserts;
+use crate::inserts::{Inserts, MANY};
 use crate::numbers::RowNumber;
-use crate::waiting::{Reference, Waiting, WaitingRow};
+use crate::waiting::{Waiting, WaitingRow};
 use sqlite::types::ValueRef;
 use sqlite::{Alter, Connection, Constraint, Error, ErrorCode, Statement};
 use std::alloc::Global;
@@ -96,33 +96,46 @@ impl<S: Alter + Drop> Writer<S> {
         })
     }
 
-    /// Puts rows, each with its references and in place of the one with its number.
+    /// Puts rows, each in place of the one with its number, and then their references.
     pub(crate) fn put_all(&mut self, waiting: &Waiting) -> Result<(), Refused> {
-        let rows = waiting.row_values()?;
-        match self
-            .statements
-            .add_rows
-            .make(&mut self.database, rows.as_slice())
-        {
-            Ok(()) => self.put_references(waiting, waiting.all_references()?),
-            Err(error) if is_taken(error) => self.put_each(waiting),
+        for rows in waiting.rows().chunks(MANY) {
+            self.put_lines(waiting, rows)?;
+        }
+        for rows in waiting.rows().chunks(MANY) {
+            self.put_references(waiting, rows)?;
+        }
+        self.unindexed = self.unindexed.saturating_add(waiting.references());
+        if self.unindexed < UNINDEXED {
+            Ok(())
+        } else {
+            self.index()
+        }
+    }
+
+    /// Puts rows without their references.
+    fn put_lines(&mut self, waiting: &Waiting, rows: &[WaitingRow]) -> Result<(), Refused> {
+        let values = waiting.row_values(rows)?;
+        let statements = &self.statements.add_rows;
+        match statements.make(&mut self.database, values.as_slice()) {
+            Ok(()) => Ok(()),
+            Err(error) if is_taken(error) => self.set_lines(waiting, rows),
             Err(_) => Err(Refused),
         }
     }
 
-    /// Puts rows one by one, since there is one with a number of theirs.
-    fn put_each(&mut self, waiting: &Waiting) -> Result<(), Refused> {
+    /// Puts rows without their references one by one, since there is one with a number of theirs.
+    fn set_lines(&mut self, waiting: &Waiting, rows: &[WaitingRow]) -> Result<(), Refused> {
         self.index()?;
-        for row in waiting.rows() {
-            self.put_row(waiting, row)?;
+        for row in rows {
+            self.set_line(row.number, waiting.line(row)?)?;
         }
         Ok(())
     }
 
-    /// Puts a row with its references, in place of the one with its number.
-    fn put_row(&mut self, waiting: &Waiting, row: &WaitingRow) -> Result<(), Refused> {
-        self.drop_references(row.number)?;
-        let values = [row.number.value(), ValueRef::Blob(waiting.line(row)?)];
+    /// Sets the line of the row with a number and drops its references, or puts a row where there is none.
+    fn set_line(&mut self, row: RowNumber, line: &[u8]) -> Result<(), Refused> {
+        self.drop_references(row)?;
+        let values = [row.value(), ValueRef::Blob(line)];
         if self
             .statements
             .set_line
@@ -131,24 +144,15 @@ impl<S: Alter + Drop> Writer<S> {
         {
             self.statements.add_rows.make(&mut self.database, &values)?;
         }
-        self.put_references(waiting, waiting.references(row)?)
+        Ok(())
     }
 
-    /// Puts references of rows that were put.
-    fn put_references(
-        &mut self,
-        waiting: &Waiting,
-        references: &[Reference],
-    ) -> Result<(), Refused> {
-        let values = waiting.values_of(references)?;
+    /// Puts the references of rows that were put.
+    fn put_references(&mut self, waiting: &Waiting, rows: &[WaitingRow]) -> Result<(), Refused> {
+        let values = waiting.reference_values(rows)?;
         let statements = &self.statements.add_references;
         statements.make(&mut self.database, values.as_slice())?;
-        self.unindexed = self.unindexed.saturating_add(references.len());
-        if self.unindexed < UNINDEXED {
-            Ok(())
-        } else {
-            self.index()
-        }
+        Ok(())
     }
 
     /// Drops a row with its references.

@@ -48,14 +48,17 @@ fn are_refused(tables: &mut MemoryTables) -> bool {
         && tables.put_waiting().is_err()
 }
 
-// Whether 150 customers are put, each before an order of its own: more than one statement takes.
+// Whether 150 customers are put, each before an order of its own: more than one statement takes. One order leads to another customer in between.
 fn are_put(tables: &mut MemoryTables) -> bool {
     let mut are_all = true;
     for key in 100..250u64 {
         are_all &= is_put(tables, 0, key, &[], b"many\n");
         are_all &= is_put(tables, 1, key, &[to_customer(key)], b"many\n");
     }
-    are_all && tables.put_waiting().is_ok()
+    are_all
+        && is_put(tables, 1, 100, &[to_customer(101)], b"once\n")
+        && is_put(tables, 1, 100, &[to_customer(100)], b"many\n")
+        && tables.put_waiting().is_ok()
 }
 
 // A row takes the place of the one with its key, an order is led from one customer to another, and a customer isn't dropped before its orders. Keys are
