@@ -73,8 +73,8 @@ impl Statements {
 
 /// Makes the statements on the tables of an open database, in a transaction.
 ///
-/// The index is made once a row is dropped or replaced, once there are many references, or at the end: to keep it up to date for each
-/// reference that comes costs some three times as much as to make it at once.
+/// The index is made once a row is dropped or replaced, once there are many references, or at the end: kept up to date from the first
+/// reference on, it makes the whole longer.
 #[derive(Drop)]
 pub(crate) struct Writer<S: Alter + Drop> {
     database: Connection<S>,
