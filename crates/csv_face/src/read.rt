@@ -60,11 +60,22 @@ fn row_field(field: &[u8]) -> Option<&[u8]>
 }
 
 /// The text that is made, and the room in which a field of it is written first.
-#[derive(Drop)]
 struct Lines {
     alloc: Global,
     text: Vec<u8>,
     field: PageBuf,
+}
+
+impl Drop for Lines {
+    fn drop(self) {
+        let Lines {
+            alloc: _,
+            text,
+            field,
+        } = self;
+        drop(text);
+        drop(field);
+    }
 }
 
 impl Lines {
@@ -126,6 +137,19 @@ impl Lines {
         self.text.push(b'\n')?;
         Ok(())
     }
+
+    /// The lines so far.
+    fn into_text(self) -> Vec<u8>
+        ensures { result ≡ self.text }
+    {
+        let Lines {
+            alloc: _,
+            text,
+            field,
+        } = self;
+        drop(field);
+        text
+    }
 }
 
 /// What an error is after which a reader gives no more records: over bytes it is want of memory.
@@ -161,7 +185,7 @@ pub fn from_csv(
     for number in 1..u64::MAX {
         match reader.read_byte_record(&mut record) {
             Ok(true) => {}
-            Ok(false) => return Ok(lines.text),
+            Ok(false) => return Ok(lines.into_text()),
             Err(error) => return Err(stopped(error)),
         }
         if is_bad_record(&record, fields) {

@@ -12,7 +12,6 @@ use csv::{ByteRecord, Writer, WriterBuilder};
 use std::alloc::Global;
 
 /// What is read of a text, and written of it.
-#[derive(Drop)]
 struct Scanner {
     writer: Writer<Vec<u8>>,
     /// The fields of the record at hand that are read whole.
@@ -21,6 +20,20 @@ struct Scanner {
     field: Vec<u8>,
     /// Whether a backslash is read whose letter isn't.
     is_escape: bool,
+}
+
+impl Drop for Scanner {
+    fn drop(self) {
+        let Scanner {
+            writer,
+            fields,
+            field,
+            is_escape: _,
+        } = self;
+        drop(writer);
+        drop(fields);
+        drop(field);
+    }
 }
 
 /// The byte that a backslash and a letter stand for.
@@ -130,7 +143,15 @@ impl Scanner {
     fn finish(self) -> Result<Vec<u8>, Memory>
         ensures { (delimiter : ℕ) (whole : List ℕ) → WillWrite delimiter self whole [] → IfOk result (λ csv. csv.items ≡ whole) }
     {
-        match self.writer.into_inner() {
+        let Scanner {
+            writer,
+            fields,
+            field,
+            is_escape: _,
+        } = self;
+        drop(fields);
+        drop(field);
+        match writer.into_inner() {
             Ok(text) => Ok(text),
             Err(_) => Err(Memory),
         }

@@ -3,7 +3,7 @@
 use schema_model::{Sequence, Text, Texts};
 
 /// A detail table: lines for each row of its parent, which name the row by its key and are numbered from 1.
-#[derive(Debug, PartialEq, Drop)]
+#[derive(Debug, PartialEq)]
 pub struct Detail {
     /// The number that all its draws begin from.
     pub seed: i64,
@@ -19,8 +19,24 @@ pub struct Detail {
     pub columns: DetailColumns,
 }
 
+impl Drop for Detail {
+    fn drop(self) {
+        let Detail {
+            seed: _,
+            lo: _,
+            hi: _,
+            name,
+            parent,
+            columns,
+        } = self;
+        drop(name);
+        drop(parent);
+        drop(columns);
+    }
+}
+
 /// A column of a detail table.
-#[derive(Debug, PartialEq, Drop)]
+#[derive(Debug, PartialEq)]
 pub struct DetailColumn {
     /// The column's name.
     pub name: Text,
@@ -30,13 +46,34 @@ pub struct DetailColumn {
     pub changes: bool,
 }
 
+impl Drop for DetailColumn {
+    fn drop(self) {
+        let DetailColumn {
+            name,
+            kind,
+            changes: _,
+        } = self;
+        drop(name);
+        drop(kind);
+    }
+}
+
 /// What the fields of a column hold.
-#[derive(Debug, PartialEq, Drop)]
+#[derive(Debug, PartialEq)]
 pub enum DetailKind {
     /// A whole number from `lo` to `hi`, each as often.
     Int { lo: i64, hi: i64 },
     /// One of the entries, each as often.
     Pick { entries: Texts },
+}
+
+impl Drop for DetailKind {
+    fn drop(self) {
+        match self {
+            DetailKind::Int { lo: _, hi: _ } => {}
+            DetailKind::Pick { entries } => drop(entries),
+        }
+    }
 }
 
 /// The columns of a detail table, in order.

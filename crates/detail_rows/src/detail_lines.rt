@@ -43,7 +43,6 @@ pub enum LineKind {
 }
 
 /// The lines of a detail table, with what doesn't change from line to line. A contract sees the detail table and the delimiter.
-#[derive(Drop)]
 pub(crate) struct DetailLines<'a> {
     detail: &'a DetailPlan,
     delimiter: u8,
@@ -52,6 +51,22 @@ pub(crate) struct DetailLines<'a> {
     spread: FixedDivisor,
     values: Vec<ReadyValue>,
     seeds: Vec<u64>,
+}
+
+impl Drop for DetailLines<'_> {
+    fn drop(self) {
+        let DetailLines {
+            detail: _,
+            delimiter: _,
+            counts: _,
+            least: _,
+            spread: _,
+            values,
+            seeds,
+        } = self;
+        drop(values);
+        drop(seeds);
+    }
 }
 
 impl<'a> Model for DetailLines<'a> {

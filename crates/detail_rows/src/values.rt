@@ -19,7 +19,6 @@ use schema_model::Text;
 use std::alloc::Global;
 
 /// What the fields of a column hold, ready for lines.
-#[derive(Drop)]
 pub(crate) enum ReadyValue {
     /// A number from `lo` to `hi`, of so many.
     Number {
@@ -32,6 +31,22 @@ pub(crate) enum ReadyValue {
         entries: WrittenTexts,
         choices: FixedDivisor,
     },
+}
+
+impl Drop for ReadyValue {
+    fn drop(self) {
+        match self {
+            ReadyValue::Number {
+                lo: _,
+                hi: _,
+                choices: _,
+            } => {}
+            ReadyValue::Entry {
+                entries,
+                choices: _,
+            } => drop(entries),
+        }
+    }
 }
 
 /// The entries as they are written.

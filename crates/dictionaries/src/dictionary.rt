@@ -7,10 +7,18 @@ use weight_tables::{Memory, Weights};
 
 /// A word list. A contract sees its entries and their weights. There are 1 to 1,000,000 entries, each of at most 255
 /// bytes, and a weight is from 1 to 1,000,000.
-#[derive(Debug, Drop)]
+#[derive(Debug)]
 pub struct Dictionary {
     entries: Entries,
     weights: Weights,
+}
+
+impl Drop for Dictionary {
+    fn drop(self) {
+        let Dictionary { entries, weights } = self;
+        drop(entries);
+        drop(weights);
+    }
 }
 
 impl Model for Dictionary {

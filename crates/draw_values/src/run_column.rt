@@ -27,7 +27,6 @@ const SEED_ROOM: u64 = 4096;
 
 /// A column, prepared for runs: its seeds, the byte that stands behind its fields, and the pieces of its entries. A contract sees
 /// these, and the column's place.
-#[derive(Drop)]
 pub struct RunColumn {
     pub(crate) table: u32,
     pub(crate) column: u32,
@@ -37,6 +36,24 @@ pub struct RunColumn {
     short: bool,
     pub(crate) itemized: bool,
     pub(crate) kept: Vec<Piece>,
+}
+
+impl Drop for RunColumn {
+    fn drop(self) {
+        let RunColumn {
+            table: _,
+            column: _,
+            behind: _,
+            seeds,
+            chooser,
+            short: _,
+            itemized: _,
+            kept,
+        } = self;
+        drop(seeds);
+        drop(chooser);
+        drop(kept);
+    }
 }
 
 impl Model for RunColumn {

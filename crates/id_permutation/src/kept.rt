@@ -21,12 +21,25 @@ struct KeptOrder {
 
 /// Orders that are kept, of which a contract sees the list and how many entries their tables have together, of two bytes each. An order
 /// takes 16 bytes, and what its rounds divide by is kept once for neighbours of one size.
-#[derive(Drop)]
 pub struct KeptOrders {
     alloc: Global,
     forms: Vec<Form>,
     orders: Vec<KeptOrder>,
     entries: Vec<u16>,
+}
+
+impl Drop for KeptOrders {
+    fn drop(self) {
+        let KeptOrders {
+            alloc: _,
+            forms,
+            orders,
+            entries,
+        } = self;
+        drop(forms);
+        drop(orders);
+        drop(entries);
+    }
 }
 
 impl Model for KeptOrders {

@@ -53,17 +53,23 @@ impl KeeperFails {
 }
 
 /// A row as it is kept.
-#[derive(Drop)]
 struct Kept {
     refs: Vec<RefTo>,
     line: Vec<u8>,
+}
+
+impl Drop for Kept {
+    fn drop(self) {
+        let Kept { refs, line } = self;
+        drop(refs);
+        drop(line);
+    }
 }
 
 /// A store that keeps its rows in memory, with stated failures. It tells all its meanings; before the first `start` its name is empty.
 ///
 /// A `put` and a `drop_row` fail where they are stated to. They and `start` fail too where no memory is left for what they keep, and the
 /// former two where 2^64 - 1 statements were made since the last `start`. Each call that fails is counted as a fault.
-#[derive(Drop)]
 pub struct MapKeeper {
     alloc: Global,
     fails: KeeperFails,
@@ -74,6 +80,25 @@ pub struct MapKeeper {
     calls: u64,
     faults: u64,
     last_failed: bool,
+}
+
+impl Drop for MapKeeper {
+    fn drop(self) {
+        let MapKeeper {
+            alloc: _,
+            fails,
+            rows,
+            name,
+            is_open: _,
+            done: _,
+            calls: _,
+            faults: _,
+            last_failed: _,
+        } = self;
+        drop(fails);
+        drop(rows);
+        drop(name);
+    }
 }
 
 /// A row with copies of its references and its line.

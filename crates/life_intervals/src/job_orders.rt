@@ -26,9 +26,15 @@ const MOST_ORDERS: u64 = 1 << 22;
 
 /// Orders of cohorts that are kept for a job: for each table, as far as they are kept, of the units from 0 on. How places are found
 /// shows in no contract, and those that aren't kept are found by rounds. A contract sees what is kept of each table.
-#[derive(Drop)]
 pub struct JobOrders {
     tables: Vec<TableOrders>,
+}
+
+impl Drop for JobOrders {
+    fn drop(self) {
+        let JobOrders { tables } = self;
+        drop(tables);
+    }
 }
 
 impl Model for JobOrders {

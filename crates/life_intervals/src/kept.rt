@@ -30,20 +30,41 @@ pub(crate) struct Room {
 }
 
 /// The orders in which a table's cohorts choose parents by a reference, unit by unit from 0, and the windows of these.
-#[derive(Drop)]
 pub(crate) struct ParentOrders {
     pub(crate) orders: KeptOrders,
     pub(crate) windows: Vec<Window>,
 }
 
+impl Drop for ParentOrders {
+    fn drop(self) {
+        let ParentOrders { orders, windows } = self;
+        drop(orders);
+        drop(windows);
+    }
+}
+
 /// The orders that are kept of a table's cohorts, unit by unit from 0, as far as they are kept: of keys, lives and updates, and for
 /// each column those by its reference, if it is one.
-#[derive(Drop)]
 pub(crate) struct TableOrders {
     keys: KeptOrders,
     lives: KeptOrders,
     updates: KeptOrders,
     parents: Vec<ParentOrders>,
+}
+
+impl Drop for TableOrders {
+    fn drop(self) {
+        let TableOrders {
+            keys,
+            lives,
+            updates,
+            parents,
+        } = self;
+        drop(keys);
+        drop(lives);
+        drop(updates);
+        drop(parents);
+    }
 }
 
 /// Whether the tables of an order of an older cohort pay where a unit's changes alone are asked for, so few of its places: two of their

@@ -18,7 +18,6 @@ use std::marker::Model;
 ///
 /// A call fails where it is stated to, a `start` also where no file has the name or where no memory is left to keep the
 /// name. Each call that fails is counted as a fault.
-#[derive(Drop)]
 pub struct MemLibrary {
     files: Files,
     fails: LibraryFails,
@@ -26,6 +25,22 @@ pub struct MemLibrary {
     started: Option<Started>,
     taken: u64,
     faults: u64,
+}
+
+impl Drop for MemLibrary {
+    fn drop(self) {
+        let MemLibrary {
+            files,
+            fails,
+            asked,
+            started: _,
+            taken: _,
+            faults: _,
+        } = self;
+        drop(files);
+        drop(fails);
+        drop(asked);
+    }
 }
 
 /// The started file by its number, the place of the first byte that is left, and the calls on it since its start.

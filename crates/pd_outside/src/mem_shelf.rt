@@ -19,7 +19,6 @@ use std::marker::Model;
 ///
 /// A call fails where it is stated to, and where no memory is left for what it keeps. Each call that fails is counted as
 /// a fault, and stays counted as a call of its kind.
-#[derive(Drop)]
 pub struct MemShelf {
     alloc: Global,
     fails: ShelfFails,
@@ -31,6 +30,26 @@ pub struct MemShelf {
     ends: u64,
     faults: u64,
     last_failed: bool,
+}
+
+impl Drop for MemShelf {
+    fn drop(self) {
+        let MemShelf {
+            alloc: _,
+            fails,
+            step: _,
+            finished,
+            begun,
+            begins: _,
+            writes: _,
+            ends: _,
+            faults: _,
+            last_failed: _,
+        } = self;
+        drop(fails);
+        drop(finished);
+        drop(begun);
+    }
 }
 
 impl Model for MemShelf {

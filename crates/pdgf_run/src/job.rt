@@ -18,7 +18,6 @@ use std::alloc::Global;
 use update_box::{Memory, PreparedTables, UnitRows};
 
 /// All that is to be written.
-#[derive(Drop)]
 pub(crate) enum Job {
     /// These bytes, on the standard output.
     Text(Vec<u8>),
@@ -36,6 +35,20 @@ pub(crate) enum Job {
     Details(DetailsJob),
 }
 
+impl Drop for Job {
+    fn drop(self) {
+        match self {
+            Job::Text(it) => drop(it),
+            Job::Page(it) => drop(it),
+            Job::Snapshot(it) => drop(it),
+            Job::Unit(it) => drop(it),
+            Job::Undo(it) => drop(it),
+            Job::Files(it) => drop(it),
+            Job::Details(it) => drop(it),
+        }
+    }
+}
+
 /// What a request comes to.
 #[derive(Drop)]
 pub(crate) enum Task {
@@ -47,7 +60,6 @@ pub(crate) enum Task {
 
 /// The units of a plan that are played, up to one, with the orders that are kept for its rows, the name of the store, and the summary: for each
 /// table how many rows it holds at the last of the units.
-#[derive(Drop)]
 pub(crate) struct PlayJob {
     pub(crate) plan: Plan,
     pub(crate) orders: JobOrders,
@@ -56,16 +68,57 @@ pub(crate) struct PlayJob {
     pub(crate) summary: Vec<u8>,
 }
 
+impl Drop for PlayJob {
+    fn drop(self) {
+        let PlayJob {
+            plan,
+            orders,
+            to: _,
+            store,
+            summary,
+        } = self;
+        drop(plan);
+        drop(orders);
+        drop(store);
+        drop(summary);
+    }
+}
+
+impl PlayJob {
+    /// The summary.
+    pub(crate) fn into_summary(self) -> Vec<u8>
+        ensures { result ≡ self.summary }
+    {
+        let PlayJob {
+            plan,
+            orders,
+            to: _,
+            store,
+            summary,
+        } = self;
+        drop(plan);
+        drop(orders);
+        drop(store);
+        summary
+    }
+}
+
 /// Texts, and the names of their files.
-#[derive(Drop)]
 pub(crate) struct FilesJob {
     pub(crate) names: Texts,
     pub(crate) texts: Inputs,
 }
 
+impl Drop for FilesJob {
+    fn drop(self) {
+        let FilesJob { names, texts } = self;
+        drop(names);
+        drop(texts);
+    }
+}
+
 /// What is asked of a plan's tables, with what is prepared of these, the number of workers, and the directory of the files, where they
 /// don't go to the standard output.
-#[derive(Drop)]
 pub(crate) struct TablesJob {
     pub(crate) plan: Plan,
     pub(crate) tables: PreparedTables,
@@ -74,18 +127,76 @@ pub(crate) struct TablesJob {
     pub(crate) out: Option<Name>,
 }
 
+impl Drop for TablesJob {
+    fn drop(self) {
+        let TablesJob {
+            plan,
+            tables,
+            asked: _,
+            workers: _,
+            out,
+        } = self;
+        drop(plan);
+        drop(tables);
+        drop(out);
+    }
+}
+
+impl TablesJob {
+    /// The plan.
+    pub(crate) fn into_plan(self) -> Plan
+        ensures { result ≡ self.plan }
+    {
+        let TablesJob {
+            plan,
+            tables,
+            asked: _,
+            workers: _,
+            out,
+        } = self;
+        drop(tables);
+        drop(out);
+        plan
+    }
+}
+
 /// The same of what a unit changes, as it was found.
-#[derive(Drop)]
 pub(crate) struct UnitJob {
     pub(crate) of: TablesJob,
     pub(crate) rows: UnitRows,
 }
 
+impl Drop for UnitJob {
+    fn drop(self) {
+        let UnitJob { of, rows } = self;
+        drop(of);
+        drop(rows);
+    }
+}
+
+impl UnitJob {
+    /// The plan.
+    pub(crate) fn into_plan(self) -> Plan
+        ensures { result ≡ self.of.plan }
+    {
+        let UnitJob { of, rows } = self;
+        drop(rows);
+        of.into_plan()
+    }
+}
+
 /// The same, with the places of the rows that the unit deletes, table by table.
-#[derive(Drop)]
 pub(crate) struct UndoJob {
     pub(crate) of: UnitJob,
     pub(crate) places: Vec<Vec<u64>>,
+}
+
+impl Drop for UndoJob {
+    fn drop(self) {
+        let UndoJob { of, places } = self;
+        drop(of);
+        drop(places);
+    }
 }
 
 /// What is told of a detail table: its text at a unit, or what a unit changes in it.
@@ -97,7 +208,6 @@ pub(crate) enum Told {
 
 /// A detail table at a unit, of whose parent `size` rows make a package, with the orders that are kept for its parent's rows. Without changes its text
 /// is told, and with them these: they are what the unit changes in the parent. The files have these names, where they don't go to the standard output.
-#[derive(Drop)]
 pub(crate) struct DetailsJob {
     pub(crate) plan: Plan,
     pub(crate) detail: DetailPlan,
@@ -107,6 +217,26 @@ pub(crate) struct DetailsJob {
     pub(crate) workers: u32,
     pub(crate) names: Option<Texts>,
     pub(crate) changes: Option<UnitRows>,
+}
+
+impl Drop for DetailsJob {
+    fn drop(self) {
+        let DetailsJob {
+            plan,
+            detail,
+            orders,
+            unit: _,
+            size: _,
+            workers: _,
+            names,
+            changes,
+        } = self;
+        drop(plan);
+        drop(detail);
+        drop(orders);
+        drop(names);
+        drop(changes);
+    }
 }
 
 /// The job of what a request asks of a plan's tables, with its files in a directory or on the standard output. At `Memory` there is none.

@@ -149,7 +149,7 @@ pub(crate) fn played<K: Keeper>(alloc: Global, task: Task, keeper: &mut K) -> Re
         Task::Write(job) => Ok(job),
         Task::Play(job) => {
             play(alloc, &job, keeper)?;
-            Ok(Job::Text(job.summary))
+            Ok(Job::Text(job.into_summary()))
         }
     }
 }

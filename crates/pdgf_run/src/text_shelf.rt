@@ -12,7 +12,6 @@ pub(crate) const TEXT_LIMIT: usize = 268_435_456;
 
 /// A shelf in memory that takes a byte more than the limit of all its files, and then fails. So files that are longer are told from want of
 /// memory, and of how many bytes more they are none is kept.
-#[derive(Drop)]
 pub(crate) struct TextShelf {
     shelf: MemShelf,
     /// How many bytes are still taken.
@@ -20,6 +19,18 @@ pub(crate) struct TextShelf {
     faults: u64,
     last_failed: bool,
     ghost counted: { bytes_held shelf.held + room ≡ 268435457 },
+}
+
+impl Drop for TextShelf {
+    fn drop(self) {
+        let TextShelf {
+            shelf,
+            room: _,
+            faults: _,
+            last_failed: _,
+        } = self;
+        drop(shelf);
+    }
 }
 
 impl TextShelf {

@@ -18,7 +18,6 @@ use std::thread::Threads;
 const PACKAGES_EACH: usize = 4;
 
 /// Workers who make the packages of a job, round after round. No call but `new` takes memory.
-#[derive(Drop)]
 pub(crate) struct Crew {
     shop: Workshop,
     /// The pages of the round that aren't handed out yet.
@@ -26,6 +25,19 @@ pub(crate) struct Crew {
     round: RoundClaims,
     /// How many numbers were claimed so far.
     claimed: u64,
+}
+
+impl Drop for Crew {
+    fn drop(self) {
+        let Crew {
+            shop,
+            ordered,
+            round: _,
+            claimed: _,
+        } = self;
+        drop(shop);
+        drop(ordered);
+    }
 }
 
 impl Crew {

@@ -12,10 +12,18 @@ use std::alloc::Global;
 use std::thread::Threads;
 
 /// The caller alone, on one page, or several workers in threads.
-#[derive(Drop)]
 pub(crate) enum Makers {
     Alone { page: PageBuf },
     Several { crew: Crew },
+}
+
+impl Drop for Makers {
+    fn drop(self) {
+        match self {
+            Makers::Alone { page } => drop(page),
+            Makers::Several { crew } => drop(crew),
+        }
+    }
 }
 
 impl Makers {

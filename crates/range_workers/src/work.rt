@@ -22,10 +22,17 @@ pub(crate) struct RoundClaims {
 }
 
 /// The pages of a worker: blank ones, and those that it made in the round, each under the number that it claimed.
-#[derive(Drop)]
 pub(crate) struct Bench {
     pub(crate) blank: Vec<PageBuf>,
     pub(crate) made: Vec<Numbered>,
+}
+
+impl Drop for Bench {
+    fn drop(self) {
+        let Bench { blank, made } = self;
+        drop(blank);
+        drop(made);
+    }
 }
 
 /// A worker in a round.

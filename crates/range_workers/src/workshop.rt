@@ -16,7 +16,6 @@ use std::alloc::Global;
 use std::thread::Threads;
 
 /// Workers with all that they have, between rounds and in one. No call but `new` takes memory.
-#[derive(Drop)]
 pub(crate) struct Workshop {
     pub(crate) claims: Claims,
     /// The caller's seat.
@@ -32,6 +31,27 @@ pub(crate) struct Workshop {
     pub(crate) pages: Vec<PageBuf>,
     /// The pages that were made in the round.
     pub(crate) made: Vec<Numbered>,
+}
+
+impl Drop for Workshop {
+    fn drop(self) {
+        let Workshop {
+            claims,
+            seat,
+            count: _,
+            room: _,
+            benches,
+            workers,
+            pages,
+            made,
+        } = self;
+        drop(claims);
+        drop(seat);
+        drop(benches);
+        drop(workers);
+        drop(pages);
+        drop(made);
+    }
 }
 
 impl Workshop {

@@ -79,7 +79,7 @@ pub enum Format {
 
 /// What the words ask for. A number that the mode doesn't take is 0, a package is none then, and a text is the empty one: the
 /// schema's name, the directory of the files that are read, the store, and the file of a detail table.
-#[derive(Debug, PartialEq, Drop)]
+#[derive(Debug, PartialEq)]
 pub struct Request {
     /// What to do.
     pub mode: Mode,
@@ -116,6 +116,36 @@ pub struct Request {
     pub store: Text,
     /// The name of the file that declares a detail table.
     pub spec: Text,
+}
+
+impl Drop for Request {
+    fn drop(self) {
+        let Request {
+            mode: _,
+            schema,
+            unit: _,
+            from: _,
+            to: _,
+            table,
+            key: _,
+            source,
+            out,
+            workers: _,
+            package: _,
+            node: _,
+            nodes: _,
+            size: _,
+            format: _,
+            store,
+            spec,
+        } = self;
+        drop(schema);
+        drop(table);
+        drop(source);
+        drop(out);
+        drop(store);
+        drop(spec);
+    }
 }
 
 /// Why words give no request.

@@ -17,11 +17,23 @@ const LONG: u64 = 1_000_000_000_000_000;
 
 /// What the lines at a unit of a table's rows are made from, worked out once for a job. A contract sees the columns, prepared for
 /// runs, so those of parents' tables that the lookups among them show, and which are made as pieces.
-#[derive(Drop)]
 pub struct TableLines {
     columns: Vec<RunColumn>,
     shown: Vec<Option<RunColumn>>,
     short: Vec<bool>,
+}
+
+impl Drop for TableLines {
+    fn drop(self) {
+        let TableLines {
+            columns,
+            shown,
+            short,
+        } = self;
+        drop(columns);
+        drop(shown);
+        drop(short);
+    }
 }
 
 impl Model for TableLines {

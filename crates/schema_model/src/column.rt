@@ -3,7 +3,7 @@
 use crate::{Leaves, Longs, Parts, Text, Texts};
 
 /// A column of a table.
-#[derive(Debug, PartialEq, Drop)]
+#[derive(Debug, PartialEq)]
 pub struct Column {
     /// The column's name.
     pub name: Text,
@@ -15,8 +15,21 @@ pub struct Column {
     pub null: i64,
 }
 
+impl Drop for Column {
+    fn drop(self) {
+        let Column {
+            name,
+            kind,
+            changes: _,
+            null: _,
+        } = self;
+        drop(name);
+        drop(kind);
+    }
+}
+
 /// What the fields of a column hold.
-#[derive(Debug, PartialEq, Drop)]
+#[derive(Debug, PartialEq)]
 pub enum Kind {
     /// The key of the row: numbers from `base` on, within a unit in a drawn order where `scramble` is set.
     Key {
@@ -53,8 +66,40 @@ pub enum Kind {
     },
 }
 
+impl Drop for Kind {
+    fn drop(self) {
+        match self {
+            Kind::Key {
+                base: _,
+                scramble: _,
+            }
+            | Kind::Born
+            | Kind::Changed => {}
+            Kind::Leaf(leaf) => drop(leaf),
+            Kind::Template { parts } => drop(parts),
+            Kind::Case { on, branches } => {
+                drop(on);
+                drop(branches);
+            }
+            Kind::Ref {
+                table,
+                window: _,
+                spread,
+                on_delete: _,
+            } => {
+                drop(table);
+                drop(spread);
+            }
+            Kind::Lookup { via, column } => {
+                drop(via);
+                drop(column);
+            }
+        }
+    }
+}
+
 /// A value that is drawn for a field alone.
-#[derive(Debug, PartialEq, Drop)]
+#[derive(Debug, PartialEq)]
 pub enum Leaf {
     /// A whole number from `lo` to `hi`, a multiple of `step` past `lo`.
     Int { lo: i64, hi: i64, step: i64 },
@@ -74,13 +119,54 @@ pub enum Leaf {
     Chars { alphabet: Text, lo: i64, hi: i64 },
 }
 
+impl Drop for Leaf {
+    fn drop(self) {
+        match self {
+            Leaf::Int {
+                lo: _,
+                hi: _,
+                step: _,
+            }
+            | Leaf::Fixed {
+                lo: _,
+                hi: _,
+                decimals: _,
+            }
+            | Leaf::Date { lo: _, hi: _ }
+            | Leaf::Skew {
+                lo: _,
+                size: _,
+                power: _,
+            } => {}
+            Leaf::Pick { entries, weights } => {
+                drop(entries);
+                drop(weights);
+            }
+            Leaf::Dict { file } | Leaf::Words { file, lo: _, hi: _ } => drop(file),
+            Leaf::Chars {
+                alphabet,
+                lo: _,
+                hi: _,
+            } => drop(alphabet),
+        }
+    }
+}
+
 /// A part of a template.
-#[derive(Debug, PartialEq, Drop)]
+#[derive(Debug, PartialEq)]
 pub enum Part {
     /// This text.
     Literal(Text),
     /// The field of the column of this name.
     Cited(Text),
+}
+
+impl Drop for Part {
+    fn drop(self) {
+        match self {
+            Part::Literal(text) | Part::Cited(text) => drop(text),
+        }
+    }
 }
 
 /// The units in which the row that a reference names may have been born.

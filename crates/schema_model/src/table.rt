@@ -12,7 +12,7 @@ pub enum Delimiter {
 }
 
 /// What a schema's text says as a whole.
-#[derive(Debug, PartialEq, Drop)]
+#[derive(Debug, PartialEq)]
 pub struct Schema {
     /// The number that all draws begin from.
     pub seed: i64,
@@ -22,6 +22,18 @@ pub struct Schema {
     pub delimiter: Delimiter,
     /// The tables, in the order of the schema.
     pub tables: Tables,
+}
+
+impl Drop for Schema {
+    fn drop(self) {
+        let Schema {
+            seed: _,
+            units: _,
+            delimiter: _,
+            tables,
+        } = self;
+        drop(tables);
+    }
 }
 
 /// From which unit on how many rows are born at each unit: until the next phase of the table begins.
@@ -43,7 +55,7 @@ pub struct Life {
 }
 
 /// A table: how many rows it gains, how long they live, and what they hold.
-#[derive(Debug, PartialEq, Drop)]
+#[derive(Debug, PartialEq)]
 pub struct Table {
     /// The table's name.
     pub name: Text,
@@ -57,4 +69,20 @@ pub struct Table {
     pub update: Option<i64>,
     /// The columns, in the order of the lines.
     pub columns: Columns,
+}
+
+impl Drop for Table {
+    fn drop(self) {
+        let Table {
+            name,
+            rows: _,
+            insert,
+            life: _,
+            update: _,
+            columns,
+        } = self;
+        drop(name);
+        drop(insert);
+        drop(columns);
+    }
 }

@@ -32,7 +32,6 @@ use std::marker::Model;
 /// An accepted schema with its dictionaries, and what doesn't change from row to row. A contract sees the two.
 ///
 /// A table is named by its place in the schema, counted from 0. Lives are in units, sizes in bytes.
-#[derive(Drop)]
 pub struct Plan {
     schema: Schema,
     dictionaries: Dictionaries,
@@ -40,6 +39,24 @@ pub struct Plan {
     ready: Vec<Sequence<ReadyColumn>>,
     cohorts: Vec<Cohorts>,
     reach: u64,
+}
+
+impl Drop for Plan {
+    fn drop(self) {
+        let Plan {
+            schema,
+            dictionaries,
+            facts,
+            ready,
+            cohorts,
+            reach: _,
+        } = self;
+        drop(schema);
+        drop(dictionaries);
+        drop(facts);
+        drop(ready);
+        drop(cohorts);
+    }
 }
 
 impl Model for Plan {

@@ -7,7 +7,6 @@ use schema_model::Sequence;
 use weight_tables::Weights;
 
 /// A column, ready for rows.
-#[derive(Drop)]
 pub struct ReadyColumn {
     /// What its fields hold.
     pub kind: ReadyKind,
@@ -17,8 +16,18 @@ pub struct ReadyColumn {
     pub null: u64,
 }
 
+impl Drop for ReadyColumn {
+    fn drop(self) {
+        let ReadyColumn {
+            kind,
+            changes: _,
+            null: _,
+        } = self;
+        drop(kind);
+    }
+}
+
 /// What the fields of a column hold, ready for rows. Columns are named by their places in the table, counted from 0.
-#[derive(Drop)]
 pub enum ReadyKind {
     /// The key of the row.
     Key,
@@ -43,8 +52,20 @@ pub enum ReadyKind {
     Lookup(ReadyLookup),
 }
 
+impl Drop for ReadyKind {
+    fn drop(self) {
+        match self {
+            ReadyKind::Key | ReadyKind::Born | ReadyKind::Changed | ReadyKind::Lookup(_) => {}
+            ReadyKind::Drawn(it) => drop(it),
+            ReadyKind::Template { parts } => drop(parts),
+            ReadyKind::Case { on: _, branches } => drop(branches),
+            ReadyKind::Reference(it) => drop(it),
+        }
+    }
+}
+
 /// By what a row's parent is chosen, ready for rows.
-#[derive(Debug, Drop)]
+#[derive(Debug)]
 pub struct ReadyReference {
     /// The place of the parent's table in the schema, counted from 0.
     pub parent: u32,
@@ -60,6 +81,20 @@ pub struct ReadyReference {
     pub nulls: bool,
 }
 
+impl Drop for ReadyReference {
+    fn drop(self) {
+        let ReadyReference {
+            parent: _,
+            window: _,
+            spread,
+            groups: _,
+            total: _,
+            nulls: _,
+        } = self;
+        drop(spread);
+    }
+}
+
 /// Where a lookup finds what it shows.
 #[derive(Clone, Copy, Debug, PartialEq, Eq)]
 pub struct ReadyLookup {
@@ -72,7 +107,7 @@ pub struct ReadyLookup {
 }
 
 /// A part of a template, ready for rows.
-#[derive(Debug, Drop)]
+#[derive(Debug)]
 pub enum ReadyPart {
     /// A text, as it is written.
     Literal(Sequence<u8>),
@@ -80,8 +115,16 @@ pub enum ReadyPart {
     Cited(u64),
 }
 
+impl Drop for ReadyPart {
+    fn drop(self) {
+        match self {
+            ReadyPart::Cited(_) => {}
+            ReadyPart::Literal(it) => drop(it),
+        }
+    }
+}
+
 /// A value that is drawn for a field alone, ready for rows.
-#[derive(Drop)]
 pub enum ReadyLeaf {
     /// One of so many choices from `lo` to `hi`, each `step` past the one before.
     Int {
@@ -131,4 +174,54 @@ pub enum ReadyLeaf {
         lengths: FixedDivisor,
         words: ReadyWords,
     },
+}
+
+impl Drop for ReadyLeaf {
+    fn drop(self) {
+        match self {
+            ReadyLeaf::Int {
+                lo: _,
+                hi: _,
+                step: _,
+                choices: _,
+            }
+            | ReadyLeaf::Fixed {
+                lo: _,
+                hi: _,
+                choices: _,
+                decimals: _,
+                unit: _,
+            }
+            | ReadyLeaf::Date {
+                lo: _,
+                hi: _,
+                choices: _,
+            } => {}
+            ReadyLeaf::Pick {
+                entries,
+                weights,
+                total: _,
+            } => {
+                drop(entries);
+                drop(weights);
+            }
+            ReadyLeaf::Skew {
+                lo: _,
+                weights,
+                total: _,
+            } => drop(weights),
+            ReadyLeaf::Chars {
+                lo: _,
+                lengths: _,
+                characters,
+                count: _,
+            } => drop(characters),
+            ReadyLeaf::Dict(it) => drop(it),
+            ReadyLeaf::Words {
+                lo: _,
+                lengths: _,
+                words,
+            } => drop(words),
+        }
+    }
 }

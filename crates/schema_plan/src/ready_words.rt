@@ -17,12 +17,23 @@ use std::sync::Arc;
 
 /// A word list, ready for rows. A contract sees its entries as they are written, and their weights. All columns that draw from
 /// a dictionary share its entries.
-#[derive(Drop)]
 pub struct ReadyWords {
     entries: Arc<WrittenTexts, Global>,
     words: Arc<Dictionary, Global>,
     /// The sum of the weights.
     total: FixedDivisor,
+}
+
+impl Drop for ReadyWords {
+    fn drop(self) {
+        let ReadyWords {
+            entries,
+            words,
+            total: _,
+        } = self;
+        drop(entries);
+        drop(words);
+    }
 }
 
 impl Model for ReadyWords {

@@ -12,7 +12,6 @@ use std::marker::Model;
 use std::sync::Arc;
 
 /// A word list with its name, and the sizes of its greatest entry as it is written.
-#[derive(Drop)]
 pub(crate) struct NamedWords {
     name: Text,
     words: Arc<Dictionary, Global>,
@@ -20,6 +19,19 @@ pub(crate) struct NamedWords {
     between_tabs: u64,
     /// Between bars, in bytes.
     between_bars: u64,
+}
+
+impl Drop for NamedWords {
+    fn drop(self) {
+        let NamedWords {
+            name,
+            words,
+            between_tabs: _,
+            between_bars: _,
+        } = self;
+        drop(name);
+        drop(words);
+    }
 }
 
 impl Model for NamedWords {
@@ -93,10 +105,16 @@ fn greatest_entry(delimiter: u8, words: &Dictionary) -> u64
 }
 
 /// Dictionaries in order. A contract sees the list of their names with their words.
-#[derive(Drop)]
 pub struct Dictionaries {
     alloc: Global,
     items: Vec<NamedWords>,
+}
+
+impl Drop for Dictionaries {
+    fn drop(self) {
+        let Dictionaries { alloc: _, items } = self;
+        drop(items);
+    }
 }
 
 impl Model for Dictionaries {

@@ -1,7 +1,8 @@
 //! Statements that put rows of two values.
 
+use crate::prepared::Prepared;
 use sqlite::types::ValueRef;
-use sqlite::{Alter, Connection, Error, Statement};
+use sqlite::{Alter, Connection, Error};
 use std::alloc::{AllocError, Global};
 
 /// How many rows one statement puts at most.
@@ -14,11 +15,23 @@ const SOME: usize = 8;
 const WIDTH: usize = 2;
 
 /// Statements that put rows into one table. What a statement costs by itself, one that puts many rows takes but once.
-#[derive(Drop)]
 pub(crate) struct Inserts {
-    of_many: Statement,
-    of_some: Statement,
-    of_one: Statement,
+    of_many: Prepared,
+    of_some: Prepared,
+    of_one: Prepared,
+}
+
+impl Drop for Inserts {
+    fn drop(self) {
+        let Inserts {
+            of_many,
+            of_some,
+            of_one,
+        } = self;
+        drop(of_many);
+        drop(of_some);
+        drop(of_one);
+    }
 }
 
 impl Inserts {
@@ -86,9 +99,9 @@ fn prepare<S: Alter>(
     alloc: Global,
     begin: &str,
     rows: usize,
-) -> Result<Statement, Error> {
+) -> Result<Prepared, Error> {
     let text = insert_text(alloc, begin, rows)?;
-    database.prepare(text.as_str())
+    Prepared::new(database, text.as_str())
 }
 
 /// The text of the statement that puts so many rows.

@@ -13,7 +13,6 @@ use keeper_play::{KeepFailed, Keeper, RefTo};
 ///
 /// A row that is put may wait for others that one statement puts with it. Then what refuses it is told by a later call, by `finish` at
 /// the latest.
-#[derive(Drop)]
 pub struct SqlKeeper<D: Databases + Drop> {
     databases: D,
     tables: Option<D::Tables>,
@@ -21,6 +20,21 @@ pub struct SqlKeeper<D: Databases + Drop> {
     done: u64,
     faults: u64,
     last_failed: bool,
+}
+
+impl<D: Databases + Drop> Drop for SqlKeeper<D> {
+    fn drop(self) {
+        let SqlKeeper {
+            databases,
+            tables,
+            is_sound: _,
+            done: _,
+            faults: _,
+            last_failed: _,
+        } = self;
+        drop(databases);
+        drop(tables);
+    }
 }
 
 impl<D: Databases + Drop> SqlKeeper<D> {
@@ -45,7 +59,15 @@ impl<D: Databases + Drop> SqlKeeper<D> {
     pub fn into_tables(self) -> Option<D::Tables>
         ensures { result ≡ self.tables }
     {
-        let SqlKeeper { tables, .. } = self;
+        let SqlKeeper {
+            databases,
+            tables,
+            is_sound: _,
+            done: _,
+            faults: _,
+            last_failed: _,
+        } = self;
+        drop(databases);
         tables
     }
 

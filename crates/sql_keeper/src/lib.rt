@@ -10,6 +10,7 @@ mod databases;
 mod inserts;
 mod keeper;
 mod numbers;
+mod prepared;
 mod refused;
 mod system;
 mod tables;

@@ -1,10 +1,11 @@
 //! Databases of the system.
 
-use crate::tables::Tables;
+use crate::tables::{Tables, close_file};
 use crate::writer::drop_tables;
 use crate::{Databases, Refused, RowTables};
 use keeper_play::RefTo;
 use sqlite::{Connection, File, FileStore, MemStore, Options, Unknown};
+use sqlite_disk::Disk;
 use std::hash::{BuildHasher, RandomState};
 
 /// The name of a database in memory, as SQLite has it.
@@ -30,27 +31,10 @@ impl<'a> SystemDatabases<'a> {
     }
 }
 
-/// An open database of the system.
-#[derive(Drop)]
-pub struct SystemTables<'a> {
-    rt: &'a HostRuntime,
-    name: String,
-    place: Place,
-}
-
-/// Where an open database is.
-#[derive(Drop)]
-enum Place {
-    File(Tables<FileStore<File>>),
-    Memory(Tables<MemStore>),
-    /// It was closed where its commit failed.
-    Nowhere,
-}
-
 impl<'a> Databases for SystemDatabases<'a> {
-    type Tables = SystemTables<'a>;
+    type Tables = SystemTables<'a, Tables<FileStore<File>>, Tables<MemStore>>;
 
-    fn open(&self, name: &str) -> Result<SystemTables<'a>, Refused> {
+    fn open(&self, name: &str) -> Result<Self::Tables, Refused> {
         let alloc = self.rt.alloc();
         let kept_name = String::from_str(alloc, name)?;
         let place = if name == IN_MEMORY {
@@ -66,7 +50,51 @@ impl<'a> Databases for SystemDatabases<'a> {
     }
 }
 
-impl<'a> SystemTables<'a> {
+/// An open database of the system, of one type in a file and of another in memory.
+pub struct SystemTables<'a, F: RowTables + Drop, M: RowTables + Drop> {
+    rt: &'a HostRuntime,
+    name: String,
+    place: Place<F, M>,
+}
+
+impl<F: RowTables + Drop, M: RowTables + Drop> Drop for SystemTables<'_, F, M> {
+    fn drop(self) {
+        let SystemTables { rt: _, name, place } = self;
+        drop(name);
+        drop(place);
+    }
+}
+
+/// Where an open database is.
+enum Place<F, M> {
+    File(F),
+    Memory(M),
+    /// It was closed where its commit failed.
+    Nowhere,
+}
+
+impl<F: Drop, M: Drop> Drop for Place<F, M> {
+    fn drop(self) {
+        match self {
+            Place::File(tables) => drop(tables),
+            Place::Memory(tables) => drop(tables),
+            Place::Nowhere => {}
+        }
+    }
+}
+
+impl<F: RowTables + Drop, M: RowTables + Drop> Place<F, M> {
+    /// Closes the database.
+    fn close(self) {
+        match self {
+            Place::File(tables) => tables.close(),
+            Place::Memory(tables) => tables.close(),
+            Place::Nowhere => {}
+        }
+    }
+}
+
+impl<F: RowTables + Drop, M: RowTables + Drop> SystemTables<'_, F, M> {
     /// Drops the tables again that a commit may have left in a file which failed at its end, as far as the disk lets.
     fn take_back(&mut self) -> Result<(), Refused> {
         // The file is locked until it is closed.
@@ -74,14 +102,11 @@ impl<'a> SystemTables<'a> {
         if self.name.as_str() == IN_MEMORY {
             return Ok(());
         }
-        let mut database = open_file(self.rt, self.name.as_str())?;
-        let dropped = drop_tables(&mut database);
-        close_file(database);
-        dropped
+        take_back_file(open_file(self.rt, self.name.as_str())?)
     }
 }
 
-impl<'a> RowTables for SystemTables<'a> {
+impl<F: RowTables + Drop, M: RowTables + Drop> RowTables for SystemTables<'_, F, M> {
     fn put(&mut self, table: u32, key: u64, refs: &[RefTo], line: &[u8]) -> Result<(), Refused> {
         match &mut self.place {
             Place::File(tables) => tables.put(table, key, refs, line),
@@ -112,11 +137,17 @@ impl<'a> RowTables for SystemTables<'a> {
     }
 
     fn close(self) {
-        let SystemTables { place, .. } = self;
-        if let Place::File(tables) = place {
-            close_file(tables.into_database());
-        }
+        let SystemTables { rt: _, name, place } = self;
+        drop(name);
+        place.close();
     }
+}
+
+/// Drops the tables of a database in a file, and closes it.
+fn take_back_file<D: Disk + Drop>(mut database: Connection<FileStore<D>>) -> Result<(), Refused> {
+    let dropped = drop_tables(&mut database);
+    close_file(database);
+    dropped
 }
 
 /// Opens the database in a file, or makes it.
@@ -134,9 +165,4 @@ fn open_file(rt: &HostRuntime, path: &str) -> Result<Connection<FileStore<File>>
         Ok(database) => Ok(database),
         Err(_) => Err(Refused),
     }
-}
-
-/// Closes a database. Where its log isn't copied into the file, it stands beside it, with all that is committed.
-fn close_file(database: Connection<FileStore<File>>) {
-    let _ = database.close();
 }

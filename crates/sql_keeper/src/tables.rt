@@ -1,22 +1,34 @@
 //! The two tables of a store, and what is done to them.
 
-use crate::Refused;
 use crate::numbers::Keys;
 use crate::waiting::Waiting;
 use crate::writer::Writer;
+use crate::{Refused, RowTables};
 use keeper_play::RefTo;
-use sqlite::{Alter, Connection};
+use sqlite::{Alter, Connection, FileStore, MemStore};
+use sqlite_disk::Disk;
 use std::alloc::Global;
 
 /// An open database with the two tables, in a transaction.
 ///
 /// Rows that are put wait until there are many, until one is dropped, or until the end: then few statements put them in the order of their
 /// numbers, so that pages are written one after another, and then the references between them.
-#[derive(Drop)]
-pub(crate) struct Tables<S: Alter + Drop> {
+pub struct Tables<S: Alter + Drop> {
     writer: Writer<S>,
     keys: Keys,
     waiting: Waiting,
+}
+
+impl<S: Alter + Drop> Drop for Tables<S> {
+    fn drop(self) {
+        let Tables {
+            writer,
+            keys: _,
+            waiting,
+        } = self;
+        drop(writer);
+        drop(waiting);
+    }
 }
 
 impl<S: Alter + Drop> Tables<S> {
@@ -31,7 +43,7 @@ impl<S: Alter + Drop> Tables<S> {
     }
 
     /// Puts a row with its references, in place of one with the same key.
-    pub(crate) fn put(
+    pub(crate) fn put_row(
         &mut self,
         table: u32,
         key: u64,
@@ -46,7 +58,7 @@ impl<S: Alter + Drop> Tables<S> {
     }
 
     /// Drops a row with its references.
-    pub(crate) fn drop_row(&mut self, table: u32, key: u64) -> Result<(), Refused> {
+    pub(crate) fn drop_by_key(&mut self, table: u32, key: u64) -> Result<(), Refused> {
         self.put_waiting()?;
         match self.keys.row(table, key)? {
             Some(row) => self.writer.drop_row(row),
@@ -67,13 +79,58 @@ impl<S: Alter + Drop> Tables<S> {
     }
 
     /// Commits what was put and dropped.
-    pub(crate) fn commit(&mut self) -> Result<(), Refused> {
+    pub(crate) fn commit_all(&mut self) -> Result<(), Refused> {
         self.put_waiting()?;
         self.writer.commit()
     }
 
     /// The database, in its transaction, without the rows that wait.
     pub(crate) fn into_database(self) -> Connection<S> {
-        self.writer.into_database()
+        let Tables {
+            writer,
+            keys: _,
+            waiting,
+        } = self;
+        drop(waiting);
+        writer.into_database()
     }
+}
+
+impl<D: Disk + Drop> RowTables for Tables<FileStore<D>> {
+    fn put(&mut self, table: u32, key: u64, refs: &[RefTo], line: &[u8]) -> Result<(), Refused> {
+        self.put_row(table, key, refs, line)
+    }
+
+    fn drop_row(&mut self, table: u32, key: u64) -> Result<(), Refused> {
+        self.drop_by_key(table, key)
+    }
+
+    fn commit(&mut self) -> Result<(), Refused> {
+        self.commit_all()
+    }
+
+    fn close(self) {
+        close_file(self.into_database());
+    }
+}
+
+impl RowTables for Tables<MemStore> {
+    fn put(&mut self, table: u32, key: u64, refs: &[RefTo], line: &[u8]) -> Result<(), Refused> {
+        self.put_row(table, key, refs, line)
+    }
+
+    fn drop_row(&mut self, table: u32, key: u64) -> Result<(), Refused> {
+        self.drop_by_key(table, key)
+    }
+
+    fn commit(&mut self) -> Result<(), Refused> {
+        self.commit_all()
+    }
+
+    fn close(self) {}
+}
+
+/// Closes a database. Where its log isn't copied into the file, it stands beside it, with all that is committed.
+pub(crate) fn close_file<D: Disk + Drop>(database: Connection<FileStore<D>>) {
+    let _ = database.close();
 }

@@ -38,12 +38,25 @@ struct Reference {
 }
 
 /// Rows that wait, with their lines and their references.
-#[derive(Drop)]
 pub(crate) struct Waiting {
     alloc: Global,
     rows: Vec<WaitingRow>,
     text: Vec<u8>,
     references: Vec<Reference>,
+}
+
+impl Drop for Waiting {
+    fn drop(self) {
+        let Waiting {
+            alloc: _,
+            rows,
+            text,
+            references,
+        } = self;
+        drop(rows);
+        drop(text);
+        drop(references);
+    }
 }
 
 impl Waiting {

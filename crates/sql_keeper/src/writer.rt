@@ -3,9 +3,10 @@
 use crate::Refused;
 use crate::inserts::{Inserts, MANY};
 use crate::numbers::RowNumber;
+use crate::prepared::Prepared;
 use crate::waiting::{Waiting, WaitingRow};
 use sqlite::types::ValueRef;
-use sqlite::{Alter, Connection, Constraint, Error, ErrorCode, Statement};
+use sqlite::{Alter, Connection, Constraint, Error, ErrorCode};
 use std::alloc::Global;
 
 /// Whether a database has any table, index or view.
@@ -46,13 +47,29 @@ COMMIT";
 const UNINDEXED: usize = 1 << 19;
 
 /// The statements, prepared.
-#[derive(Drop)]
 struct Statements {
     add_rows: Inserts,
     add_references: Inserts,
-    set_line: Statement,
-    drop_references: Statement,
-    drop_row: Statement,
+    set_line: Prepared,
+    drop_references: Prepared,
+    drop_row: Prepared,
+}
+
+impl Drop for Statements {
+    fn drop(self) {
+        let Statements {
+            add_rows,
+            add_references,
+            set_line,
+            drop_references,
+            drop_row,
+        } = self;
+        drop(add_rows);
+        drop(add_references);
+        drop(set_line);
+        drop(drop_references);
+        drop(drop_row);
+    }
 }
 
 impl Statements {
@@ -64,9 +81,9 @@ impl Statements {
         Ok(Statements {
             add_rows: Inserts::prepare(database, alloc, ADD_ROWS)?,
             add_references: Inserts::prepare(database, alloc, ADD_REFERENCES)?,
-            set_line: prepare(database, SET_LINE)?,
-            drop_references: prepare(database, DROP_REFERENCES)?,
-            drop_row: prepare(database, DROP_ROW)?,
+            set_line: Prepared::new(database, SET_LINE)?,
+            drop_references: Prepared::new(database, DROP_REFERENCES)?,
+            drop_row: Prepared::new(database, DROP_ROW)?,
         })
     }
 }
@@ -75,13 +92,25 @@ impl Statements {
 ///
 /// The index is made once a row is dropped or replaced, once there are many references, or at the end: kept up to date from the first
 /// reference on, it makes the whole longer.
-#[derive(Drop)]
 pub(crate) struct Writer<S: Alter + Drop> {
     database: Connection<S>,
     statements: Statements,
     is_indexed: bool,
     /// How many references were put without the index.
     unindexed: usize,
+}
+
+impl<S: Alter + Drop> Drop for Writer<S> {
+    fn drop(self) {
+        let Writer {
+            database,
+            statements,
+            is_indexed: _,
+            unindexed: _,
+        } = self;
+        drop(database);
+        drop(statements);
+    }
 }
 
 impl<S: Alter + Drop> Writer<S> {
@@ -189,7 +218,14 @@ impl<S: Alter + Drop> Writer<S> {
 
     /// The database, in its transaction.
     pub(crate) fn into_database(self) -> Connection<S> {
-        self.database
+        let Writer {
+            database,
+            statements,
+            is_indexed: _,
+            unindexed: _,
+        } = self;
+        drop(statements);
+        database
     }
 }
 
@@ -226,9 +262,4 @@ fn count_objects<S: Alter>(database: &mut Connection<S>) -> Result<i64, Refused>
 /// Makes the statements of a text.
 fn batch<S: Alter>(database: &mut Connection<S>, text: &str) -> Result<(), Refused> {
     Ok(database.execute_batch(text)?)
-}
-
-/// Prepares a statement.
-fn prepare<S: Alter>(database: &mut Connection<S>, text: &str) -> Result<Statement, Refused> {
-    Ok(database.prepare(text)?)
 }

@@ -12,9 +12,15 @@ use std::alloc::{AllocError, Global};
 use std::marker::Model;
 
 /// Lines in order, each found by its key. A contract sees their list.
-#[derive(Drop)]
 pub struct KeyTable<'a> {
     lines: IndexMap<&'a [u8], &'a [u8]>,
+}
+
+impl Drop for KeyTable<'_> {
+    fn drop(self) {
+        let KeyTable { lines } = self;
+        drop(lines);
+    }
 }
 
 impl<'a> Model for KeyTable<'a> {

@@ -32,7 +32,6 @@ pub const WORD_AND_PLACE: u64 = 26;
 /// those that set back what it updates, then of those that add again what it deletes. Each is made from what the unit changes and from
 /// what is prepared of the table's lines at the unit before. A contract sees the plan, the table, the unit and the number of lines of a
 /// package.
-#[derive(Drop)]
 pub struct UndoPacker<'a> {
     rows: &'a Rows<'a>,
     before: RunLines<'a>,
@@ -43,6 +42,23 @@ pub struct UndoPacker<'a> {
     count: u64,
     room: usize,
     spare: SpareBufs,
+}
+
+impl Drop for UndoPacker<'_> {
+    fn drop(self) {
+        let UndoPacker {
+            rows: _,
+            before: _,
+            table: _,
+            unit: _,
+            changes: _,
+            size: _,
+            count: _,
+            room: _,
+            spare,
+        } = self;
+        drop(spare);
+    }
 }
 
 impl<'a> Model for UndoPacker<'a> {

@@ -20,13 +20,27 @@ use stream_apply::KeyTable;
 /// A table while an undo text is taken: its lines, without those that are dropped once a line of a later part is told; the lines that the
 /// text told; those of the new list that stand already, up to the last line that is added; and how many of the table's these are. So
 /// the lines move once, however many are added.
-#[derive(Drop)]
 struct Weaver<'a> {
     table: KeyTable<'a>,
     told: KeyTable<'a>,
     woven: KeyTable<'a>,
     next: usize,
     part: Part,
+}
+
+impl Drop for Weaver<'_> {
+    fn drop(self) {
+        let Weaver {
+            table,
+            told,
+            woven,
+            next: _,
+            part: _,
+        } = self;
+        drop(table);
+        drop(told);
+        drop(woven);
+    }
 }
 
 /// What an undo text makes of a table. Refused at the first line of the text that is at fault.
@@ -249,21 +263,44 @@ impl<'a> Weaver<'a> {
         ensures { IfOk result (λ lines. lines ≡ (undoing_of self.entry).lines) }
     {
         match self.part {
-            Part::Drops => {
-                let Weaver {
-                    mut table,
-                    told,
-                    ..
-                } = self;
-                table.drop_all(&told);
-                Ok(table)
-            }
-            Part::Sets => {
-                let Weaver { table, .. } = self;
-                Ok(table)
-            }
+            Part::Drops => Ok(self.drop_told()),
+            Part::Sets => Ok(self.into_table()),
             Part::Adds => self.weave_rest(),
         }
+    }
+
+    /// The lines, where some were dropped.
+    fn drop_told(self) -> KeyTable<'a>
+        requires sound { IsWoven self }
+        requires part { self.part ≡ Drops }
+        ensures { result ≡ (undoing_of self.entry).lines }
+    {
+        let Weaver {
+            mut table,
+            told,
+            woven,
+            next: _,
+            part: _,
+        } = self;
+        drop(woven);
+        table.drop_all(&told);
+        table
+    }
+
+    /// The table, with what was set.
+    fn into_table(self) -> KeyTable<'a>
+        ensures { result ≡ self.entry.table }
+    {
+        let Weaver {
+            table,
+            told,
+            woven,
+            next: _,
+            part: _,
+        } = self;
+        drop(told);
+        drop(woven);
+        table
     }
 
     /// The lines, where some were added.
@@ -274,7 +311,15 @@ impl<'a> Weaver<'a> {
     {
         let left = self.table.len() - self.next;
         self.weave(left)?;
-        let Weaver { woven, .. } = self;
+        let Weaver {
+            table,
+            told,
+            woven,
+            next: _,
+            part: _,
+        } = self;
+        drop(table);
+        drop(told);
         Ok(woven)
     }
 }

@@ -35,7 +35,6 @@ use step_count::Steps;
 /// deletes, of those that it updates and of those that it inserts, each cut into packages. Each is made from the plan, from what is
 /// prepared of its tables and from the lists of the unit alone. A contract sees the plan, the unit, the shares and the number of entries
 /// of a package.
-#[derive(Drop)]
 pub struct ListPacker<'a> {
     plan: &'a Plan,
     tables: &'a PreparedTables,
@@ -43,6 +42,21 @@ pub struct ListPacker<'a> {
     unit: u64,
     shares: Shares,
     spare: SpareBufs,
+}
+
+impl Drop for ListPacker<'_> {
+    fn drop(self) {
+        let ListPacker {
+            plan: _,
+            tables: _,
+            lists: _,
+            unit: _,
+            shares,
+            spare,
+        } = self;
+        drop(shares);
+        drop(spare);
+    }
 }
 
 impl<'a> Model for ListPacker<'a> {

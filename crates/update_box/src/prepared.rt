@@ -18,12 +18,25 @@ use std::marker::Model;
 /// What the lines at a unit of the rows of a job's tables are made from: the orders of these tables and of those that they refer to,
 /// and of each table the columns prepared for runs. It is made once for a job, to find what a unit changes and for all packages. A
 /// contract sees the place of the first table, the orders and the lines.
-#[derive(Drop)]
 pub struct PreparedTables {
     from: u32,
     orders: JobOrders,
     digits: Digits,
     lines: Vec<TableLines>,
+}
+
+impl Drop for PreparedTables {
+    fn drop(self) {
+        let PreparedTables {
+            from: _,
+            orders,
+            digits,
+            lines,
+        } = self;
+        drop(orders);
+        drop(digits);
+        drop(lines);
+    }
 }
 
 impl Model for PreparedTables {

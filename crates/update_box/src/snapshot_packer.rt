@@ -30,13 +30,26 @@ use step_count::Steps;
 /// The packages of a job that tells the rows of tables at a unit: of each table the share of the job's node, cut into packages. Each is
 /// made from the plan and from what is prepared of its tables alone. A contract sees the plan, the unit, the shares and the number of
 /// entries of a package.
-#[derive(Drop)]
 pub struct SnapshotPacker<'a> {
     plan: &'a Plan,
     tables: &'a PreparedTables,
     unit: u64,
     shares: Shares,
     spare: SpareBufs,
+}
+
+impl Drop for SnapshotPacker<'_> {
+    fn drop(self) {
+        let SnapshotPacker {
+            plan: _,
+            tables: _,
+            unit: _,
+            shares,
+            spare,
+        } = self;
+        drop(shares);
+        drop(spare);
+    }
 }
 
 impl<'a> Model for SnapshotPacker<'a> {

@@ -19,7 +19,6 @@ use std::sync::ledger::Ledger;
 use step_count::Steps;
 
 /// The ordinals of the rows of a table that a unit deletes and updates, in rising order, and the cohort that it inserts.
-#[derive(Drop)]
 pub(crate) struct TableRows {
     /// The ordinals of those that it deletes.
     pub(crate) deleted: Vec<u64>,
@@ -27,6 +26,18 @@ pub(crate) struct TableRows {
     pub(crate) updated: Vec<u64>,
     /// The cohort that it inserts.
     pub(crate) inserted: Cohort,
+}
+
+impl Drop for TableRows {
+    fn drop(self) {
+        let TableRows {
+            deleted,
+            updated,
+            inserted: _,
+        } = self;
+        drop(deleted);
+        drop(updated);
+    }
 }
 
 impl TableRows {

@@ -24,10 +24,16 @@ use step_count::Steps;
 
 /// The rows that a unit deletes and updates, and the cohort that it inserts, table by table, those of a table that isn't chosen being
 /// none. A contract sees the unit and the lists.
-#[derive(Drop)]
 pub struct UnitRows {
     unit: u64,
     tables: Vec<TableRows>,
+}
+
+impl Drop for UnitRows {
+    fn drop(self) {
+        let UnitRows { unit: _, tables } = self;
+        drop(tables);
+    }
 }
 
 impl Model for UnitRows {

@@ -14,7 +14,7 @@ use std::marker::Model;
 const FIRST_HARMONIC_WEIGHT: u64 = 1_000_000_000;
 
 /// A list of weights, of which a contract sees the weights themselves, one a group.
-#[derive(Debug, Drop)]
+#[derive(Debug)]
 pub struct Weights {
     prefix_sums: Vec<u64>,
     /// The group of each number where there are few, else none.
@@ -22,6 +22,20 @@ pub struct Weights {
     /// For each slice of 2^shift numbers a group from which on a search finds that of each.
     first_groups: Vec<u32>,
     shift: u32,
+}
+
+impl Drop for Weights {
+    fn drop(self) {
+        let Weights {
+            prefix_sums,
+            table,
+            first_groups,
+            shift: _,
+        } = self;
+        drop(prefix_sums);
+        drop(table);
+        drop(first_groups);
+    }
 }
 
 impl Model for Weights {

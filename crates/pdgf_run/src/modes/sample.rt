@@ -44,11 +44,22 @@ struct Changed {
 }
 
 /// The texts of a table: at unit 0 and what the units change in it, in the order in which that is applied, and at the last unit.
-#[derive(Drop)]
 struct TableTexts {
     inputs: Inputs,
     changed: Changed,
     last: Vec<u8>,
+}
+
+impl Drop for TableTexts {
+    fn drop(self) {
+        let TableTexts {
+            inputs,
+            changed: _,
+            last,
+        } = self;
+        drop(inputs);
+        drop(last);
+    }
 }
 
 /// The job of a sample: its summary. All texts are made here, by the workers, and each package of lines enters the gate then.
@@ -147,7 +158,7 @@ fn snapshot_text<R: Threads + Sync, G: Gate + Sync>(
         Err(_) => return Err(Memory),
     }
     let text = Vec::from_slice(alloc, shelf.finished().bytes(0))?;
-    Ok((job.plan, text))
+    Ok((job.into_plan(), text))
 }
 
 /// What a unit changes in a table, on a shelf, and the plan.
@@ -174,7 +185,7 @@ fn unit_shelf<R: Threads + Sync, G: Gate + Sync>(
     let job = found_job::<Brand>(alloc, plan, asked, request, out, Blank::new(1))?;
     let mut shelf = MemShelf::new(alloc, ShelfFails::new(alloc), usize::MAX);
     match write_unit(rt, alloc, &job, &mut shelf, gate) {
-        Ok(()) => Ok((job.of.plan, shelf)),
+        Ok(()) => Ok((job.into_plan(), shelf)),
         Err(_) => Err(Memory),
     }
 }
