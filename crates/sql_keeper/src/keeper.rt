@@ -61,14 +61,14 @@ impl<D: Databases + Drop> SqlKeeper<D> {
     {
         let SqlKeeper {
             databases,
-            tables,
+            tables: open,
             is_sound: _,
             done: _,
             faults: _,
             last_failed: _,
         } = self;
         drop(databases);
-        tables
+        open
     }
 
     /// Tells how a statement ended, which is counted where it was made and can be counted.
