@@ -40,7 +40,7 @@ returns-in-Ok-false-clause-read c =
       records = records;
       are = (c.loop-number.reader.state, left, reached, end);
       good = good;
-      is = text;
+      is = rw c.into_text.ensures text;
     }
 
 pub returns-then-is_bad_record-clause-bad : goal.returns-then-is_bad_record-clause-bad
