@@ -8,7 +8,7 @@ ghost use Rattle.stream_apply.specs.Streams.{wants_held};
 ghost use Rattle.undo_streams.specs.ReadLines.{undo_of};
 ghost use Rattle.undo_streams.specs.Reverting.{IsLineFault, IsPlaceIn, IsUndoFault, IsUndoneBy, begun, behind, kind_of, rank_of};
 ghost use Rattle.undo_streams.specs.Weaving.{IsWoven, undoing_of};
-ghost use Rattle.undo_streams.specs.declared.part.Part.TheVariants.{Adds, Sets};
+ghost use Rattle.undo_streams.specs.declared.part.Part.TheVariants.{Adds, Drops, Sets};
 
 use crate::fault::RevertFault;
 use crate::part::Part;
