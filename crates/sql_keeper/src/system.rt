@@ -1,6 +1,6 @@
 //! Databases of the system.
 
-use crate::tables::{Tables, close_file};
+use crate::tables::{Close, Tables};
 use crate::writer::drop_tables;
 use crate::{Databases, Refused, RowTables};
 use keeper_play::RefTo;
@@ -146,7 +146,7 @@ impl<F: RowTables + Drop, M: RowTables + Drop> RowTables for SystemTables<'_, F,
 /// Drops the tables of a database in a file, and closes it.
 fn take_back_file<D: Disk + Drop>(mut database: Connection<FileStore<D>>) -> Result<(), Refused> {
     let dropped = drop_tables(&mut database);
-    close_file(database);
+    FileStore::close_database(database);
     dropped
 }
 

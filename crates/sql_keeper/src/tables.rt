@@ -96,7 +96,7 @@ impl<S: Alter + Drop> Tables<S> {
     }
 }
 
-impl<D: Disk + Drop> RowTables for Tables<FileStore<D>> {
+impl<S: Close> RowTables for Tables<S> {
     fn put(&mut self, table: u32, key: u64, refs: &[RefTo], line: &[u8]) -> Result<(), Refused> {
         self.put_row(table, key, refs, line)
     }
@@ -110,27 +110,23 @@ impl<D: Disk + Drop> RowTables for Tables<FileStore<D>> {
     }
 
     fn close(self) {
-        close_file(self.into_database());
+        S::close_database(self.into_database());
     }
 }
 
-impl RowTables for Tables<MemStore> {
-    fn put(&mut self, table: u32, key: u64, refs: &[RefTo], line: &[u8]) -> Result<(), Refused> {
-        self.put_row(table, key, refs, line)
-    }
-
-    fn drop_row(&mut self, table: u32, key: u64) -> Result<(), Refused> {
-        self.drop_by_key(table, key)
-    }
-
-    fn commit(&mut self) -> Result<(), Refused> {
-        self.commit_all()
-    }
-
-    fn close(self) {}
+/// What databases stand in, where one is more than let go of once it is done with.
+pub trait Close: Alter + Drop {
+    /// Closes a database.
+    fn close_database(database: Connection<Self>);
 }
 
-/// Closes a database. Where its log isn't copied into the file, it stands beside it, with all that is committed.
-pub(crate) fn close_file<D: Disk + Drop>(database: Connection<FileStore<D>>) {
-    let _ = database.close();
+impl<D: Disk + Drop> Close for FileStore<D> {
+    fn close_database(database: Connection<FileStore<D>>) {
+        // Where its log isn't copied into the file, it stands beside it, with all that is committed.
+        let _ = database.close();
+    }
+}
+
+impl Close for MemStore {
+    fn close_database(_database: Connection<MemStore>) {}
 }
