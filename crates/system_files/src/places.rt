@@ -91,7 +91,11 @@ impl<R: Files> Places<R> {
     fn open_beside(&mut self, path: &str, found: &Metadata) -> io::Result<R::File> {
         let name = self.followed(path)?;
         let part = self.part_of(name.as_str())?;
-        drop(OpenOptions::new().write(true).open(&self.rt, name.as_str())?);
+        drop(
+            OpenOptions::new()
+                .write(true)
+                .open(&self.rt, name.as_str())?,
+        );
         match self.made(part.as_str(), found) {
             Ok(file) => {
                 self.beside = Some(Beside { part, name });
