@@ -8,11 +8,11 @@ use std::io::IsTerminal;
 use std::process::ExitCode;
 use std::rt::Env;
 use std::{env, io};
-use system_files::{FileLibrary, FileShelf, ProgressShelf};
+use system_files::{FileLibrary, FileShelf, ProgressShelf, Syncing};
 
 fn main(rt: HostRuntime) -> ExitCode {
     let mut library = FileLibrary::new(&rt);
-    let files = FileShelf::new(&rt, rt.alloc(), rt.stdout());
+    let files = FileShelf::with_syncing(&rt, rt.alloc(), rt.stdout(), syncing(&rt));
     // How far a file has come is told to somebody who looks on, and to no log.
     let watched = if rt.stderr().is_terminal() {
         Some(rt.stderr())
@@ -41,4 +41,12 @@ fn main(rt: HostRuntime) -> ExitCode {
 /// The words of the command line, the program's name first.
 fn words_of<R: Env + AllocGlobal>(rt: &R) -> io::Result<Vec<String>> {
     Ok(env::args(rt)?.collect(rt.alloc())?)
+}
+
+/// When files are synced: at their end, but for who measures without, with `PDGF_SYNC=0` in the environment.
+fn syncing<R: Env + AllocGlobal>(rt: &R) -> Syncing {
+    match env::var(rt, "PDGF_SYNC") {
+        Ok(value) if value.as_str() == "0" => Syncing::Never,
+        _ => Syncing::AtEnd,
+    }
 }

@@ -12,6 +12,7 @@ mod keeper;
 mod numbers;
 mod prepared;
 mod refused;
+mod site;
 mod system;
 mod tables;
 mod waiting;

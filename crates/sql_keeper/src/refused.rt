@@ -2,6 +2,7 @@
 
 use sqlite::Error;
 use std::alloc::{AllocError, AllocFailed};
+use std::io;
 
 /// The database refused a statement, wasn't opened, or isn't empty.
 #[derive(Clone, Copy, Debug, PartialEq, Eq)]
@@ -9,6 +10,12 @@ pub struct Refused;
 
 impl From<Error> for Refused {
     fn from(_error: Error) -> Refused {
+        Refused
+    }
+}
+
+impl From<io::Error> for Refused {
+    fn from(_error: io::Error) -> Refused {
         Refused
     }
 }

@@ -1,11 +1,13 @@
 //! Databases of the system.
 
+use crate::site::Site;
 use crate::tables::{Close, Tables};
 use crate::writer::drop_tables;
 use crate::{Databases, Refused, RowTables};
 use keeper_play::RefTo;
-use sqlite::{Connection, File, FileStore, MemStore, Options, Unknown};
+use sqlite::{Connection, File, FileStore, Files, MemStore, Options, Unknown};
 use sqlite_disk::Disk;
+use sqlite_std_file::OpenError;
 use std::hash::{BuildHasher, RandomState};
 
 /// The name of a database in memory, as SQLite has it.
@@ -19,6 +21,9 @@ const READ_PAGES: usize = 8_192;
 const WRITTEN_PAGES: usize = 32_768;
 
 /// Databases in files of the system. A name is a path, but for `:memory:`, a new database in memory, which is gone once it is closed.
+///
+/// A database that has a table, an index or a view is refused before anything is written, beside it or in it. Where one is refused or closed
+/// before its commit, the files that were made for it are removed.
 #[derive(Drop)]
 pub struct SystemDatabases<'a> {
     rt: &'a HostRuntime,
@@ -35,16 +40,18 @@ impl<'a> Databases for SystemDatabases<'a> {
     type Tables = SystemTables<'a, Tables<FileStore<File>>, Tables<MemStore>>;
 
     fn open(&self, name: &str) -> Result<Self::Tables, Refused> {
-        let alloc = self.rt.alloc();
-        let kept_name = String::from_str(alloc, name)?;
-        let place = if name == IN_MEMORY {
-            Place::Memory(Tables::create(alloc, Connection::open_in_memory(alloc)?)?)
+        let (site, place) = if name == IN_MEMORY {
+            let alloc = self.rt.alloc();
+            let tables = Tables::create(alloc, Connection::open_in_memory(alloc)?)?;
+            (None, Place::Memory(tables))
         } else {
-            Place::File(Tables::create(alloc, open_file(self.rt, name)?)?)
+            let mut site = Site::find(self.rt, name)?;
+            let tables = create_at(self.rt, &mut site)?;
+            (Some(site), Place::File(tables))
         };
         Ok(SystemTables {
             rt: self.rt,
-            name: kept_name,
+            site,
             place,
         })
     }
@@ -53,14 +60,14 @@ impl<'a> Databases for SystemDatabases<'a> {
 /// An open database of the system, of one type in a file and of another in memory.
 pub struct SystemTables<'a, F: RowTables + Drop, M: RowTables + Drop> {
     rt: &'a HostRuntime,
-    name: String,
+    site: Option<Site>,
     place: Place<F, M>,
 }
 
 impl<F: RowTables + Drop, M: RowTables + Drop> Drop for SystemTables<'_, F, M> {
     fn drop(self) {
-        let SystemTables { rt: _, name, place } = self;
-        drop(name);
+        let SystemTables { rt: _, site, place } = self;
+        drop(site);
         drop(place);
     }
 }
@@ -95,14 +102,30 @@ impl<F: RowTables + Drop, M: RowTables + Drop> Place<F, M> {
 }
 
 impl<F: RowTables + Drop, M: RowTables + Drop> SystemTables<'_, F, M> {
-    /// Drops the tables again that a commit may have left in a file which failed at its end, as far as the disk lets.
+    /// Drops the tables again that a commit may have left in a file which failed at its end, or the file, as far as the disk lets.
     fn take_back(&mut self) -> Result<(), Refused> {
+        let is_gone = self.clear();
         // The file is locked until it is closed.
         self.place = Place::Nowhere;
-        if self.name.as_str() == IN_MEMORY {
-            return Ok(());
+        match &self.site {
+            Some(site) if !is_gone => take_back_file(open_file(self.rt, site.path())?),
+            _ => Ok(()),
         }
-        take_back_file(open_file(self.rt, self.name.as_str())?)
+    }
+
+    /// Removes the files that were made for the database, and tells whether no file of it stands then.
+    fn clear(&mut self) -> bool {
+        match &mut self.site {
+            Some(site) => site.clear(self.rt),
+            None => false,
+        }
+    }
+
+    /// Keeps the files that were made for the database.
+    fn keep(&mut self) {
+        if let Some(site) = &mut self.site {
+            site.keep();
+        }
     }
 }
 
@@ -129,16 +152,20 @@ impl<F: RowTables + Drop, M: RowTables + Drop> RowTables for SystemTables<'_, F,
             Place::Memory(tables) => tables.commit(),
             Place::Nowhere => Err(Refused),
         };
-        if committed.is_err() {
+        match committed {
+            Ok(()) => self.keep(),
             // Where that is refused too, nobody knows what a disk holds that failed at a commit.
-            let _ = self.take_back();
+            Err(Refused) => {
+                let _ = self.take_back();
+            }
         }
         committed
     }
 
-    fn close(self) {
-        let SystemTables { rt: _, name, place } = self;
-        drop(name);
+    fn close(mut self) {
+        self.clear();
+        let SystemTables { rt: _, site, place } = self;
+        drop(site);
         place.close();
     }
 }
@@ -150,11 +177,41 @@ fn take_back_file<D: Disk + Drop>(mut database: Connection<FileStore<D>>) -> Res
     dropped
 }
 
-/// Opens the database in a file, or makes it.
-fn open_file(rt: &HostRuntime, path: &str) -> Result<Connection<FileStore<File>>, Refused> {
-    let Ok(files) = sqlite_std_file::open(rt, path, Unknown) else {
+/// Makes the tables in the database of a file that has none. Where that is refused, the files that were made for it are removed.
+fn create_at(rt: &HostRuntime, site: &mut Site) -> Result<Tables<FileStore<File>>, Refused> {
+    let created = create_in_file(rt, site);
+    if created.is_err() {
+        site.clear(rt);
+    }
+    created
+}
+
+/// Makes the tables in the database of a file that has none.
+fn create_in_file(rt: &HostRuntime, site: &mut Site) -> Result<Tables<FileStore<File>>, Refused> {
+    if site.has_objects(rt)? {
         return Err(Refused);
+    }
+    let files = match sqlite_std_file::open(rt, site.path(), Unknown) {
+        Ok(files) => files,
+        Err(OpenError::Busy) => {
+            site.keep();
+            return Err(Refused);
+        }
+        Err(_) => return Err(Refused),
     };
+    Tables::create(rt.alloc(), connect(rt, files)?)
+}
+
+/// Opens the database in a file.
+fn open_file(rt: &HostRuntime, path: &str) -> Result<Connection<FileStore<File>>, Refused> {
+    match sqlite_std_file::open(rt, path, Unknown) {
+        Ok(files) => connect(rt, files),
+        Err(_) => Err(Refused),
+    }
+}
+
+/// Opens the database in files.
+fn connect(rt: &HostRuntime, files: Files<File>) -> Result<Connection<FileStore<File>>, Refused> {
     let Ok(state) = RandomState::new(rt) else {
         return Err(Refused);
     };

@@ -3,11 +3,15 @@
 
 mod file_library;
 mod file_shelf;
+mod output;
+mod places;
 mod progress;
 mod progress_shelf;
 mod reading;
+mod syncing;
 mod writing;
 
 pub use file_library::FileLibrary;
 pub use file_shelf::FileShelf;
 pub use progress_shelf::ProgressShelf;
+pub use syncing::Syncing;

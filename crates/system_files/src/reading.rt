@@ -1,13 +1,14 @@
 //! What is read, with its faults.
 
 ghost use Rattle.std.specs.Prelude.{◌≡◌, ◌≤◌, ◌<◌, ◌+◌, ◌^◌, false, length, IfOk, IfSome, IsTrue, is_ok, is_some};
+ghost use Rattle.std.specs.Io.{ReadsAtMost};
 ghost use Rattle.std.specs.Io.KnownBytes.{ReadConsumes};
 ghost use Rattle.std.specs.Result.{result_unwrap_or};
 ghost use Rattle.pd_outside.specs.Faults.{counted, faults_after};
 
 use pd_outside::Failed;
 use std::io;
-use std::io::Read;
+use std::io::{ErrorKind, Read};
 
 /// A file that is read, if one is started, with the count of its bytes that were taken and that of the faults. Each error that
 /// the system answers is one fault, and is counted here, where it comes.
@@ -67,7 +68,7 @@ impl<F: Read + Drop> Reading<F> {
         let Some(file) = &mut self.started else {
             unreachable!()
         };
-        match file.read(into) {
+        match read_through(file, into) {
             Ok(n) => {
                 self.taken += n as u64;
                 Ok(n)
@@ -86,4 +87,18 @@ impl<F: Read + Drop> Reading<F> {
         self.faults = self.faults.saturating_add(1);
         Failed
     }
+}
+
+/// Reads, and once more where a signal breaks that off.
+fn read_through<F: Read>(file: &mut F, into: &mut [u8]) -> io::Result<usize>
+    ensures within { ReadsAtMost result into.new }
+    ensures bytes { ReadConsumes (F.remaining file.old) (F.remaining file.new) result into.new }
+{
+    for _ in 0..u64::MAX {
+        match file.read(into) {
+            Err(error) if error.kind() == ErrorKind::Interrupted => {}
+            answer => return answer,
+        }
+    }
+    file.read(into)
 }

@@ -9,6 +9,12 @@ use pd_outside::Failed;
 use std::io;
 use std::io::{BufWriter, Write};
 
+/// What is left to do of an output once all its bytes are handed to it.
+pub(crate) trait Finish<W> {
+    /// Finishes the output, to which all bytes were handed.
+    fn finish(&self, output: &W) -> io::Result<()>;
+}
+
 /// A file that is written, if one is begun, with the count of the faults and whether the last call was one. Each error that the
 /// system answers is one fault, and is counted here, where it comes.
 #[derive(Drop)]
@@ -75,8 +81,8 @@ impl<W: Write + Drop> Writing<W> {
         }
     }
 
-    /// Hands all that is gathered on to the output behind the buffer, and lets go of the file.
-    pub(crate) fn end(&mut self) -> Result<(), Failed>
+    /// Hands all that is gathered on to the output behind the buffer, has it finished, and lets go of the file.
+    pub(crate) fn end<P: Finish<W>>(&mut self, places: &P) -> Result<(), Failed>
         requires begun { IsTrue (is_some self.old.begun) }
         ensures begun { is_some self.new.begun ≡ is_err result }
         ensures counted { self.new.faults ≡ faults_after result self.old.faults }
@@ -87,7 +93,11 @@ impl<W: Write + Drop> Writing<W> {
         let Some(output) = &mut self.begun else {
             unreachable!()
         };
-        match hand_on(output) {
+        let finished = match hand_on(output) {
+            Ok(()) => places.finish(output.get_ref()),
+            Err(error) => Err(error),
+        };
+        match finished {
             Ok(()) => {
                 self.begun = None;
                 Ok(())

@@ -2,6 +2,10 @@
 #![tactic(auto)]
 
 #[cfg(test)]
+mod faulty;
+#[cfg(test)]
 mod files;
+#[cfg(test)]
+mod places;
 #[cfg(test)]
 mod progress;

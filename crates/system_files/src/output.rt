@@ -1,0 +1,46 @@
+//! Where bytes are written to: a file or the standard output.
+
+use std::fs::OpenFile;
+use std::io;
+use std::io::{ErrorKind, Stdout, Write};
+
+/// An open file, or the standard output.
+#[derive(Drop)]
+pub(crate) enum Output<F> {
+    Standard(Stdout),
+    File(F),
+}
+
+impl<F: Write> Write for Output<F> {
+    fn write(&mut self, bytes: &[u8]) -> io::Result<usize> {
+        match self {
+            Output::Standard(stdout) => stdout.write(bytes),
+            Output::File(file) => file.write(bytes),
+        }
+    }
+
+    fn flush(&mut self) -> io::Result<()> {
+        match self {
+            Output::Standard(stdout) => stdout.flush(),
+            Output::File(file) => file.flush(),
+        }
+    }
+}
+
+impl<F: OpenFile> Output<F> {
+    /// Waits until the system has the file on its device. A pipe, a terminal and the like can't be synced, and the standard output isn't.
+    pub(crate) fn sync(&self) -> io::Result<()> {
+        let Output::File(file) = self else {
+            return Ok(());
+        };
+        match file.sync_all() {
+            Err(error) if is_unfit(error.kind()) => Ok(()),
+            synced => synced,
+        }
+    }
+}
+
+/// Whether this is the system's answer of a file that it can't sync, whatever it holds.
+fn is_unfit(kind: ErrorKind) -> bool {
+    matches!(kind, ErrorKind::InvalidInput | ErrorKind::Unsupported)
+}

@@ -1,0 +1,152 @@
+//! Where files are opened that are written, and put in their places.
+
+use crate::Syncing;
+use crate::output::Output;
+use crate::writing::Finish;
+use std::alloc::Global;
+use std::fs::{File, Metadata, OpenFile, OpenOptions};
+use std::io::{BufWriter, ErrorKind, Stdout};
+use std::os::unix::fs::MetadataExt;
+use std::rt::Files;
+use std::{fs, io};
+
+/// The bytes that are gathered before the system is asked to write them. A longer text isn't copied into the buffer: calls of
+/// the system with so many bytes cost no more a byte than longer ones.
+const BUFFER: usize = 1 << 14;
+
+/// How the name ends of a file that isn't whole yet.
+const PART: &str = ".part";
+
+/// The system's files by their names, and the standard output.
+///
+/// A name that stands as a regular file keeps it until the new one is whole: that one is written beside it, under the name with `.part`
+/// behind it, and put in its place at the end. Every other name is opened as it is.
+pub(crate) struct Places<R: Files> {
+    rt: R,
+    alloc: Global,
+    stdout: Stdout,
+    syncing: Syncing,
+    beside: Option<Beside>,
+}
+
+impl<R: Files + Drop> Drop for Places<R> {
+    fn drop(self) {
+        let Places {
+            rt,
+            alloc: _,
+            stdout: _,
+            syncing: _,
+            beside,
+        } = self;
+        drop(rt);
+        drop(beside);
+    }
+}
+
+/// A file that is written beside the one in whose place it is to stand.
+struct Beside {
+    part: String,
+    name: String,
+}
+
+impl Drop for Beside {
+    fn drop(self) {
+        let Beside { part, name } = self;
+        drop(part);
+        drop(name);
+    }
+}
+
+impl<R: Files> Places<R> {
+    /// The files of a system, and its standard output.
+    pub(crate) fn new(rt: R, alloc: Global, stdout: Stdout, syncing: Syncing) -> Self {
+        Places {
+            rt,
+            alloc,
+            stdout,
+            syncing,
+            beside: None,
+        }
+    }
+
+    /// Opens the output of a name, empty, with a buffer before it.
+    pub(crate) fn open(&mut self, name: &str) -> io::Result<BufWriter<Output<R::File>>> {
+        self.beside = None;
+        let output = match name {
+            "-" => Output::Standard(self.stdout),
+            path => Output::File(self.open_path(path)?),
+        };
+        BufWriter::with_capacity(self.alloc, BUFFER, output)
+    }
+
+    /// Opens the file of a path, or the one beside it.
+    fn open_path(&mut self, path: &str) -> io::Result<R::File> {
+        match fs::metadata(&self.rt, path) {
+            Ok(found) if found.is_file() => self.open_beside(path, &found),
+            _ => File::create(&self.rt, path),
+        }
+    }
+
+    /// Makes the file beside the one of a path, which may be written. In a folder where none can be made that one itself is opened.
+    fn open_beside(&mut self, path: &str, found: &Metadata) -> io::Result<R::File> {
+        let name = self.followed(path)?;
+        let part = self.part_of(name.as_str())?;
+        drop(
+            OpenOptions::new()
+                .write(true)
+                .open(&self.rt, name.as_str())?,
+        );
+        match self.made(part.as_str(), found) {
+            Ok(file) => {
+                self.beside = Some(Beside { part, name });
+                Ok(file)
+            }
+            Err(error) if error.kind() == ErrorKind::PermissionDenied => {
+                File::create(&self.rt, path)
+            }
+            Err(error) => Err(error),
+        }
+    }
+
+    /// The path of the file to which a path leads, itself where it is no link.
+    fn followed(&self, path: &str) -> io::Result<String> {
+        if fs::symlink_metadata(&self.rt, path)?.is_symlink() {
+            let found = self.rt.canonicalize(self.alloc, path)?;
+            return Ok(String::from_str(self.alloc, found.as_str())?);
+        }
+        Ok(String::from_str(self.alloc, path)?)
+    }
+
+    /// The path of the file beside that of a path.
+    fn part_of(&self, name: &str) -> io::Result<String> {
+        let mut part = String::from_str(self.alloc, name)?;
+        part.push_str(PART)?;
+        Ok(part)
+    }
+
+    /// Makes a file of a path, in place of what an earlier run left there, with the owner and the mode of another file as far as the system lets.
+    fn made(&self, part: &str, like: &Metadata) -> io::Result<R::File> {
+        let file = match File::create_new(&self.rt, part) {
+            Err(error) if error.kind() == ErrorKind::AlreadyExists => {
+                fs::remove_file(&self.rt, part)?;
+                File::create_new(&self.rt, part)?
+            }
+            made => made?,
+        };
+        let _ = self.rt.chown(part, Some(like.uid()), Some(like.gid()));
+        let _ = file.set_permissions(like.permissions());
+        Ok(file)
+    }
+}
+
+impl<R: Files> Finish<Output<R::File>> for Places<R> {
+    fn finish(&self, output: &Output<R::File>) -> io::Result<()> {
+        if self.syncing == Syncing::AtEnd {
+            output.sync()?;
+        }
+        match &self.beside {
+            Some(Beside { part, name }) => fs::rename(&self.rt, part.as_str(), name.as_str()),
+            None => Ok(()),
+        }
+    }
+}
