@@ -1,37 +1,13 @@
 use Rattle.pdgf_run.proofs.command_line.run_program.Goals as goal
 
-pub returns-in-Ok-clause-verdict : goal.returns-in-Ok-clause-verdict
-returns-in-Ok-clause-verdict g c = c.pdgf.ensures.verdict
-
-pub returns-in-Ok-clause-applied : goal.returns-in-Ok-clause-applied
-returns-in-Ok-clause-applied g c = c.pdgf.ensures.applied
-
-pub returns-in-Ok-clause-reverted : goal.returns-in-Ok-clause-reverted
-returns-in-Ok-clause-reverted g c = c.pdgf.ensures.reverted
-
 pub returns-in-Ok-clause-known : goal.returns-in-Ok-clause-known
 returns-in-Ok-clause-known g c = c.pdgf.ensures.known
 
 pub returns-in-Ok-clause-message : goal.returns-in-Ok-clause-message
 returns-in-Ok-clause-message g c = c.pdgf.ensures.message
 
-pub returns-in-Ok-clause-usage : goal.returns-in-Ok-clause-usage
-returns-in-Ok-clause-usage g c = c.pdgf.ensures.usage
-
-pub returns-in-Ok-clause-usage_text : goal.returns-in-Ok-clause-usage_text
-returns-in-Ok-clause-usage_text g c = c.pdgf.ensures.usage_text
-
 pub returns-in-Ok-clause-too_long : goal.returns-in-Ok-clause-too_long
 returns-in-Ok-clause-too_long g c = c.pdgf.ensures.too_long
-
-pub returns-in-Ok-clause-longer_schema : goal.returns-in-Ok-clause-longer_schema
-returns-in-Ok-clause-longer_schema g c = c.pdgf.ensures.longer_schema
-
-pub returns-in-Ok-clause-longer_dictionary : goal.returns-in-Ok-clause-longer_dictionary
-returns-in-Ok-clause-longer_dictionary g c = c.pdgf.ensures.longer_dictionary
-
-pub returns-in-Ok-clause-read_within : goal.returns-in-Ok-clause-read_within
-returns-in-Ok-clause-read_within g c = c.pdgf.ensures.read_within
 
 pub returns-in-Ok-clause-schema_read : goal.returns-in-Ok-clause-schema_read
 returns-in-Ok-clause-schema_read g c = c.pdgf.ensures.schema_read
@@ -60,23 +36,11 @@ returns-in-Ok-clause-library_faults g c = c.pdgf.ensures.library_faults
 pub returns-in-Ok-clause-shelf_faults : goal.returns-in-Ok-clause-shelf_faults
 returns-in-Ok-clause-shelf_faults g c = c.pdgf.ensures.shelf_faults
 
-pub returns-in-Ok-clause-prefix : goal.returns-in-Ok-clause-prefix
-returns-in-Ok-clause-prefix g c = c.pdgf.ensures.prefix
-
 pub returns-in-Ok-clause-held : goal.returns-in-Ok-clause-held
 returns-in-Ok-clause-held g c = c.pdgf.ensures.held
 
 pub returns-in-Ok-clause-none_begun : goal.returns-in-Ok-clause-none_begun
 returns-in-Ok-clause-none_begun g c = c.pdgf.ensures.none_begun
-
-pub returns-in-Ok-clause-unread : goal.returns-in-Ok-clause-unread
-returns-in-Ok-clause-unread g c = c.pdgf.ensures.unread
-
-pub returns-in-Ok-clause-asked : goal.returns-in-Ok-clause-asked
-returns-in-Ok-clause-asked g c = c.pdgf.ensures.asked
-
-pub returns-in-Ok-clause-read_out : goal.returns-in-Ok-clause-read_out
-returns-in-Ok-clause-read_out g c = c.pdgf.ensures.read_out
 
 pub returns-in-Ok-clause-files : goal.returns-in-Ok-clause-files
 returns-in-Ok-clause-files g c = c.pdgf.ensures.files
@@ -87,17 +51,8 @@ returns-in-Ok-clause-library_never_falls g c = c.pdgf.ensures.library_never_fall
 pub returns-in-Ok-clause-shelf_never_falls : goal.returns-in-Ok-clause-shelf_never_falls
 returns-in-Ok-clause-shelf_never_falls g c = c.pdgf.ensures.shelf_never_falls
 
-pub returns-in-Ok-clause-unplayed : goal.returns-in-Ok-clause-unplayed
-returns-in-Ok-clause-unplayed g c = c.pdgf.ensures.unplayed
-
 pub returns-in-Ok-clause-keeper_kept : goal.returns-in-Ok-clause-keeper_kept
 returns-in-Ok-clause-keeper_kept g c = c.pdgf.ensures.keeper_kept
-
-pub returns-in-Ok-clause-played : goal.returns-in-Ok-clause-played
-returns-in-Ok-clause-played g c = c.pdgf.ensures.played
-
-pub returns-in-Ok-clause-broken_off : goal.returns-in-Ok-clause-broken_off
-returns-in-Ok-clause-broken_off g c = c.pdgf.ensures.broken_off
 
 pub returns-in-Ok-clause-left_open : goal.returns-in-Ok-clause-left_open
 returns-in-Ok-clause-left_open g c = c.pdgf.ensures.left_open
@@ -116,6 +71,3 @@ returns-in-Ok-clause-keeper_failed_last g c = c.pdgf.ensures.keeper_failed_last
 
 pub returns-in-Ok-clause-keeper_faults : goal.returns-in-Ok-clause-keeper_faults
 returns-in-Ok-clause-keeper_faults g c = c.pdgf.ensures.keeper_faults
-
-pub returns-in-Ok-clause-keeper_due : goal.returns-in-Ok-clause-keeper_due
-returns-in-Ok-clause-keeper_due g c = c.pdgf.ensures.keeper_due
