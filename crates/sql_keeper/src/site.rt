@@ -1,5 +1,8 @@
 //! The files of a store: which of them were there before it was opened, and whether they hold anything.
 
+ghost use Rattle.std.specs.Prelude.{IfOk, IsTrue};
+ghost use Rattle.sqlite_disk.specs.Memory.{memory_is_usable};
+
 use crate::Refused;
 use sqlite_disk::{Disk, Files, Memory};
 use sqlite_wal::{probe_frames, probe_page_size};
@@ -221,7 +224,9 @@ fn last_of_first_page(pages: &[u32]) -> Option<usize> {
 }
 
 /// A disk in memory that has these bytes.
-fn disk_of(alloc: Global, bytes: &[u8]) -> io::Result<Memory> {
+fn disk_of(alloc: Global, bytes: &[u8]) -> io::Result<Memory>
+    ensures { IfOk result (λ disk. IsTrue (memory_is_usable disk)) }
+{
     let mut disk = Memory::new(alloc);
     disk.write_at(0, bytes)?;
     Ok(disk)

@@ -5,7 +5,7 @@ use crate::tables::{Close, Tables};
 use crate::writer::drop_tables;
 use crate::{Databases, Refused, RowTables};
 use keeper_play::RefTo;
-use sqlite::{Connection, File, FileStore, Files, MemStore, Options, Unknown};
+use sqlite::{Connection, File, FileStore, MemStore, Options, Unknown};
 use sqlite_disk::Disk;
 use sqlite_std_file::OpenError;
 use std::hash::{BuildHasher, RandomState};
@@ -191,35 +191,46 @@ fn create_in_file(rt: &HostRuntime, site: &mut Site) -> Result<Tables<FileStore<
     if site.has_objects(rt)? {
         return Err(Refused);
     }
-    let files = match sqlite_std_file::open(rt, site.path(), Unknown) {
-        Ok(files) => files,
-        Err(OpenError::Busy) => {
+    match open_file(rt, site.path()) {
+        Ok(database) => Tables::create(rt.alloc(), database),
+        Err(NotOpened::Busy) => {
             site.keep();
-            return Err(Refused);
+            Err(Refused)
         }
-        Err(_) => return Err(Refused),
-    };
-    Tables::create(rt.alloc(), connect(rt, files)?)
-}
-
-/// Opens the database in a file.
-fn open_file(rt: &HostRuntime, path: &str) -> Result<Connection<FileStore<File>>, Refused> {
-    match sqlite_std_file::open(rt, path, Unknown) {
-        Ok(files) => connect(rt, files),
-        Err(_) => Err(Refused),
+        Err(NotOpened::Refused) => Err(Refused),
     }
 }
 
-/// Opens the database in files.
-fn connect(rt: &HostRuntime, files: Files<File>) -> Result<Connection<FileStore<File>>, Refused> {
+/// Why a database in a file isn't opened.
+#[derive(Clone, Copy)]
+enum NotOpened {
+    /// Somebody else has it open.
+    Busy,
+    /// The system or the database refuses it.
+    Refused,
+}
+
+impl From<NotOpened> for Refused {
+    fn from(_reason: NotOpened) -> Refused {
+        Refused
+    }
+}
+
+/// Opens the database in a file, or makes it.
+fn open_file(rt: &HostRuntime, path: &str) -> Result<Connection<FileStore<File>>, NotOpened> {
+    let files = match sqlite_std_file::open(rt, path, Unknown) {
+        Ok(files) => files,
+        Err(OpenError::Busy) => return Err(NotOpened::Busy),
+        Err(_) => return Err(NotOpened::Refused),
+    };
     let Ok(state) = RandomState::new(rt) else {
-        return Err(Refused);
+        return Err(NotOpened::Refused);
     };
     let mut options = Options::new(state.hash_one(&0u8));
     options.cache_pages = READ_PAGES;
     options.spill_pages = WRITTEN_PAGES;
     match Connection::open_files(rt.alloc(), files, options) {
         Ok(database) => Ok(database),
-        Err(_) => Err(Refused),
+        Err(_) => Err(NotOpened::Refused),
     }
 }
