@@ -1,7 +1,7 @@
 //! Databases of the system.
 
 use crate::site::Site;
-use crate::tables::{Close, Tables};
+use crate::tables::{FileTables, Tables, close_file};
 use crate::writer::drop_tables;
 use crate::{Databases, Refused, RowTables};
 use keeper_play::RefTo;
@@ -58,13 +58,13 @@ impl<'a> Databases for SystemDatabases<'a> {
 }
 
 /// An open database of the system, of one type in a file and of another in memory.
-pub struct SystemTables<'a, F: RowTables + Drop, M: RowTables + Drop> {
+pub struct SystemTables<'a, F: FileTables + Drop, M: RowTables + Drop> {
     rt: &'a HostRuntime,
     site: Option<Site>,
     place: Place<F, M>,
 }
 
-impl<F: RowTables + Drop, M: RowTables + Drop> Drop for SystemTables<'_, F, M> {
+impl<F: FileTables + Drop, M: RowTables + Drop> Drop for SystemTables<'_, F, M> {
     fn drop(self) {
         let SystemTables { rt: _, site, place } = self;
         drop(site);
@@ -90,18 +90,18 @@ impl<F: Drop, M: Drop> Drop for Place<F, M> {
     }
 }
 
-impl<F: RowTables + Drop, M: RowTables + Drop> Place<F, M> {
+impl<F: FileTables + Drop, M: RowTables + Drop> Place<F, M> {
     /// Closes the database.
     fn close(self) {
         match self {
-            Place::File(tables) => tables.close(),
+            Place::File(tables) => tables.close_file(),
             Place::Memory(tables) => tables.close(),
             Place::Nowhere => {}
         }
     }
 }
 
-impl<F: RowTables + Drop, M: RowTables + Drop> SystemTables<'_, F, M> {
+impl<F: FileTables + Drop, M: RowTables + Drop> SystemTables<'_, F, M> {
     /// Drops the tables again that a commit may have left in a file which failed at its end, or the file, as far as the disk lets.
     fn take_back(&mut self) -> Result<(), Refused> {
         let is_gone = self.clear();
@@ -129,7 +129,7 @@ impl<F: RowTables + Drop, M: RowTables + Drop> SystemTables<'_, F, M> {
     }
 }
 
-impl<F: RowTables + Drop, M: RowTables + Drop> RowTables for SystemTables<'_, F, M> {
+impl<F: FileTables + Drop, M: RowTables + Drop> RowTables for SystemTables<'_, F, M> {
     fn put(&mut self, table: u32, key: u64, refs: &[RefTo], line: &[u8]) -> Result<(), Refused> {
         match &mut self.place {
             Place::File(tables) => tables.put(table, key, refs, line),
@@ -173,7 +173,7 @@ impl<F: RowTables + Drop, M: RowTables + Drop> RowTables for SystemTables<'_, F,
 /// Drops the tables of a database in a file, and closes it.
 fn take_back_file<D: Disk + Drop>(mut database: Connection<FileStore<D>>) -> Result<(), Refused> {
     let dropped = drop_tables(&mut database);
-    FileStore::close_database(database);
+    close_file(database);
     dropped
 }
 

@@ -5,7 +5,7 @@ use crate::waiting::Waiting;
 use crate::writer::Writer;
 use crate::{Refused, RowTables};
 use keeper_play::RefTo;
-use sqlite::{Alter, Connection, FileStore, MemStore};
+use sqlite::{Alter, Connection, FileStore};
 use sqlite_disk::Disk;
 use std::alloc::Global;
 
@@ -96,7 +96,7 @@ impl<S: Alter + Drop> Tables<S> {
     }
 }
 
-impl<S: Close> RowTables for Tables<S> {
+impl<S: Alter + Drop> RowTables for Tables<S> {
     fn put(&mut self, table: u32, key: u64, refs: &[RefTo], line: &[u8]) -> Result<(), Refused> {
         self.put_row(table, key, refs, line)
     }
@@ -109,24 +109,22 @@ impl<S: Close> RowTables for Tables<S> {
         self.commit_all()
     }
 
-    fn close(self) {
-        S::close_database(self.into_database());
+    fn close(self) {}
+}
+
+/// Tables of a database in a file.
+pub trait FileTables: RowTables {
+    /// Closes the file. Where its log isn't copied into it, it stands beside it, with all that is committed.
+    fn close_file(self);
+}
+
+impl<D: Disk + Drop> FileTables for Tables<FileStore<D>> {
+    fn close_file(self) {
+        close_file(self.into_database());
     }
 }
 
-/// What databases stand in, where one is more than let go of once it is done with.
-pub trait Close: Alter + Drop {
-    /// Closes a database.
-    fn close_database(database: Connection<Self>);
-}
-
-impl<D: Disk + Drop> Close for FileStore<D> {
-    fn close_database(database: Connection<FileStore<D>>) {
-        // Where its log isn't copied into the file, it stands beside it, with all that is committed.
-        let _ = database.close();
-    }
-}
-
-impl Close for MemStore {
-    fn close_database(_database: Connection<MemStore>) {}
+/// Closes a database in a file.
+pub(crate) fn close_file<D: Disk + Drop>(database: Connection<FileStore<D>>) {
+    let _ = database.close();
 }
