@@ -74,15 +74,15 @@ impl Databases for MemoryDatabases {
 
 impl RowTables for MemoryTables {
     fn put(&mut self, table: u32, key: u64, refs: &[RefTo], line: &[u8]) -> Result<(), Refused> {
-        self.tables.put_row(table, key, refs, line)
+        self.tables.put(table, key, refs, line)
     }
 
     fn drop_row(&mut self, table: u32, key: u64) -> Result<(), Refused> {
-        self.tables.drop_by_key(table, key)
+        self.tables.drop_row(table, key)
     }
 
     fn commit(&mut self) -> Result<(), Refused> {
-        self.tables.commit_all()
+        self.tables.commit()
     }
 
     fn close(self) {}

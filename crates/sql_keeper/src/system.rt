@@ -1,7 +1,7 @@
 //! Databases of the system.
 
 use crate::site::Site;
-use crate::tables::{FileTables, Tables, close_file};
+use crate::tables::{Change, Tables};
 use crate::writer::drop_tables;
 use crate::{Databases, Refused, RowTables};
 use keeper_play::RefTo;
@@ -37,9 +37,9 @@ impl<'a> SystemDatabases<'a> {
 }
 
 impl<'a> Databases for SystemDatabases<'a> {
-    type Tables = SystemTables<'a, Tables<FileStore<File>>, Tables<MemStore>>;
+    type Tables = SystemTables<'a>;
 
-    fn open(&self, name: &str) -> Result<Self::Tables, Refused> {
+    fn open(&self, name: &str) -> Result<SystemTables<'a>, Refused> {
         let (site, place) = if name == IN_MEMORY {
             let alloc = self.rt.alloc();
             let tables = Tables::create(alloc, Connection::open_in_memory(alloc)?)?;
@@ -57,14 +57,14 @@ impl<'a> Databases for SystemDatabases<'a> {
     }
 }
 
-/// An open database of the system, of one type in a file and of another in memory.
-pub struct SystemTables<'a, F: FileTables + Drop, M: RowTables + Drop> {
+/// An open database of the system.
+pub struct SystemTables<'a> {
     rt: &'a HostRuntime,
     site: Option<Site>,
-    place: Place<F, M>,
+    place: Place,
 }
 
-impl<F: FileTables + Drop, M: RowTables + Drop> Drop for SystemTables<'_, F, M> {
+impl Drop for SystemTables<'_> {
     fn drop(self) {
         let SystemTables { rt: _, site, place } = self;
         drop(site);
@@ -73,14 +73,14 @@ impl<F: FileTables + Drop, M: RowTables + Drop> Drop for SystemTables<'_, F, M> 
 }
 
 /// Where an open database is.
-enum Place<F, M> {
-    File(F),
-    Memory(M),
+enum Place {
+    File(Tables<FileStore<File>>),
+    Memory(Tables<MemStore>),
     /// It was closed where its commit failed.
     Nowhere,
 }
 
-impl<F: Drop, M: Drop> Drop for Place<F, M> {
+impl Drop for Place {
     fn drop(self) {
         match self {
             Place::File(tables) => drop(tables),
@@ -90,18 +90,27 @@ impl<F: Drop, M: Drop> Drop for Place<F, M> {
     }
 }
 
-impl<F: FileTables + Drop, M: RowTables + Drop> Place<F, M> {
+impl Place {
+    /// Makes a change. It is the one function that is proved over each store, since that is dear.
+    fn make(&mut self, change: Change<'_>) -> Result<(), Refused> {
+        match self {
+            Place::File(tables) => tables.make(change),
+            Place::Memory(tables) => tables.make(change),
+            Place::Nowhere => Err(Refused),
+        }
+    }
+
     /// Closes the database.
     fn close(self) {
         match self {
-            Place::File(tables) => tables.close_file(),
-            Place::Memory(tables) => tables.close(),
+            Place::File(tables) => close_file(tables.into_database()),
+            Place::Memory(tables) => drop(tables),
             Place::Nowhere => {}
         }
     }
 }
 
-impl<F: FileTables + Drop, M: RowTables + Drop> SystemTables<'_, F, M> {
+impl SystemTables<'_> {
     /// Drops the tables again that a commit may have left in a file which failed at its end, or the file, as far as the disk lets.
     fn take_back(&mut self) -> Result<(), Refused> {
         let is_gone = self.clear();
@@ -129,29 +138,22 @@ impl<F: FileTables + Drop, M: RowTables + Drop> SystemTables<'_, F, M> {
     }
 }
 
-impl<F: FileTables + Drop, M: RowTables + Drop> RowTables for SystemTables<'_, F, M> {
+impl RowTables for SystemTables<'_> {
     fn put(&mut self, table: u32, key: u64, refs: &[RefTo], line: &[u8]) -> Result<(), Refused> {
-        match &mut self.place {
-            Place::File(tables) => tables.put(table, key, refs, line),
-            Place::Memory(tables) => tables.put(table, key, refs, line),
-            Place::Nowhere => Err(Refused),
-        }
+        self.place.make(Change::Put {
+            table,
+            key,
+            refs,
+            line,
+        })
     }
 
     fn drop_row(&mut self, table: u32, key: u64) -> Result<(), Refused> {
-        match &mut self.place {
-            Place::File(tables) => tables.drop_row(table, key),
-            Place::Memory(tables) => tables.drop_row(table, key),
-            Place::Nowhere => Err(Refused),
-        }
+        self.place.make(Change::Drop { table, key })
     }
 
     fn commit(&mut self) -> Result<(), Refused> {
-        let committed = match &mut self.place {
-            Place::File(tables) => tables.commit(),
-            Place::Memory(tables) => tables.commit(),
-            Place::Nowhere => Err(Refused),
-        };
+        let committed = self.place.make(Change::Commit);
         match committed {
             Ok(()) => self.keep(),
             // Where that is refused too, nobody knows what a disk holds that failed at a commit.
@@ -168,6 +170,11 @@ impl<F: FileTables + Drop, M: RowTables + Drop> RowTables for SystemTables<'_, F
         drop(site);
         place.close();
     }
+}
+
+/// Closes a database. Where its log isn't copied into the file, it stands beside it, with all that is committed.
+fn close_file<D: Disk + Drop>(database: Connection<FileStore<D>>) {
+    let _ = database.close();
 }
 
 /// Drops the tables of a database in a file, and closes it.

@@ -1,19 +1,37 @@
 //! The two tables of a store, and what is done to them.
 
+use crate::Refused;
 use crate::numbers::Keys;
 use crate::waiting::Waiting;
 use crate::writer::Writer;
-use crate::{Refused, RowTables};
 use keeper_play::RefTo;
-use sqlite::{Alter, Connection, FileStore};
-use sqlite_disk::Disk;
+use sqlite::{Alter, Connection};
 use std::alloc::Global;
+
+/// What is done to the rows of a store.
+#[derive(Clone, Copy)]
+pub(crate) enum Change<'a> {
+    /// A row is put with its references, in place of one with the same key.
+    Put {
+        table: u32,
+        key: u64,
+        refs: &'a [RefTo],
+        line: &'a [u8],
+    },
+    /// A row is dropped with its references.
+    Drop {
+        table: u32,
+        key: u64,
+    },
+    /// What was put and dropped is committed.
+    Commit,
+}
 
 /// An open database with the two tables, in a transaction.
 ///
 /// Rows that are put wait until there are many, until one is dropped, or until the end: then few statements put them in the order of their
 /// numbers, so that pages are written one after another, and then the references between them.
-pub struct Tables<S: Alter + Drop> {
+pub(crate) struct Tables<S: Alter + Drop> {
     writer: Writer<S>,
     keys: Keys,
     waiting: Waiting,
@@ -42,8 +60,22 @@ impl<S: Alter + Drop> Tables<S> {
         })
     }
 
+    /// Makes a change.
+    pub(crate) fn make(&mut self, change: Change<'_>) -> Result<(), Refused> {
+        match change {
+            Change::Put {
+                table,
+                key,
+                refs,
+                line,
+            } => self.put(table, key, refs, line),
+            Change::Drop { table, key } => self.drop_row(table, key),
+            Change::Commit => self.commit(),
+        }
+    }
+
     /// Puts a row with its references, in place of one with the same key.
-    pub(crate) fn put_row(
+    pub(crate) fn put(
         &mut self,
         table: u32,
         key: u64,
@@ -58,7 +90,7 @@ impl<S: Alter + Drop> Tables<S> {
     }
 
     /// Drops a row with its references.
-    pub(crate) fn drop_by_key(&mut self, table: u32, key: u64) -> Result<(), Refused> {
+    pub(crate) fn drop_row(&mut self, table: u32, key: u64) -> Result<(), Refused> {
         self.put_waiting()?;
         match self.keys.row(table, key)? {
             Some(row) => self.writer.drop_row(row),
@@ -79,7 +111,7 @@ impl<S: Alter + Drop> Tables<S> {
     }
 
     /// Commits what was put and dropped.
-    pub(crate) fn commit_all(&mut self) -> Result<(), Refused> {
+    pub(crate) fn commit(&mut self) -> Result<(), Refused> {
         self.put_waiting()?;
         self.writer.commit()
     }
@@ -94,37 +126,4 @@ impl<S: Alter + Drop> Tables<S> {
         drop(waiting);
         writer.into_database()
     }
-}
-
-impl<S: Alter + Drop> RowTables for Tables<S> {
-    fn put(&mut self, table: u32, key: u64, refs: &[RefTo], line: &[u8]) -> Result<(), Refused> {
-        self.put_row(table, key, refs, line)
-    }
-
-    fn drop_row(&mut self, table: u32, key: u64) -> Result<(), Refused> {
-        self.drop_by_key(table, key)
-    }
-
-    fn commit(&mut self) -> Result<(), Refused> {
-        self.commit_all()
-    }
-
-    fn close(self) {}
-}
-
-/// Tables of a database in a file.
-pub trait FileTables: RowTables {
-    /// Closes the file. Where its log isn't copied into it, it stands beside it, with all that is committed.
-    fn close_file(self);
-}
-
-impl<D: Disk + Drop> FileTables for Tables<FileStore<D>> {
-    fn close_file(self) {
-        close_file(self.into_database());
-    }
-}
-
-/// Closes a database in a file.
-pub(crate) fn close_file<D: Disk + Drop>(database: Connection<FileStore<D>>) {
-    let _ = database.close();
 }
