@@ -10,7 +10,7 @@ use std::rt::Files;
 /// The files of the system, read one at a time. It can't tell what they hold, nor which were asked.
 ///
 /// A name is a path. One that can't be opened, an absent one among them, is a failed start. Each error that the system
-/// answers is counted as a fault. A read of no byte is the end of the file.
+/// answers is counted as a fault, but a read that a signal breaks off is made again. A read of no byte is the end of the file.
 #[derive(Drop)]
 pub struct FileLibrary<R: Files> {
     rt: R,

@@ -20,7 +20,7 @@ const PART: &str = ".part";
 /// The system's files by their names, and the standard output.
 ///
 /// A name that stands as a regular file keeps it until the new one is whole: that one is written beside it, under the name with `.part`
-/// behind it, and put in its place at the end. Every other name is opened as it is.
+/// after it, and put in its place at the end. Every other name is opened as it is.
 pub(crate) struct Places<R: Files> {
     rt: R,
     alloc: Global,

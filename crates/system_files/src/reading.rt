@@ -11,7 +11,7 @@ use std::io;
 use std::io::{ErrorKind, Read};
 
 /// A file that is read, if one is started, with the count of its bytes that were taken and that of the faults. Each error that
-/// the system answers is one fault, and is counted here, where it comes.
+/// the system answers is one fault, and is counted here, where it comes. That a signal broke a read off is none: it is made again.
 #[derive(Drop)]
 pub(crate) struct Reading<F> {
     started: Option<F>,
