@@ -1,4 +1,4 @@
-//! Texts of characters that draws choose, onto a page.
+//! Texts of drawn characters, onto a page.
 
 ghost use Rattle.std.specs.Prelude.{◌≡◌, ◌≤◌, ◌+◌, ◌*◌, ◌++◌, length};
 ghost use Rattle.philox_seeds.specs.SeedTree.{draw as draw_of};
@@ -11,11 +11,11 @@ use line_pages::PageBuf;
 use philox_seeds::draw;
 use row_text::WrittenTexts;
 
-/// The draw of the first character. The one before it tells how many there are.
+/// The draw of the first character. The draw before it tells the number of characters.
 const FIRST_CHARACTER: u32 = 2;
 
-/// Appends so many characters, as they are written, each of them chosen by a draw of its own; `count` is how many there are to
-/// choose from. So many times the size of the greatest one has to be free.
+/// Appends `number` characters, as they are written. Each is chosen by a draw of its own among the `count` characters. `number`
+/// times the size of the greatest character must be free.
 #[inline(always)]
 pub(crate) fn put_characters(
     characters: &WrittenTexts,

@@ -1,4 +1,4 @@
-//! The values of the rows that are born at one unit and changed last at another, with what doesn't change from row to row taken
+//! The values of the rows with one unit of birth and one unit of last change. What doesn't change from row to row is worked out
 //! once.
 
 ghost use Rattle.std.specs.Prelude.{◌≡◌, ◌<◌, ◌≤◌, ℕ, ◌+◌, ◌++◌, true, length, map, slice_index};
@@ -18,7 +18,7 @@ use philox_seeds::{column_seed, table_seed, unit_seed};
 use schema_plan::{Plan, ReadyColumn};
 use std::marker::Model;
 
-/// What the seeds of the columns of a table are taken from.
+/// Where the seeds of a table's columns come from.
 #[derive(Drop)]
 pub(crate) enum Seeds<'a> {
     /// The seed of the table.
@@ -27,8 +27,8 @@ pub(crate) enum Seeds<'a> {
     Columns(&'a [RunColumn]),
 }
 
-/// The values of the rows of a table that are born at one unit and changed last at another. A contract sees the plan, the table
-/// and the two units.
+/// The values of the rows of a table with one unit of birth and one unit of last change. A contract sees the plan, the table and
+/// the two units.
 #[derive(Drop)]
 pub struct CohortValues<'a> {
     plan: &'a Plan,
@@ -50,8 +50,8 @@ impl<'a> Model for CohortValues<'a> {
 }
 
 impl<'a> CohortValues<'a> {
-    /// The values of the rows of a table that are born at the unit `born` and changed last at the unit `changed`, which is the same for
-    /// rows that never changed.
+    /// Returns the values of the table's rows that are born at the unit `born` and last changed at the unit `changed`. For rows
+    /// that never changed, `changed` is `born`.
     #[inline(always)]
     pub fn new(plan: &'a Plan, table: u32, born: u64, changed: u64) -> CohortValues<'a>
         requires table { table < length plan.now.schema.tables }
@@ -69,7 +69,7 @@ impl<'a> CohortValues<'a> {
         }
     }
 
-    /// The same from the prepared columns of the table, so that none of its seeds that is kept is made anew.
+    /// Returns the values as `new` does, but from the table's prepared columns. So no kept seed is made again.
     #[inline(always)]
     pub fn kept(
         plan: &'a Plan,
@@ -94,7 +94,7 @@ impl<'a> CohortValues<'a> {
         }
     }
 
-    /// The seed that the fields of the column at a place are drawn from.
+    /// Returns the seed from which the fields of the column at a place are drawn.
     #[inline(always)]
     fn seed(&self, column: usize) -> u64
         requires { column < length (table_for self.now).columns }
@@ -112,8 +112,8 @@ impl<'a> CohortValues<'a> {
         }
     }
 
-    /// Whether the field of the row with an ordinal is drawn to be null in the column at a place, which is of any kind. What is
-    /// null for another reason is not told here: a case whose pick column's field is null.
+    /// Whether the row's field is drawn to be null in the column at a place. The column can be of any kind. A case that is null
+    /// because its pick column's field is null doesn't count.
     #[inline(always)]
     pub fn is_null(&self, column: usize, ordinal: u64) -> bool
         requires { column < length (table_for self.now).columns }
@@ -123,8 +123,8 @@ impl<'a> CohortValues<'a> {
         is_null(columns[column].null, self.seed(column), ordinal)
     }
 
-    /// Appends what the row with an ordinal holds in the column at a place, one of units, of drawn values or of cases, as it is
-    /// written; nothing where it is null. The greatest size of the column's fields has to be free.
+    /// Appends the row's field in the column at a place, as it is written. A null field appends nothing. The column must be one of
+    /// units, drawn values or cases. The greatest size of the column's fields must be free.
     #[inline(always)]
     pub fn put(&self, column: usize, ordinal: u64, buf: &mut PageBuf) -> Put
         requires column { column < length (table_for self.now).columns }
@@ -157,7 +157,7 @@ impl<'a> CohortValues<'a> {
     }
 }
 
-/// The seed at a unit of the column at a place, which is prepared.
+/// Returns the seed, at a unit, of the prepared column at a place.
 #[inline(always)]
 fn kept_seed(columns: &[RunColumn], column: usize, unit: u64) -> u64
     requires { column < length columns.now }

@@ -1,4 +1,4 @@
-//! The seeds of a column at time units, as far as they are kept.
+//! The seeds of a column by unit. Those of the first units are kept.
 
 ghost use Rattle.std.specs.Prelude.{◌≡◌, ◌<◌, ◌≤◌, ◌+◌, IfOk, length};
 ghost use Rattle.philox_seeds.specs.SeedTree.{column_seed as column_seed_of, table_seed as table_seed_of, unit_seed as unit_seed_of};
@@ -11,7 +11,7 @@ use schema_plan::Plan;
 use std::alloc::Global;
 use std::marker::Model;
 
-/// The seeds of a column's time units, from unit 0 on as far as they are kept: any other is made when it is asked. A contract sees
+/// The seeds of a column by unit. Those of the first units are kept, and any other is made when it is asked for. A contract sees
 /// the column's seed.
 #[derive(Drop)]
 pub struct ColumnSeeds {
@@ -31,8 +31,8 @@ impl Model for ColumnSeeds {
 }
 
 impl ColumnSeeds {
-    /// The seeds of the column at a place, of which those of the units 0 to `last` are kept, but not more than `room`. At `Memory` none
-    /// are made.
+    /// Returns the seeds of the column at a place. The seeds of the units 0 to `last` are kept, but at most `room` of them. Makes
+    /// none at `Memory`.
     pub fn new(
         alloc: Global,
         plan: &Plan,
@@ -49,7 +49,7 @@ impl ColumnSeeds {
         Ok(ColumnSeeds { column_seed, kept })
     }
 
-    /// The seed at a unit.
+    /// Returns the seed at a unit.
     #[inline(always)]
     pub fn at(&self, unit: u64) -> u64
         ensures { result ≡ unit_seed_of self.now unit }
@@ -63,7 +63,7 @@ impl ColumnSeeds {
     }
 }
 
-/// The seeds of the first units below a column's.
+/// Makes a column's seeds of the first `count` units.
 fn unit_seeds(alloc: Global, column_seed: u64, count: u64) -> Result<Vec<u64>, Memory>
     ensures { IfOk result (λ seeds. AreUnitSeeds column_seed seeds.items) }
 {

@@ -8,7 +8,7 @@ use crate::digits::prepend_digits;
 use jiff_core::civil::Date;
 use line_pages::{PageBuf, Piece};
 
-/// Appends the date of a day of the years 1 to 9999, counted from 1970-01-01, which is day 0: 10 bytes, which have to be free.
+/// Appends the date of a day: 10 bytes, which must be free. Days count from 1970-01-01, which is day 0. The year must be 1 to 9999.
 #[inline(always)]
 pub(crate) fn put_date(day: i64, buf: &mut PageBuf)
     requires first_day { neg_ℤ (pos 719162) ≤ℤ day }
@@ -20,7 +20,7 @@ pub(crate) fn put_date(day: i64, buf: &mut PageBuf)
     buf.put_piece(&day_piece(day, Piece::new()));
 }
 
-/// The date of such a day, and then the piece, of at most 6 bytes.
+/// Returns the date of a day, as `put_date` writes it, before the piece `rest` of at most 6 bytes.
 #[inline(always)]
 pub(crate) fn day_piece(day: i64, rest: Piece) -> Piece
     requires first_day { neg_ℤ (pos 719162) ≤ℤ day }
@@ -35,7 +35,7 @@ pub(crate) fn day_piece(day: i64, rest: Piece) -> Piece
     }
 }
 
-/// A year, a month and a day as YYYY-MM-DD, and then the piece, of at most 6 bytes.
+/// Returns a year, a month and a day as YYYY-MM-DD, before the piece `rest` of at most 6 bytes.
 #[inline(always)]
 fn date_piece(year: u64, month: u8, day: u8, rest: Piece) -> Piece
     requires { length (piece_text rest) ≤ 6 }

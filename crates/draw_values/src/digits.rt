@@ -6,7 +6,7 @@ ghost use Rattle.line_pages.specs.Digits.{last_digits};
 
 use line_pages::Piece;
 
-/// The last digits of a number, as many as `count`, and then the piece. They fit.
+/// Returns the last `count` digits of a number before the piece. They must fit.
 #[inline(always)]
 pub(crate) fn prepend_digits(piece: Piece, number: u64, count: u32) -> Piece
     requires { count + length (piece_text piece) ≤ Piece.ROOM }

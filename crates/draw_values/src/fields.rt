@@ -14,10 +14,10 @@ use line_pages::{PageBuf, Piece};
 use philox_seeds::{draw, row_seed};
 use schema_plan::{ReadyColumn, ReadyKind, ReadyLeaf};
 
-/// The draw that makes a field null.
+/// The draw that decides if a field is null.
 pub(crate) const NULL_DRAW: u32 = 0;
 
-/// Whether a row's field is null in a column of which so many of a thousand are; `seed` is the column's at the row's unit. A
+/// Whether a row's field is null, in a column with `null` null fields in a thousand. `seed` is the column's at the row's unit. A
 /// column that is never null draws nothing.
 #[inline(always)]
 pub(crate) fn is_null(null: u64, seed: u64, ordinal: u64) -> bool
@@ -26,7 +26,7 @@ pub(crate) fn is_null(null: u64, seed: u64, ordinal: u64) -> bool
     null > 0 && draw(row_seed(seed, ordinal), NULL_DRAW) % 1000 < null
 }
 
-/// The place of the column that a field of the one at a place is chosen by: the pick column of a case; else its own.
+/// Returns the place of the column that chooses the column's fields: the pick column of a case, else the column itself.
 #[inline(always)]
 pub(crate) fn chooser_of(place: usize, column: &ReadyColumn) -> usize
     ensures { result ≡ chooser_of place column.now.kind }
@@ -37,7 +37,7 @@ pub(crate) fn chooser_of(place: usize, column: &ReadyColumn) -> usize
     }
 }
 
-/// The number of the entry that a row's field holds in a pick column; None where it is null.
+/// Returns the number of the entry that a row's field holds in a pick column. Returns None if the field is null.
 #[inline(always)]
 fn held_entry(pick: &ReadyColumn, seed: u64, ordinal: u64) -> Option<usize>
     requires { IsReadyPick pick.now.kind }
@@ -56,7 +56,7 @@ fn held_entry(pick: &ReadyColumn, seed: u64, ordinal: u64) -> Option<usize>
     }
 }
 
-/// Appends the value of the branch of an entry, drawn with the seed of a row; nothing where there is no entry.
+/// Appends the value of an entry's branch, drawn with the seed of a row. Appends nothing if there is no entry.
 #[inline(always)]
 fn put_branch(branches: &[ReadyLeaf], entry: Option<usize>, seed: u64, buf: &mut PageBuf) -> Put
     requires ready { All IsReady branches.now }
@@ -75,7 +75,7 @@ fn put_branch(branches: &[ReadyLeaf], entry: Option<usize>, seed: u64, buf: &mut
     }
 }
 
-/// A column, with the seed that the fields of a row are drawn from in it.
+/// A column with the seed from which a row's field is drawn.
 #[derive(Clone, Copy)]
 pub(crate) struct Drawn<'a> {
     pub(crate) column: &'a ReadyColumn,
@@ -89,7 +89,7 @@ pub(crate) struct Units {
     pub(crate) changed: u64,
 }
 
-/// Appends a unit. 5 bytes have to be free.
+/// Appends a unit. 5 bytes must be free.
 #[inline(always)]
 fn put_unit(unit: u64, buf: &mut PageBuf)
     requires unit { unit ≤ 10000 }
@@ -100,8 +100,8 @@ fn put_unit(unit: u64, buf: &mut PageBuf)
     buf.put_piece(&Piece::of_number(unit));
 }
 
-/// Appends what the row with an ordinal holds in a column, as it is written; nothing where it is null. `chooser` is the column
-/// that the field is chosen by. The greatest size of the column's fields has to be free.
+/// Appends the row's field in the column `own`, as it is written. A null field appends nothing. `chooser` is the column that
+/// chooses the field. The greatest size of the column's fields must be free.
 #[inline(always)]
 pub(crate) fn put_field(
     own: Drawn<'_>,

@@ -9,8 +9,8 @@ use crate::digits::prepend_digits;
 use fixed_divisors::FixedDivisor;
 use line_pages::{Digits, PageBuf, Piece};
 
-/// Appends a number whose last `decimals` digits, 0 to 9, stand after a point; `unit` is 10 to their number. 21 bytes have to be
-/// free.
+/// Appends a number with a point before its last `decimals` digits, 0 to 9. `unit` is 10 to the power of `decimals`. 21 bytes must
+/// be free.
 #[inline(always)]
 pub(crate) fn put_fixed(value: i64, decimals: u32, unit: &FixedDivisor, buf: &mut PageBuf)
     requires decimals { decimals ≤ 9 }
@@ -25,7 +25,7 @@ pub(crate) fn put_fixed(value: i64, decimals: u32, unit: &FixedDivisor, buf: &mu
     put_pointed(value.unsigned_abs(), decimals, unit, buf);
 }
 
-/// The same of a number that isn't negative. 20 bytes have to be free.
+/// Appends a number that isn't negative, with a point before its last `decimals` digits. 20 bytes must be free.
 #[inline(always)]
 fn put_pointed(number: u64, decimals: u32, unit: &FixedDivisor, buf: &mut PageBuf)
     requires number { number ≤ 2 ^ 63 }
@@ -41,7 +41,7 @@ fn put_pointed(number: u64, decimals: u32, unit: &FixedDivisor, buf: &mut PageBu
     }
 }
 
-/// A point, and the last digits of a number, as many as `count`.
+/// Returns a point and the last `count` digits of a number.
 #[inline(always)]
 fn fraction(number: u64, count: u32) -> Piece
     requires { count ≤ 9 }
@@ -51,7 +51,7 @@ fn fraction(number: u64, count: u32) -> Piece
     prepend_digits(Piece::new(), number, count).prepend(b'.')
 }
 
-/// Such a number of at most 13 digits, and the byte behind it.
+/// Returns a number of at most 13 digits, with a point before its last `decimals` digits, and the byte after it.
 #[inline(always)]
 pub(crate) fn fixed_piece(
     digits: &Digits,
@@ -73,7 +73,7 @@ pub(crate) fn fixed_piece(
     }
 }
 
-/// The same of a number that isn't negative.
+/// Returns a number that isn't negative, of at most 13 digits, with its point and the byte after it.
 #[inline(always)]
 fn pointed_piece(
     digits: &Digits,

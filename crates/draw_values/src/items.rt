@@ -1,5 +1,5 @@
-//! Values of several items, as characters or words: how many they are is drawn over a run, and the items field by field, several draws
-//! side by side.
+//! Values of several items: characters or words. The numbers of items are drawn over a run. The items are drawn field by field,
+//! several draws side by side.
 
 ghost use Rattle.std.specs.Prelude.{◌≡◌, ℕ, ◌<◌, ◌≤◌, ◌+◌, ◌%◌, ◌^◌, ◌++◌, [], None, Some, flat_map, if◌then◌else◌, length, map, nat_lt, slice_index, slice_index_or, true};
 ghost use Rattle.std.specs.List.{range_with_len};
@@ -17,23 +17,23 @@ use line_pages::{PageBuf, Piece};
 use philox_seeds::draw;
 use schema_plan::ReadyLeaf;
 
-/// The draw of the first item. The one before it tells how many there are.
+/// The draw of the first item. The draw before it tells the number of items.
 const FIRST_ITEM: u32 = 2;
 
 /// How many items are drawn side by side.
 const AT_ONCE: usize = 16;
 
-/// What is drawn of a field of several items before these.
+/// What is drawn for a field of several items before the items themselves.
 #[derive(Clone, Copy)]
 pub struct ItemizedField {
     /// The seed of the field's row.
     pub(crate) seed: u64,
-    /// How many items there are; None where the field is null.
+    /// The number of items; None if the field is null.
     pub(crate) count: Option<u64>,
 }
 
 impl ItemizedField {
-    /// Room for what is drawn of a field.
+    /// Returns room for what is drawn for a field.
     pub fn new() -> ItemizedField {
         ItemizedField {
             seed: 0,
@@ -42,7 +42,8 @@ impl ItemizedField {
     }
 }
 
-/// Puts the seed of each field's row, and how many items its draw gives it: `lo` and as many more as are left of the draw.
+/// Puts the seed of each field's row and the field's number of items. That number is `lo` plus the remainder of the draw by
+/// `lengths`.
 #[inline(always)]
 pub(crate) fn put_counts(
     lo: u64,
@@ -65,7 +66,7 @@ pub(crate) fn put_counts(
     }
 }
 
-/// Makes those fields null whose draw is less than so many of a thousand.
+/// Makes a field null if the remainder of its draw by 1000 is less than `null`.
 #[inline(always)]
 pub(crate) fn put_null_counts(null: u64, draws: &[u64], fields: &mut [ItemizedField])
     requires { length draws.now ≡ length fields.old }
@@ -78,7 +79,7 @@ pub(crate) fn put_null_counts(null: u64, draws: &[u64], fields: &mut [ItemizedFi
     }
 }
 
-/// The field, null where it is to be.
+/// Returns the field, made null if `null` is true.
 #[inline(always)]
 fn field_unless(null: bool, field: ItemizedField) -> ItemizedField
     ensures { result ≡ record { seed = field.seed; count = if null then None else field.count } }
@@ -89,8 +90,8 @@ fn field_unless(null: bool, field: ItemizedField) -> ItemizedField
     }
 }
 
-/// Appends so many items of a value of several, which are drawn with the seed of a row; `kept` are the items to choose from. The greatest
-/// size of the value has to be free.
+/// Appends `count` items of a value, drawn with the seed of a row. `kept` holds the items to choose from. The greatest size of the
+/// value must be free.
 #[inline(always)]
 pub(crate) fn put_items(leaf: &ReadyLeaf, kept: &[Piece], count: u64, seed: u64, page: &mut PageBuf)
     requires ready { IsReady leaf.now }
@@ -113,7 +114,7 @@ pub(crate) fn put_items(leaf: &ReadyLeaf, kept: &[Piece], count: u64, seed: u64,
     }
 }
 
-/// The most items of a value of several.
+/// Returns the most items that a value can have.
 #[inline(always)]
 fn most_items(leaf: &ReadyLeaf) -> u64
     requires ready { IsReady leaf.now }
@@ -129,7 +130,7 @@ fn most_items(leaf: &ReadyLeaf) -> u64
     }
 }
 
-/// Appends as many items as there are draws, from a place of the value on. They fit.
+/// Appends as many items as there are draws, from the place `first` of the value on. They must fit.
 #[inline(always)]
 fn put_some_items(
     leaf: &ReadyLeaf,
@@ -151,7 +152,7 @@ fn put_some_items(
     put_pieces(kept, draws, is_spaced(leaf), first, page);
 }
 
-/// Makes the numbers the draws of a seed from the first one on.
+/// Fills `draws` with draws of a seed, from the draw `first` on.
 #[inline(always)]
 fn put_item_draws(seed: u64, first: u32, draws: &mut [u64])
     requires { first + length draws.old ≤ 2 ^ 32 }
@@ -162,7 +163,7 @@ fn put_item_draws(seed: u64, first: u32, draws: &mut [u64])
     }
 }
 
-/// Makes each draw the place of the item that it chooses.
+/// Replaces each draw with the place of the item that it chooses.
 #[inline(always)]
 fn choose_items(leaf: &ReadyLeaf, draws: &mut [u64])
     requires ready { IsReady leaf.now }
@@ -177,7 +178,7 @@ fn choose_items(leaf: &ReadyLeaf, draws: &mut [u64])
     }
 }
 
-/// Makes each draw its remainder by a number, which is how many there are to choose from.
+/// Replaces each draw with its remainder by `count`, the number of items to choose from.
 #[inline(always)]
 fn choose_evenly(count: &FixedDivisor, draws: &mut [u64])
     ensures places { (i : ℕ) → i < length draws.old → slice_index draws.new i ≡ slice_index draws.old i % count.now }
@@ -198,7 +199,8 @@ fn is_spaced(leaf: &ReadyLeaf) -> bool
     }
 }
 
-/// Appends the items at these places among those that are kept, from a place of the value on, with a space between two or none. They fit.
+/// Appends the kept items at the given places, from the place `first` of the value on. If `spaced` is true, a space stands between
+/// two items. They must fit.
 #[inline(always)]
 fn put_pieces(kept: &[Piece], places: &[u64], spaced: bool, first: u64, page: &mut PageBuf)
     requires within { (i : ℕ) → i < length places.now → slice_index places.now i < length kept.now }
@@ -212,7 +214,7 @@ fn put_pieces(kept: &[Piece], places: &[u64], spaced: bool, first: u64, page: &m
     }
 }
 
-/// Appends what stands before the item at a place.
+/// Appends the space before the item at a place, if there is one.
 #[inline(always)]
 fn put_space(spaced: bool, place: u64, page: &mut PageBuf)
     requires { length page.old.text + length (space_before spaced place) ≤ page.old.room }

@@ -1,4 +1,4 @@
-//! What is kept of a column so that its fields are made fast: the pieces of its entries or days, with the byte behind.
+//! What is kept of a column to make its fields fast: the pieces of its entries or days, each with the byte after it.
 
 ghost use Rattle.std.specs.Prelude.{◌≡◌, [], ◌<◌, ◌≤◌, ◌+◌, ◌-◌, ◌++◌, ◌∷◌, IfOk, length, map, neg_ℤ, pos, true, ◌+ℤ◌, ◌≤ℤ◌};
 ghost use Rattle.std.specs.List.{list_all, range_with_len};
@@ -13,7 +13,7 @@ use row_text::WrittenTexts;
 use schema_plan::{ReadyKind, ReadyLeaf, ReadyWords};
 use std::alloc::Global;
 
-/// The most bytes of a text that makes a piece with the byte behind it.
+/// The most bytes of a text that makes a piece together with the byte after it.
 const SHORT: usize = 15;
 
 /// The first number of more than 13 digits.
@@ -25,7 +25,7 @@ pub(crate) const DAY_ROOM: u64 = 4096;
 /// The most words whose pieces are kept.
 pub(crate) const WORD_ROOM: usize = 65_536;
 
-/// Whether all texts of a column, a null one too, are known to make a piece with the byte behind it.
+/// Whether each text of a column, also a null, is known to make a piece together with the byte after it.
 pub(crate) fn is_short(kind: &ReadyKind) -> bool
     ensures { result ≡ is_short kind.now }
 {
@@ -38,7 +38,7 @@ pub(crate) fn is_short(kind: &ReadyKind) -> bool
     }
 }
 
-/// The same of some drawn values.
+/// Whether each text of some drawn values is known to be short.
 fn are_short_leaves(leaves: &[ReadyLeaf]) -> bool
     ensures { result ≡ list_all is_short_leaf leaves.now }
 {
@@ -50,7 +50,7 @@ fn are_short_leaves(leaves: &[ReadyLeaf]) -> bool
     true
 }
 
-/// The same of a drawn value.
+/// Whether each text of a drawn value is known to be short.
 fn is_short_leaf(leaf: &ReadyLeaf) -> bool
     ensures { result ≡ is_short_leaf leaf.now }
 {
@@ -66,7 +66,7 @@ fn is_short_leaf(leaf: &ReadyLeaf) -> bool
     }
 }
 
-/// Whether the texts of a column are of several items, each of which is known to be short.
+/// Whether a column's texts have several items, each known to be short.
 pub(crate) fn is_itemized(kind: &ReadyKind) -> bool
     ensures { result ≡ is_itemized kind.now }
 {
@@ -76,7 +76,7 @@ pub(crate) fn is_itemized(kind: &ReadyKind) -> bool
     }
 }
 
-/// The same of a drawn value.
+/// Whether a drawn value has several items, each known to be short.
 fn is_itemized_leaf(leaf: &ReadyLeaf) -> bool
     ensures { result ≡ is_itemized_leaf leaf.now }
 {
@@ -106,7 +106,7 @@ fn are_short(texts: &WrittenTexts) -> bool
     true
 }
 
-/// Whether each of some words has at most 15 bytes, as it is written.
+/// Whether each of some words has at most 15 bytes as it is written.
 fn are_short_words(words: &ReadyWords) -> bool
     ensures { result ≡ list_all is_short_text words.now.entries }
 {
@@ -118,7 +118,7 @@ fn are_short_words(words: &ReadyWords) -> bool
     true
 }
 
-/// A text of at most 15 bytes, and the byte behind it.
+/// Returns a text of at most 15 bytes and the byte after it.
 #[inline(always)]
 pub(crate) fn text_piece(bytes: &[u8], behind: u8) -> Piece
     requires { length bytes.now ≤ 15 }
@@ -131,7 +131,7 @@ pub(crate) fn text_piece(bytes: &[u8], behind: u8) -> Piece
     piece
 }
 
-/// The pieces that are kept of a column.
+/// Makes the pieces that are kept of a column.
 pub(crate) fn kept_pieces(alloc: Global, kind: &ReadyKind, behind: u8) -> Result<Vec<Piece>, Memory>
     requires { IsReadyDrawn kind.now }
     ensures { IfOk result (λ pieces. map piece_text pieces.items ≡ kept_texts behind kind.now) }
@@ -143,7 +143,7 @@ pub(crate) fn kept_pieces(alloc: Global, kind: &ReadyKind, behind: u8) -> Result
     }
 }
 
-/// The same of a drawn value, whose texts are short.
+/// Makes the pieces that are kept of a drawn value whose texts are short.
 fn leaf_pieces(alloc: Global, leaf: &ReadyLeaf, behind: u8) -> Result<Vec<Piece>, Memory>
     requires ready { IsReady leaf.now }
     requires short { is_short_leaf leaf.now ≡ true }
@@ -159,7 +159,7 @@ fn leaf_pieces(alloc: Global, leaf: &ReadyLeaf, behind: u8) -> Result<Vec<Piece>
     }
 }
 
-/// So many days from a first one on.
+/// Makes the pieces of `count` days from a first one on.
 fn day_pieces(alloc: Global, first: i64, count: u64, behind: u8) -> Result<Vec<Piece>, Memory>
     requires few { count ≤ 4096 }
     requires first_day { neg_ℤ (pos 719162) ≤ℤ first }
@@ -174,7 +174,7 @@ fn day_pieces(alloc: Global, first: i64, count: u64, behind: u8) -> Result<Vec<P
     Ok(pieces)
 }
 
-/// The day that is so many past another.
+/// Returns the day that is `days` days after another.
 fn day_past(first: i64, days: u64) -> i64
     requires few { days < 4096 }
     requires last_day { first ≤ℤ pos 2932896 }
@@ -183,7 +183,7 @@ fn day_past(first: i64, days: u64) -> i64
     first + days as i64
 }
 
-/// Some texts.
+/// Makes the pieces of some texts.
 fn entry_pieces(alloc: Global, entries: &WrittenTexts, behind: u8) -> Result<Vec<Piece>, Memory>
     requires { list_all is_short_text entries.now ≡ true }
     ensures { IfOk result (λ pieces. map piece_text pieces.items ≡ map (with_behind behind) entries.now) }
@@ -195,7 +195,7 @@ fn entry_pieces(alloc: Global, entries: &WrittenTexts, behind: u8) -> Result<Vec
     Ok(pieces)
 }
 
-/// Some words.
+/// Makes the pieces of some words.
 fn word_pieces(alloc: Global, words: &ReadyWords, behind: u8) -> Result<Vec<Piece>, Memory>
     requires { list_all is_short_text words.now.entries ≡ true }
     ensures { IfOk result (λ pieces. map piece_text pieces.items ≡ map (with_behind behind) words.now.entries) }
@@ -207,7 +207,7 @@ fn word_pieces(alloc: Global, words: &ReadyWords, behind: u8) -> Result<Vec<Piec
     Ok(pieces)
 }
 
-/// The items of a value of several, with no byte behind them.
+/// Makes the pieces of the items of a value, with no byte after them.
 fn item_pieces(alloc: Global, leaf: &ReadyLeaf) -> Result<Vec<Piece>, Memory>
     requires { is_itemized_leaf leaf.now ≡ true }
     ensures { IfOk result (λ pieces. map piece_text pieces.items ≡ items_of leaf.now) }
@@ -219,7 +219,7 @@ fn item_pieces(alloc: Global, leaf: &ReadyLeaf) -> Result<Vec<Piece>, Memory>
     }
 }
 
-/// Some texts, with no byte behind them.
+/// Makes the pieces of some texts, with no byte after them.
 fn bare_entries(alloc: Global, entries: &WrittenTexts) -> Result<Vec<Piece>, Memory>
     requires { list_all is_short_text entries.now ≡ true }
     ensures { IfOk result (λ pieces. map piece_text pieces.items ≡ entries.now) }
@@ -231,7 +231,7 @@ fn bare_entries(alloc: Global, entries: &WrittenTexts) -> Result<Vec<Piece>, Mem
     Ok(pieces)
 }
 
-/// Some words, with no byte behind them.
+/// Makes the pieces of some words, with no byte after them.
 fn bare_words(alloc: Global, words: &ReadyWords) -> Result<Vec<Piece>, Memory>
     requires { list_all is_short_text words.now.entries ≡ true }
     ensures { IfOk result (λ pieces. map piece_text pieces.items ≡ words.now.entries) }

@@ -15,7 +15,7 @@ ghost use Rattle.draw_values.specs.Dates.{date_digits, date_text};
 ghost use Rattle.draw_values.specs.Digits.{signed_pointed};
 ghost use Rattle.draw_values.specs.Values.{Draws, chosen, drawn_characters, drawn_words, leaf_value, unless_null};
 
-/// A draw chooses a number of the range, so many steps past its first, and each of them is chosen by as many steps.
+/// A draw chooses a number of the range. A draw less than the number of choices chooses the number that many steps past the first.
 pub fn a_draw_chooses_a_number_of_the_range()
     ensures within { (lo hi : ℤ) (step draw : ℕ) → lo ≤ℤ hi → 1 ≤ step →
         (lo ≤ℤ chosen lo hi step draw) × (chosen lo hi step draw ≤ℤ hi) }
@@ -23,13 +23,13 @@ pub fn a_draw_chooses_a_number_of_the_range()
         chosen lo hi step number ≡ lo +ℤ pos (step * number) }
 {}
 
-/// The date of a day is the one that has this day number in the calendar, of the years from 1 on.
+/// The date of a day is the calendar's date with this day number, for the years from 1 on.
 pub fn dates_are_those_of_the_calendar()
     ensures { (year month day : ℕ) → 1 ≤ year → IsCivilDate (pos year) month day →
         date_text (days_from_civil (pos year) month day) ≡ date_digits year month day }
 {}
 
-/// Numbers and dates hold nothing that is escaped.
+/// Numbers and dates hold nothing that must be escaped.
 pub fn numbers_and_dates_are_written_as_they_are()
     ensures whole { (delimiter : ℕ) (number : ℤ) →
         escaped_text delimiter (signed_decimal number) ≡ signed_decimal number }
@@ -52,7 +52,7 @@ pub fn words_are_written_one_by_one()
         escaped_text delimiter (drawn_words words draw count) ≡ drawn_words (written_words delimiter words) draw count }
 {}
 
-/// Values worked out by hand, where draw n is 2 * n + 1, so that the one that is taken is 3; for the skew, where it is n * 10^9.
+/// Values worked out by hand. Draw n is 2 * n + 1, so the draw that is used is 3. For the skew, draw n is n * 10^9.
 pub fn worked_values()
     ensures int { leaf_value (int_leaf (neg_ℤ (pos 5)) (pos 9) 4) (λ n. 2 * n + 1) ≡ Some (codes "7") }
     ensures fixed { leaf_value (fixed_leaf (neg_ℤ (pos 8)) (pos 0) 2) (λ n. 2 * n + 1) ≡ Some (codes "-0.05") }
@@ -65,15 +65,15 @@ pub fn worked_values()
     ensures chars { leaf_value (chars_leaf (codes "ab|") 1 2) (λ n. 2 * n + 1) ≡ Some (codes "|b") }
 {}
 
-/// Of a thousand fields, those are null whose draw 0 is less than their number: here it is 1,003.
+/// A field is null if the remainder of draw 0 by 1000 is less than the column's nulls in a thousand. Here draw 0 is 1,003.
 pub fn worked_nulls()
     ensures null { unless_null 4 (λ n. n + 1003) (Some (codes "7")) ≡ None }
     ensures held { unless_null 3 (λ n. n + 1003) (Some (codes "7")) ≡ Some (codes "7") }
     ensures never { unless_null 0 (λ n. n + 1003) (Some (codes "7")) ≡ Some (codes "7") }
 {}
 
-/// Dates of the standard calendar: the first day, the day before day 0, a leap day, the day behind the February of a century,
-/// and the last day.
+/// Dates of the standard calendar: the first day, the day before day 0, a leap day, the day after the February of a century, and
+/// the last day.
 pub fn worked_dates()
     ensures first { date_text (neg_ℤ (pos 719162)) ≡ codes "0001-01-01" }
     ensures before_0 { date_text (neg_ℤ (pos 1)) ≡ codes "1969-12-31" }

@@ -1,4 +1,4 @@
-//! Values that are drawn for a field alone, onto a page.
+//! Values that are drawn for one field, onto a page.
 
 ghost use Rattle.std.specs.Prelude.{◌≡◌, ◌≤◌, ◌+◌, ◌++◌, length};
 ghost use Rattle.philox_seeds.specs.SeedTree.{draw as draw_of};
@@ -14,10 +14,10 @@ use line_pages::PageBuf;
 use philox_seeds::draw;
 use schema_plan::ReadyLeaf;
 
-/// The draw that a value begins with. Draw 0 is kept for null fields.
+/// The first draw of a value. Draw 0 is kept for nulls.
 pub(crate) const FIRST_DRAW: u32 = 1;
 
-/// Appends the value that is drawn with the seed of a row, as it is written. Its greatest size has to be free.
+/// Appends the value that is drawn with the seed of a row, as it is written. Its greatest size must be free.
 #[inline(always)]
 pub(crate) fn put_leaf(leaf: &ReadyLeaf, seed: u64, buf: &mut PageBuf)
     requires ready { IsReady leaf.now }

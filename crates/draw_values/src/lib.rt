@@ -1,11 +1,11 @@
-//! What fields hold that need no other row: the units of birth and of the last change of their row, and values that are drawn for
-//! them, of which a case is chosen by what the row's field in a pick column holds. Any of them may be drawn to be null instead. A
-//! column that changes is drawn by the unit of the last change, any other by that of the birth.
+//! The fields that need no other row: the units of a row's birth and last change, drawn values, and cases. A case is a drawn value
+//! whose kind depends on the row's field in a pick column. Any field can be drawn to be null instead. A column that changes is
+//! drawn by the unit of the last change, any other column by the unit of birth.
 //!
-//! A table and a column are named by their places in the schema and in the table, and a row by its ordinal, its place in the order
-//! of birth in its table; all count from 0. A value is appended to a page as it is written (PostgreSQL's manual, "COPY", text
-//! format). A run is up to 256 rows of a table, whose fields a column makes at once, as pieces with the byte that stands behind them.
-//! Only `ColumnSeeds::new` and `RunColumn::new` take memory.
+//! A table is named by its place in the schema, a column by its place in the table. A row is named by its ordinal, its place in the
+//! order of birth in its table. All count from 0. A value is appended to a page as it is written (PostgreSQL's manual, "COPY", text
+//! format). A run is up to 256 rows of a table. A column makes the fields of a run at once, as pieces, each with the byte after the
+//! field. Only `ColumnSeeds::new` and `RunColumn::new` take memory.
 #![tactic(auto)]
 
 mod characters;

@@ -9,8 +9,7 @@ ghost use Rattle.draw_values.specs.Values.{chosen};
 use fixed_divisors::FixedDivisor;
 use line_pages::{Digits, PageBuf, Piece};
 
-/// Of the numbers from `lo` to `hi`, each `step` past the one before, the one that a draw chooses; `choices` is how many they
-/// are.
+/// Returns the number that a draw chooses among those from `lo` to `hi` in steps of `step`. `choices` is how many there are.
 #[inline(always)]
 pub(crate) fn chosen(lo: i64, hi: i64, step: u64, choices: &FixedDivisor, draw: u64) -> i64
     requires ordered { lo ≤ℤ hi }
@@ -25,7 +24,7 @@ pub(crate) fn chosen(lo: i64, hi: i64, step: u64, choices: &FixedDivisor, draw: 
     lo + past as i64
 }
 
-/// Appends a number in decimal, with a minus sign where it is negative. 20 bytes have to be free.
+/// Appends a number in decimal, with a minus sign if it is negative. 20 bytes must be free.
 #[inline(always)]
 pub(crate) fn put_whole(value: i64, buf: &mut PageBuf)
     requires { length buf.old.text + 20 ≤ buf.old.room }
@@ -35,7 +34,7 @@ pub(crate) fn put_whole(value: i64, buf: &mut PageBuf)
     buf.put_signed(value);
 }
 
-/// A number of at most 14 digits in decimal, with a minus sign where it is negative, and the byte behind it.
+/// Returns a number of at most 14 digits in decimal, with a minus sign if it is negative, and the byte after it.
 #[inline(always)]
 pub(crate) fn whole_piece(digits: &Digits, value: i64, behind: u8) -> Piece
     requires { unsigned_abs value + 1 < 10 ^ 14 }

@@ -1,4 +1,4 @@
-//! The fields of a column of cases over a run, where all their branches are short.
+//! The fields of a column of cases over a run, if all branches are short.
 
 ghost use Rattle.std.specs.Prelude.{◌≡◌, ℕ, ◌<◌, ◌≤◌, [], All, Some, if◌then◌else◌, length, map, slice_index, slice_index_or, true};
 ghost use Rattle.std.specs.List.{list_all};
@@ -23,7 +23,7 @@ use line_pages::{Digits, Piece};
 use schema_plan::{Plan, ReadyColumn, ReadyKind, ReadyLeaf};
 
 impl RunColumn {
-    /// The fields of the rows of a run, in a column of cases.
+    /// Makes the fields of a run's rows in a column of cases, each with the byte after it.
     pub(crate) fn fill_cases(
         &self,
         plan: &Plan,
@@ -51,7 +51,7 @@ impl RunColumn {
         self.null_ready(own, rows, numbers, pieces);
     }
 
-    /// The values of the branches that the rows' fields in the pick column select, also of fields that are null.
+    /// Makes the values of the branches that the rows' fields in the pick column select, also for null fields.
     #[inline(always)]
     fn fill_branches(
         &self,
@@ -87,8 +87,8 @@ impl RunColumn {
         put_branches(digits, branches, entries, draws, self.behind, pieces);
     }
 
-    /// Puts a null field with the byte behind it over the pieces of those rows of a run whose field in the pick column is null, and leaves
-    /// the others.
+    /// Replaces a row's piece with a null and the byte after it, if the row's field in the pick column is null. Leaves the other
+    /// pieces.
     fn null_picks(
         &self,
         pick: &ReadyColumn,
@@ -116,7 +116,7 @@ impl RunColumn {
     }
 }
 
-/// The numbers of the entries that the fields of rows with these seeds select in a pick column.
+/// Finds the numbers of the entries that the fields of rows with these seeds select in a pick column.
 #[inline(always)]
 fn put_entries(pick: &ReadyColumn, seeds: &[u64], entries: &mut [u64])
     requires pick { IsReadyPick pick.now.kind }
@@ -133,7 +133,7 @@ fn put_entries(pick: &ReadyColumn, seeds: &[u64], entries: &mut [u64])
     }
 }
 
-/// The values that draws give of the branches at these places.
+/// Makes the values that draws give in the branches at these places.
 #[inline(always)]
 fn put_branches(
     digits: &Digits,
@@ -156,7 +156,7 @@ fn put_branches(
     }
 }
 
-/// The value that a draw gives of a leaf whose texts are short.
+/// Makes the value that a draw gives of a leaf whose texts are short.
 #[inline(always)]
 fn branch_piece(digits: &Digits, leaf: &ReadyLeaf, draw: u64, behind: u8) -> Piece
     requires ready { IsReady leaf.now }

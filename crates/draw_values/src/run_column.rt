@@ -1,4 +1,4 @@
-//! A column, prepared for runs: its fields for many rows at once, as pieces.
+//! A column that is prepared for runs. It makes its fields for many rows at once, as pieces.
 
 ghost use Rattle.std.specs.Prelude.{◌≡◌, ℕ, ◌<◌, ◌≤◌, ◌^◌, IfOk, if◌then◌else◌, length, map, slice_index, slice_index_or, [], true};
 ghost use Rattle.philox_seeds.specs.SeedTree.{draw as draw_of, table_seed as table_seed_of};
@@ -22,11 +22,11 @@ use schema_plan::{Plan, ReadyColumn, ReadyKind, ReadyLeaf};
 use std::alloc::Global;
 use std::marker::Model;
 
-/// The most units whose seeds are kept of a column.
+/// The most units for which a column's seeds are kept.
 const SEED_ROOM: u64 = 4096;
 
-/// A column, prepared for runs: its seeds, the byte that stands behind its fields, and the pieces of its entries. A contract sees
-/// these, and the column's place.
+/// A column that is prepared for runs: its seeds, the byte after its fields, and the pieces of its entries. A contract sees these
+/// and the column's place.
 pub struct RunColumn {
     pub(crate) table: u32,
     pub(crate) column: u32,
@@ -67,8 +67,8 @@ impl Model for RunColumn {
 }
 
 impl RunColumn {
-    /// The column at a place of a table, with `behind` behind each of its fields, and with its seeds at the units 0 to `last`. At
-    /// `Memory` none is made.
+    /// Prepares the column at a place of a table. `behind` is the byte after each field. The column's seeds at the units 0 to
+    /// `last` are kept, up to a limit. Makes nothing at `Memory`.
     pub fn new(
         alloc: Global,
         plan: &Plan,
@@ -100,7 +100,7 @@ impl RunColumn {
         })
     }
 
-    /// Whether every field, a null one too, makes a piece with the byte behind it, so that `fill` may be called.
+    /// Whether each field, also a null, makes a piece together with the byte after it. Then `fill` can be called.
     #[inline(always)]
     pub fn is_short(&self) -> bool
         ensures { result ≡ self.now.short }
@@ -108,7 +108,7 @@ impl RunColumn {
         self.short
     }
 
-    /// The column's seeds.
+    /// Returns the column's seeds.
     #[inline(always)]
     pub fn seeds(&self) -> &ColumnSeeds
         ensures { result.now ≡ self.now.seed }
@@ -116,7 +116,7 @@ impl RunColumn {
         &self.seeds
     }
 
-    /// The fields of the rows of a run, each with the byte behind it.
+    /// Makes the fields of a run's rows, each with the byte after it.
     pub fn fill(
         &self,
         plan: &Plan,
@@ -138,7 +138,7 @@ impl RunColumn {
         }
     }
 
-    /// The same in a column that goes by no other.
+    /// Makes the fields of a run's rows in a column that depends on no other column.
     fn fill_alone(
         &self,
         plan: &Plan,
@@ -159,7 +159,7 @@ impl RunColumn {
         self.null_ready(own, rows, numbers, pieces);
     }
 
-    /// The values of the rows of a run in the column, as it is kept ready, also of fields that are null.
+    /// Makes the values of a run's rows in a ready column, also for null fields.
     #[inline(always)]
     fn fill_values(
         &self,
@@ -190,7 +190,7 @@ impl RunColumn {
         }
     }
 
-    /// The values that are drawn of a leaf whose texts are short, for fields that are drawn anew where a row changes, or aren't.
+    /// Makes the drawn values of a leaf whose texts are short. `changes` tells if the fields are drawn anew when a row changes.
     #[inline(always)]
     fn fill_drawn(
         &self,
@@ -221,7 +221,7 @@ impl RunColumn {
         );
     }
 
-    /// The seeds of the rows of a run, for fields that are drawn anew where a row changes, or aren't.
+    /// Finds the seeds of a run's rows. `changes` tells if the fields are drawn anew when a row changes.
     #[inline(always)]
     pub(crate) fn put_seeds(&self, changes: bool, rows: RunRows<'_>, seeds: &mut [u64])
         requires { AreOfLength (length seeds.old) rows }
@@ -230,7 +230,7 @@ impl RunColumn {
         put_run_seeds(&self.seeds, changes, rows, seeds);
     }
 
-    /// The draws of a number of the rows of a run, and the seeds that they are from.
+    /// Makes draw `n` of each row of a run, and the seeds of these draws.
     #[inline(always)]
     pub(crate) fn put_run_draws(
         &self,
@@ -248,8 +248,8 @@ impl RunColumn {
         put_draws(n, seeds, draws);
     }
 
-    /// Puts a null field with the byte behind it over the pieces of those rows of a run whose field is drawn to be null in the column,
-    /// as it is kept ready, and leaves the others.
+    /// Replaces a row's piece with a null and the byte after it, if the row's field is drawn to be null in the ready column. Leaves
+    /// the other pieces.
     pub(crate) fn null_ready(
         &self,
         own: &ReadyColumn,
@@ -273,7 +273,7 @@ impl RunColumn {
         self.put_null_pieces(own, rows, seeds, draws, pieces);
     }
 
-    /// The same, in a column of which some fields are null.
+    /// Replaces the pieces of null fields, as `null_ready` does, in a column with some null fields.
     #[inline(always)]
     fn put_null_pieces(
         &self,
@@ -293,8 +293,8 @@ impl RunColumn {
         put_nulls(own.null, draws, text_piece(b"\\N", self.behind), pieces);
     }
 
-    /// Puts a null field with the byte behind it over the pieces of those rows of a run whose field is drawn to be null in the column,
-    /// which is of any kind, and leaves the others.
+    /// Replaces a row's piece with a null and the byte after it, if the row's field is drawn to be null in the column. Leaves the
+    /// other pieces. The column can be of any kind.
     pub fn null_out(
         &self,
         plan: &Plan,
@@ -311,7 +311,7 @@ impl RunColumn {
         self.null_ready(&columns[self.column as usize], rows, numbers, pieces);
     }
 
-    /// Whether a row's field is drawn to be null in the column, which is of any kind.
+    /// Whether a row's field is drawn to be null in the column. The column can be of any kind.
     #[inline(always)]
     pub fn is_null(&self, plan: &Plan, at: RowAt) -> bool
         requires column { IsRunColumn plan.now self.now }
@@ -324,7 +324,8 @@ impl RunColumn {
     }
 }
 
-/// The seeds, at the units 0 to `last`, of the column that cases go by; None of what goes by no other column.
+/// Returns the seeds of a case's pick column, kept for the units 0 to `last` up to a limit. Returns None for a column that depends
+/// on no other.
 fn chooser_seeds(
     alloc: Global,
     plan: &Plan,

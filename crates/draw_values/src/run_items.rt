@@ -1,4 +1,4 @@
-//! The fields of a column over a run, where they are of several items.
+//! The fields of a column over a run, if they are of several items.
 
 ghost use Rattle.std.specs.Prelude.{◌≡◌, ℕ, ◌<◌, ◌≤◌, ◌+◌, ◌++◌, IfSome, slice_index, length, max, slice_index_or, true};
 ghost use Rattle.philox_seeds.specs.SeedTree.{draw as draw_of};
@@ -21,7 +21,8 @@ use row_text::put_null;
 use schema_plan::{Plan, ReadyColumn, ReadyKind, ReadyLeaf};
 
 impl RunColumn {
-    /// Whether every field is null or of several items, each of which makes a piece, so that `itemize` and `put_itemized` may be called.
+    /// Whether each field is null or of several items, each of which makes a piece. Then `itemize` and `put_itemized` can be
+    /// called.
     #[inline(always)]
     pub fn is_itemized(&self) -> bool
         ensures { result ≡ self.now.itemized }
@@ -29,7 +30,7 @@ impl RunColumn {
         self.itemized
     }
 
-    /// What is drawn of the fields of the rows of a run before their items.
+    /// Draws what the fields of a run's rows need before their items.
     pub fn itemize(
         &self,
         plan: &Plan,
@@ -53,8 +54,8 @@ impl RunColumn {
         itemize_seeds(own, seeds, draws, fields);
     }
 
-    /// Appends the field of a row, with the byte behind it, by what is drawn of it before its items. The greatest size of the column's
-    /// fields and a byte have to be free.
+    /// Appends a row's field with the byte after it. `field` is what was drawn for it before its items. The greatest size of the
+    /// column's fields plus one byte must be free.
     pub fn put_itemized(&self, plan: &Plan, field: ItemizedField, page: &mut PageBuf)
         requires column { IsRunColumn plan.now self.now }
         requires itemized { self.now.itemized ≡ true }
@@ -70,7 +71,7 @@ impl RunColumn {
         }
     }
 
-    /// The same by what is drawn of a leaf.
+    /// Appends a row's field with the byte after it, by the leaf from which it is drawn.
     #[inline(always)]
     fn put_drawn_items(&self, leaf: &ReadyLeaf, field: ItemizedField, page: &mut PageBuf)
         requires ready { IsReady leaf.now }
@@ -89,7 +90,7 @@ impl RunColumn {
     }
 }
 
-/// What is drawn of the fields of rows with these seeds, in a column as it is kept ready, before their items.
+/// Draws what the fields of rows with these seeds need before their items, in a ready column.
 #[inline(always)]
 fn itemize_seeds(own: &ReadyColumn, seeds: &[u64], draws: &mut [u64], fields: &mut [ItemizedField])
     requires ready { IsReadyDrawn own.now.kind }

@@ -1,4 +1,4 @@
-//! The loops over the numbers of a run. Each does one thing to each number, so that a processor takes several at a time.
+//! The loops over the numbers of a run. Each loop does one thing to each number, so that a processor takes several at a time.
 
 ghost use Rattle.std.specs.Prelude.{◌≡◌, ℕ, ◌<◌, ◌≤◌, ◌%◌, [], if◌then◌else◌, length, map, nat_lt, slice_index, slice_index_or, sum};
 ghost use Rattle.philox_seeds.specs.SeedTree.{draw as draw_of, row_seed as row_seed_of, unit_seed as unit_seed_of};
@@ -14,7 +14,7 @@ use philox_seeds::{draws as make_draws, row_seed};
 use schema_plan::ReadyWords;
 use weight_tables::Weights;
 
-/// Makes each number the seed of a column at the unit of the same place.
+/// Fills `seeds` with the seeds of a column at the units of the same places.
 #[inline(always)]
 pub(crate) fn put_unit_seeds(column: &ColumnSeeds, units: &[u64], seeds: &mut [u64])
     requires { length units.now ≡ length seeds.old }
@@ -25,7 +25,7 @@ pub(crate) fn put_unit_seeds(column: &ColumnSeeds, units: &[u64], seeds: &mut [u
     }
 }
 
-/// Makes each unit's seed that of the row below it with the ordinal of the same place.
+/// Replaces each unit's seed with the seed of the row below it that has the ordinal of the same place.
 #[inline(always)]
 pub(crate) fn put_row_seeds(ordinals: &[u64], seeds: &mut [u64])
     requires { length ordinals.now ≡ length seeds.old }
@@ -36,7 +36,7 @@ pub(crate) fn put_row_seeds(ordinals: &[u64], seeds: &mut [u64])
     }
 }
 
-/// The seeds of the rows of a run in a column with these seeds, for fields that are drawn anew where a row changes, or aren't.
+/// Finds the seeds of a run's rows in a column with these seeds. `changes` tells if the fields are drawn anew when a row changes.
 #[inline(always)]
 pub(crate) fn put_run_seeds(
     column: &ColumnSeeds,
@@ -51,7 +51,8 @@ pub(crate) fn put_run_seeds(
     put_row_seeds(rows.ordinals, seeds);
 }
 
-/// The units at which the fields of the rows of a run are drawn, in a column that is drawn anew where a row changes, or isn't.
+/// Returns the units at which the fields of a run's rows are drawn. `changes` tells if the fields are drawn anew when a row
+/// changes.
 #[inline(always)]
 fn units_of<'a>(changes: bool, rows: RunRows<'a>) -> &'a [u64]
     ensures { result.now ≡ (if changes then rows.entry.changes.now else rows.entry.births.now) }
@@ -59,7 +60,7 @@ fn units_of<'a>(changes: bool, rows: RunRows<'a>) -> &'a [u64]
     if changes { rows.changes } else { rows.births }
 }
 
-/// Makes each number the draw of a number from the seed of the same place.
+/// Fills `draws` with draw `n` of the seeds of the same places.
 #[inline(always)]
 pub(crate) fn put_draws(n: u32, seeds: &[u64], draws: &mut [u64])
     requires { length seeds.now ≡ length draws.old }
@@ -69,7 +70,7 @@ pub(crate) fn put_draws(n: u32, seeds: &[u64], draws: &mut [u64])
     make_draws(draws, n);
 }
 
-/// Makes each draw the number of the group that it chooses; `total` is the sum of the weights.
+/// Replaces each draw with the number of the group that it chooses. `total` is the sum of the weights.
 #[inline(always)]
 pub(crate) fn choose_groups(weights: &Weights, total: &FixedDivisor, draws: &mut [u64])
     requires { total.now ≡ sum weights.now }
@@ -81,7 +82,7 @@ pub(crate) fn choose_groups(weights: &Weights, total: &FixedDivisor, draws: &mut
     weights.select_all(draws);
 }
 
-/// Makes each draw the place of the word that it chooses.
+/// Replaces each draw with the place of the word that it chooses.
 #[inline(always)]
 pub(crate) fn choose_words(words: &ReadyWords, draws: &mut [u64])
     ensures places { (i : ℕ) → i < length draws.old → slice_index draws.new i ≡ chosen_group words.now.weights (slice_index draws.old i) }
@@ -92,7 +93,7 @@ pub(crate) fn choose_words(words: &ReadyWords, draws: &mut [u64])
     }
 }
 
-/// Makes each piece the one of the number of the same place.
+/// Replaces each piece with the kept piece that the number of the same place selects.
 #[inline(always)]
 pub(crate) fn fill_kept(kept: &[Piece], numbers: &[u64], pieces: &mut [Piece])
     requires lengths { length numbers.now ≡ length pieces.old }
@@ -104,7 +105,7 @@ pub(crate) fn fill_kept(kept: &[Piece], numbers: &[u64], pieces: &mut [Piece])
     }
 }
 
-/// Puts a piece over those whose draw is less than so many of a thousand.
+/// Replaces a piece with the null piece if the remainder of its draw by 1000 is less than `null`.
 #[inline(always)]
 pub(crate) fn put_nulls(null: u64, draws: &[u64], null_piece: Piece, pieces: &mut [Piece])
     requires { length draws.now ≡ length pieces.old }
@@ -116,7 +117,7 @@ pub(crate) fn put_nulls(null: u64, draws: &[u64], null_piece: Piece, pieces: &mu
     }
 }
 
-/// The first piece where it is chosen, and else the other, with no branch.
+/// Returns the first piece if `is_first` is true, else the other, without a branch.
 #[inline(always)]
 fn selected(is_first: bool, first: Piece, other: Piece) -> Piece
     ensures { piece_text result ≡ (if is_first then piece_text first else piece_text other) }

@@ -1,4 +1,4 @@
-//! The pieces of drawn values over a run, by their draws: one loop for each kind, each piece with the byte behind it.
+//! The pieces of drawn values over a run, by their draws. There is one loop for each kind. Each piece has the byte after its field.
 
 ghost use Rattle.std.specs.Prelude.{◌≡◌, ℕ, ◌<◌, ◌≤◌, ◌+◌, ◌-◌, ◌^◌, [], IfSome, decimal, length, map, neg_ℤ, pos, slice_index, slice_index_or, sum, true, ◌+ℤ◌, ◌-ℤ◌, ◌<ℤ◌, ◌≤ℤ◌};
 ghost use Rattle.std.specs.Fmt.{signed_decimal};
@@ -23,7 +23,7 @@ use row_text::WrittenTexts;
 use schema_plan::{ReadyLeaf, ReadyWords};
 use weight_tables::Weights;
 
-/// Units of rows, each of at most 5 digits. Neighbours often have one unit, whose piece is made once.
+/// Makes the pieces of units of at most 5 digits. Neighbours often have one unit, and then its piece is made once.
 #[inline(always)]
 pub(crate) fn fill_units(digits: &Digits, units: &[u64], behind: u8, pieces: &mut [Piece])
     requires lengths { length units.now ≡ length pieces.old }
@@ -39,7 +39,7 @@ pub(crate) fn fill_units(digits: &Digits, units: &[u64], behind: u8, pieces: &mu
     }
 }
 
-/// A unit, with the byte behind it: the piece that is made, where it is of the same unit.
+/// Returns the piece of a unit with the byte after it. Returns the piece `made` if it is of the same unit.
 #[inline(always)]
 fn unit_piece(digits: &Digits, unit: u64, made_of: u64, made: Piece, behind: u8) -> Piece
     requires small { unit ≤ 10000 }
@@ -53,7 +53,7 @@ fn unit_piece(digits: &Digits, unit: u64, made_of: u64, made: Piece, behind: u8)
     }
 }
 
-/// The values that draws give of a leaf whose texts are short; `kept` are the pieces that are kept of it, if any are.
+/// Makes the values that draws give of a leaf whose texts are short. `kept` holds the leaf's kept pieces, if they are given.
 #[inline(always)]
 pub(crate) fn fill_leaf(
     digits: &Digits,
@@ -101,7 +101,7 @@ pub(crate) fn fill_leaf(
     }
 }
 
-/// Whole numbers.
+/// Makes whole numbers.
 #[inline(always)]
 fn fill_whole(
     digits: &Digits,
@@ -129,7 +129,7 @@ fn fill_whole(
     }
 }
 
-/// Numbers with a point.
+/// Makes numbers with a point.
 #[inline(always)]
 fn fill_fixed(
     digits: &Digits,
@@ -160,7 +160,7 @@ fn fill_fixed(
     }
 }
 
-/// Dates.
+/// Makes dates.
 #[inline(always)]
 fn fill_dates(
     lo: i32,
@@ -182,7 +182,7 @@ fn fill_dates(
     }
 }
 
-/// Dates of which so many days are kept as are few enough.
+/// Makes dates, from the kept days if there are few enough days to keep.
 #[inline(always)]
 fn fill_kept_dates(
     lo: i32,
@@ -206,7 +206,7 @@ fn fill_kept_dates(
     }
 }
 
-/// Days whose pieces aren't kept.
+/// Makes dates whose pieces aren't kept.
 #[inline(always)]
 fn fill_days(
     lo: i64,
@@ -230,7 +230,7 @@ fn fill_days(
     }
 }
 
-/// Skewed numbers.
+/// Makes skewed numbers.
 #[inline(always)]
 fn fill_skewed(
     digits: &Digits,
@@ -254,7 +254,7 @@ fn fill_skewed(
     }
 }
 
-/// Entries that weights choose.
+/// Makes entries that weights choose.
 #[inline(always)]
 fn fill_picked(
     entries: &WrittenTexts,
@@ -278,7 +278,7 @@ fn fill_picked(
     }
 }
 
-/// Entries at places, whose pieces aren't kept.
+/// Makes the entries at places whose pieces aren't kept.
 #[inline(always)]
 fn fill_entries(entries: &WrittenTexts, places: &[u64], behind: u8, pieces: &mut [Piece])
     requires short { list_all is_short_text entries.now ≡ true }
@@ -291,7 +291,7 @@ fn fill_entries(entries: &WrittenTexts, places: &[u64], behind: u8, pieces: &mut
     }
 }
 
-/// Words of a list; of a list of at most 65,536 all pieces are kept, if any are.
+/// Makes the words of a list. If pieces are given, a list of at most 65,536 words has all its pieces among them.
 #[inline(always)]
 fn fill_chosen(
     words: &ReadyWords,
@@ -312,7 +312,7 @@ fn fill_chosen(
     }
 }
 
-/// Words at places, whose pieces aren't kept.
+/// Makes the words at places whose pieces aren't kept.
 #[inline(always)]
 fn fill_words(words: &ReadyWords, places: &[u64], behind: u8, pieces: &mut [Piece])
     requires short { list_all is_short_text words.now.entries ≡ true }

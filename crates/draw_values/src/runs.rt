@@ -1,20 +1,20 @@
-//! The rows of a run, and what its loops work on.
+//! The rows of a run, and the numbers on which its loops work.
 
 /// The most rows of a run.
 pub const RUN_LIMIT: usize = 256;
 
-/// Rows of one table, by index: slices of one length.
+/// Rows of one table, as slices of one length. Each slice has a number for each row.
 #[derive(Clone, Copy)]
 pub struct RunRows<'a> {
-    /// Their places in the order of birth in the table, from 0.
+    /// The rows' places in the order of birth in the table, from 0.
     pub ordinals: &'a [u64],
-    /// The units at which they are born.
+    /// The units of the rows' births.
     pub births: &'a [u64],
-    /// The units at which they changed last; those of their births where they never did.
+    /// The units of the rows' last changes; for a row that never changed, the unit of its birth.
     pub changes: &'a [u64],
 }
 
-/// Numbers that the loops of a run work on.
+/// The numbers on which the loops of a run work.
 #[derive(Drop)]
 pub struct RunNumbers {
     pub(crate) seeds: [u64; RUN_LIMIT],
@@ -23,7 +23,7 @@ pub struct RunNumbers {
 }
 
 impl RunNumbers {
-    /// Room for the numbers of a run.
+    /// Returns room for the numbers of a run.
     pub fn new() -> RunNumbers {
         RunNumbers {
             seeds: [0; RUN_LIMIT],

@@ -11,27 +11,27 @@ use line_pages::PageBuf;
 use philox_seeds::{column_seed, table_seed, unit_seed};
 use schema_plan::Plan;
 
-/// A row, as far as its values ask for it.
+/// A row, with what its values depend on.
 #[derive(Clone, Copy, Debug, PartialEq, Eq)]
 pub struct RowAt {
-    /// Its place in the order of birth in its table, from 0.
+    /// The row's place in the order of birth in its table, from 0.
     pub ordinal: u64,
-    /// The unit at which it is born.
+    /// The unit of the row's birth.
     pub born: u64,
-    /// The unit at which it changed last; that of its birth where it never did.
+    /// The unit of the row's last change; if it never changed, the unit of its birth.
     pub changed: u64,
 }
 
 /// What was put for a value.
 #[derive(Clone, Copy, Debug, PartialEq, Eq)]
 pub enum Put {
-    /// Its text.
+    /// The value's text.
     Text,
-    /// Nothing: it is null.
+    /// Nothing: the value is null.
     Null,
 }
 
-/// The seed that the field of a row is drawn from in the column at a place.
+/// Returns the seed from which a row's field is drawn in the column at a place.
 fn drawn_seed(plan: &Plan, table: u32, place: usize, at: RowAt) -> u64
     requires table { table < length plan.now.schema.tables }
     requires column { place < length (table_at (layout_of plan.now).tables table).columns }
@@ -49,8 +49,8 @@ fn drawn_seed(plan: &Plan, table: u32, place: usize, at: RowAt) -> u64
     )
 }
 
-/// Appends what a row of a table holds in a column of units, of drawn values or of cases, as it is written; nothing where it is
-/// null. The greatest size of the column's fields has to be free.
+/// Appends a row's field in a column of units, of drawn values or of cases, as it is written. A null field appends nothing. The
+/// greatest size of the column's fields must be free.
 pub fn put_value(plan: &Plan, table: u32, column: u32, at: RowAt, buf: &mut PageBuf) -> Put
     requires table { table < length plan.now.schema.tables }
     requires column { column < length (table_at (layout_of plan.now).tables table).columns }

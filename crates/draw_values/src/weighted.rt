@@ -9,7 +9,7 @@ use line_pages::{PageBuf, Piece};
 use row_text::WrittenTexts;
 use weight_tables::Weights;
 
-/// The group that a draw chooses; `total` is the sum of the weights.
+/// Returns the group that a draw chooses. `total` is the sum of the weights.
 #[inline(always)]
 pub(crate) fn chosen_group(weights: &Weights, total: &FixedDivisor, draw: u64) -> usize
     requires { total.now ≡ sum weights.now }
@@ -19,8 +19,8 @@ pub(crate) fn chosen_group(weights: &Weights, total: &FixedDivisor, draw: u64) -
     weights.select(total.remainder(draw))
 }
 
-/// Of the numbers from `lo` on, one for each weight, the one that a draw chooses; `total` is the sum of the weights, of which
-/// there are at most 4096.
+/// Returns the number that a draw chooses among the numbers from `lo` on, one for each weight. `total` is the sum of the weights.
+/// There are at most 4096 weights.
 #[inline(always)]
 pub(crate) fn skewed(lo: i64, weights: &Weights, total: &FixedDivisor, draw: u64) -> i64
     requires few { length weights.now ≤ 4096 }
@@ -32,7 +32,7 @@ pub(crate) fn skewed(lo: i64, weights: &Weights, total: &FixedDivisor, draw: u64
     lo + chosen_group(weights, total, draw) as i64
 }
 
-/// Appends the entry of a group, as it is written. The size of the greatest entry has to be free.
+/// Appends the entry of a group, as it is written. The size of the greatest entry must be free.
 #[inline(always)]
 pub(crate) fn put_entry(entries: &WrittenTexts, group: usize, buf: &mut PageBuf)
     requires group { group < length entries.now }
@@ -43,7 +43,7 @@ pub(crate) fn put_entry(entries: &WrittenTexts, group: usize, buf: &mut PageBuf)
     put_text(entries.get(group), buf);
 }
 
-/// Appends a text, which is copied as a piece where it is of one byte.
+/// Appends a text. A text of one byte is copied as a piece.
 #[inline(always)]
 fn put_text(text: &[u8], buf: &mut PageBuf)
     requires { length buf.old.text + length text.now ≤ buf.old.room }

@@ -1,4 +1,4 @@
-//! Words of dictionaries that draws choose, onto a page.
+//! Drawn words of dictionaries, onto a page.
 
 ghost use Rattle.std.specs.Prelude.{◌≡◌, ◌<◌, ◌≤◌, ◌+◌, ◌==◌, ◌++◌, ◌∷◌, [], if◌then◌else◌, length, min, slice_index_or};
 ghost use Rattle.philox_seeds.specs.SeedTree.{draw as draw_of};
@@ -9,10 +9,10 @@ use line_pages::{PageBuf, Piece};
 use philox_seeds::draw;
 use schema_plan::ReadyWords;
 
-/// The draw of the first word. The one before it tells how many there are.
+/// The draw of the first word. The draw before it tells the number of words.
 const FIRST_WORD: u32 = 2;
 
-/// Appends the word that a draw chooses, as it is written. The size of the greatest one has to be free.
+/// Appends the word that a draw chooses, as it is written. The size of the greatest word must be free.
 #[inline(always)]
 pub(crate) fn put_word(words: &ReadyWords, draw: u64, buf: &mut PageBuf)
     requires { length buf.old.text + greatest_by length words.now.entries ≤ buf.old.room }
@@ -22,7 +22,7 @@ pub(crate) fn put_word(words: &ReadyWords, draw: u64, buf: &mut PageBuf)
     put_entry(words, words.choose(draw), buf);
 }
 
-/// Appends the word at a place, as it is written. The size of the greatest one has to be free.
+/// Appends the word at a place, as it is written. The size of the greatest word must be free.
 #[inline(always)]
 fn put_entry(words: &ReadyWords, place: usize, buf: &mut PageBuf)
     requires place { place < length words.now.entries }
@@ -33,8 +33,8 @@ fn put_entry(words: &ReadyWords, place: usize, buf: &mut PageBuf)
     buf.put(words.entry(place));
 }
 
-/// Appends so many words, as they are written, each chosen by a draw of its own, with a space between two. So many times the
-/// size of the greatest one has to be free, and a byte between two.
+/// Appends `number` words, as they are written, with a space between two. Each is chosen by a draw of its own. `number` times the
+/// size of the greatest word must be free, and a byte for each space.
 #[inline(always)]
 pub(crate) fn put_words(words: &ReadyWords, number: u64, seed: u64, buf: &mut PageBuf)
     requires number { number ≤ 1000 }
@@ -48,7 +48,7 @@ pub(crate) fn put_words(words: &ReadyWords, number: u64, seed: u64, buf: &mut Pa
     }
 }
 
-/// Appends the space before a word, but not before the first.
+/// Appends the space before a word. The first word has none.
 #[inline(always)]
 fn put_space(word: u32, buf: &mut PageBuf)
     requires { length buf.old.text + min word 1 ≤ buf.old.room }
