@@ -1,4 +1,4 @@
-//! Which orders a job asks for, and from which size on cohorts have tables for them.
+//! The orders that a job asks for, and the size from which cohorts have tables for them.
 
 ghost use Rattle.std.specs.Prelude.{◌≡◌, ◌+◌, ◌<◌, ◌≤◌, IfOk, length};
 ghost use Rattle.life_intervals.specs.Generator.{last_unit};
@@ -11,21 +11,21 @@ use crate::parents::never_dies;
 use schema_plan::{Plan, ReadyColumn, ReadyKind};
 use std::alloc::Global;
 
-/// Which orders of a table's cohorts a job asks for.
+/// The orders of a table's cohorts that a job asks for.
 #[derive(Clone, Copy)]
 pub(crate) struct Asked {
-    /// Those of keys.
+    /// Whether it asks for the orders of keys.
     pub(crate) keys: bool,
-    /// Those of lives.
+    /// Whether it asks for the orders of lives.
     pub(crate) lives: bool,
-    /// Those of updates.
+    /// Whether it asks for the orders of updates.
     pub(crate) updates: bool,
-    /// Those in which they choose parents.
+    /// Whether it asks for the orders in which rows choose parents.
     pub(crate) parents: bool,
 }
 
-/// Asks for the parents by the references among some columns of a table: for their keys where the lines of the table are asked for,
-/// and for what tells their deaths, if any come.
+/// Asks for the parents by the references among some columns of a table. Their keys are asked for if the table's lines are. What tells
+/// their deaths is asked for if they can die, but for a nulling reference only if the lines are asked for.
 fn ask_for_parents(plan: &Plan, columns: &[ReadyColumn], lines: bool, asked: &mut [Asked])
     requires { length asked.old ≤ length plan.now.schema.tables }
     ensures { length asked.new ≡ length asked.old }
@@ -43,8 +43,8 @@ fn ask_for_parents(plan: &Plan, columns: &[ReadyColumn], lines: bool, asked: &mu
     }
 }
 
-/// What is asked for of the tables up to the last one of a job: all of those from `from` on, whose lines it has, and of those that
-/// their references lead to keys and what tells deaths.
+/// Returns what a job asks of the tables up to its last one. It asks for all orders of the tables from `from` on, whose lines it
+/// has. Of the tables to which references lead it asks for keys and for what tells deaths.
 pub(crate) fn asked_tables(
     alloc: Global,
     plan: &Plan,
@@ -75,8 +75,8 @@ pub(crate) fn asked_tables(
     Ok(asked)
 }
 
-/// Whether places of the rows of a cohort are asked for at unit `last`, for their lines or for what the unit changes: none where no row
-/// was alive at the unit before, and those of lives only where not all are sure to be alive.
+/// Whether places of a cohort's rows are asked for at unit `last`, for their lines or for what the unit changes. None are if no row
+/// was alive at the unit before. Places of lives are asked for only if some row isn't sure to be alive.
 pub(crate) fn are_places_asked(
     plan: &Plan,
     table: u32,
@@ -96,14 +96,14 @@ pub(crate) fn are_places_asked(
     }
 }
 
-/// How many orders of a cohort are asked for whose rows are alive: of lives, where these are drawn, and others.
+/// How many orders of a cohort with living rows are asked for: the order of lives, if lives are drawn, and the other orders.
 #[derive(Clone, Copy)]
 struct Wish {
     lives: u64,
     others: u64,
 }
 
-/// How many of a table's cohort are asked for.
+/// Returns how many orders of a table's cohort are asked for.
 fn wish_of(plan: &Plan, table: u32, asked: Asked) -> Wish
     requires { table < length plan.now.schema.tables }
 {
@@ -124,8 +124,8 @@ fn wish_of(plan: &Plan, table: u32, asked: Asked) -> Wish
     }
 }
 
-/// Of about how many rows of an older cohort a unit asks for the place of one, for what it changes: as many as rows may be due at
-/// different units, or as lives of the table differ in.
+/// Returns about how many rows of an older cohort there are for each row whose place a unit asks for, for what it changes. This is
+/// the number of units at which rows can be due, or the number of the table's lengths of life.
 pub(crate) fn rows_to_one_change(plan: &Plan, table: u32, purpose: Purpose) -> u64
     requires { table < length plan.now.schema.tables }
     ensures { 1 ≤ result }
@@ -140,10 +140,10 @@ pub(crate) fn rows_to_one_change(plan: &Plan, table: u32, purpose: Purpose) -> u
     }
 }
 
-/// The least size of a cohort that has tables: those of fewer rows have more entries than rows.
+/// The least size of a cohort that has tables. For fewer rows the bound of `table_entries` is greater than the number of rows.
 const LEAST_SIZE: u64 = 42;
 
-/// How many entries the tables of an order of so many rows have at most; none where they don't pay for as many.
+/// Returns a bound on the entries of the tables of an order of `size` rows; 0 if tables of as many entries don't pay.
 pub(crate) fn table_entries(size: u64) -> u64 {
     if size < LEAST_SIZE {
         return 0;
@@ -156,7 +156,7 @@ pub(crate) fn table_entries(size: u64) -> u64 {
     }
 }
 
-/// How many orders of a table's cohort are asked for at unit `last`, of those that are wished for.
+/// Returns how many orders of a table's cohort are asked for at unit `last`, among those of `wish`.
 fn orders_asked(plan: &Plan, table: u32, wish: Wish, unit: u64, last: u64) -> u64
     requires table { table < length plan.now.schema.tables }
     requires unit { unit ≤ last_unit plan.now }
@@ -171,7 +171,7 @@ fn orders_asked(plan: &Plan, table: u32, wish: Wish, unit: u64, last: u64) -> u6
     orders
 }
 
-/// Adds how many entries the orders of a table's cohorts have for unit `last`, by the number of bits of the cohorts' sizes.
+/// Adds the entries of the orders of a table's cohorts for unit `last`, by the number of bits of the cohorts' sizes.
 fn add_entries(plan: &Plan, table: u32, asked: Asked, last: u64, entries: &mut [u64])
     requires table { table < length plan.now.schema.tables }
     requires unit { last ≤ last_unit plan.now }
@@ -190,8 +190,8 @@ fn add_entries(plan: &Plan, table: u32, asked: Asked, last: u64, entries: &mut [
     }
 }
 
-/// The least size of a cohort that has tables, or a power of two past it, of which all cohorts of as many rows have no more than so
-/// many entries together, for the orders of some tables at unit `last`.
+/// Returns the least size of a cohort that has tables: `LEAST_SIZE`, or a greater power of two. The cohorts of at least this size
+/// have at most `most` entries together, for the orders of some tables at unit `last`.
 pub(crate) fn least_size(plan: &Plan, asked: &[Asked], last: u64, most: u64) -> u64
     requires tables { length asked.now ≤ length plan.now.schema.tables }
     requires unit { last ≤ last_unit plan.now }

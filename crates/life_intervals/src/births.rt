@@ -8,7 +8,7 @@ ghost use Rattle.life_intervals.specs.Generator.{last_unit, rows_in_all, table_o
 use cohort_sizes::Cohort;
 use schema_plan::Plan;
 
-/// How many rows of a table are born in the units 0 to `t`.
+/// Returns how many rows of a table are born in the units 0 to `t`.
 #[inline]
 pub fn born(plan: &Plan, table: u32, t: u64) -> u64
     requires table { table < length plan.now.schema.tables }
@@ -19,7 +19,7 @@ pub fn born(plan: &Plan, table: u32, t: u64) -> u64
     plan.cohorts(table).born(t)
 }
 
-/// The rows of a table that are born at unit `b`.
+/// Returns the rows of a table that are born at unit `b`.
 #[inline]
 pub fn cohort(plan: &Plan, table: u32, b: u64) -> Cohort
     requires table { table < length plan.now.schema.tables }
@@ -29,7 +29,7 @@ pub fn cohort(plan: &Plan, table: u32, b: u64) -> Cohort
     plan.cohorts(table).cohort(b)
 }
 
-/// The unit at which the row of ordinal `j` is born: the one whose cohort has it.
+/// Returns the unit at which the row of ordinal `j` is born: the unit whose cohort has the row.
 #[inline]
 pub fn birth(plan: &Plan, table: u32, j: u64) -> u64
     requires table { table < length plan.now.schema.tables }

@@ -1,4 +1,4 @@
-//! The children of rows: the rows of a cohort that have one of them as their parent, found by the places at which they choose it.
+//! The children of rows. The rows of a cohort that have a given parent are found by the places at which they choose it.
 
 ghost use Rattle.std.specs.Prelude.{◌≡◌, ◌+◌, ◌-◌, ◌<◌, ◌≤◌, ◌++◌, ◌^◌, OnErr, OnOk, Some, is_some, length, sum, true};
 ghost use Rattle.std.specs.List.{range_with_len};
@@ -19,16 +19,17 @@ use schema_plan::{Plan, ReadyKind, ReadyReference};
 use std::sync::ledger::Ledger;
 use step_count::Steps;
 
-/// Places of a cohort that lie beside one another.
+/// Adjacent places of a cohort.
 #[derive(Clone, Copy, Debug, PartialEq, Eq)]
 pub struct Block {
-    /// The first of them.
+    /// The first place.
     pub first: u64,
-    /// How many they are.
+    /// The number of places.
     pub size: u64,
 }
 
-/// The block of a spread with a number, of the places below `size`; None exactly where it would begin at or past the size.
+/// Returns the block of a spread with a number, cut off at the place `size`. Returns None exactly if the block would begin at or
+/// past `size`.
 fn block_below(reference: &ReadyReference, size: u64, number: u64) -> Option<Block>
     requires size { size ≤ 2 ^ 40 }
     requires groups { reference.now.groups ≡ length reference.now.spread }
@@ -51,9 +52,9 @@ fn block_below(reference: &ReadyReference, size: u64, number: u64) -> Option<Blo
     })
 }
 
-/// The block of places, among those of the cohort that is born at `unit`, at which its rows choose a row as their parent by the
-/// reference in the column at a place, in a turn from 0 on; the parent is born in the reference's window. None exactly where the
-/// block would begin at or past the cohort's size, and so in all turns after the first None.
+/// Returns the block of places of the cohort born at `unit` at which its rows choose the row `parent`, in a turn counted from 0.
+/// They choose it by the reference in the column at a place. The parent must be born in the reference's window. Returns None
+/// exactly if the block would begin at or past the cohort's size. After the first None all later turns have None.
 pub fn child_block(
     plan: &Plan,
     table: u32,
@@ -79,8 +80,8 @@ pub fn child_block(
     block_below(reference, cohort(plan, table, unit).size, number)
 }
 
-/// The ordinal of the row of the cohort that is born at `unit` whose place among those at which they choose their parents by the
-/// reference in the column at a place is `place`, which is below the cohort's size. It takes one step.
+/// Returns the ordinal of a row of the cohort born at `unit`: the row with the place `place` in the order of parents. The order is
+/// of the reference in the column at a place. `place` must be below the cohort's size. Takes one step.
 pub fn child_of_place<L: Ledger>(
     plan: &Plan,
     table: u32,
@@ -102,7 +103,7 @@ pub fn child_of_place<L: Ledger>(
     cohort(plan, table, unit).first + order.unplace(place, steps)
 }
 
-/// Puts the places of a block behind a list.
+/// Appends the places of a block to a list.
 fn push_block(block: Block, places: &mut Vec<u64>) -> Result<(), Memory>
     requires first { block.first ≤ 2 ^ 40 }
     requires size { block.size ≤ 2 ^ 40 }
@@ -115,7 +116,8 @@ fn push_block(block: Block, places: &mut Vec<u64>) -> Result<(), Memory>
     Ok(())
 }
 
-/// Puts the places below `size` at which a spread chooses a candidate, by its number among so many, behind a list.
+/// Appends to a list the places below `size` at which a spread chooses a candidate. `candidate` is its number among `count`
+/// candidates.
 fn push_choosing(
     reference: &ReadyReference,
     size: u64,
@@ -140,7 +142,7 @@ fn push_choosing(
     Ok(())
 }
 
-/// Puts the places below `size` at which a row is chosen as a parent of those that are born in a window, behind a list.
+/// Appends to a list the places below `size` at which a row is chosen as a parent from a window.
 fn push_places_of(
     reference: &ReadyReference,
     window: &Window,
@@ -164,10 +166,10 @@ fn push_places_of(
 }
 
 impl<'a> Rows<'a> {
-    /// Puts the ordinals of the children that some rows have by a reference, which is ready in the column at a place, in the cohort that
-    /// is born at `unit` behind a list: those of one row after those of another, and those of each in no special order. A row that isn't
-    /// born in the reference's window has none. It takes one step for each child. At `Memory` what the list held still begins it, whatever
-    /// stands behind, and no step is taken.
+    /// Appends the ordinals of the children that some rows have by the reference of a column, in the cohort born at `unit`. The
+    /// children of one parent come after those of the parent before, each parent's in no special order. A parent that isn't born in
+    /// the reference's window has none. Takes one step for each child. At `Memory` the list still begins with what it held, and no
+    /// step is taken.
     pub fn push_children<L: Ledger>(
         &self,
         table: u32,

@@ -1,4 +1,4 @@
-//! Rows of a table that are found by their ordinals, or by their cohorts.
+//! Rows of a table, found by their ordinals or in their cohorts.
 
 ghost use Rattle.std.specs.Prelude.{◌≡◌, ◌<◌, ◌≤◌, length};
 ghost use Rattle.cohort_sizes.specs.Births.{cohort_size};
@@ -8,18 +8,18 @@ ghost use Rattle.life_intervals.specs.Generator.{last_unit, rows_in_all, table_o
 use crate::births::{birth, cohort};
 use schema_plan::Plan;
 
-/// A row of a table that is found: its birth is worked out once.
+/// A found row of a table. Its birth is worked out once.
 #[derive(Clone, Copy, Debug, PartialEq, Eq)]
 pub struct FoundRow {
-    /// Its place in the order of birth in its table.
+    /// The row's place in the order of birth in its table, from 0.
     pub ordinal: u64,
-    /// The unit at which it is born.
+    /// The unit of the row's birth.
     pub born: u64,
-    /// Its place in the cohort of that unit.
+    /// The row's place in its cohort, from 0.
     pub index: u64,
 }
 
-/// The row of ordinal `j`.
+/// Returns the row of ordinal `j`.
 #[inline]
 pub fn find(plan: &Plan, table: u32, j: u64) -> FoundRow
     requires table { table < length plan.now.schema.tables }
@@ -35,7 +35,7 @@ pub fn find(plan: &Plan, table: u32, j: u64) -> FoundRow
     }
 }
 
-/// The row with this index in the cohort of unit `born`.
+/// Returns the row with an index in the cohort of unit `born`.
 #[inline]
 pub fn row_of_cohort(plan: &Plan, table: u32, born: u64, index: u64) -> FoundRow
     requires table { table < length plan.now.schema.tables }

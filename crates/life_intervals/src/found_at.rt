@@ -1,4 +1,4 @@
-//! The rows of a cohort to which something comes at a unit, found by their places: those whose own lives end, and those that are due.
+//! The rows of a cohort that a unit can change, found by their places: the rows whose own lives end, and the rows that are due.
 
 ghost use Rattle.std.specs.Prelude.{◌≡◌, ◌+◌, ◌*◌, ◌<◌, ◌≤◌, ◌++◌, ◌^◌, All, OnErr, OnOk, drop, length, map, take};
 ghost use Rattle.cohort_sizes.specs.Births.{cohort_size};
@@ -15,14 +15,14 @@ use crate::runs::add_start;
 use std::sync::ledger::Ledger;
 use step_count::Steps;
 
-/// What the numbers leave that are divided by another.
+/// The numbers that leave `remainder` when divided by `modulus`.
 #[derive(Clone, Copy)]
 struct Residue {
     modulus: u64,
     remainder: u64,
 }
 
-/// How many numbers below `size` leave the residue.
+/// Returns how many numbers below `size` are in the residue.
 fn count_below(size: u64, residue: Residue) -> u64
     requires { residue.remainder < residue.modulus }
 {
@@ -32,7 +32,7 @@ fn count_below(size: u64, residue: Residue) -> u64
     (size - 1 - residue.remainder) / residue.modulus + 1
 }
 
-/// Puts the places below `size` that leave a residue behind a list.
+/// Appends the places below `size` that are in a residue to a list.
 fn push_places_leaving(size: u64, residue: Residue, places: &mut Vec<u64>) -> Result<(), Memory>
     requires size { size ≤ 2 ^ 40 }
     requires modulus { residue.modulus ≤ 2 ^ 40 }
@@ -50,7 +50,7 @@ fn push_places_leaving(size: u64, residue: Residue, places: &mut Vec<u64>) -> Re
 }
 
 impl<'a> Rows<'a> {
-    /// Puts over places in an order of the cohort that is born at unit `born` the ordinals of the rows that have them.
+    /// Replaces places in an order of the cohort born at unit `born` with the ordinals of the rows at these places.
     fn put_rows_at<L: Ledger>(
         &self,
         table: u32,
@@ -70,7 +70,7 @@ impl<'a> Rows<'a> {
         add_start(places, cohort(self.plan(), table, born).first);
     }
 
-    /// Puts over the places that stand in a list from `from` on the ordinals of the rows that have them.
+    /// Replaces the places in a list, from the list's place `from` on, with the ordinals of the rows at these places.
     pub(crate) fn put_rows_from<L: Ledger>(
         &self,
         table: u32,
@@ -90,7 +90,7 @@ impl<'a> Rows<'a> {
         self.put_rows_at(table, purpose, born, &mut rows[from..], steps);
     }
 
-    /// Puts the rows of the cohort whose places leave a residue behind a list.
+    /// Appends to a list the rows of the cohort whose places are in a residue.
     fn push_rows_leaving<L: Ledger>(
         &self,
         table: u32,
@@ -117,9 +117,9 @@ impl<'a> Rows<'a> {
         Ok(())
     }
 
-    /// Puts the ordinals of the rows that are born at unit `born` and whose own lives end at unit `t` behind a list, in no special order.
-    /// It takes one step for each where lives of the table differ, else none. At `Memory` what the list held still begins it, whatever stands
-    /// behind, and no step is taken.
+    /// Appends the ordinals of the rows that are born at unit `born` and whose own lives end at unit `t`, in no special order.
+    /// Takes one step for each row if lives of the table differ, else none. At `Memory` the list still begins with what it held,
+    /// and no step is taken.
     pub fn push_ending<L: Ledger>(
         &self,
         table: u32,
@@ -151,9 +151,9 @@ impl<'a> Rows<'a> {
         self.push_rows_leaving(table, Purpose::Lives, born, residue, rows, steps)
     }
 
-    /// Puts the ordinals of the rows that are born at unit `born`, before unit `t`, and are due at `t` behind a list, in no special order.
-    /// It takes one step for each where rows of a cohort may be due at different units, else none. At `Memory` what the list held still
-    /// begins it, whatever stands behind, and no step is taken.
+    /// Appends the ordinals of the rows that are born at unit `born`, before unit `t`, and are due at `t`, in no special order.
+    /// Takes one step for each row if rows of a cohort can be due at different units, else none. At `Memory` the list still begins
+    /// with what it held, and no step is taken.
     pub fn push_due<L: Ledger>(
         &self,
         table: u32,

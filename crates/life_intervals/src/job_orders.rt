@@ -18,14 +18,14 @@ use schema_plan::Plan;
 use std::alloc::Global;
 use std::marker::Model;
 
-/// The most entries that the tables of a job's orders have together. Of 2 bytes each, they take at most 16 MiB.
+/// The most entries that the tables of a job's orders have together. An entry has 2 bytes, so they take at most 16 MiB.
 const MOST_ENTRIES: u64 = 1 << 23;
 
-/// The most orders that are kept for a job, of some 40 bytes each with what is kept beside them.
+/// The most orders that are kept for a job. Each takes some 40 bytes, with what is kept beside it.
 const MOST_ORDERS: u64 = 1 << 22;
 
-/// Orders of cohorts that are kept for a job: for each table, as far as they are kept, of the units from 0 on. How places are found
-/// shows in no contract, and those that aren't kept are found by rounds. A contract sees what is kept of each table.
+/// The orders of cohorts that are kept for a job. For each table they are those of the first units, from 0 on. No contract tells
+/// how places are found. Places in orders that aren't kept are found by rounds. A contract sees what is kept of each table.
 pub struct JobOrders {
     tables: Vec<TableOrders>,
 }
@@ -47,9 +47,9 @@ impl Model for JobOrders {
 }
 
 impl JobOrders {
-    /// Those that the lines at unit `last` of `count` tables from `from` on ask for, and what the unit changes in them, of these and of the
-    /// tables that their references lead to. The tables of their rounds have at most 2^23 entries together, of 2 bytes each, the greatest cohorts first. At `Memory`
-    /// none are kept.
+    /// Keeps the orders that a job asks for at unit `last`: for the lines of `count` tables from `from` on, and for what the unit
+    /// changes in them. The tables to which their references lead are included. The tables of the orders' rounds have at most 2^23
+    /// entries together, of 2 bytes each. The greatest cohorts come first. Keeps nothing at `Memory`.
     pub fn new(
         alloc: Global,
         plan: &Plan,
@@ -65,8 +65,8 @@ impl JobOrders {
         JobOrders::of_job(alloc, plan, from, count, last, false)
     }
 
-    /// The same, for a job that asks for what the unit changes alone: it asks for few rows of an older cohort, so that tables pay for the greatest
-    /// cohorts only. At `Memory` none are kept.
+    /// Keeps the orders for a job that asks only for what the unit changes. Such a job asks for few rows of an older cohort, so
+    /// tables pay only for the greatest cohorts. Keeps nothing at `Memory`.
     pub fn for_changes(
         alloc: Global,
         plan: &Plan,
@@ -111,7 +111,7 @@ impl JobOrders {
         Ok(JobOrders { tables })
     }
 
-    /// The order of the rows of a table that are born at a unit, if it is kept.
+    /// Returns the order of the rows of a table that are born at a unit, if it is kept.
     #[inline]
     pub(crate) fn order(&self, table: u32, purpose: Purpose, unit: u64) -> Option<Order<'_>>
         ensures { IfSome result (λ order. (plan : Project) → AreOrdersOf plan self.now → order ≡ order_for plan table purpose unit) }
@@ -122,7 +122,7 @@ impl JobOrders {
         }
     }
 
-    /// The window of these rows by the reference in the column at a place, if it is kept.
+    /// Returns the window of these rows by the reference in the column at a place, if it is kept.
     #[inline]
     pub(crate) fn window(&self, table: u32, column: u32, unit: u64) -> Option<Window>
         ensures { IfSome result (λ window. (plan : Project) (reference : ReadyReference) → AreOrdersOf plan self.now → IsReferenceOf plan table column reference → window ≡ window_by plan reference unit) }

@@ -16,20 +16,20 @@ use id_permutation::{KeptOrders, Order};
 use schema_plan::{Plan, ReadyKind, ReadyReference};
 use std::alloc::Global;
 
-/// What is left of the room of a job's orders.
+/// The room that is left for a job's orders.
 #[derive(Drop)]
 pub(crate) struct Room {
-    /// How many entries their tables may still have.
+    /// How many entries the orders' tables can still have.
     pub(crate) entries: u64,
-    /// How many orders may still be kept.
+    /// How many orders can still be kept.
     pub(crate) orders: u64,
     /// The least size of a cohort whose orders have tables.
     pub(crate) least: u64,
-    /// Whether the job asks for what a unit changes alone, so for few rows of an older cohort.
+    /// Whether the job asks only for what a unit changes, and so for few rows of an older cohort.
     pub(crate) changes: bool,
 }
 
-/// The orders in which a table's cohorts choose parents by a reference, unit by unit from 0, and the windows of these.
+/// The orders in which a table's cohorts choose parents by a reference, unit by unit from 0, and the cohorts' windows.
 pub(crate) struct ParentOrders {
     pub(crate) orders: KeptOrders,
     pub(crate) windows: Vec<Window>,
@@ -43,8 +43,8 @@ impl Drop for ParentOrders {
     }
 }
 
-/// The orders that are kept of a table's cohorts, unit by unit from 0, as far as they are kept: of keys, lives and updates, and for
-/// each column those by its reference, if it is one.
+/// The orders that are kept of a table's cohorts, unit by unit from 0: those of keys, lives and updates, and for each column those
+/// by its reference, if it is one.
 pub(crate) struct TableOrders {
     keys: KeptOrders,
     lives: KeptOrders,
@@ -67,16 +67,16 @@ impl Drop for TableOrders {
     }
 }
 
-/// Whether the tables of an order of an older cohort pay where a unit's changes alone are asked for, so few of its places: two of their
-/// entries are made in about the time that they save at a place.
+/// Whether the tables of an order of an older cohort pay for a job that asks only for what a unit changes, and so for few places.
+/// Making two entries takes about the time that the tables save at a place.
 fn do_tables_pay(plan: &Plan, table: u32, purpose: Purpose, size: u64) -> bool
     requires { table < length plan.now.schema.tables }
 {
     table_entries(size) / 2 <= size / rows_to_one_change(plan, table, purpose)
 }
 
-/// How many entries the tables of an order may have: none where the cohort is smaller than those that have tables, or nothing or too
-/// little asks for places of its rows at unit `last`.
+/// Returns how many entries the tables of an order can have. Returns 0 if the cohort is smaller than those that have tables, or if
+/// too few places of its rows are asked for at unit `last`.
 fn entries_for(
     plan: &Plan,
     table: u32,
@@ -125,8 +125,8 @@ fn push_order(
     Ok(())
 }
 
-/// The orders of a table's cohorts of the units 0 to `last`, if they are asked for, are permutations and there is room for as many;
-/// else none.
+/// Returns the orders of a table's cohorts of the units 0 to `last`. Returns none unless they are asked for, are permutations, and
+/// have room.
 fn kept_orders(
     alloc: Global,
     plan: &Plan,
@@ -155,7 +155,7 @@ fn kept_orders(
     Ok(kept)
 }
 
-/// The windows of a reference for the cohorts of the units before one.
+/// Returns the windows of a reference for the cohorts of the units before `count`.
 fn windows_of(
     alloc: Global,
     plan: &Plan,
@@ -175,7 +175,7 @@ fn windows_of(
 }
 
 impl ParentOrders {
-    /// None.
+    /// Returns no orders.
     fn none(alloc: Global) -> ParentOrders
         ensures kept { (plan : Project) (table column : _) → AreParentOrders plan table column result }
         ensures entries { result.orders.entries ≡ 0 }
@@ -186,7 +186,7 @@ impl ParentOrders {
         }
     }
 
-    /// Those of a reference, which is ready in the column at a place.
+    /// Returns the orders of a reference, which must be the one in the column at a place.
     fn of_reference(
         alloc: Global,
         plan: &Plan,
@@ -210,7 +210,7 @@ impl ParentOrders {
     }
 }
 
-/// For each column of a table the orders by its reference, if it is one; for no column where they aren't asked for.
+/// Returns for each column of a table the orders by its reference, if it is one. Returns an empty list if they aren't asked for.
 fn parent_orders(
     alloc: Global,
     plan: &Plan,
@@ -249,7 +249,7 @@ fn parent_orders(
 }
 
 impl TableOrders {
-    /// Those that are asked for.
+    /// Makes the orders that are asked for.
     pub(crate) fn new(
         alloc: Global,
         plan: &Plan,
@@ -283,7 +283,7 @@ impl TableOrders {
         })
     }
 
-    /// Those of a purpose, if any are kept.
+    /// Returns the orders of a purpose, if any are kept.
     #[inline]
     fn of_purpose(&self, purpose: Purpose) -> Option<&KeptOrders>
         ensures { IfSome result (λ kept. (plan : Project) (table : _) → AreTableOrders plan table self.now → IsKeptByUnit (order_for plan table purpose) kept.now.orders) }
@@ -299,7 +299,7 @@ impl TableOrders {
         }
     }
 
-    /// The order of a unit's cohort, if it is kept.
+    /// Returns the order of a unit's cohort, if it is kept.
     #[inline]
     pub(crate) fn order(&self, purpose: Purpose, unit: u64) -> Option<Order<'_>>
         ensures { IfSome result (λ order. (plan : Project) (table : _) → AreTableOrders plan table self.now → order ≡ order_for plan table purpose unit) }
@@ -312,7 +312,7 @@ impl TableOrders {
         }
     }
 
-    /// The window of a unit's cohort by the reference in the column at a place, if it is kept.
+    /// Returns the window of a unit's cohort by the reference in the column at a place, if it is kept.
     #[inline]
     pub(crate) fn window(&self, column: u32, unit: u64) -> Option<Window>
         ensures { IfSome result (λ window. (plan : Project) (table : _) (reference : ReadyReference) → AreTableOrders plan table self.now → IsReferenceOf plan table column reference → window ≡ window_by plan reference unit) }

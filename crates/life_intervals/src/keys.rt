@@ -1,5 +1,5 @@
-//! Keys: numbers that the rows of a table hold from a base on, cohort by cohort, in a drawn order within each cohort
-//! where they are scrambled.
+//! Keys: the numbers from a base on that a table's rows hold, cohort by cohort. If keys are scrambled, their order within each
+//! cohort is drawn.
 
 ghost use Rattle.std.specs.Prelude.{◌≡◌, ◌≢◌, ◌<◌, ◌≤◌, ◌↔◌, ℕ, ◌+◌, ◌^◌, Some, IfSome, IsNone, length};
 ghost use Rattle.schema_plan.specs.Lineage.{one_if};
@@ -16,7 +16,7 @@ use std::sync::ledger::Ledger;
 use step_count::Steps;
 
 impl<'a> Rows<'a> {
-    /// The key of a row that is found. It takes one step where the keys are scrambled, else none.
+    /// Returns the key of a found row. Takes one step if the keys are scrambled, else none.
     #[inline]
     pub fn found_key<L: Ledger>(&self, table: u32, row: FoundRow, steps: &mut Steps<L>) -> u64
         requires table { table < length self.now.schema.tables }
@@ -33,8 +33,8 @@ impl<'a> Rows<'a> {
         plan.keys(table).base + (first + order.place(row.index, steps))
     }
 
-    /// The key of the row of ordinal `j`, which no other row of its table has. It takes one step where the keys are
-    /// scrambled, else none.
+    /// Returns the key of the row of ordinal `j`. No other row of the table has this key. Takes one step if the keys are scrambled,
+    /// else none.
     pub fn key<L: Ledger>(&self, table: u32, j: u64, steps: &mut Steps<L>) -> u64
         requires table { table < length self.now.schema.tables }
         requires row { j < rows_in_all self.now table }
@@ -44,8 +44,8 @@ impl<'a> Rows<'a> {
         self.found_key(table, find(self.plan(), table, j), steps)
     }
 
-    /// The ordinal of the row of the units 0 to the last that has a key; None exactly where no row has it. It takes at most
-    /// one step, and none where the keys aren't scrambled.
+    /// Returns the ordinal of the row that has a key, among the rows of the units 0 to the last. Returns None exactly if no row has
+    /// the key. Takes at most one step, and none if the keys aren't scrambled.
     pub fn row_of_key<L: Ledger>(&self, table: u32, key: u64, steps: &mut Steps<L>) -> Option<u64>
         requires { table < length self.now.schema.tables }
         ensures within { IfSome result (λ j. j < rows_in_all self.now table) }
@@ -68,8 +68,8 @@ impl<'a> Rows<'a> {
     }
 }
 
-/// The key of the row of ordinal `j`, which no other row of its table has. It takes one step where the keys are
-/// scrambled, else none.
+/// Returns the key of the row of ordinal `j`. No other row of the table has this key. Takes one step if the keys are scrambled,
+/// else none.
 pub fn key<L: Ledger>(plan: &Plan, table: u32, j: u64, steps: &mut Steps<L>) -> u64
     requires table { table < length plan.now.schema.tables }
     requires row { j < rows_in_all plan.now table }
@@ -79,8 +79,8 @@ pub fn key<L: Ledger>(plan: &Plan, table: u32, j: u64, steps: &mut Steps<L>) -> 
     Rows::of(plan).key(table, j, steps)
 }
 
-/// The ordinal of the row of the units 0 to the last that has a key; None exactly where no row has it. It takes at most
-/// one step, and none where the keys aren't scrambled.
+/// Returns the ordinal of the row that has a key, among the rows of the units 0 to the last. Returns None exactly if no row has the
+/// key. Takes at most one step, and none if the keys aren't scrambled.
 pub fn row_of_key<L: Ledger>(plan: &Plan, table: u32, key: u64, steps: &mut Steps<L>) -> Option<u64>
     requires { table < length plan.now.schema.tables }
     ensures within { IfSome result (λ j. j < rows_in_all plan.now table) }

@@ -1,7 +1,6 @@
 //! The laws of cohorts, of keys and of the simulation, each the contract of a function that does nothing.
 //!
-//! A table is named by its place in the schema from 0. Units and ordinals count from 0, and so do the indices of a
-//! cohort's rows.
+//! A table is named by its place in the schema, from 0. Units, ordinals and the indices of a cohort's rows count from 0.
 
 ghost use Rattle.std.specs.Prelude.{◌≡◌, ℕ, ◌+◌, ◌*◌, ◌/◌, ◌-◌, ◌<◌, ◌≤◌, All, IfSome, ◌&&◌, ◌||◌, not, if◌then◌else◌, length, map, nat_lt, take, false, true, List, [], ◌∷◌, Some, None};
 ghost use Rattle.std.specs.List.{flat_map, list_all, range_with_len};
@@ -27,12 +26,12 @@ ghost use Rattle.life_intervals.specs.Sound.{AreSound};
 ghost use Rattle.life_intervals.specs.Streams.{deleted, inserted, updated};
 ghost use Rattle.life_intervals.specs.Worked.{block, customer_row, line_row, order_row, remark_row, sales_in_place, talks_in_place};
 
-/// The permutations that the seed of a schema gives its cohorts are bijections, for each purpose.
+/// The permutations that a schema's seed gives its cohorts are bijections, for each purpose.
 pub fn seeds_order_each_cohort()
     ensures { (project : Project) (place : ℕ) → OrdersCohorts (generator_of project) place }
 {}
 
-/// The key of a row is that of its index in its cohort.
+/// The key of a row is the key of its index in its cohort.
 pub fn key_is_that_of_the_index()
     ensures { (generator : Generator) (place last unit index : ℕ) → unit ≤ last →
         index < cohort_size (table_at generator.tables place).births unit →
@@ -40,8 +39,7 @@ pub fn key_is_that_of_the_index()
         ≡ key_in_cohort generator place unit index }
 {}
 
-/// Over all units no two rows of a table have one key, and the keys are as many numbers from the base on as rows are
-/// born.
+/// No two rows of a table have the same key, over all units. The keys are the numbers from the base on, as many as rows are born.
 pub fn keys_are_distinct()
     ensures its_own { (generator : Generator) (place : ℕ) → OrdersCohorts generator place → (last i j : ℕ) →
         i < born_count (table_at generator.tables place).births last →
@@ -56,20 +54,20 @@ pub fn keys_are_distinct()
         < (table_at generator.tables place).key.base + born_count (table_at generator.tables place).births last }
 {}
 
-/// The state that the simulation steps to is the closed form's, at each unit up to which tables are sound.
+/// The simulation reaches the closed form's state, at each unit up to which the tables are sound.
 pub fn simulation_is_the_closed_form()
     ensures { (units : ℕ) (generator : Generator) (unit : ℕ) → AreSound units generator.tables → unit ≤ units →
         simulation generator unit ≡ interval_state generator unit }
 {}
 
-/// The rows that a table holds are those of the ordinals that are born by the unit and alive.
+/// The rows that a table holds at a unit are those of the ordinals that are born by the unit and alive.
 pub fn rows_are_those_of_the_living()
     ensures { (units : ℕ) (generator : Generator) (place unit : ℕ) → AreSound units generator.tables → unit ≤ units →
         rows_at generator place unit ≡ rows_of generator place unit }
 {}
 
-/// A unit deletes the rows that are born before it and die at it, which it finds as they were; it updates those that are
-/// alive and whose change unit it is; and it inserts its cohort.
+/// A unit deletes the rows that are born before it and die at it, as they were at the unit before. It updates the rows born before
+/// it that are alive and have the unit as their change unit. It inserts its cohort.
 pub fn units_change_rows()
     ensures deletes { (units : ℕ) (generator : Generator) → AreSound units generator.tables →
         (place : ℕ) → place < length generator.tables → (unit : ℕ) → unit ≤ units →
@@ -86,7 +84,7 @@ pub fn units_change_rows()
         ≡ cohort generator.order unit (take place (simulation generator unit)) (table_at generator.tables place) }
 {}
 
-/// The candidates of each reference of a cohort are the rows of all ordinals that are born in its window, and there are some.
+/// The candidates of each reference of a cohort are all rows that are born in its window, and there is at least one.
 pub fn candidates_are_those_of_the_window()
     ensures whole { (units : ℕ) (generator : Generator) → AreSound units generator.tables →
         (place : ℕ) → place < length generator.tables → (unit : ℕ) → unit ≤ units →
@@ -102,7 +100,7 @@ pub fn candidates_are_those_of_the_window()
         (references_of (table_at tables place)) }
 {}
 
-/// A row dies when its own life ends or a parent dies that takes it along.
+/// A row dies when its own life ends or when a parent by a cascading reference dies.
 pub fn death_is_the_first_of_its_own_and_the_parents()
     ensures { (units : ℕ) (generator : Generator) → AreSound units generator.tables →
         (place : ℕ) → place < length generator.tables → (unit ordinal : ℕ) → unit ≤ units →
@@ -113,14 +111,14 @@ pub fn death_is_the_first_of_its_own_and_the_parents()
         (cascades_of (table_at generator.tables place))) }
 {}
 
-/// A row has the parents that it still has at the unit, reference by reference.
+/// A row's parents are those that it still has at the unit, reference by reference.
 pub fn rows_have_the_parents_that_they_hold()
     ensures { (generator : Generator) (place unit ordinal : ℕ) →
         (row_at generator place unit ordinal).parents
         ≡ map (held_parent generator place unit ordinal) (references_of (table_at generator.tables place)) }
 {}
 
-/// A row loses a parent when that dies, where the reference becomes null, and else never. Until then it has the parent.
+/// A row loses a parent only by a nulling reference, when the parent dies. Until then the row has the parent.
 pub fn parents_are_lost_where_they_die()
     ensures { (units : ℕ) (generator : Generator) → AreSound units generator.tables →
         (place : ℕ) → place < length generator.tables → (unit ordinal : ℕ) → unit ≤ units →
@@ -130,7 +128,7 @@ pub fn parents_are_lost_where_they_die()
         (references_of (table_at generator.tables place)) }
 {}
 
-/// A row still has a parent at a unit that takes it along, and of its other parents those that are alive then.
+/// A row still has the parent of each cascading reference at a unit. Of its other parents it has those that are alive at the unit.
 pub fn parents_are_held_while_they_live()
     ensures { (units : ℕ) (generator : Generator) → AreSound units generator.tables →
         (place : ℕ) → place < length generator.tables → (unit ordinal : ℕ) → unit ≤ units →
@@ -141,7 +139,7 @@ pub fn parents_are_held_while_they_live()
         (references_of (table_at generator.tables place)) }
 {}
 
-/// A row is alive where its own life lasts and each parent is alive that takes it along.
+/// A row is alive if its own life lasts and each parent by a cascading reference is alive.
 pub fn rows_live_while_their_parents_do()
     ensures { (units : ℕ) (generator : Generator) → AreSound units generator.tables →
         (place : ℕ) → place < length generator.tables → (unit ordinal : ℕ) → unit ≤ units →
@@ -152,8 +150,8 @@ pub fn rows_live_while_their_parents_do()
         (cascades_of (table_at generator.tables place))) }
 {}
 
-/// The references of a row that a table holds name rows that the tables of its parents hold at the same unit, but for those that are
-/// null.
+/// A reference that isn't null names a row that the parent's table holds at the same unit. This is true for each row that a table
+/// holds.
 pub fn parents_are_held()
     ensures { (units : ℕ) (generator : Generator) → AreSound units generator.tables →
         (place : ℕ) → place < length generator.tables → (unit ordinal : ℕ) → unit ≤ units →
@@ -162,26 +160,27 @@ pub fn parents_are_held()
         (references_of (table_at generator.tables place)) }
 {}
 
-/// No row that a table holds has changed later, so those that a unit updates are those that it finds due or takes a parent from.
+/// No row that a table holds at a unit has a later change unit. So a unit updates the rows that are due at it and those that lose a
+/// parent at it.
 pub fn rows_change_by_their_unit()
     ensures { (units : ℕ) (generator : Generator) → AreSound units generator.tables →
         (place : ℕ) → place < length generator.tables → (unit : ℕ) → unit ≤ units →
         All (λ row. row.changed ≤ unit) (rows_at generator place unit) }
 {}
 
-/// A death asks at most as many permutations as it costs.
+/// A death takes at most as many permutations as its cost.
 pub fn deaths_ask_at_most_their_cost()
     ensures { (project : Project) → IsInLimits project → (place : ℕ) → place < length project.schema.tables →
         asked_for_death project place ≤ death_cost (layout_of project).tables place }
 {}
 
-/// A row's last change asks at most as many permutations as it costs.
+/// A row's last change takes at most as many permutations as its cost.
 pub fn changes_ask_at_most_their_cost()
     ensures { (project : Project) → IsInLimits project → (place : ℕ) → place < length project.schema.tables →
         asked_for_change project place ≤ change_cost (layout_of project) place }
 {}
 
-/// A row's death is the same, whatever the unit by which it is born, and so is the end of its own life.
+/// A row's death, and the end of its own life, are the same at each unit by which the row is born.
 pub fn death_is_for_good()
     ensures death { (generator : Generator) (place unit last ordinal : ℕ) →
         ordinal < born_count (table_at generator.tables place).births unit → unit ≤ last →
@@ -191,15 +190,15 @@ pub fn death_is_for_good()
         own_death generator place last ordinal ≡ own_death generator place unit ordinal }
 {}
 
-/// A row's parent is the same, whatever the unit by which it is born.
+/// A row's parent is the same at each unit by which the row is born.
 pub fn parents_are_for_good()
     ensures { (generator : Generator) (place unit last ordinal : ℕ) (reference : Reference) →
         ordinal < born_count (table_at generator.tables place).births unit → unit ≤ last →
         parent_of generator place last ordinal reference ≡ parent_of generator place unit ordinal reference }
 {}
 
-/// The parents of a cohort's rows are among those of which it chooses: they are born in the window of the reference, which ends at the
-/// unit of the cohort.
+/// The parents of a cohort's rows are among the cohort's candidates. Candidates are born in the window of the reference, which ends
+/// at the cohort's unit.
 pub fn parents_are_born_in_the_window()
     ensures candidate { (project : Project) → IsInLimits project → (table : ℕ) → table < length project.schema.tables → (unit : ℕ) → unit ≤ last_unit project →
         (column : ℕ) (reference : Reference) → reference_at (table_of project table) column ≡ Some reference →
@@ -209,8 +208,8 @@ pub fn parents_are_born_in_the_window()
         IsInWindow reference.window unit (birth (table_of project reference.parent).births unit parent) }
 {}
 
-/// A cohort's rows that have a row as their parent are those at the places of its blocks, turn by turn up to the first that has none, each
-/// once. From then on no turn has one, and there are no more turns that have one than rows.
+/// The children that a row has in a cohort are the rows at the places of its blocks, each once. The blocks come turn by turn, up to
+/// the first turn that has none. No later turn has one, and there are no more turns with a block than rows.
 pub fn blocks_have_the_children()
     ensures children { (project : Project) → IsInLimits project → (table : ℕ) → table < length project.schema.tables → (unit : ℕ) → unit ≤ last_unit project →
         (column : ℕ) (reference : Reference) → reference_at (table_of project table) column ≡ Some reference →
@@ -228,7 +227,7 @@ pub fn blocks_have_the_children()
         child_block project table reference parent unit later ≡ None }
 {}
 
-/// A row's own life ends as many units after its birth as the table's lives say.
+/// A row's own life ends between the least and the most units after its birth that the table's lives allow.
 pub fn own_lives_end_in_their_span()
     ensures { (project : Project) → IsInLimits project → (place : ℕ) → place < length project.schema.tables →
         (unit ordinal death : ℕ) → own_death (generator_of project) place unit ordinal ≡ Some death →
@@ -236,7 +235,8 @@ pub fn own_lives_end_in_their_span()
         IfSome (table_of project place).life (λ span. (born + span.least ≤ death) × (death ≤ born + span.most)) }
 {}
 
-/// The change unit of a row is the last of its due units, or of its birth where it has none, and of those at which it loses a parent.
+/// The change unit of a row is the last of its due units and of the units at which it loses a parent. If it has no due unit, its
+/// birth stands for it.
 pub fn change_unit_is_the_last_due_or_loss()
     ensures due { (order : Order) (place : ℕ) (table : TableLayout) (born index unit period : ℕ) → table.update ≡ Some period → 1 ≤ period →
         IsLastDue born (first_due order place born index period) period unit (due_by order place table born index unit) }
@@ -253,7 +253,7 @@ pub fn accepted_tables_are_sound()
     ensures { (project : Project) → IsInLimits project → AreSound (last_unit project) (generator_of project).tables }
 {}
 
-/// A cohort's rows are all alive where its sure life lasts, and none is where its longest has ended.
+/// All rows of a cohort are alive while its sure life lasts. None is alive once its longest life has ended.
 pub fn lives_last_from_the_sure_to_the_longest()
     ensures sure { (project : Project) → IsInLimits project → (place : ℕ) → place < length project.schema.tables →
         (unit index age : ℕ) → unit ≤ last_unit project → index < cohort_size (table_of project place).births unit →
@@ -265,20 +265,21 @@ pub fn lives_last_from_the_sure_to_the_longest()
         is_after ((known_of (generator_of project) place).death unit index) (unit + age) ≡ false }
 {}
 
-/// What follows a unit is no part of its data: schemas that differ in their last unit alone have one generator, and so the same
-/// tables, texts and changes at each unit that both reach.
+/// The data of a unit don't depend on what follows it. Schemas that differ only in their last unit have one generator, and so the
+/// same tables, texts and changes at each unit that both reach.
 pub fn data_do_not_depend_on_the_last_unit()
     ensures { (project : Project) (last : _) →
         generator_of (record project { schema = record project.schema { units = last } }) ≡ generator_of project }
 {}
 
-/// Thirteen places choose among four candidates by a spread of one, two and three, worked out by hand.
+/// Thirteen places that choose among four candidates by a spread of one, two and three, worked out by hand.
 pub fn worked_choices()
     ensures { map (choice (1 ∷ 2 ∷ 3 ∷ []) 4) (range_with_len 0 13)
         ≡ 0 ∷ 1 ∷ 1 ∷ 2 ∷ 2 ∷ 2 ∷ 3 ∷ 0 ∷ 0 ∷ 1 ∷ 1 ∷ 1 ∷ 2 ∷ [] }
 {}
 
-/// The places at which each of these candidates is chosen, the blocks of two of them, turn by turn, and those of eleven places.
+/// The places at which each of these candidates is chosen. The blocks of two candidates, turn by turn, for thirteen places and for
+/// eleven.
 pub fn worked_blocks()
     ensures first_places { places_choosing (1 ∷ 2 ∷ 3 ∷ []) 13 4 0 ≡ 0 ∷ 7 ∷ 8 ∷ [] }
     ensures second_places { places_choosing (1 ∷ 2 ∷ 3 ∷ []) 13 4 1 ≡ 1 ∷ 2 ∷ 9 ∷ 10 ∷ 11 ∷ [] }
@@ -290,7 +291,7 @@ pub fn worked_blocks()
     ensures third_of_eleven { map (block_of (1 ∷ 2 ∷ 3 ∷ []) 11 4 2) (range_with_len 0 2) ≡ block 3 3 ∷ None ∷ [] }
 {}
 
-/// The tables of customers, orders and lines are sound up to the last unit of their schema, and so are those of customers and remarks.
+/// The tables of customers, orders and lines are sound up to their schema's last unit. So are the tables of customers and remarks.
 pub fn worked_soundness()
     ensures sales { AreSound 5 sales_in_place.tables }
     ensures talks { AreSound 5 talks_in_place.tables }
@@ -304,7 +305,8 @@ pub fn worked_state()
         ≡ (customer_row 1 2 1 1 ∷ customer_row 2 3 2 2 ∷ customer_row 3 3 3 1 ∷ []) ∷ (order_row 3 9 1 ∷ []) ∷ (line_row 3 ∷ []) ∷ [] }
 {}
 
-/// What unit 3 does to them: with the first customer die its three orders, and their lines with these.
+/// What unit 3 does to customers, orders and lines. The first customer dies, its three orders die with it, and their lines die with
+/// the orders.
 pub fn worked_streams()
     ensures customers_deleted { deleted sales_in_place 0 3 ≡ customer_row 0 1 1 1 ∷ [] }
     ensures orders_deleted { deleted sales_in_place 1 3 ≡ order_row 0 7 0 ∷ order_row 1 8 0 ∷ order_row 2 9 0 ∷ [] }
@@ -316,8 +318,8 @@ pub fn worked_streams()
     ensures lines_inserted { inserted sales_in_place 2 3 ≡ line_row 3 ∷ [] }
 {}
 
-/// With the first customer unit 3 takes from three remarks whom they are on, by the steps of the simulation and by the closed form. It
-/// deletes none of them, and updates these.
+/// What unit 3 does to customers and remarks, by the steps of the simulation and by the closed form. The first customer dies, and
+/// three remarks lose it as their parent. The unit deletes none of them, and updates these three.
 pub fn worked_losses()
     ensures simulated { simulation talks_in_place 3
         ≡ (customer_row 1 2 1 1 ∷ customer_row 2 3 2 2 ∷ customer_row 3 3 3 1 ∷ [])

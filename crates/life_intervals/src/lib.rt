@@ -1,14 +1,13 @@
-//! When the rows of a table are born and when they die, with their parents or before, when they changed last, their parents and
-//! their keys, of one ordinal at a time and in constant time.
+//! The births, deaths, last changes, parents and keys of a table's rows. A death can come by the row's own life or with a parent.
+//! Each answer is for one ordinal and takes constant time.
 //!
-//! The rows that are born at one unit are a cohort. A row is named by its ordinal, its place in the order of birth in
-//! its table, or by its index, its place in its cohort; both count from 0. The rules of these numbers stand in
-//! `specs/`, beside the simulation that defines the generated data, lists of rows stepped unit by unit; `laws` has its
-//! laws, among them that the simulation of sound tables is its closed form, with lives, updates, references, what dies with
-//! its parents and what outlives them.
+//! The rows that are born at one unit are a cohort. A row is named by its ordinal, its place in the order of birth in its table, or
+//! by its index, its place in its cohort. Both count from 0. `specs/` has the rules of these numbers and the simulation that
+//! defines the generated data: lists of rows, stepped unit by unit. `laws` has the laws of the simulation. One of them says that
+//! the simulation of sound tables is its closed form, with lives, updates and both kinds of references.
 //!
-//! A table is named by its place in the schema, counted from 0. `Rows` are a plan's rows, found with the orders that are kept for a job,
-//! or with none; only `JobOrders::new` takes memory, and the lists that rows are put behind.
+//! A table is named by its place in the schema, counted from 0. `Rows` are a plan's rows, found with the orders that are kept for a
+//! job, or with none. Only `JobOrders::new` and the lists to which rows are appended take memory.
 #![tactic(auto)]
 
 mod asked;

@@ -1,4 +1,4 @@
-//! When the own lives of rows end, what lives say of all rows of a cohort, and when rows changed last.
+//! The ends of rows' own lives, what lives tell of all rows of a cohort, and the last changes of rows.
 
 ghost use Rattle.std.specs.Prelude.{◌≡◌, ◌+◌, ◌<◌, ◌≤◌, ◌⊎◌, Some, length};
 ghost use Rattle.std.specs.Option.{option_map};
@@ -21,18 +21,18 @@ use schema_plan::{Plan, Span};
 use std::sync::ledger::Ledger;
 use step_count::Steps;
 
-/// What lives say at a unit of the rows that are born at another.
+/// What lives tell, at one unit, of the rows that are born at another.
 #[derive(Clone, Copy, Debug, PartialEq, Eq)]
 pub enum Survival {
-    /// Each of them is alive: the shortest life ends later.
+    /// Each row is alive: the shortest life ends later.
     Sure,
-    /// Each is alive or not, by the length of its own life and of its parents'.
+    /// A row is alive or not by the length of its own life and of its parents' lives.
     Drawn,
-    /// None of them is alive: the longest life has ended.
+    /// No row is alive: the longest life has ended.
     Over,
 }
 
-/// How long a row lives by itself, by its place among the lives of its cohort.
+/// Returns how many units a row lives by itself, by its place among the lives of its cohort.
 #[inline(always)]
 pub(crate) fn lifetime(life: Span, place: u64) -> u64
     requires ordered { life.least ≤ life.most }
@@ -44,7 +44,8 @@ pub(crate) fn lifetime(life: Span, place: u64) -> u64
     life.least + place % (life.most - life.least + 1)
 }
 
-/// The last up to a unit of the units `first`, `first` + `period`, and so on; `born` where the first of them is past it.
+/// Returns the last of the units `first`, `first` + `period`, and so on, up to `unit`. Returns `born` if `first` comes after
+/// `unit`.
 #[inline(always)]
 pub(crate) fn last_due(born: u64, first: u64, period: u64, unit: u64) -> u64
     requires { 1 ≤ period }
@@ -57,7 +58,7 @@ pub(crate) fn last_due(born: u64, first: u64, period: u64, unit: u64) -> u64
     }
 }
 
-/// Whether a row that is born at a unit is alive at another, where it lives for so many units; None is without an end.
+/// Whether a row that is born at the unit `born` is alive at `unit`, if it lives for `life` units. None is a life without an end.
 fn is_within(life: Option<u64>, born: u64, unit: u64) -> bool
     ensures { result ≡ is_after (option_map (λ l. born + l) life) unit }
 {
@@ -67,8 +68,8 @@ fn is_within(life: Option<u64>, born: u64, unit: u64) -> bool
     }
 }
 
-/// What lives say at `unit` of the rows of a table that are born at unit `born`: the shortest and the longest that its own life and
-/// those of its parents leave.
+/// Returns what lives tell, at `unit`, of the rows of a table that are born at unit `born`. It is found by the shortest and the
+/// longest life that a row's own life and its parents' lives leave.
 pub fn survival_at(plan: &Plan, table: u32, born: u64, unit: u64) -> Survival
     requires table { table < length plan.now.schema.tables }
     requires born { born ≤ last_unit plan.now }
@@ -83,7 +84,7 @@ pub fn survival_at(plan: &Plan, table: u32, born: u64, unit: u64) -> Survival
     }
 }
 
-/// Whether rows of a table may change after their birth: they are updated, or may lose a parent.
+/// Whether rows of a table can change after their birth: they are updated, or they can lose a parent.
 pub fn may_change(plan: &Plan, table: u32) -> bool
     requires { table < length plan.now.schema.tables }
     ensures { result ≡ may_change (table_of plan.now table) }
@@ -92,8 +93,8 @@ pub fn may_change(plan: &Plan, table: u32) -> bool
 }
 
 impl<'a> Rows<'a> {
-    /// The unit at which the own life of a row that is found ends; None where it has no end of its own. It takes one step where lives
-    /// of the table differ, else none.
+    /// Returns the unit at which a found row's own life ends, or None if it has no end of its own. Takes one step if lives of the
+    /// table differ, else none.
     #[inline]
     pub fn found_own_death<L: Ledger>(
         &self,
@@ -115,8 +116,8 @@ impl<'a> Rows<'a> {
         Some(row.born + lifetime(life, place))
     }
 
-    /// The unit at which the own life of the row of ordinal `j` ends; None where it has no end of its own. It takes one step
-    /// where lives of the table differ, else none.
+    /// Returns the unit at which the own life of the row of ordinal `j` ends, or None if it has no end of its own. Takes one step
+    /// if lives of the table differ, else none.
     pub fn own_death<L: Ledger>(&self, table: u32, j: u64, steps: &mut Steps<L>) -> Option<u64>
         requires table { table < length self.now.schema.tables }
         requires row { j < rows_in_all self.now table }
@@ -126,8 +127,8 @@ impl<'a> Rows<'a> {
         self.found_own_death(table, find(self.plan(), table, j), steps)
     }
 
-    /// The last unit up to `t` at which a row that is found is due, or its birth. It takes one step where rows of a cohort may be due
-    /// at different units, else none.
+    /// Returns the last unit up to `t` at which a found row is due, or its birth. Takes one step if rows of a cohort can be due at
+    /// different units, else none.
     #[inline]
     fn last_due_unit<L: Ledger>(
         &self,
@@ -150,10 +151,10 @@ impl<'a> Rows<'a> {
         last_due(row.born, row.born + (1 + place % period), period, t)
     }
 
-    /// The unit at which a row that is found, which is born by unit `t`, changed last: its birth where it didn't change yet. It changes
-    /// where it is due and where it loses a parent. It takes no notice of the row's death. It takes at most one step where rows of a
-    /// cohort may be due at different units, and for each reference that may become null one and at most as many as the cost of the
-    /// parent's death says.
+    /// Returns the unit at which a found row last changed by unit `t`, or its birth if it hasn't changed. The row must be born by
+    /// `t`. A row changes when it is due and when it loses a parent. Its death doesn't count. Takes at most one step if rows of a
+    /// cohort can be due at different units. For each nulling reference it takes at most one step and the cost of the parent's
+    /// death.
     #[inline]
     pub fn found_change<L: Ledger>(
         &self,
@@ -179,7 +180,7 @@ impl<'a> Rows<'a> {
         self.drawn_change(table, row, t, steps)
     }
 
-    /// The same, by the last unit at which the row is due and by its losses.
+    /// Returns the unit of a found row's last change by `t`, by its last due unit and its losses.
     fn drawn_change<L: Ledger>(
         &self,
         table: u32,
@@ -200,10 +201,10 @@ impl<'a> Rows<'a> {
         self.last_loss(table, row, due, t, steps)
     }
 
-    /// The unit at which the row of ordinal `j`, which is born by unit `t`, changed last: its birth where it didn't change yet. It
-    /// changes where it is due and where it loses a parent. It takes no notice of the row's death. It takes one step where rows of a
-    /// cohort may be due at different units, and for each reference that may become null one and at most as many as the cost of the
-    /// parent's death says.
+    /// Returns the unit at which the row of ordinal `j` last changed by unit `t`, or its birth if it hasn't changed. The row must
+    /// be born by `t`. A row changes when it is due and when it loses a parent. Its death doesn't count. Takes one step if rows of
+    /// a cohort can be due at different units. For each nulling reference it takes at most one step and the cost of the parent's
+    /// death.
     pub fn last_change<L: Ledger>(&self, table: u32, j: u64, t: u64, steps: &mut Steps<L>) -> u64
         requires table { table < length self.now.schema.tables }
         requires unit { t ≤ last_unit self.now }
@@ -217,8 +218,8 @@ impl<'a> Rows<'a> {
     }
 }
 
-/// The unit at which the own life of the row of ordinal `j` ends; None where it has no end of its own. It takes one step
-/// where lives of the table differ, else none.
+/// Returns the unit at which the own life of the row of ordinal `j` ends, or None if it has no end of its own. Takes one step if
+/// lives of the table differ, else none.
 pub fn own_death<L: Ledger>(plan: &Plan, table: u32, j: u64, steps: &mut Steps<L>) -> Option<u64>
     requires table { table < length plan.now.schema.tables }
     requires row { j < rows_in_all plan.now table }
@@ -228,9 +229,9 @@ pub fn own_death<L: Ledger>(plan: &Plan, table: u32, j: u64, steps: &mut Steps<L
     Rows::of(plan).own_death(table, j, steps)
 }
 
-/// The unit at which the row of ordinal `j`, which is born by unit `t`, changed last: its birth where it didn't change yet. It changes
-/// where it is due and where it loses a parent. It takes no notice of the row's death. It takes one step where rows of a cohort may be
-/// due at different units, and for each reference that may become null one and at most as many as the cost of the parent's death says.
+/// Returns the unit at which the row of ordinal `j` last changed by unit `t`, or its birth if it hasn't changed. The row must be
+/// born by `t`. A row changes when it is due and when it loses a parent. Its death doesn't count. Takes one step if rows of a
+/// cohort can be due at different units. For each nulling reference it takes at most one step and the cost of the parent's death.
 pub fn last_change<L: Ledger>(plan: &Plan, table: u32, j: u64, t: u64, steps: &mut Steps<L>) -> u64
     requires table { table < length plan.now.schema.tables }
     requires unit { t ≤ last_unit plan.now }

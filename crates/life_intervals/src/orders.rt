@@ -1,4 +1,4 @@
-//! The orders of cohorts: of their keys, their lives, their updates and the parents that they choose.
+//! The orders of cohorts: of keys, lives, updates and chosen parents.
 
 ghost use Rattle.std.specs.Prelude.{◌≡◌, ◌<◌, ◌≤◌, length};
 ghost use Rattle.life_intervals.specs.CohortOrders.{do_lives_differ, do_updates_differ, is_drawn, key_order, life_order, order_for, order_seed, update_order};
@@ -10,20 +10,20 @@ use id_permutation::Order;
 use philox_seeds::{key_order_seed, life_order_seed, reference_order_seed, update_order_seed};
 use schema_plan::{Plan, Span};
 
-/// What the places of a cohort's rows in an order decide.
+/// What a row's place in an order of its cohort decides.
 #[derive(Clone, Copy)]
 pub(crate) enum Purpose {
-    /// Their keys.
+    /// The row's key.
     Keys,
-    /// How long they live by themselves.
+    /// How many units the row lives by itself.
     Lives,
-    /// When they are due.
+    /// The units at which the row is due.
     Updates,
-    /// Their parents by the reference in the column at a place.
+    /// The row's parent, by the reference in the column at a place.
     Parents(u32),
 }
 
-/// Whether rows of a table may live for different numbers of units.
+/// Whether rows of a table can live for different numbers of units.
 fn do_lives_differ(life: Option<Span>) -> bool
     ensures { result ≡ do_lives_differ life }
 {
@@ -33,7 +33,7 @@ fn do_lives_differ(life: Option<Span>) -> bool
     }
 }
 
-/// Whether rows of one cohort may change at different units.
+/// Whether rows of one cohort can be due at different units.
 fn do_updates_differ(update: Option<u64>) -> bool
     ensures { result ≡ do_updates_differ update }
 {
@@ -43,7 +43,7 @@ fn do_updates_differ(update: Option<u64>) -> bool
     }
 }
 
-/// Whether places of a table's rows are drawn: what they decide may differ from row to row.
+/// Whether places of a table's rows are drawn, so that what they decide can differ from row to row.
 pub(crate) fn is_drawn(plan: &Plan, table: u32, purpose: Purpose) -> bool
     requires { table < length plan.now.schema.tables }
     ensures { result ≡ is_drawn (table_of plan.now table) purpose }
@@ -56,7 +56,7 @@ pub(crate) fn is_drawn(plan: &Plan, table: u32, purpose: Purpose) -> bool
     }
 }
 
-/// The seed of an order of the rows of a table that are born at a unit.
+/// Returns the seed of an order of the rows of a table that are born at a unit.
 fn order_seed(plan: &Plan, table: u32, purpose: Purpose, unit: u64) -> u64
     requires { table < length plan.now.schema.tables }
     ensures { result ≡ order_seed plan.now table purpose unit }
@@ -70,7 +70,7 @@ fn order_seed(plan: &Plan, table: u32, purpose: Purpose, unit: u64) -> u64
     }
 }
 
-/// The order of the rows of a table that are born at a unit: by a seed where their places are drawn.
+/// Returns the order of the rows of a table that are born at a unit. It has a seed if their places are drawn.
 pub(crate) fn wanted(plan: &Plan, table: u32, purpose: Purpose, unit: u64) -> Wanted
     requires table { table < length plan.now.schema.tables }
     requires unit { unit ≤ last_unit plan.now }
@@ -87,7 +87,7 @@ pub(crate) fn wanted(plan: &Plan, table: u32, purpose: Purpose, unit: u64) -> Wa
     }
 }
 
-/// The order of the keys of the rows of a table that are born at a unit, in no memory.
+/// Returns the order of the keys of the rows of a table that are born at a unit. Takes no memory.
 pub fn key_order<'a>(plan: &Plan, table: u32, unit: u64) -> Order<'a>
     requires table { table < length plan.now.schema.tables }
     requires unit { unit ≤ last_unit plan.now }
@@ -96,7 +96,7 @@ pub fn key_order<'a>(plan: &Plan, table: u32, unit: u64) -> Order<'a>
     wanted(plan, table, Purpose::Keys, unit).by_rounds()
 }
 
-/// The order of their lives, in no memory.
+/// Returns the order of the lives of the rows of a table that are born at a unit. Takes no memory.
 pub fn life_order<'a>(plan: &Plan, table: u32, unit: u64) -> Order<'a>
     requires table { table < length plan.now.schema.tables }
     requires unit { unit ≤ last_unit plan.now }
@@ -105,7 +105,7 @@ pub fn life_order<'a>(plan: &Plan, table: u32, unit: u64) -> Order<'a>
     wanted(plan, table, Purpose::Lives, unit).by_rounds()
 }
 
-/// The order of their updates, in no memory.
+/// Returns the order of the updates of the rows of a table that are born at a unit. Takes no memory.
 pub fn update_order<'a>(plan: &Plan, table: u32, unit: u64) -> Order<'a>
     requires table { table < length plan.now.schema.tables }
     requires unit { unit ≤ last_unit plan.now }

@@ -1,4 +1,4 @@
-//! The parents of rows, until when rows have them, and when the first of those dies that take a row along.
+//! The parents of rows, the units up to which rows have them, and the deaths of rows.
 
 ghost use Rattle.std.specs.Prelude.{◌≡◌, ℕ, ◌+◌, ◌<◌, ◌≤◌, IfSome, Some, false, is_none, is_some, length, true};
 ghost use Rattle.std.specs.List.{list_any};
@@ -22,8 +22,7 @@ use std::sync::ledger::Ledger;
 use step_count::Steps;
 
 impl<'a> Rows<'a> {
-    /// The ordinal of the parent that a row which is found is born with by a reference, which is ready in the column at a place. It takes
-    /// one step.
+    /// Returns the ordinal of the parent that a found row is born with, by the reference in the column at a place. Takes one step.
     #[inline]
     pub fn found_parent<L: Ledger>(
         &self,
@@ -46,9 +45,9 @@ impl<'a> Rows<'a> {
         window.parent(reference, order.place(row.index, steps))
     }
 
-    /// The ordinal of the parent that a row which is found still has at unit `t` by a reference, which is ready in the column at a place;
-    /// None where the reference has become null. It takes one step, and where the reference may become null at most as many more as
-    /// the cost of the parent's death says.
+    /// Returns the ordinal of the parent that a found row still has at unit `t`, by the reference in the column at a place. Returns
+    /// None if the reference has become null. Takes one step, and for a nulling reference at most the cost of the parent's death
+    /// more.
     #[inline]
     pub fn found_held_parent<L: Ledger>(
         &self,
@@ -78,8 +77,8 @@ impl<'a> Rows<'a> {
         held_until(loss, t, parent)
     }
 
-    /// The last of `change` and of the units up to `t` at which a row that is found loses a parent. For each reference that may become
-    /// null it takes one step, and at most as many as the cost of the parent's death says.
+    /// Returns the last of `change` and of the units up to `t` at which a found row loses a parent. For each nulling reference it
+    /// takes at most one step and the cost of the parent's death.
     pub(crate) fn last_loss<L: Ledger>(
         &self,
         table: u32,
@@ -107,9 +106,8 @@ impl<'a> Rows<'a> {
         last
     }
 
-    /// The unit at which the parent dies that a row which is found is born with by a reference, which is ready in the column at a place;
-    /// None where it never does. It takes one step and at most as many as the cost of that death says, and none where no row of the
-    /// parent's table ever dies.
+    /// Returns the unit at which a found row's parent dies, by the reference in the column at a place. Returns None if the parent
+    /// never dies. Takes one step and at most the cost of the death. Takes none if no row of the parent's table ever dies.
     #[cycle(deaths)]
     fn parent_death<L: Ledger>(
         &self,
@@ -134,8 +132,8 @@ impl<'a> Rows<'a> {
         self.death(reference.parent, parent, steps)
     }
 
-    /// The unit at which the first parent of a row that is found dies, of those that take it along; None where none ever does. For each
-    /// reference that doesn't become null it takes one step, and at most as many as the cost of the parent's death says.
+    /// Returns the unit of the first death among a found row's parents by cascading references. Returns None if no such parent ever
+    /// dies. For each of these references it takes at most one step and the cost of the parent's death.
     #[cycle(deaths)]
     fn first_death<L: Ledger>(&self, table: u32, row: FoundRow, steps: &mut Steps<L>) -> Option<u64>
         requires table { table < length self.now.schema.tables }
@@ -157,9 +155,9 @@ impl<'a> Rows<'a> {
         first
     }
 
-    /// The unit at which a row that is found dies, by its own life or with the first of the parents that take it along; None where it
-    /// never does. It takes one step where lives of the table differ, and for each reference that doesn't become null one and at most as
-    /// many as the cost of the parent's death says.
+    /// Returns the unit at which a found row dies, by its own life or with the first parent by a cascading reference. Returns None
+    /// if it never dies. Takes one step if lives of the table differ. For each cascading reference it takes at most one step and
+    /// the cost of the parent's death.
     #[cycle(deaths)]
     pub fn found_death<L: Ledger>(
         &self,
@@ -178,8 +176,8 @@ impl<'a> Rows<'a> {
         earlier(own, self.first_death(table, row, steps))
     }
 
-    /// The unit at which the row of ordinal `j` dies, by its own life or with the first of the parents that take it along; None where it
-    /// never does. It takes at most as many steps as the cost of a death says.
+    /// Returns the unit at which the row of ordinal `j` dies, by its own life or with the first parent by a cascading reference.
+    /// Returns None if it never dies. Takes at most as many steps as the cost of a death.
     #[cycle(deaths)]
     pub fn death<L: Ledger>(&self, table: u32, j: u64, steps: &mut Steps<L>) -> Option<u64>
         requires table { table < length self.now.schema.tables }
@@ -192,7 +190,7 @@ impl<'a> Rows<'a> {
         self.found_death(table, find(self.plan(), table, j), steps)
     }
 
-    /// Whether a row that is found, which is born by unit `t`, is alive then. It takes at most as many steps as its death.
+    /// Whether a found row is alive at unit `t`, by which it must be born. Takes at most as many steps as the row's death.
     #[inline]
     pub fn is_live<L: Ledger>(
         &self,
@@ -212,8 +210,8 @@ impl<'a> Rows<'a> {
         is_past(self.found_death(table, row, steps), t)
     }
 
-    /// The ordinal of the parent that the row of ordinal `j` is born with by the reference in the column at a place. It takes one
-    /// step.
+    /// Returns the ordinal of the parent that the row of ordinal `j` is born with, by the reference in the column at a place. Takes
+    /// one step.
     pub fn parent<L: Ledger>(&self, table: u32, j: u64, column: u32, steps: &mut Steps<L>) -> u64
         requires table { table < length self.now.schema.tables }
         requires row { j < rows_in_all self.now table }
@@ -232,9 +230,9 @@ impl<'a> Rows<'a> {
         self.found_parent(table, row, column, reference, steps)
     }
 
-    /// The ordinal of the parent that the row of ordinal `j`, which is born by unit `t`, still has then by the reference in the column at
-    /// a place; None where that has become null. It takes one step, and where the reference may become null at most as many more as the
-    /// cost of the parent's death says.
+    /// Returns the ordinal of the parent that the row of ordinal `j` still has at unit `t`, by the reference in the column at a
+    /// place. The row must be born by `t`. Returns None if the reference has become null. Takes one step, and for a nulling
+    /// reference at most the cost of the parent's death more.
     pub fn held_parent<L: Ledger>(
         &self,
         table: u32,
@@ -264,7 +262,7 @@ impl<'a> Rows<'a> {
     }
 }
 
-/// Whether no row of a table ever dies: neither its own life ends, nor a parent's that takes it along.
+/// Whether no row of a table ever dies, neither by its own life nor with a parent.
 #[inline]
 pub(crate) fn never_dies(plan: &Plan, table: u32) -> bool
     requires { table < length plan.now.schema.tables }
@@ -273,7 +271,7 @@ pub(crate) fn never_dies(plan: &Plan, table: u32) -> bool
     plan.sure_life(table).is_none()
 }
 
-/// Whether a death comes after unit `t`; None never comes.
+/// Whether a death comes after unit `t`. None stands for a death that never comes.
 #[inline(always)]
 fn is_past(death: Option<u64>, t: u64) -> bool
     ensures { result ≡ is_after death t }
@@ -284,7 +282,7 @@ fn is_past(death: Option<u64>, t: u64) -> bool
     }
 }
 
-/// The earlier of two deaths; None never comes.
+/// Returns the earlier of two deaths. None stands for a death that never comes.
 #[inline(always)]
 fn earlier(death: Option<u64>, other: Option<u64>) -> Option<u64>
     ensures { result ≡ lesser_life death other }
@@ -296,7 +294,7 @@ fn earlier(death: Option<u64>, other: Option<u64>) -> Option<u64>
     }
 }
 
-/// A parent at unit `t`, up to when it is lost; None never comes.
+/// Returns a parent at unit `t`, or None if it is lost by then. None as the loss stands for one that never comes.
 #[inline(always)]
 fn held_until(loss: Option<u64>, t: u64, parent: u64) -> Option<u64>
     ensures { result ≡ held_until loss t parent }
@@ -307,7 +305,8 @@ fn held_until(loss: Option<u64>, t: u64, parent: u64) -> Option<u64>
     }
 }
 
-/// The later of a change and a loss, where that has come by unit `t`; None never comes.
+/// Returns the later of a change and a loss, if the loss has come by unit `t`; else the change. None stands for a loss that never
+/// comes.
 #[inline(always)]
 fn later_change(change: u64, loss: Option<u64>, t: u64) -> u64
     ensures { result ≡ later_change t change loss }
@@ -318,7 +317,7 @@ fn later_change(change: u64, loss: Option<u64>, t: u64) -> u64
     }
 }
 
-/// Whether a table has references that become null.
+/// Whether a table has nulling references.
 pub(crate) fn has_nullings(plan: &Plan, table: u32) -> bool
     requires { table < length plan.now.schema.tables }
     ensures { result ≡ has_nullings (table_of plan.now table) }
@@ -326,12 +325,14 @@ pub(crate) fn has_nullings(plan: &Plan, table: u32) -> bool
     has_nulling_column(plan.columns(table))
 }
 
+/// Whether some columns have a nulling reference.
 fn has_nulling_column(columns: &[ReadyColumn]) -> bool
     ensures { result ≡ list_any is_nulling columns.now }
 {
     columns.iter().any(|column| is_nulling(column))
 }
 
+/// Whether a column is a nulling reference.
 fn is_nulling(column: &ReadyColumn) -> bool
     ensures { result ≡ is_nulling column.now }
 {
@@ -341,8 +342,8 @@ fn is_nulling(column: &ReadyColumn) -> bool
     }
 }
 
-/// The ordinal of the parent that the row of ordinal `j` is born with by the reference in the column at a place. Where the reference takes
-/// its rows along, the parent is held at each unit at which the row is. It takes one step.
+/// Returns the ordinal of the parent that the row of ordinal `j` is born with, by the reference in the column at a place. If the
+/// reference is cascading, the parent is held at each unit at which the row is held. Takes one step.
 pub fn parent<L: Ledger>(plan: &Plan, table: u32, j: u64, column: u32, steps: &mut Steps<L>) -> u64
     requires table { table < length plan.now.schema.tables }
     requires row { j < rows_in_all plan.now table }
@@ -360,9 +361,9 @@ pub fn parent<L: Ledger>(plan: &Plan, table: u32, j: u64, column: u32, steps: &m
     Rows::of(plan).parent(table, j, column, steps)
 }
 
-/// The ordinal of the parent that the row of ordinal `j`, which is born by unit `t`, still has then by the reference in the column at a
-/// place; None where that has become null. It takes one step, and where the reference may become null at most as many more as the
-/// cost of the parent's death says.
+/// Returns the ordinal of the parent that the row of ordinal `j` still has at unit `t`, by the reference in the column at a place.
+/// The row must be born by `t`. Returns None if the reference has become null. Takes one step, and for a nulling reference at most
+/// the cost of the parent's death more.
 pub fn held_parent<L: Ledger>(
     plan: &Plan,
     table: u32,
@@ -385,8 +386,8 @@ pub fn held_parent<L: Ledger>(
     Rows::of(plan).held_parent(table, j, column, t, steps)
 }
 
-/// The unit at which the row of ordinal `j` dies, by its own life or with the first of the parents that take it along; None where it
-/// never does. It takes at most as many steps as the cost of a death says.
+/// Returns the unit at which the row of ordinal `j` dies, by its own life or with the first parent by a cascading reference.
+/// Returns None if it never dies. Takes at most as many steps as the cost of a death.
 pub fn death<L: Ledger>(plan: &Plan, table: u32, j: u64, steps: &mut Steps<L>) -> Option<u64>
     requires table { table < length plan.now.schema.tables }
     requires row { j < rows_in_all plan.now table }

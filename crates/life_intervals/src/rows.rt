@@ -13,7 +13,7 @@ use id_permutation::Order;
 use schema_plan::{Plan, ReadyReference};
 use std::marker::Model;
 
-/// The rows of a plan, with the orders that are kept for it, or with none. A contract sees the plan.
+/// The rows of a plan, with the orders that are kept for it or with none. A contract sees the plan.
 #[derive(Drop)]
 pub struct Rows<'a> {
     plan: &'a Plan,
@@ -33,7 +33,7 @@ impl<'a> Model for Rows<'a> {
 }
 
 impl<'a> Rows<'a> {
-    /// Those of a plan for which no orders are kept: each place is found by rounds.
+    /// Returns the rows of a plan without kept orders. Each place is found by rounds.
     #[inline]
     pub fn of(plan: &'a Plan) -> Rows<'a>
         ensures { result ≡ plan.now }
@@ -41,7 +41,7 @@ impl<'a> Rows<'a> {
         Rows { plan, kept: None }
     }
 
-    /// Those of a plan with the orders that are kept for it.
+    /// Returns the rows of a plan with the orders that are kept for it.
     #[inline]
     pub fn with(plan: &'a Plan, orders: &'a JobOrders) -> Rows<'a>
         requires { AreOrdersOf plan.now orders.now }
@@ -53,7 +53,7 @@ impl<'a> Rows<'a> {
         }
     }
 
-    /// The same rows once more.
+    /// Returns a copy of these rows.
     #[inline]
     pub fn copied(&self) -> Rows<'a>
         ensures { result ≡ self.now }
@@ -64,7 +64,7 @@ impl<'a> Rows<'a> {
         }
     }
 
-    /// The plan.
+    /// Returns the plan.
     #[inline]
     pub fn plan(&self) -> &'a Plan
         ensures { result.now ≡ self.now }
@@ -72,7 +72,7 @@ impl<'a> Rows<'a> {
         self.plan
     }
 
-    /// The order of the rows of a table that are born at a unit.
+    /// Returns the order of the rows of a table that are born at a unit.
     #[inline]
     pub(crate) fn order(&self, table: u32, purpose: Purpose, unit: u64) -> Order<'a>
         requires table { table < length self.now.schema.tables }
@@ -87,8 +87,7 @@ impl<'a> Rows<'a> {
         wanted(self.plan, table, purpose, unit).by_rounds()
     }
 
-    /// The rows among which those of a table that are born at a unit choose their parents by a reference, which is ready in the column at
-    /// a place.
+    /// Returns the candidates of the rows of a table that are born at a unit, by the reference in the column at a place.
     #[inline]
     pub(crate) fn window(
         &self,

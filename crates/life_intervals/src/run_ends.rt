@@ -1,5 +1,4 @@
-//! When the rows of a run die, as far as they do by a unit. The parents of all its rows are found side by side, and so are the parents of
-//! these.
+//! The deaths of a run's rows that come by a unit. The parents of all rows of a run are found side by side, and then their parents.
 
 ghost use Rattle.std.specs.Prelude.{◌≡◌, ◌+◌, ◌-◌, ◌*◌, ◌%◌, ◌^◌, ◌<◌, ◌≤◌, ℕ, All, Some, get_or, length, map, true};
 ghost use Rattle.cohort_sizes.specs.Births.{LiesIn};
@@ -46,7 +45,7 @@ pub(crate) fn are_sure(plan: &Plan, table: u32, births: &[u64], t: u64) -> bool
     true
 }
 
-/// Whether none of them is alive then.
+/// Whether none of the rows that are born at some units is alive at unit `t`.
 pub(crate) fn are_over(plan: &Plan, table: u32, births: &[u64], t: u64) -> bool
     requires table { table < length plan.now.schema.tables }
     requires births { (i : ℕ) → i < length births.now → get_or births.now i 0 ≤ last_unit plan.now }
@@ -61,8 +60,8 @@ pub(crate) fn are_over(plan: &Plan, table: u32, births: &[u64], t: u64) -> bool
     true
 }
 
-/// Makes each end the earlier of it and of the end of the life that its place decides: one of so many lengths, the shortest of which ends
-/// at unit `first`.
+/// Replaces each end with the end of the life that its place decides, if that is earlier. `lengths` is the number of lengths of
+/// life. The shortest life ends at unit `first`.
 fn put_earlier(first: u64, lengths: &FixedDivisor, places: &[u64], ends: &mut [u64])
     requires first { first ≤ 2 ^ 32 }
     requires lengths { lengths.now ≤ 2 ^ 32 }
@@ -77,10 +76,10 @@ fn put_earlier(first: u64, lengths: &FixedDivisor, places: &[u64], ends: &mut [u
 }
 
 impl<'a> Rows<'a> {
-    /// Makes each end the earlier of it and of the death of its row. Ends come by the unit after `t`, and rows are born by `t`, so an end
-    /// that comes by `t` tells of a death, and all others that none has come. Each row takes at most one step where lives of the table
-    /// differ, and for each reference with whose parent the row is deleted one and at most as many as the cost of the parent's death
-    /// says; none does where all of them are sure to be alive.
+    /// Replaces each end with the death of its row, if that is earlier. An end is at most `t` + 1, and rows are born by `t`. So an
+    /// end up to `t` is a death, and any other says that none has come. Each row takes at most one step if lives of the table
+    /// differ. For each cascading reference it takes at most one step and the cost of the parent's death. If all rows are sure to
+    /// be alive, none takes a step.
     #[cycle(ends)]
     pub(crate) fn put_ends<L: Ledger>(
         &self,
@@ -121,8 +120,8 @@ impl<'a> Rows<'a> {
         );
     }
 
-    /// The same by the own life of each row and those of its parents. It keeps the parents that were found last, with the units of their
-    /// births, and tells the column of their reference; None where no parents had to be found.
+    /// Replaces the ends as `put_ends` does, by the rows' own lives and their parents' lives. Keeps the parents that it found last,
+    /// with their units of birth. Returns the column of their reference, or None if no parents had to be found.
     #[cycle(ends)]
     pub(crate) fn put_drawn_ends<L: Ledger>(
         &self,
@@ -171,9 +170,9 @@ impl<'a> Rows<'a> {
         by
     }
 
-    /// Makes each end the earlier of it and of the death of the parent that its row is born with by a reference, which is ready in the
-    /// column at a place, and keeps these parents, where it finds them. Each row takes one step and at most as many as the cost of that
-    /// death says, and none where no row of the parent's table ever dies: then no parents are found, and those by `by` stay.
+    /// Replaces each end with the death of the row's parent, if that is earlier, by the reference in the column at a place. Keeps
+    /// the parents if it finds them, and returns the column of the parents that are kept. Each row takes one step and at most the
+    /// cost of the parent's death. If no row of the parent's table ever dies, no step is taken and the parents by `by` stay.
     #[cycle(ends)]
     pub(crate) fn put_parents_ends<L: Ledger>(
         &self,
@@ -219,8 +218,8 @@ impl<'a> Rows<'a> {
         Some(column)
     }
 
-    /// Makes each end the earlier of it and of the end of its row's own life. Each takes at most one step where lives of the table differ,
-    /// else none.
+    /// Replaces each end with the end of the row's own life, if that is earlier. Each row takes at most one step if lives of the
+    /// table differ, else none.
     fn put_own_ends<L: Ledger>(
         &self,
         table: u32,
@@ -265,7 +264,8 @@ impl<'a> Rows<'a> {
         }
     }
 
-    /// The same of rows that are born at unit `born`, by their places among the lives of its cohort.
+    /// Replaces the ends of rows that are born at unit `born` with the ends of their own lives, if these are earlier. They are
+    /// found by the rows' places among the lives of their cohort.
     #[inline]
     fn put_part_own_ends<L: Ledger>(
         &self,

@@ -1,4 +1,4 @@
-//! The parents of a run's rows, with the units of their births.
+//! The parents of a run's rows, with their units of birth.
 
 ghost use Rattle.std.specs.Prelude.{◌≡◌, ◌<◌, ◌≤◌, ◌+◌, length};
 ghost use Rattle.life_intervals.specs.CohortParents.{IsReferenceOf};
@@ -12,8 +12,8 @@ use std::sync::ledger::Ledger;
 use step_count::Steps;
 
 impl<'a> Rows<'a> {
-    /// Puts the ordinals of the parents, by a reference, which is ready in the column at a place, that rows are born with which are born
-    /// by unit `t`, and the units of their births. Each takes one step.
+    /// Puts the ordinals and the units of birth of the parents that rows are born with, by the reference in the column at a place.
+    /// The rows must be born by unit `t`. Each row takes one step.
     pub fn find_parents<L: Ledger>(
         &self,
         table: u32,

@@ -1,5 +1,5 @@
-//! Runs of rows: what is told of each row of a table stands in slices of one length. Rows beside one another that are born at one unit
-//! are taken together.
+//! Runs of rows. What is told of each row of a run stands in slices of one length. Adjacent rows that are born at one unit are
+//! taken together.
 
 ghost use Rattle.std.specs.Prelude.{◌≡◌, ◌+◌, ◌-◌, ◌*◌, ◌%◌, ◌<◌, ◌≤◌, ◌^◌, ◌⊎◌, ℕ, All, Some, false, get_or, length, map, nat_lt};
 ghost use Rattle.cohort_sizes.specs.Births.{LiesIn, born_count};
@@ -24,7 +24,8 @@ use schema_plan::{ReadyKind, ReadyReference};
 use std::sync::ledger::Ledger;
 use step_count::Steps;
 
-/// Where the rows end that are born at the same unit as the one at `from`, or so many of them that their parents are found side by side.
+/// Returns where the part of a run ends that begins at `from`. A part has rows of one unit of birth, and at most as many as have
+/// their parents found side by side.
 #[inline]
 pub(crate) fn end_of_part(births: &[u64], from: usize) -> usize
     requires { from < length births.now }
@@ -42,7 +43,7 @@ pub(crate) fn end_of_part(births: &[u64], from: usize) -> usize
     until
 }
 
-/// Puts the indices of rows, which are born at one unit, in the cohort that begins with the ordinal `first`.
+/// Puts the indices of rows that are born at one unit. Their cohort begins with the ordinal `first`.
 fn put_indices(ordinals: &[u64], first: u64, indices: &mut [u64])
     requires begun { All (λ j. first ≤ j) ordinals.now }
     requires same_length { length indices.old ≡ length ordinals.now }
@@ -53,7 +54,7 @@ fn put_indices(ordinals: &[u64], first: u64, indices: &mut [u64])
     }
 }
 
-/// The last unit up to `t` at which the row with a place is due, or unit `born`, at which it is born.
+/// Returns the last unit up to `t` at which the row with a place is due, or `born`, its unit of birth.
 #[inline(always)]
 fn last_due_by(born: u64, period: &FixedDivisor, t: u64, place: u64) -> u64
     requires some { 1 ≤ period.now }
@@ -69,8 +70,8 @@ fn last_due_by(born: u64, period: &FixedDivisor, t: u64, place: u64) -> u64
     }
 }
 
-/// Whether the own life of the row with a place lasts past unit `t`, which is born at unit `born` and lives for `least` units at least, of
-/// so many lengths.
+/// Whether a row's own life lasts past unit `t`. The row is born at unit `born`, and its place decides its life. A life has at
+/// least `least` units, and `lengths` is the number of lengths.
 #[inline(always)]
 fn is_within_life(least: u64, lengths: &FixedDivisor, born: u64, t: u64, place: u64) -> bool
     requires least { least ≤ 20000 }
@@ -81,7 +82,7 @@ fn is_within_life(least: u64, lengths: &FixedDivisor, born: u64, t: u64, place: 
     t < born + (least + lengths.remainder(place))
 }
 
-/// Puts one unit over each of some.
+/// Replaces each number with one unit.
 fn put_unit(units: &mut [u64], unit: u64)
     ensures same { (i : ℕ) → i < length units.old → get_or units.new i 0 ≡ unit }
     ensures same_length { length units.new ≡ length units.old }
@@ -91,7 +92,7 @@ fn put_unit(units: &mut [u64], unit: u64)
     }
 }
 
-/// Puts for each of some rows whether all are alive.
+/// Puts the flag `all` for each row.
 fn put_live(live: &mut [bool], all: bool)
     ensures same { (i : ℕ) → i < length live.old → get_or live.new i false ≡ all }
     ensures same_length { length live.new ≡ length live.old }
@@ -101,7 +102,7 @@ fn put_live(live: &mut [bool], all: bool)
     }
 }
 
-/// Puts whether each end comes after unit `t`.
+/// Puts for each end whether it comes after unit `t`.
 fn put_lasting(ends: &[u64], t: u64, live: &mut [bool])
     requires { length live.old ≡ length ends.now }
     ensures { live.new ≡ map (λ end. nat_lt t end) ends.now }
@@ -111,7 +112,7 @@ fn put_lasting(ends: &[u64], t: u64, live: &mut [bool])
     }
 }
 
-/// Makes each change the later of it and of the end beside it, where that comes by unit `t`.
+/// Replaces each change with the end at the same place, if that is later and comes by unit `t`.
 fn put_later(ends: &[u64], t: u64, changes: &mut [u64])
     requires { length changes.old ≡ length ends.now }
     ensures same_length { length changes.new ≡ length ends.now }
@@ -122,7 +123,7 @@ fn put_later(ends: &[u64], t: u64, changes: &mut [u64])
     }
 }
 
-/// The later of a change and an end, where that comes by unit `t`.
+/// Returns the later of a change and an end, if the end comes by unit `t`; else the change.
 #[inline(always)]
 fn later(change: u64, end: u64, t: u64) -> u64
     ensures { result ≡ later_change t change (Some end) }
@@ -130,7 +131,7 @@ fn later(change: u64, end: u64, t: u64) -> u64
     if end <= t { change.max(end) } else { change }
 }
 
-/// Puts over places the last units up to `t` at which the rows are due that have them, or unit `born`, at which they are born.
+/// Replaces places with the last units up to `t` at which their rows are due, or with `born`, the rows' unit of birth.
 fn put_due_units(places: &mut [u64], born: u64, period: u64, t: u64)
     requires period { 1 ≤ period }
     requires born { born ≤ 10000 }
@@ -155,7 +156,7 @@ pub(crate) fn add_start(numbers: &mut [u64], start: u64)
 }
 
 impl<'a> Rows<'a> {
-    /// Puts the units at which rows are born that are born by unit `t`.
+    /// Puts the units of birth of rows that are born by unit `t`.
     pub fn put_births(&self, table: u32, t: u64, ordinals: &[u64], births: &mut [u64])
         requires table { table < length self.now.schema.tables }
         requires unit { t ≤ last_unit self.now }
@@ -168,7 +169,7 @@ impl<'a> Rows<'a> {
         }
     }
 
-    /// The unit at which the row of ordinal `j` is born, which is born by unit `t`.
+    /// Returns the unit of birth of the row of ordinal `j`, which must be born by unit `t`.
     #[inline(always)]
     fn birth_by(&self, table: u32, t: u64, j: u64) -> u64
         requires table { table < length self.now.schema.tables }
@@ -229,7 +230,7 @@ impl<'a> Rows<'a> {
         );
     }
 
-    /// Puts the keys of rows. Each takes one step where the keys are scrambled, else none.
+    /// Puts the keys of rows. Each row takes one step if the keys are scrambled, else none.
     pub fn put_keys<L: Ledger>(
         &self,
         table: u32,
@@ -259,7 +260,7 @@ impl<'a> Rows<'a> {
         }
     }
 
-    /// Puts the ordinals of the parents, by a reference, that rows are born with which are born at unit `born`.
+    /// Puts the ordinals of the parents, by a reference, that the rows of unit `born` are born with.
     fn put_part_parents<L: Ledger>(
         &self,
         table: u32,
@@ -293,7 +294,7 @@ impl<'a> Rows<'a> {
             .put_parents(reference, parents);
     }
 
-    /// Puts the ordinals of the parents that rows are born with by a reference, which is ready in the column at a place. Each takes one
+    /// Puts the ordinals of the parents that rows are born with, by the reference in the column at a place. Each row takes one
     /// step.
     pub fn put_parents<L: Ledger>(
         &self,
@@ -331,7 +332,7 @@ impl<'a> Rows<'a> {
         }
     }
 
-    /// Puts the last units up to `t` at which rows are due that are born at unit `born`, or that.
+    /// Puts the last units up to `t` at which the rows of unit `born` are due, or `born` for a row that wasn't due yet.
     fn put_part_due<L: Ledger>(
         &self,
         table: u32,
@@ -360,7 +361,7 @@ impl<'a> Rows<'a> {
         }
     }
 
-    /// Puts the units at which rows changed last, by unit `t`, that are born at unit `born`.
+    /// Puts the units of the last changes, up to unit `t`, of rows that are born at unit `born`.
     fn put_part_changes<L: Ledger>(
         &self,
         table: u32,
@@ -386,7 +387,7 @@ impl<'a> Rows<'a> {
         }
     }
 
-    /// Puts the last of the due units and of the losses over the due units.
+    /// Replaces the due units with later losses, to make them the units of the last changes.
     fn put_losses<L: Ledger>(
         &self,
         table: u32,
@@ -436,8 +437,8 @@ impl<'a> Rows<'a> {
         }
     }
 
-    /// Puts the losses of the parents by a reference, which is ready in the column at a place, over changes that come before them, where
-    /// they come by unit `t`.
+    /// Replaces each change with the loss of the row's parent, if that is later and comes by unit `t`. The loss is by the reference
+    /// in the column at a place.
     fn put_losses_by<L: Ledger>(
         &self,
         table: u32,
@@ -484,10 +485,10 @@ impl<'a> Rows<'a> {
         put_later(ends, t, changes);
     }
 
-    /// Puts the units at which rows changed last that are born by unit `t`: their births where they didn't change yet. They change
-    /// where they are due and where they lose a parent. It takes no notice of deaths. Each takes at most one step, and none where all
-    /// rows of a cohort are due at the same units, or never; and for each reference that may become null one and at most as many as the
-    /// cost of the parent's death says.
+    /// Puts the units of the rows' last changes up to unit `t`, or their births if they haven't changed. The rows must be born by
+    /// `t`. A row changes when it is due and when it loses a parent. Deaths don't count. Each row takes at most one step, and none
+    /// if all rows of a cohort are due at the same units, or never. For each nulling reference it takes at most one step and the
+    /// cost of the parent's death.
     pub fn put_changes<L: Ledger>(
         &self,
         table: u32,
@@ -525,9 +526,9 @@ impl<'a> Rows<'a> {
         }
     }
 
-    /// Puts which of a run's rows are alive at unit `t`, which are born by it. It keeps the parents that were found last on the way, with
-    /// the units of their births, and tells the column of their reference; None where no parents had to be found. Each row takes at most as
-    /// many steps as in `put_lives`.
+    /// Puts which of a run's rows are alive at unit `t`, by which they must be born. Keeps the parents that it found last, with
+    /// their units of birth. Returns the column of their reference, or None if no parents had to be found. Each row takes at most
+    /// as many steps as in `put_lives`.
     pub fn put_run_lives<L: Ledger>(
         &self,
         table: u32,
@@ -572,7 +573,7 @@ impl<'a> Rows<'a> {
         }
     }
 
-    /// The same by the own life of each row and those of its parents.
+    /// Puts which rows are alive, as `put_run_lives` does, by the rows' own lives and their parents' lives.
     fn put_drawn_lives<L: Ledger>(
         &self,
         table: u32,
@@ -614,7 +615,7 @@ impl<'a> Rows<'a> {
         by
     }
 
-    /// Puts whether the own lives last past unit `t` of rows that are born at unit `born`.
+    /// Puts which rows of unit `born` have own lives that last past unit `t`.
     fn put_part_own_lives<L: Ledger>(
         &self,
         table: u32,
@@ -647,9 +648,9 @@ impl<'a> Rows<'a> {
         }
     }
 
-    /// Puts which rows are alive at unit `t` that are born by it. Each takes at most one step where lives of the table differ, and for each
-    /// reference with whose parent the row is deleted one and at most as many as the cost of the parent's death says; none does of up
-    /// to 256 rows beside one another that are sure to be alive, or of which none is.
+    /// Puts which rows are alive at unit `t`, by which they must be born. Each row takes at most one step if lives of the table
+    /// differ. For each cascading reference it takes at most one step and the cost of the parent's death. Up to 256 adjacent rows
+    /// take no step if all are sure to be alive or none is alive.
     pub fn put_lives<L: Ledger>(
         &self,
         table: u32,
@@ -689,9 +690,9 @@ impl<'a> Rows<'a> {
         }
     }
 
-    /// Puts of which rows, which are born by unit `t`, the own life lasts past it. They are alive where those parents are, too, that take
-    /// them along (`laws::rows_live_while_their_parents_do`): `put_parents`, `put_births` and `put_lives` tell that of parents that
-    /// are found once. Each takes one step where lives of the table differ, else none.
+    /// Puts which rows have own lives that last past unit `t`, by which they must be born. A row is alive if, besides, its parents
+    /// by cascading references are alive (`laws::rows_live_while_their_parents_do`). `put_parents`, `put_births` and `put_lives`
+    /// tell this of parents that are found once. Each row takes one step if lives of the table differ, else none.
     pub fn put_own_lives<L: Ledger>(
         &self,
         table: u32,

@@ -1,12 +1,12 @@
-//! An order of a cohort's rows that is to be made.
+//! An order of a cohort's rows that must be made.
 
 ghost use Rattle.std.specs.Prelude.{◌≡◌};
 
 use id_permutation::Order;
 use std::marker::Model;
 
-/// An order that is to be made: of how many rows, and by which seed, or by none where each row has its own place. A contract sees
-/// the order.
+/// An order that must be made: its number of rows and its seed. Without a seed each row has its own place. A contract sees the
+/// order.
 #[derive(Drop)]
 pub(crate) struct Wanted {
     pub(crate) size: u64,
@@ -25,7 +25,7 @@ impl Model for Wanted {
 }
 
 impl Wanted {
-    /// The order, in no memory.
+    /// Returns the order. Takes no memory.
     pub(crate) fn by_rounds<'a>(&self) -> Order<'a>
         ensures { result ≡ self.now }
     {

@@ -1,4 +1,4 @@
-//! The rows among which a cohort's rows choose their parents by a reference.
+//! The candidates among which a cohort's rows choose their parents by a reference.
 
 ghost use Rattle.std.specs.Prelude.{◌≡◌, ◌+◌, ◌-◌, ◌<◌, ◌≤◌, ◌^◌, All, length, map, max, sum};
 ghost use Rattle.cohort_sizes.specs.Births.{born_count};
@@ -14,13 +14,13 @@ use schema_plan::{Plan, ReadyReference};
 /// The rows that are born in the window of a reference.
 #[derive(Clone, Copy)]
 pub(crate) struct Window {
-    /// The ordinal of the first of them.
+    /// The ordinal of the first row.
     pub(crate) first: u64,
-    /// How many they are; 1 where none is, so that it divides.
+    /// The number of rows; 1 if there are none, so that it can divide.
     pub(crate) count: FixedDivisor,
 }
 
-/// The ordinal of the first row of a table that is born in a window that ends at `unit`.
+/// Returns the ordinal of the first row of a table that is born in a window that ends at `unit`.
 fn first_in_window(plan: &Plan, table: u32, window: Option<u64>, unit: u64) -> u64
     requires table { table < length plan.now.schema.tables }
     requires unit { unit ≤ last_unit plan.now }
@@ -33,7 +33,7 @@ fn first_in_window(plan: &Plan, table: u32, window: Option<u64>, unit: u64) -> u
     cohort(plan, table, start).first
 }
 
-/// How many rows of a table are born from an ordinal on up to `unit`, to divide by; 1 where none is.
+/// Returns how many rows of a table are born from an ordinal on up to `unit`, as a divisor; 1 if there are none.
 fn count_from(plan: &Plan, table: u32, first: u64, unit: u64) -> FixedDivisor
     requires table { table < length plan.now.schema.tables }
     requires unit { unit ≤ last_unit plan.now }
@@ -43,7 +43,7 @@ fn count_from(plan: &Plan, table: u32, first: u64, unit: u64) -> FixedDivisor
     FixedDivisor::new(count.max(1))
 }
 
-/// The place that a place in a cohort chooses among so many candidates, by a spread.
+/// Returns the number of the candidate that a place in a cohort chooses among `count` candidates, by a spread.
 #[inline(always)]
 fn chosen(reference: &ReadyReference, count: &FixedDivisor, place: u64) -> u64
     requires place { place < 2 ^ 40 }
@@ -59,7 +59,7 @@ fn chosen(reference: &ReadyReference, count: &FixedDivisor, place: u64) -> u64
 }
 
 impl Window {
-    /// That of a reference for the rows of its table that are born at a unit.
+    /// Returns the window of a reference for the rows of its table that are born at a unit.
     pub(crate) fn of_cohort(plan: &Plan, reference: &ReadyReference, unit: u64) -> Window
         requires parent { reference.now.parent < length plan.now.schema.tables }
         requires unit { unit ≤ last_unit plan.now }
@@ -72,7 +72,7 @@ impl Window {
         }
     }
 
-    /// The ordinal of the parent that a place in the cohort chooses.
+    /// Returns the ordinal of the parent that a place in the cohort chooses.
     #[inline(always)]
     pub(crate) fn parent(&self, reference: &ReadyReference, place: u64) -> u64
         requires place { place < 2 ^ 40 }
@@ -86,7 +86,7 @@ impl Window {
         self.first + chosen(reference, &self.count, place)
     }
 
-    /// Puts over places in the cohort the ordinals of the parents that they choose.
+    /// Replaces places in the cohort with the ordinals of the parents that they choose.
     pub(crate) fn put_parents(&self, reference: &ReadyReference, places: &mut [u64])
         requires places { All (λ place. place < 2 ^ 40) places.old }
         requires first { self.now.first ≤ 2 ^ 40 }
