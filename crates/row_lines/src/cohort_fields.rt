@@ -1,4 +1,4 @@
-//! The fields of the rows of a cohort, but for lookups, with what doesn't change from row to row taken once.
+//! The fields of the rows of a cohort, except lookups. What doesn't change from row to row is worked out once.
 
 ghost use Rattle.std.specs.Prelude.{◌≡◌, ◌<◌, ◌≤◌, ◌+◌, ◌^◌, ◌++◌, All, IfSome, false, flat_map, if◌then◌else◌, is_some, length, sum_by, true};
 ghost use Rattle.row_text.specs.Fields.{field_text};
@@ -24,9 +24,10 @@ use std::marker::Model;
 use std::sync::ledger::Ledger;
 use step_count::Steps;
 
-/// The fields at a unit of the rows of a table that are born at another. A contract sees the plan, the table and the two units.
+/// The fields, at one unit, of the rows of a table that are born at another. A contract sees the plan, the table and the two units.
 ///
-/// What a field takes from its row's change is told by the values that are handed in, and so is the key of the row, where it is known.
+/// The values that are handed in tell what a field takes from its row's last change. The row's key is handed in too, if it is
+/// known.
 #[derive(Drop)]
 pub(crate) struct CohortFields<'a> {
     rows: &'a Rows<'a>,
@@ -48,7 +49,7 @@ impl<'a> Model for CohortFields<'a> {
 }
 
 impl<'a> CohortFields<'a> {
-    /// The fields at `unit` of the rows of a table that are born at unit `born`.
+    /// Returns the fields at `unit` of the rows of a table that are born at unit `born`.
     #[inline(always)]
     pub(crate) fn new(rows: &'a Rows<'a>, table: u32, born: u64, unit: u64) -> CohortFields<'a>
         requires table { table < length rows.now.schema.tables }
@@ -68,7 +69,7 @@ impl<'a> CohortFields<'a> {
         }
     }
 
-    /// The ordinal of the row with this index in the cohort.
+    /// Returns the ordinal of the row with an index in the cohort.
     #[inline(always)]
     pub(crate) fn ordinal(&self, index: u64) -> u64
         requires { index < cohort_size (layout_for self.now).births self.now.born }
@@ -79,7 +80,7 @@ impl<'a> CohortFields<'a> {
         self.first + index
     }
 
-    /// The row with this index in the cohort.
+    /// Returns the row with an index in the cohort.
     #[inline(always)]
     pub(crate) fn found(&self, index: u64) -> FoundRow
         requires { index < cohort_size (layout_for self.now).births self.now.born }
@@ -95,7 +96,7 @@ impl<'a> CohortFields<'a> {
         }
     }
 
-    /// The key of the row with this index, found anew where it isn't known.
+    /// Returns the key of the row with an index. Finds it if it isn't known.
     #[inline(always)]
     fn key<L: Ledger>(&self, index: u64, key: Option<u64>, steps: &mut Steps<L>) -> u64
         requires row { index < cohort_size (layout_for self.now).births self.now.born }
@@ -109,8 +110,8 @@ impl<'a> CohortFields<'a> {
         }
     }
 
-    /// The ordinal of the parent that the row with this index is born with by a reference, which is ready in the column at a place. It
-    /// takes one step.
+    /// Returns the ordinal of the parent that the row with an index is born with, by the reference in the column at a place. Takes
+    /// one step.
     #[inline(always)]
     pub(crate) fn parent<L: Ledger>(
         &self,
@@ -131,8 +132,8 @@ impl<'a> CohortFields<'a> {
             .found_parent(self.table, row, column, reference, steps)
     }
 
-    /// The key of the parent that the row with this index still has at the unit by a reference, which is ready in the column at a place;
-    /// None where it has lost it.
+    /// Returns the key of the parent that the row with an index still has at the unit, by the reference in the column at a place.
+    /// Returns None if the row has lost the parent.
     #[inline(always)]
     fn held_key<L: Ledger>(
         &self,
@@ -157,7 +158,7 @@ impl<'a> CohortFields<'a> {
         }
     }
 
-    /// Appends that key; nothing where the row has lost the parent.
+    /// Appends the key of the parent that the row still has. Appends nothing if the row has lost the parent.
     #[inline(always)]
     fn put_parent<L: Ledger>(
         &self,
@@ -184,7 +185,7 @@ impl<'a> CohortFields<'a> {
         }
     }
 
-    /// Appends the field of the column at a place, which is no lookup.
+    /// Appends the field of the column at a place, which must not be a lookup.
     #[inline(always)]
     pub(crate) fn put<L: Ledger>(
         &self,
@@ -218,7 +219,7 @@ impl<'a> CohortFields<'a> {
         }
     }
 
-    /// Appends the same as a field, which is null where the row has lost the parent.
+    /// Appends the field of a reference: the key of the parent that the row still has, or a null if the row has lost it.
     #[inline(always)]
     fn put_reference<L: Ledger>(
         &self,
@@ -269,7 +270,7 @@ impl<'a> CohortFields<'a> {
         }
     }
 
-    /// Appends some parts, one after the other.
+    /// Appends some parts of a template, one after the other.
     fn put_parts<L: Ledger>(
         &self,
         parts: &[ReadyPart],
@@ -293,7 +294,7 @@ impl<'a> CohortFields<'a> {
         }
     }
 
-    /// Appends a part.
+    /// Appends a part of a template.
     #[inline(always)]
     fn put_part<L: Ledger>(
         &self,
@@ -321,7 +322,7 @@ impl<'a> CohortFields<'a> {
         }
     }
 
-    /// Appends the field of the column at a place, which may be cited; nothing where it is null.
+    /// Appends the field of the column at a place, which must be citable. A null field appends nothing.
     #[inline(always)]
     fn put_cited<L: Ledger>(
         &self,

@@ -1,4 +1,4 @@
-//! The lines of the rows of a cohort, with what doesn't change from row to row taken once.
+//! The lines of the rows of a cohort. What doesn't change from row to row is worked out once.
 
 ghost use Rattle.std.specs.Prelude.{◌≡◌, ◌<◌, ◌≤◌, ℕ, ◌+◌, ◌*◌, ◌==◌, [], ◌∷◌, ◌++◌, false, get_or, if◌then◌else◌, true, length, min, sum_by};
 ghost use Rattle.std.specs.List.{range_with_len};
@@ -27,7 +27,7 @@ use std::marker::Model;
 use std::sync::ledger::Ledger;
 use step_count::Steps;
 
-/// The lines at a unit of a cohort's rows. A contract sees the plan, the table, the unit of birth and the unit.
+/// The lines of a cohort's rows at a unit. A contract sees the plan, the table, the unit of birth and the unit.
 #[derive(Drop)]
 pub struct CohortLines<'a> {
     rows: &'a Rows<'a>,
@@ -50,7 +50,7 @@ impl<'a> Model for CohortLines<'a> {
 }
 
 impl<'a> CohortLines<'a> {
-    /// The lines at `unit` of the rows of a table that are born at unit `born`.
+    /// Returns the lines at `unit` of the rows of a table that are born at unit `born`.
     pub fn new(rows: &'a Rows<'a>, table: u32, born: u64, unit: u64) -> CohortLines<'a>
         requires table { table < length rows.now.schema.tables }
         requires born { born ≤ unit }
@@ -70,7 +70,7 @@ impl<'a> CohortLines<'a> {
         }
     }
 
-    /// The unit of the rows' birth.
+    /// Returns the unit of the rows' birth.
     #[inline(always)]
     pub(crate) fn born(&self) -> u64
         ensures { result ≡ self.now.born }
@@ -78,8 +78,8 @@ impl<'a> CohortLines<'a> {
         self.born
     }
 
-    /// The key of the row with this index in the cohort. It takes one step where the keys are scrambled, else none; the cost
-    /// of a line has it in.
+    /// Returns the key of the row with an index in the cohort. Takes one step if the keys are scrambled, else none. The cost of a
+    /// line includes this step.
     #[inline]
     pub fn key<L: Ledger>(&self, index: u64, steps: &mut Steps<L>) -> u64
         requires { index < cohort_size (layout_for self.now).births self.now.born }
@@ -90,7 +90,7 @@ impl<'a> CohortLines<'a> {
         self.rows.found_key(self.place, row, steps)
     }
 
-    /// The unit of the last change of the row with this index in the cohort.
+    /// Returns the unit of the last change of the row with an index in the cohort.
     #[inline(always)]
     fn changed<L: Ledger>(&self, index: u64, steps: &mut Steps<L>) -> u64
         requires { index < cohort_size (layout_for self.now).births self.now.born }
@@ -102,8 +102,8 @@ impl<'a> CohortLines<'a> {
         self.rows.found_change(self.place, row, self.unit, steps)
     }
 
-    /// Appends the line of the row with this index in the cohort, which is alive at the unit and for which the greatest line
-    /// of the table has to be free. It asks at most as many permutations as the cost of a row counts for its line.
+    /// Appends the line of the row with an index in the cohort. The row must be alive at the unit. The size of the table's greatest
+    /// line must be free. Takes at most as many permutations as the cost of a row counts for its line.
     pub fn put_line<L: Ledger>(&self, index: u64, buf: &mut PageBuf, steps: &mut Steps<L>)
         requires row { index < cohort_size (layout_for self.now).births self.now.born }
         requires alive { is_live_for self.now index ≡ true }
@@ -118,8 +118,8 @@ impl<'a> CohortLines<'a> {
         self.put_changed_line(index, key, changed, buf, steps);
     }
 
-    /// The same for a row whose key and whose unit of the last change are known. It asks no permutation but those of references, and
-    /// those that tell which of these are null.
+    /// Appends the line of a row whose key and unit of last change are known. Takes only the permutations of the row's fields, and none
+    /// for its own key.
     pub fn put_changed_line<L: Ledger>(
         &self,
         index: u64,
@@ -142,7 +142,7 @@ impl<'a> CohortLines<'a> {
         self.put_fields(index, key, &values, buf, steps);
     }
 
-    /// The same with the values of the rows that changed last when the row did.
+    /// Appends the line of a row. `values` are those of the rows of its cohort with its unit of last change.
     fn put_fields<L: Ledger>(
         &self,
         index: u64,
@@ -199,7 +199,7 @@ impl<'a> CohortLines<'a> {
         }
     }
 
-    /// Appends the field of the column at a place, with the byte behind it.
+    /// Appends the field of the column at a place and the byte after it.
     #[inline(always)]
     pub(crate) fn put_field_behind<L: Ledger>(
         &self,
@@ -225,7 +225,7 @@ impl<'a> CohortLines<'a> {
         buf.put_piece(&Piece::of_byte(behind));
     }
 
-    /// Appends the field of a lookup, which is ready in the column at a place.
+    /// Appends the field of the lookup in the column at a place.
     fn put_lookup<L: Ledger>(
         &self,
         column: usize,
@@ -286,7 +286,7 @@ impl<'a> CohortLines<'a> {
     }
 }
 
-/// Appends the delimiter before the column at a place, but not before the first.
+/// Appends the delimiter before the column at a place. The first column has none.
 #[inline(always)]
 fn put_delimiter(buf: &mut PageBuf, delimiter: u8, column: usize)
     requires { length buf.old.text + min column 1 ≤ buf.old.room }

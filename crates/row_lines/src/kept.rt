@@ -1,11 +1,11 @@
-//! Numbers in order, and what is kept of them.
+//! Numbers in order, and the numbers that are kept of a list.
 
 ghost use Rattle.std.specs.Prelude.{◌≡◌, ◌+◌, ◌<◌, ◌≤◌, ◌^◌, is_some, length, take, true};
 ghost use Rattle.std.specs.List.{range_with_len};
 ghost use Rattle.schema_plan.specs.Lineage.{one_if};
 ghost use Rattle.row_lines.specs.Kept.{kept_by};
 
-/// Puts the numbers from `first` on into the list.
+/// Fills the list with the numbers from `first` on.
 pub fn put_range(list: &mut [u64], first: u64)
     requires { first + length list.old < 2 ^ 64 }
     ensures { list.new ≡ range_with_len first (length list.old) }
@@ -15,7 +15,8 @@ pub fn put_range(list: &mut [u64], first: u64)
     }
 }
 
-/// Moves the numbers beside which a flag is true to the begin of the list, and tells how many they are. No step is chosen by a flag.
+/// Moves the numbers with a true flag at the same place to the start of the list. Returns how many there are. The loop doesn't
+/// branch on a flag.
 pub fn keep(list: &mut [u64], flags: &[bool]) -> usize
     requires { length flags.now ≡ length list.old }
     ensures count { result ≡ length (kept_by flags.now list.old) }
@@ -30,7 +31,7 @@ pub fn keep(list: &mut [u64], flags: &[bool]) -> usize
     kept
 }
 
-/// The same of what is found where a column is told; else the list stays.
+/// Keeps the numbers with a true flag, as `keep` does, if `by` has a column. Else the list stays as it is.
 pub(crate) fn keep_found(by: Option<usize>, list: &mut [u64], flags: &[bool])
     requires { length flags.now ≡ length list.old }
     ensures kept { is_some by ≡ true → take (length (kept_by flags.now list.old)) list.new ≡ kept_by flags.now list.old }
@@ -41,7 +42,7 @@ pub(crate) fn keep_found(by: Option<usize>, list: &mut [u64], flags: &[bool])
     }
 }
 
-/// 1 where a flag is true, else 0.
+/// Returns 1 if a flag is true, else 0.
 #[inline(always)]
 fn one_if(flag: bool) -> usize
     ensures one { result ≡ one_if flag }

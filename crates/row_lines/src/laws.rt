@@ -1,9 +1,8 @@
 //! The laws of lines and texts, each the contract of a function that does nothing.
 //!
-//! Texts are those of tables that are sound up to the unit (`life_intervals::laws`).
+//! The texts are those of tables that are sound up to the unit (`life_intervals::laws`).
 //!
-//! A table is named by its place in the schema from 0. Units and ordinals count from 0, and so do the indices of a
-//! cohort's rows.
+//! A table is named by its place in the schema, from 0. Units, ordinals and the indices of a cohort's rows count from 0.
 
 ghost use Rattle.std.specs.Prelude.{◌≡◌, ℕ, ◌+◌, ◌<◌, ◌≤◌, ◌++◌, [], List, None, Some, codes, decimal, flat_map, if◌then◌else◌, false, length, true, unwrap_or};
 ghost use Rattle.std.specs.Option.{option_and_then, option_map};
@@ -21,15 +20,15 @@ ghost use Rattle.life_intervals.specs.Sound.{AreSound};
 ghost use Rattle.row_lines.specs.Lines.{cohort_text, draws_of, field, first_lines, key_line_of, line, line_if_live, line_of, part_text, table_text, text_before};
 ghost use Rattle.row_lines.specs.Worked.{first_house, first_note, first_note_alone, labels, land, one, owned, pairs};
 
-/// The text of a table at a unit is the lines of the ordinals that are born by then and alive.
+/// The text of a table at a unit is the lines of the ordinals that are born by the unit and alive.
 pub fn text_is_the_lines_of_the_living()
     ensures { (units : ℕ) (generator : Generator) (unit place : ℕ) → AreSound units generator.tables → unit ≤ units →
         table_text generator unit place
         ≡ flat_map (line_of generator unit place) (living generator place unit) }
 {}
 
-/// The text of a table at a unit is that of its cohorts up to the unit's own, one after the other, as a loop over the units
-/// of birth writes it.
+/// The text of a table at a unit is the texts of its cohorts up to the unit's own, one after the other. A loop over the units of
+/// birth writes it in this way.
 pub fn text_is_the_cohorts_texts()
     ensures none { (generator : Generator) (unit place : ℕ) → text_before generator unit place 0 ≡ [] }
     ensures next { (generator : Generator) (unit place born : ℕ) →
@@ -39,7 +38,7 @@ pub fn text_is_the_cohorts_texts()
         table_text generator unit place ≡ text_before generator unit place (unit + 1) }
 {}
 
-/// A row adds its line to the text of its cohort where it is alive, and nothing where it isn't.
+/// A row that is alive adds its line to the text of its cohort. Any other row adds nothing.
 pub fn cohort_text_grows_by_the_living()
     ensures none { (generator : Generator) (unit place born : ℕ) → first_lines generator unit place born 0 ≡ [] }
     ensures next { (generator : Generator) (unit place born count : ℕ) →
@@ -51,8 +50,8 @@ pub fn cohort_text_grows_by_the_living()
         ≡ cohort_text generator unit place born }
 {}
 
-/// What a loop over units of birth and rows has made so far begins the text of the table: the text of the cohorts before
-/// one, and the lines of its first rows.
+/// What a loop over units of birth and rows has made so far begins the table's text. It is the text of the cohorts before one, and
+/// the lines of that cohort's first rows.
 pub fn text_so_far_begins_the_text()
     ensures { (units : ℕ) (generator : Generator) (unit place born count : ℕ) → AreSound units generator.tables →
         unit ≤ units → born ≤ unit → count ≤ cohort_size (table_at generator.tables place).births born →
@@ -60,13 +59,17 @@ pub fn text_so_far_begins_the_text()
         ≡ (text_before generator unit place born ++ first_lines generator unit place born count) ++ rest) }
 {}
 
-/// What a row holds at a unit by which it is born: its key in a key column that is never null; in a reference whose fields no draw makes
-/// null the key of the parent that it still has, and nothing where it has lost it; in a lookup, where the row is alive, what that parent
-/// holds at the unit in the column that is looked up, unless draw 0 makes it null; in a column of units of birth, of units of the last
-/// change, of drawn values or of templates the unit, what its draws give, or the template's parts one after the other, unless draw 0
-/// makes it null. A part is a text, or what the row holds in the column that is cited, and nothing where that is null. The draws are
-/// those at the unit of the row's last change in a column that changes, and those at its birth in any other. A parent with whom the row
-/// is deleted is never lost.
+/// What a row holds at a unit by which it is born.
+/// - A key column that is never null holds the row's key.
+/// - A reference whose fields no draw makes null holds the key of the parent that the row still has. It is null if the row has lost
+///   the parent.
+/// - A lookup of a living row holds what that parent holds at the unit in the column that is looked up.
+/// - A column of units of birth or of last changes holds the unit. A column of drawn values holds what its draws give. A template
+///   holds its parts, one after the other.
+/// - Draw 0 can make the field of a lookup or of one of these columns null.
+/// - A part of a template is a text or the row's field in the cited column. A null field gives nothing.
+/// - A column that changes takes its draws at the unit of the row's last change. Any other column takes them at the row's birth.
+/// - A parent by a cascading reference is never lost.
 pub fn fields_of_a_row()
     ensures key { (generator : Generator) (unit place ordinal column : ℕ) →
         (column_at (table_at generator.tables place).columns column).kind ≡ key_kind →
@@ -131,14 +134,14 @@ pub fn fields_of_a_row()
         draws_of generator place row column ≡ generator.draw place column row.born row.ordinal }
 {}
 
-/// A template is escaped once: what is written for it is what is written for its parts, one after the other.
+/// A template is escaped once: it is written as its parts are written, one after the other.
 pub fn templates_are_written_part_by_part()
     ensures { (generator : Generator) (place : ℕ) (row : Row) (parts : List PartLayout) →
         escaped_text generator.delimiter (flat_map (part_text generator place row) parts)
         ≡ flat_map (λ part. escaped_text generator.delimiter (part_text generator place row part)) parts }
 {}
 
-/// The key line of a row is the key's field, as it is written, and a line feed, at any unit by which the row is born.
+/// The key line of a row is the key's field as it is written, and a line feed. This is true at any unit by which the row is born.
 pub fn key_line_is_the_key_field()
     ensures { (generator : Generator) (last unit place ordinal : ℕ) → unit ≤ last →
         ordinal < born_count (table_at generator.tables place).births unit →
@@ -149,9 +152,8 @@ pub fn key_line_is_the_key_field()
         (field generator unit place (row_at generator place unit ordinal) 0) ++ codes "\n" }
 {}
 
-/// Texts worked out by hand: a row at each unit; scrambled keys in cohorts of two, none at unit 0;
-/// two rows at unit 0 alone; a note before and after its owner dies. And what a house looks up of its city: the birth, the label, and
-/// what is null.
+/// Texts worked out by hand: a row at each unit; scrambled keys in cohorts of two, with none at unit 0; two rows at unit 0 only; a
+/// note before and after its owner dies. Further, what a house looks up of its city: its birth, its label, and a null.
 pub fn worked_texts()
     ensures row_at_each_unit { table_text one 2 0 ≡ codes "1\t0\n2\t1\n3\t2\n" }
     ensures scrambled { table_text pairs 2 0 ≡ codes "11|1|1\n10|1|1\n13|2|2\n12|2|2\n" }

@@ -1,9 +1,9 @@
-//! The lines of rows, as they are written into a page: the fields of a row, with a delimiter between and a line feed
-//! behind (PostgreSQL's manual, "COPY", text format).
+//! The lines of rows, as they are written into a page. A line has the fields of a row, with delimiters between them and a line feed
+//! after them (PostgreSQL's manual, "COPY", text format).
 //!
-//! A table is named by its place in the schema, and a row by its ordinal, its place in the order of birth in its table,
-//! or by its index in its cohort, the rows that are born at one unit; all count from 0. The text of a table is the lines
-//! of its rows, which `laws` puts together from those of its cohorts. Only `TableLines::new` takes memory.
+//! A table is named by its place in the schema. A row is named by its ordinal, its place in the order of birth in its table, or by
+//! its index in its cohort, the rows that are born at one unit. All count from 0. The text of a table is the lines of its rows.
+//! `laws` puts it together from the texts of its cohorts. Only `TableLines::new` takes memory.
 #![tactic(auto)]
 
 mod bytes;

@@ -18,10 +18,10 @@ use schema_plan::Plan;
 use std::sync::ledger::Ledger;
 use step_count::Steps;
 
-/// Appends the report at unit `t` on the row of a table that has a key: its unit of birth, the unit at which it is gone, how it stands
-/// at the unit, and, where it is alive then, the unit of its last change and its line. False, with nothing appended, exactly where no
-/// row of the units 0 to the last has the key. 128 bytes and the greatest line of the table have to be free. It asks at most as many
-/// permutations as the cost of a row, whatever the unit and however many rows there are.
+/// Appends the report at unit `t` on the row of a table that has a key. The report has the row's birth, the unit at which it is
+/// gone, and its state at the unit. If the row is alive at the unit, it also has the unit of its last change and its line. Returns
+/// false, and appends nothing, exactly if no row of the units 0 to the last has the key. 128 bytes and the size of the table's
+/// greatest line must be free. Takes at most as many permutations as the cost of a row, for any unit and any number of rows.
 pub fn row_report<L: Ledger>(
     plan: &Plan,
     table: u32,
@@ -47,7 +47,7 @@ pub fn row_report<L: Ledger>(
     }
 }
 
-/// Appends the report at unit `t` on the row of ordinal `j`, which has this key.
+/// Appends the report at unit `t` on the row of ordinal `j`, which must have the key `key`.
 fn put_report<L: Ledger>(
     plan: &Plan,
     table: u32,
@@ -78,8 +78,8 @@ fn put_report<L: Ledger>(
     }
 }
 
-/// The unit at which the row of ordinal `j` is gone, its death; None where that doesn't come by the last unit. It asks at most as many
-/// permutations as the cost of a death says.
+/// Returns the unit at which the row of ordinal `j` is gone, its death. Returns None if that doesn't come by the last unit. Takes
+/// at most as many permutations as the cost of a death.
 fn gone_at<L: Ledger>(plan: &Plan, table: u32, j: u64, steps: &mut Steps<L>) -> Option<u64>
     requires table { table < length plan.now.schema.tables }
     requires row { j < rows_in_all plan.now table }
@@ -94,7 +94,7 @@ fn gone_at<L: Ledger>(plan: &Plan, table: u32, j: u64, steps: &mut Steps<L>) -> 
     }
 }
 
-/// Whether a row that is born and gone at these units is held at another.
+/// Whether a table holds, at unit `t`, a row that is born at `born` and gone at `gone`.
 fn is_held(born: u64, gone: Option<u64>, t: u64) -> bool
     ensures { result ≡ (nat_le born t && is_after gone t) }
 {
@@ -112,7 +112,7 @@ fn put_number_line(buf: &mut PageBuf, label: &[u8], number: u64)
     buf.put(b"\n");
 }
 
-/// Appends the line of the unit at which a row is gone.
+/// Appends the line with the unit at which a row is gone.
 fn put_gone_line(buf: &mut PageBuf, gone: Option<u64>)
     requires { length buf.old.text + 26 ≤ buf.old.room }
     ensures text { buf.new ≡ record buf.old { text = buf.old.text ++ (codes "gone " ++ gone_text gone ++ codes "\n") } }
@@ -124,7 +124,7 @@ fn put_gone_line(buf: &mut PageBuf, gone: Option<u64>)
     }
 }
 
-/// Appends the line of how a row stands at a unit, by whether it is born by then and whether its table holds it.
+/// Appends the line with a row's state at a unit. `born` tells if the row is born by the unit, and `held` if its table holds it.
 fn put_state_line(buf: &mut PageBuf, born: bool, held: bool)
     requires { length buf.old.text + 13 ≤ buf.old.room }
     ensures text { buf.new ≡ record buf.old { text = buf.old.text ++ (codes "state " ++ state_text born held ++ codes "\n") } }
@@ -139,8 +139,8 @@ fn put_state_line(buf: &mut PageBuf, born: bool, held: bool)
     }
 }
 
-/// Appends what is told at unit `t` of the row of ordinal `j`, which has this key and is alive then: the unit of its last change, and
-/// its line. It asks at most as many permutations as the cost of a row counts for its line.
+/// Appends the unit of the last change and the line of the row of ordinal `j`. The row must be alive at unit `t` and have the key
+/// `key`. Takes at most as many permutations as the cost of a row counts for its line.
 fn put_held<L: Ledger>(
     plan: &Plan,
     table: u32,

@@ -18,8 +18,8 @@ use schema_plan::Plan;
 use std::sync::ledger::Ledger;
 use step_count::Steps;
 
-/// Whether a table holds the row of ordinal `j` at unit `t`: it is born by then and not dead. It asks at most as many permutations as
-/// the cost of a row counts for its death.
+/// Whether a table holds the row of ordinal `j` at unit `t`: it is born by the unit and not dead. Takes at most as many
+/// permutations as the cost of a row counts for its death.
 pub fn live<L: Ledger>(plan: &Plan, table: u32, j: u64, t: u64, steps: &mut Steps<L>) -> bool
     requires table { table < length plan.now.schema.tables }
     requires unit { t ≤ last_unit plan.now }
@@ -38,8 +38,8 @@ pub fn live<L: Ledger>(plan: &Plan, table: u32, j: u64, t: u64, steps: &mut Step
     }
 }
 
-/// Appends the line at unit `t` of the row of ordinal `j`, which is born by then and alive. The greatest line of the table has
-/// to be free. It asks at most as many permutations as the cost of a row counts for its line.
+/// Appends the line at unit `t` of the row of ordinal `j`, which must be born by the unit and alive. The size of the table's
+/// greatest line must be free. Takes at most as many permutations as the cost of a row counts for its line.
 pub fn put_line<L: Ledger>(
     plan: &Plan,
     table: u32,
@@ -63,8 +63,8 @@ pub fn put_line<L: Ledger>(
     CohortLines::new(&rows, table, born, t).put_line(index, buf, steps);
 }
 
-/// Appends the key line of the row of ordinal `j`: its key and a line feed, for which `KEY_LINE` bytes have to be free. It takes
-/// one step where the keys are scrambled, else none.
+/// Appends the key line of the row of ordinal `j`: its key and a line feed. `KEY_LINE` bytes must be free. Takes one step if the
+/// keys are scrambled, else none.
 pub fn put_key<L: Ledger>(plan: &Plan, table: u32, j: u64, buf: &mut PageBuf, steps: &mut Steps<L>)
     requires table { table < length plan.now.schema.tables }
     requires row { j < rows_in_all plan.now table }

@@ -1,15 +1,15 @@
-//! What the loops of a run work on.
+//! The buffers on which the loops of a run work.
 
 use draw_values::{ItemizedField, RunNumbers};
 use line_pages::Piece;
 
-/// The most rows of a run: more of them at once are no faster.
+/// The most rows of a run. More rows at once are no faster.
 pub(crate) const MOST_ROWS: usize = 256;
 
-/// How many pieces the columns of a run share.
+/// The number of pieces that the columns of a run share.
 pub(crate) const PIECES: usize = 1024;
 
-/// Rows of a table, side by side: their ordinals, the units of their births, and whether each is alive.
+/// Rows of a table, side by side: their ordinals, their units of birth, and whether each is alive.
 #[derive(Drop)]
 pub(crate) struct RowBuf {
     pub(crate) ordinals: [u64; MOST_ROWS],
@@ -27,8 +27,8 @@ impl RowBuf {
     }
 }
 
-/// What the fields of rows are made of: the units of their last changes, their keys, the keys of their parents by one reference, a piece for
-/// each field, and what is drawn of those of several items.
+/// What the fields of rows are made from: the units of their last changes, their keys, the keys of their parents by one reference,
+/// a piece for each field, and what is drawn for fields of several items.
 #[derive(Drop)]
 pub(crate) struct FieldBuf {
     pub(crate) changes: [u64; MOST_ROWS],
@@ -39,8 +39,8 @@ pub(crate) struct FieldBuf {
     pub(crate) items: [ItemizedField; PIECES],
 }
 
-/// What the loops of a run work on: its rows, their parents by one reference, and what their fields are made of. It is made once for many runs, and holds nothing from
-/// one to the next.
+/// The buffers on which the loops of a run work: its rows, their parents by one reference, and what their fields are made from.
+/// They are made once for many runs. Nothing is kept from one run to the next.
 #[derive(Drop)]
 pub struct RunBuf {
     pub(crate) rows: RowBuf,
@@ -49,7 +49,7 @@ pub struct RunBuf {
 }
 
 impl RunBuf {
-    /// Room for a run.
+    /// Returns room for a run.
     pub fn new() -> RunBuf {
         RunBuf {
             rows: RowBuf::new(),

@@ -24,8 +24,8 @@ use std::sync::ledger::Ledger;
 use step_count::Steps;
 
 impl<'a> RunLines<'a> {
-    /// Makes the fields of the rows of a run, column by column, where they are short. The columns stand one after the other, each over
-    /// as many pieces as there are rows.
+    /// Makes the short fields of a run's rows, column by column. The columns stand one after the other, each with as many pieces as
+    /// there are rows.
     pub(crate) fn put_columns<L: Ledger>(
         &self,
         rows: RunRows<'_>,
@@ -64,8 +64,8 @@ impl<'a> RunLines<'a> {
         }
     }
 
-    /// What is drawn of the fields of the rows of a run before their items, column by column, where they are of several. The columns stand
-    /// one after the other, each over as many places as there are rows.
+    /// Draws what the fields of several items of a run's rows need before their items, column by column. The columns stand one
+    /// after the other, each with as many places as there are rows.
     pub(crate) fn itemize_columns(
         &self,
         rows: RunRows<'_>,
@@ -83,7 +83,7 @@ impl<'a> RunLines<'a> {
         }
     }
 
-    /// The same of the column at a place.
+    /// Draws what the fields of the column at a place need before their items, if they are of several items.
     fn itemize_column(
         &self,
         column: usize,
@@ -103,7 +103,7 @@ impl<'a> RunLines<'a> {
         }
     }
 
-    /// Makes those of the column at a place, where they are short.
+    /// Makes the fields of the column at a place, if they are short.
     fn put_column<L: Ledger>(
         &self,
         column: usize,
@@ -196,7 +196,8 @@ impl<'a> RunLines<'a> {
         columns[column].fill(plan, self.digits, rows, numbers, pieces);
     }
 
-    /// Makes the keys of the rows' parents by a reference, which is ready in the column at a place; null ones where it has become null.
+    /// Makes the keys of the rows' parents by the reference in the column at a place. A reference that has become null gives a
+    /// null.
     fn put_references<L: Ledger>(
         &self,
         column: usize,
@@ -236,14 +237,14 @@ impl<'a> RunLines<'a> {
     }
 }
 
-/// A null field, and the byte behind it.
+/// Returns a null and the byte after it.
 fn null_piece(behind: u8) -> Piece
     ensures { piece_text result ≡ codes "\\N" ++ behind ∷ [] }
 {
     Piece::of_byte(behind).prepend(b'N').prepend(b'\\')
 }
 
-/// Puts a piece in the place of those beside which a flag is false.
+/// Replaces each piece whose flag is false with the piece `null`.
 fn put_nulls(held: &[bool], null: Piece, pieces: &mut [Piece])
     requires { length held.now ≡ length pieces.old }
     ensures { (i : ℕ) → i < length pieces.old → piece_text_at pieces.new i ≡ (if get_or held.now i false then piece_text_at pieces.old i else piece_text null) }

@@ -13,11 +13,11 @@ use line_pages::{Digits, PageBuf, Piece};
 use std::sync::ledger::Ledger;
 use step_count::Steps;
 
-/// The size of the longest key line: a number of 20 digits and a line feed.
+/// The size of the longest key line in bytes: a number of 20 digits and a line feed.
 pub const KEY_LINE: usize = 21;
 
-/// Appends the key lines of the rows of these ordinals, of the units 0 to the last. For each `KEY_LINE` bytes have to be free. Each takes one
-/// step where the keys are scrambled, else none.
+/// Appends the key lines of the rows of these ordinals, of the units 0 to the last. `KEY_LINE` bytes must be free for each row.
+/// Each row takes one step if the keys are scrambled, else none.
 pub fn put_keys<L: Ledger>(
     rows: &Rows<'_>,
     digits: &Digits,
@@ -43,7 +43,7 @@ pub fn put_keys<L: Ledger>(
     }
 }
 
-/// The same of no more rows than a run has.
+/// Appends the key lines of at most as many rows as a run has.
 fn put_few_keys<L: Ledger>(
     rows: &Rows<'_>,
     digits: &Digits,

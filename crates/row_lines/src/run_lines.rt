@@ -1,4 +1,4 @@
-//! The lines of a run's rows, put together of pieces and of fields that give none.
+//! The lines of a run's rows, put together from pieces and from fields that give none.
 
 ghost use Rattle.std.specs.Prelude.{◌≡◌, ◌<◌, ◌≤◌, ℕ, ◌+◌, ◌*◌, ◌++◌, false, get_or, length, sum_by, true};
 ghost use Rattle.std.specs.List.{range_with_len};
@@ -22,7 +22,7 @@ use std::sync::ledger::Ledger;
 use step_count::Steps;
 
 impl<'a> RunLines<'a> {
-    /// Appends the lines of the rows of a run, whose short fields are made, and what is drawn of those of several items.
+    /// Appends the lines of a run's rows. The short fields must be made, and what fields of several items need must be drawn.
     pub(crate) fn put_lines<L: Ledger>(
         &self,
         rows: RunRows<'_>,
@@ -56,7 +56,7 @@ impl<'a> RunLines<'a> {
         }
     }
 
-    /// Makes lines those of the rows that are born at a unit, where they aren't yet.
+    /// Turns `lines` to the cohort of a unit of birth, unless they are of that cohort.
     #[inline(always)]
     fn turn_to(&self, born: u64, lines: &mut CohortLines<'a>)
         requires born { born ≤ self.now.unit }
@@ -68,7 +68,7 @@ impl<'a> RunLines<'a> {
         }
     }
 
-    /// Appends the line of the row at a place of a run, which has this key; `lines` are those of the rows that are born with it.
+    /// Appends the line of the row at a place of a run, which must have the key `key`. `lines` are those of the row's cohort.
     fn put_mixed_line<L: Ledger>(
         &self,
         row: usize,
@@ -101,8 +101,8 @@ impl<'a> RunLines<'a> {
         }
     }
 
-    /// Appends the field of the row at a place of a run in the column at a place, with the byte behind it: the piece or by what is drawn of
-    /// its items, where there is such a one.
+    /// Appends a row's field in the column at a place and the byte after it. A short field is put as its piece. A field of several
+    /// items is put by what is drawn for it. Any other field is put by its row.
     #[inline(always)]
     fn put_mixed_field<L: Ledger>(
         &self,
@@ -140,7 +140,7 @@ impl<'a> RunLines<'a> {
         }
     }
 
-    /// The same by the row alone.
+    /// Appends a row's field, with the byte after it, by the row itself.
     fn put_other_field<L: Ledger>(
         &self,
         column: usize,

@@ -1,4 +1,4 @@
-//! What a run's rows look up of their parents, as pieces.
+//! What a run's rows look up in their parents, as pieces.
 
 ghost use Rattle.std.specs.Prelude.{◌≡◌, ℕ, ◌<◌, ◌≤◌, ◌+◌, ◌*◌, [], ◌∷◌, ◌++◌, get_or, length, true};
 ghost use Rattle.line_pages.specs.Rows.{piece_text_at};
@@ -22,8 +22,8 @@ use std::sync::ledger::Ledger;
 use step_count::Steps;
 
 impl<'a> RunLines<'a> {
-    /// Makes what the rows look up of their parents, by a lookup that is ready in the column at a place; null ones where they are drawn
-    /// to be null.
+    /// Makes what the rows look up in their parents, by the lookup in the column at a place. A field that is drawn to be null gives
+    /// a null.
     pub(crate) fn put_lookups<L: Ledger>(
         &self,
         column: usize,
@@ -59,7 +59,8 @@ impl<'a> RunLines<'a> {
         own[column].null_out(plan, rows, numbers, pieces);
     }
 
-    /// Makes what rows of a table hold in a column that doesn't move, prepared for runs, where all that it may hold is short.
+    /// Makes what the rows of a table hold in a column that is prepared for runs. The column must not move, and all its fields must
+    /// be short.
     fn put_shown(
         &self,
         shown: &RunColumn,

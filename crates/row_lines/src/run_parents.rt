@@ -1,4 +1,4 @@
-//! The parents of a run's rows, found once for all the fields that need them.
+//! The parents of a run's rows, found once for all fields that need them.
 
 ghost use Rattle.std.specs.Prelude.{◌≡◌, ◌≤◌, ◌+◌, None, Some, length};
 ghost use Rattle.life_intervals.specs.CohortParents.{IsReferenceOf};
@@ -12,8 +12,8 @@ use std::marker::Model;
 use std::sync::ledger::Ledger;
 use step_count::Steps;
 
-/// The parents of a run's rows by the reference in a column: their ordinals, and the units of their births. A contract sees the column,
-/// None where they aren't found, and both lists.
+/// The parents of a run's rows by the reference in a column: their ordinals and their units of birth. A contract sees both lists
+/// and the column, which is None if the parents aren't found.
 #[derive(Drop)]
 pub(crate) struct Parents<'a> {
     pub(crate) by: Option<usize>,
@@ -30,7 +30,7 @@ impl<'a> Model for Parents<'a> {
 }
 
 impl<'a> Parents<'a> {
-    /// Their ordinals.
+    /// Returns the parents' ordinals.
     #[inline(always)]
     pub(crate) fn ordinals(&self) -> &[u64]
         ensures { result.now ≡ self.now.ordinals }
@@ -38,7 +38,7 @@ impl<'a> Parents<'a> {
         &*self.ordinals
     }
 
-    /// The units of their births.
+    /// Returns the parents' units of birth.
     #[inline(always)]
     pub(crate) fn births(&self) -> &[u64]
         ensures { result.now ≡ self.now.births }
@@ -46,7 +46,7 @@ impl<'a> Parents<'a> {
         &*self.births
     }
 
-    /// Whether they are those by the reference in a column.
+    /// Whether these are the parents by the reference in a column.
     fn is_by(&self, column: usize) -> bool
         ensures { result ≡ is_by self.now column }
     {
@@ -58,7 +58,7 @@ impl<'a> Parents<'a> {
 }
 
 impl<'a> RunLines<'a> {
-    /// Finds the parents of the rows by the reference that is ready in the column at a place, where they aren't known.
+    /// Finds the rows' parents by the reference in the column at a place, unless they are known.
     pub(crate) fn find_parents<L: Ledger>(
         &self,
         column: usize,

@@ -1,5 +1,5 @@
-//! The lines at a unit of a table's rows, run by run: of up to 256 rows at once each column's fields are made, as pieces, and then
-//! the lines are put together of these.
+//! The lines of a table's rows at a unit, run by run. A run makes the fields of up to 256 rows, column by column, as pieces. Then
+//! it puts the lines together from the pieces.
 
 ghost use Rattle.std.specs.Prelude.{◌≡◌, ◌<◌, ◌≤◌, ℕ, ◌+◌, ◌*◌, ◌++◌, [], get_or, length, take, true};
 ghost use Rattle.cohort_sizes.specs.Births.{born_count};
@@ -24,16 +24,16 @@ use std::marker::Model;
 use std::sync::ledger::Ledger;
 use step_count::Steps;
 
-/// Of the rows of a run the living.
+/// The living rows among a run's rows.
 #[derive(Clone, Copy)]
 struct Living {
-    /// How many they are.
+    /// The number of living rows.
     count: usize,
-    /// The column of the reference by which their parents are found; None where they aren't.
+    /// The column of the reference by which their parents are found; None if they aren't found.
     by: Option<usize>,
 }
 
-/// The lines at a unit of a table's rows, by the orders that are kept for a job. A contract sees the plan, the table and the unit.
+/// The lines of a table's rows at a unit, by the orders that are kept for a job. A contract sees the plan, the table and the unit.
 #[derive(Drop)]
 pub struct RunLines<'a> {
     pub(crate) rows: &'a Rows<'a>,
@@ -55,7 +55,7 @@ impl<'a> Model for RunLines<'a> {
 }
 
 impl<'a> RunLines<'a> {
-    /// The lines of a table at a unit, by what is worked out for it.
+    /// Returns the lines of a table at a unit, made from what is worked out for the table.
     pub fn new(
         rows: &'a Rows<'a>,
         lines: &'a TableLines,
@@ -80,7 +80,7 @@ impl<'a> RunLines<'a> {
         }
     }
 
-    /// How many columns the table has.
+    /// Returns the number of the table's columns.
     pub(crate) fn column_count(&self) -> usize
         ensures many { result ≡ length (table_of self.now.plan self.now.table).columns }
         ensures some { 1 ≤ result }
@@ -89,7 +89,7 @@ impl<'a> RunLines<'a> {
         self.rows.plan().columns(self.table).len()
     }
 
-    /// How many rows a run has at most: the columns share the pieces.
+    /// Returns the most rows of a run. The columns share the pieces, so a table with many columns has fewer rows in a run.
     fn rows_at_once(&self) -> usize
         ensures some { 1 ≤ result }
         ensures rows { result ≤ MOST_ROWS }
@@ -98,7 +98,7 @@ impl<'a> RunLines<'a> {
         MOST_ROWS.min(PIECES / self.column_count())
     }
 
-    /// The first unit whose cohort may have living rows, up to the unit of the lines.
+    /// Returns the first unit whose cohort can have living rows, up to the unit of the lines.
     fn first_unit(&self) -> u64
         ensures within { result ≤ self.now.unit }
         ensures over { (born : ℕ) → born < result → survival_at self.now.plan self.now.table born self.now.unit ≡ Survival.Over }
@@ -113,7 +113,7 @@ impl<'a> RunLines<'a> {
         self.unit
     }
 
-    /// The ordinal of the first row that may be alive: none before it is, since the longest life of each has ended.
+    /// Returns the ordinal of the first row that can be alive. No row before it is alive, since the longest life of each has ended.
     pub fn first_living(&self) -> u64
         ensures within { result ≤ born_count (table_of self.now.plan self.now.table).births self.now.unit }
         ensures none { run_text self.now 0 result ≡ [] }
@@ -122,8 +122,9 @@ impl<'a> RunLines<'a> {
         cohort(self.rows.plan(), self.table, born).first
     }
 
-    /// Appends the lines of the living among `count` rows from the one of ordinal `first` on, which are born by the unit. The greatest
-    /// line of the table has to be free for each. Each row asks at most as many permutations as its cost says.
+    /// Appends the lines of the living rows among `count` rows, from the row of ordinal `first` on. The rows must be born by the
+    /// unit. The size of the table's greatest line must be free for each row. Each row takes at most as many permutations as its
+    /// cost.
     pub fn put_run<L: Ledger>(
         &self,
         first: u64,
@@ -148,8 +149,8 @@ impl<'a> RunLines<'a> {
         }
     }
 
-    /// Appends the lines of the rows of these ordinals, which are born by the unit and alive. The greatest line of the table has to be
-    /// free for each. Each row asks at most as many permutations as the cost of a line says.
+    /// Appends the lines of the rows of these ordinals, which must be born by the unit and alive. The size of the table's greatest
+    /// line must be free for each row. Each row takes at most as many permutations as the cost of a line.
     pub fn put_listed<L: Ledger>(
         &self,
         ordinals: &[u64],
@@ -173,7 +174,7 @@ impl<'a> RunLines<'a> {
         }
     }
 
-    /// The same of no more rows than a run has.
+    /// Appends the lines of listed rows, at most as many as a run has.
     fn put_few<L: Ledger>(
         &self,
         listed: &[u64],
@@ -215,7 +216,7 @@ impl<'a> RunLines<'a> {
         );
     }
 
-    /// The same of no more rows than a run has.
+    /// Appends the lines of the living rows among `count` rows, at most as many as a run has.
     fn put_rows<L: Ledger>(
         &self,
         first: u64,
@@ -272,8 +273,8 @@ impl<'a> RunLines<'a> {
         );
     }
 
-    /// Puts the ordinals of the living among the rows from the one of ordinal `first` on, as many as the lists are long, and the units of
-    /// their births, to the begin of the lists, and those of their parents where these were found.
+    /// Puts the ordinals of the living rows, and their units of birth, at the start of the lists. The rows are those from the
+    /// ordinal `first` on, as many as the lists are long. If the parents were found, theirs are put in the same way.
     fn find_living<L: Ledger>(
         &self,
         first: u64,
@@ -319,7 +320,7 @@ impl<'a> RunLines<'a> {
         }
     }
 
-    /// Appends the lines of living rows, with the units of their births, and their parents, where these were found.
+    /// Appends the lines of living rows, by their units of birth and by their parents, if these were found.
     fn put_living<L: Ledger>(
         &self,
         ordinals: &[u64],

@@ -15,8 +15,8 @@ use std::marker::Model;
 /// The first number of more than 15 digits.
 const LONG: u64 = 1_000_000_000_000_000;
 
-/// What the lines at a unit of a table's rows are made from, worked out once for a job. A contract sees the columns, prepared for
-/// runs, so those of parents' tables that the lookups among them show, and which are made as pieces.
+/// What the lines of a table's rows at a unit are made from, worked out once for a job. A contract sees the columns that are
+/// prepared for runs, the parents' columns that their lookups show, and which columns are made as pieces.
 pub struct TableLines {
     columns: Vec<RunColumn>,
     shown: Vec<Option<RunColumn>>,
@@ -45,7 +45,7 @@ impl Model for TableLines {
 }
 
 impl TableLines {
-    /// For the lines of a table at a unit. At `Memory` nothing is made.
+    /// Makes this for the lines of a table at a unit. Makes nothing at `Memory`.
     pub fn new(alloc: Global, plan: &Plan, table: u32, unit: u64) -> Result<TableLines, Memory>
         requires table { table < length plan.now.schema.tables }
         requires unit { unit ≤ last_unit plan.now }
@@ -69,7 +69,7 @@ impl TableLines {
         })
     }
 
-    /// The columns, prepared for runs.
+    /// Returns the columns, prepared for runs.
     #[inline(always)]
     pub(crate) fn columns(&self) -> &[RunColumn]
         ensures { result.now ≡ self.now.columns }
@@ -77,7 +77,7 @@ impl TableLines {
         self.columns.as_slice()
     }
 
-    /// Those that the lookups among them show.
+    /// Returns, for each lookup, the column that it shows.
     #[inline(always)]
     pub(crate) fn shown(&self) -> &[Option<RunColumn>]
         ensures { result.now ≡ self.now.shown }
@@ -85,7 +85,7 @@ impl TableLines {
         self.shown.as_slice()
     }
 
-    /// Which of them are made as pieces.
+    /// Returns which columns are made as pieces.
     #[inline(always)]
     pub(crate) fn short(&self) -> &[bool]
         ensures { result.now ≡ self.now.short }
@@ -94,7 +94,7 @@ impl TableLines {
     }
 }
 
-/// The column at a place, prepared for runs, with the byte behind it.
+/// Prepares the column at a place for runs, with the byte after its fields.
 fn table_column(
     alloc: Global,
     plan: &Plan,
@@ -112,8 +112,8 @@ fn table_column(
     RunColumn::new(alloc, plan, table, column as u32, behind, unit)
 }
 
-/// The column of the parent's table that a lookup at a place shows, prepared for runs, with the byte behind the lookup; None where the
-/// column is no lookup.
+/// Prepares for runs the column of the parent's table that a lookup shows, with the byte after the lookup's fields. Returns None if
+/// the column isn't a lookup.
 fn shown_column(
     alloc: Global,
     plan: &Plan,
@@ -152,7 +152,7 @@ pub(crate) fn has_short_keys(plan: &Plan, table: u32) -> bool
     plan.keys(table).base + born(plan, table, plan.units()) <= LONG
 }
 
-/// Whether the fields of the column at a place of a table, prepared for runs, are made as pieces.
+/// Whether the fields of the column at a place of a table are made as pieces. `made` is the column, prepared for runs.
 fn is_short(
     plan: &Plan,
     table: u32,
@@ -176,7 +176,7 @@ fn is_short(
     }
 }
 
-/// Whether there is a column that a lookup shows, and its fields are made as pieces.
+/// Whether a lookup shows a column whose fields are made as pieces.
 fn shown_is_short(shown: &Option<RunColumn>) -> bool
     ensures { result ≡ is_short_shown shown.now }
 {
