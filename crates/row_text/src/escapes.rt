@@ -4,7 +4,7 @@ ghost use Rattle.std.specs.Prelude.{◌≡◌, ◌<◌, ◌≤◌, ◌+◌, [], 
 ghost use Rattle.std.specs.Bool.{OnFalse, OnTrue};
 ghost use Rattle.row_text.specs.Fields.{escaped, escaped_text};
 
-/// The byte that is written behind a backslash for this byte; None where the byte stands for itself.
+/// Returns the byte that is written after a backslash for this byte. Returns None if the byte stands for itself.
 #[inline]
 #[tactic(auto, unfolding(crate::specs::Fields::escaped))]
 pub(crate) fn letter_of(byte: u8, delimiter: u8) -> Option<u8>
@@ -24,7 +24,7 @@ pub(crate) fn letter_of(byte: u8, delimiter: u8) -> Option<u8>
     }
 }
 
-/// Whether the byte doesn't stand for itself.
+/// Whether a byte doesn't stand for itself.
 #[inline]
 fn is_escaped(byte: u8, delimiter: u8) -> bool
     ensures itself { OnFalse result (escaped delimiter byte ≡ byte ∷ []) }
@@ -33,7 +33,8 @@ fn is_escaped(byte: u8, delimiter: u8) -> bool
     ((byte >= 8) & (byte <= 13)) | (byte == b'\\') | ((byte == b'|') & (delimiter == b'|'))
 }
 
-/// Whether a byte doesn't stand for itself. Each is looked at, with no branch, so that a processor takes many at once.
+/// Whether some byte doesn't stand for itself. The loop looks at each byte without a branch, so that a processor takes many at
+/// once.
 pub(crate) fn has_escape(bytes: &[u8], delimiter: u8) -> bool
     ensures none { OnFalse result (escaped_text delimiter bytes.now ≡ bytes.now) }
     ensures some { OnTrue result (length bytes.now < length (escaped_text delimiter bytes.now)) }
@@ -45,7 +46,7 @@ pub(crate) fn has_escape(bytes: &[u8], delimiter: u8) -> bool
     found > 0
 }
 
-/// How many of the bytes don't stand for themselves.
+/// Returns how many of the bytes don't stand for themselves.
 pub(crate) fn escape_count(bytes: &[u8], delimiter: u8) -> usize
     ensures count { length bytes.now + result ≡ length (escaped_text delimiter bytes.now) }
     ensures within { result ≤ length bytes.now }

@@ -13,7 +13,7 @@ struct Span {
     end: usize,
 }
 
-/// Fields, each null or the bytes of a text, one behind the other in one buffer. A contract sees their list.
+/// Fields, each null or the bytes of a text, one after the other in one buffer. A contract sees their list.
 #[derive(Debug, Drop)]
 pub struct Fields {
     bytes: Vec<u8>,
@@ -32,7 +32,7 @@ impl Model for Fields {
 }
 
 impl Fields {
-    /// No fields, which take no memory.
+    /// Returns no fields. Takes no memory.
     pub(crate) fn new(alloc: Global) -> Fields
         ensures { result ≡ [] }
     {
@@ -42,7 +42,7 @@ impl Fields {
         }
     }
 
-    /// Puts a null field behind the others.
+    /// Appends a null field.
     pub(crate) fn push_null(&mut self) -> Result<(), Memory>
         ensures { OnOk result (self.new ≡ self.old ++ None ∷ []) }
     {
@@ -50,7 +50,7 @@ impl Fields {
         Ok(())
     }
 
-    /// Puts a field behind the others that is a text.
+    /// Appends a field that is a text.
     pub(crate) fn push_text(&mut self, text: &[u8]) -> Result<(), Memory>
         ensures { OnOk result (self.new ≡ self.old ++ Some text.now ∷ []) }
     {
@@ -63,7 +63,7 @@ impl Fields {
         Ok(())
     }
 
-    /// The number of fields.
+    /// Returns the number of fields.
     pub fn len(&self) -> usize
         ensures { result ≡ length self.now }
     {
@@ -77,7 +77,7 @@ impl Fields {
         self.spans.is_empty()
     }
 
-    /// The field at index `i`, which counts from 0: the bytes of its text, and None exactly where it is null.
+    /// Returns the field at index `i`, from 0: the bytes of its text. Returns None exactly if the field is null.
     pub fn get(&self, i: usize) -> Option<&[u8]>
         requires { i < length self.now }
         ensures { slice_get self.now i ≡ Some (option_copied result) }

@@ -1,4 +1,4 @@
-//! A field as it is written into a page.
+//! A field, as it is written into a page.
 
 ghost use Rattle.std.specs.Prelude.{◌≡◌, ◌≤◌, ◌+◌, ◌++◌, length, None, codes, option_copied};
 ghost use Rattle.row_text.specs.Fields.{IsDelimiter, field_text, escaped_text};
@@ -6,7 +6,7 @@ ghost use Rattle.row_text.specs.Fields.{IsDelimiter, field_text, escaped_text};
 use crate::escapes::{escape_count, has_escape, letter_of};
 use line_pages::PageBuf;
 
-/// Appends a text, or a piece of one, as it is written. As many bytes as that takes have to be free.
+/// Appends a text, or a part of one, as it is written. As many bytes as it takes must be free.
 pub fn put_piece(buf: &mut PageBuf, bytes: &[u8], delimiter: u8)
     requires delimiter { IsDelimiter delimiter }
     requires room { length buf.old.text + length (escaped_text delimiter bytes.now) ≤ buf.old.room }
@@ -19,7 +19,7 @@ pub fn put_piece(buf: &mut PageBuf, bytes: &[u8], delimiter: u8)
     }
 }
 
-/// The same: each run of bytes that stand for themselves is put at once.
+/// Appends a text as it is written. Each run of bytes that stand for themselves is appended at once.
 fn put_runs(buf: &mut PageBuf, bytes: &[u8], delimiter: u8)
     requires { length buf.old.text + length (escaped_text delimiter bytes.now) ≤ buf.old.room }
     ensures { buf.new ≡ record buf.old { text = buf.old.text ++ escaped_text delimiter bytes.now } }
@@ -35,7 +35,7 @@ fn put_runs(buf: &mut PageBuf, bytes: &[u8], delimiter: u8)
     buf.put(&bytes[start..]);
 }
 
-/// Appends a null field. 2 bytes have to be free.
+/// Appends a null field. 2 bytes must be free.
 pub fn put_null(buf: &mut PageBuf)
     requires { length buf.old.text + 2 ≤ buf.old.room }
     ensures { buf.new ≡ record buf.old { text = buf.old.text ++ codes "\\N" } }
@@ -43,7 +43,7 @@ pub fn put_null(buf: &mut PageBuf)
     buf.put(b"\\N");
 }
 
-/// Appends a field, null where it is None. As many bytes as its size have to be free.
+/// Appends a field. None is a null field. As many bytes as the field's size must be free.
 pub fn put_field(buf: &mut PageBuf, field: Option<&[u8]>, delimiter: u8)
     requires delimiter { IsDelimiter delimiter }
     requires room { length buf.old.text + length (field_text delimiter (option_copied field)) ≤ buf.old.room }
@@ -55,7 +55,7 @@ pub fn put_field(buf: &mut PageBuf, field: Option<&[u8]>, delimiter: u8)
     }
 }
 
-/// How many bytes `put_field` appends for a field, null where it is None.
+/// Returns how many bytes `put_field` appends for a field. None is a null field.
 pub fn field_size(field: Option<&[u8]>, delimiter: u8) -> usize
     ensures { result ≡ length (field_text delimiter (option_copied field.entry)) }
 {

@@ -4,7 +4,7 @@ ghost use Rattle.std.specs.Prelude.{◌≡◌, ◌≢◌, ℕ, ◌<◌, ◌≤�
 ghost use Rattle.row_text.specs.Fields.{EndsField, IsDelimiter, field_text, escaped_text};
 ghost use Rattle.row_text.specs.Lines.{IsLineBody};
 
-/// A text is written piece by piece.
+/// The text of two parts is written as the first part and then the second.
 pub fn text_is_written_piece_by_piece()
     ensures { (delimiter : ℕ) (xs ys : List ℕ) →
         escaped_text delimiter (xs ++ ys) ≡ escaped_text delimiter xs ++ escaped_text delimiter ys }
@@ -26,15 +26,15 @@ pub fn field_is_within_its_line()
     ensures tab { (delimiter : ℕ) (field : Option (List ℕ)) → ¬ Contains (field_text delimiter field) 9 }
 {}
 
-/// No two texts are written alike, and none as a null field is.
+/// Different texts are written differently, and no text is written like a null field.
 pub fn text_can_be_read_back()
     ensures text { (delimiter : ℕ) (xs ys : List ℕ) →
         escaped_text delimiter xs ≡ escaped_text delimiter ys → xs ≡ ys }
     ensures null { (delimiter : ℕ) (bytes : List ℕ) → escaped_text delimiter bytes ≢ codes "\\N" }
 {}
 
-/// A line that goes on with a field can be read in one way: its bytes tell where the field ends, what it holds, and
-/// whether the line ends there.
+/// A line that goes on with a field can be read in only one way. Its bytes tell where the field ends, what it holds, and whether
+/// the line ends there.
 pub fn field_can_be_read_back()
     ensures { (delimiter end other_end : ℕ) (field other : Option (List ℕ)) (rest other_rest : List ℕ) →
         IsDelimiter delimiter → EndsField delimiter end → EndsField delimiter other_end →
@@ -42,13 +42,13 @@ pub fn field_can_be_read_back()
         (field ≡ other) × (end ≡ other_end) × (rest ≡ other_rest) }
 {}
 
-/// A line body can be read in one way: no two lists of fields are written alike.
+/// A line body can be read in only one way: different lists of fields are written differently.
 pub fn line_can_be_read_back()
     ensures { (delimiter : ℕ) (fields others : List (Option (List ℕ))) (bytes : List ℕ) →
         IsDelimiter delimiter → IsLineBody delimiter fields bytes → IsLineBody delimiter others bytes → fields ≡ others }
 {}
 
-/// A line body holds no line feed, so the first one behind it ends its line.
+/// A line body holds no line feed, so the first line feed after it ends its line.
 pub fn line_body_holds_no_line_feed()
     ensures { (delimiter : ℕ) (fields : List (Option (List ℕ))) (bytes : List ℕ) →
         IsDelimiter delimiter → IsLineBody delimiter fields bytes → ¬ Contains bytes 10 }

@@ -3,14 +3,14 @@
 ghost use Rattle.std.specs.Prelude.{◌≡◌, ◌≤◌, length, drop, Contains, MatchOption};
 ghost use Rattle.row_text.specs.Lines.{IsLineAt};
 
-/// The bounds of a line in a text, as indices of bytes: where it starts, and where its line feed stands.
+/// The bounds of a line in a text, as indices of bytes: its start, and the place of its line feed.
 #[derive(Clone, Copy, Debug, PartialEq, Eq)]
 pub struct LineAt {
     pub start: usize,
     pub end: usize,
 }
 
-/// The line that starts at index `from`. None exactly where no line feed stands there or behind.
+/// Returns the line that starts at index `from`. Returns None exactly if there is no line feed from there on.
 pub fn next_line(bytes: &[u8], from: usize) -> Option<LineAt>
     requires { from ≤ length bytes.now }
     ensures { MatchOption result

@@ -1,4 +1,4 @@
-//! A line body read back: its fields, or where it goes wrong.
+//! Reading a line body back: its fields, or where it goes wrong.
 
 ghost use Rattle.std.specs.Prelude.{◌≡◌, ◌≢◌, ℕ, [], ◌∷◌, ◌++◌, IfErr, IfNone, IfOk, IfSome};
 ghost use Rattle.std.specs.Bool.{OnFalse, OnTrue};
@@ -15,7 +15,7 @@ use std::alloc::Global;
 /// Why a line gives no fields.
 #[derive(Clone, Copy, Debug, PartialEq, Eq)]
 pub enum LineFault {
-    /// The bytes are no line body, and this many of them are the longest prefix that some line body begins with.
+    /// The bytes are no line body. `at` is the length of their longest prefix with which some line body begins, in bytes.
     BadAt { at: usize },
     /// Memory ran out.
     Memory,
@@ -36,13 +36,13 @@ impl From<Memory> for LineFault {
 enum Place {
     /// The text of the field, as far as it is read.
     Text,
-    /// That text, and a backslash.
+    /// The text of the field and a backslash.
     Backslash,
     /// A null field.
     Null,
 }
 
-/// A line as far as it is read: the fields that ended, and the one behind them.
+/// A line as far as it is read: the fields that have ended, and the field after them.
 #[derive(Drop)]
 struct Reader {
     fields: Fields,
@@ -50,8 +50,8 @@ struct Reader {
     place: Place,
 }
 
-/// The fields of a line body, written with this delimiter. `BadAt` exactly where the bytes are no line body, unless memory
-/// ran out before that was found.
+/// Returns the fields of a line body that is written with this delimiter. Returns `BadAt` exactly if the bytes are no line body,
+/// unless memory runs out before that is found.
 pub fn split_line(alloc: Global, line: &[u8], delimiter: u8) -> Result<Fields, LineFault>
     requires { IsDelimiter delimiter }
     ensures read { IfOk result (λ fields. IsLineBody delimiter fields line.now) }
@@ -70,7 +70,7 @@ pub fn split_line(alloc: Global, line: &[u8], delimiter: u8) -> Result<Fields, L
     finish(reader, line, delimiter)
 }
 
-/// Reads one byte more. False exactly where no line body goes on with it.
+/// Reads one more byte. Returns false exactly if no line body goes on with it.
 fn read_byte(reader: &mut Reader, byte: u8, delimiter: u8) -> Result<bool, Memory>
     requires { IsDelimiter delimiter }
     ensures read { IfOk result (λ taken. OnTrue taken (read_so_far delimiter reader.new ≡ read_so_far delimiter reader.old ++ byte ∷ [])) }
@@ -83,7 +83,7 @@ fn read_byte(reader: &mut Reader, byte: u8, delimiter: u8) -> Result<bool, Memor
     }
 }
 
-/// The same behind a text.
+/// Reads one more byte in a text, as `read_byte` does.
 fn read_in_text(reader: &mut Reader, byte: u8, delimiter: u8) -> Result<bool, Memory>
     requires delimiter { IsDelimiter delimiter }
     requires place { reader.old.place ≡ Text }
@@ -103,7 +103,7 @@ fn read_in_text(reader: &mut Reader, byte: u8, delimiter: u8) -> Result<bool, Me
     Ok(true)
 }
 
-/// The same behind a backslash.
+/// Reads one more byte after a backslash, as `read_byte` does.
 fn read_letter(reader: &mut Reader, letter: u8, delimiter: u8) -> Result<bool, Memory>
     requires delimiter { IsDelimiter delimiter }
     requires place { reader.old.place ≡ Backslash }
@@ -124,7 +124,7 @@ fn read_letter(reader: &mut Reader, letter: u8, delimiter: u8) -> Result<bool, M
     }
 }
 
-/// The same behind a null field.
+/// Reads one more byte after a null field, as `read_byte` does.
 fn read_behind_null(reader: &mut Reader, byte: u8, delimiter: u8) -> Result<bool, Memory>
     requires delimiter { IsDelimiter delimiter }
     requires place { reader.old.place ≡ Null }
@@ -140,7 +140,7 @@ fn read_behind_null(reader: &mut Reader, byte: u8, delimiter: u8) -> Result<bool
     Ok(true)
 }
 
-/// The byte that is written as a backslash and this letter; None where there is none.
+/// Returns the byte that is written as a backslash and this letter. Returns None if there is none.
 fn byte_of(letter: u8, delimiter: u8) -> Option<u8>
     ensures some { IfSome result (λ byte. escaped delimiter byte ≡ 92 ∷ letter ∷ []) }
     ensures none { IfNone result ((byte : ℕ) → escaped delimiter byte ≢ 92 ∷ letter ∷ []) }
@@ -152,7 +152,7 @@ fn byte_of(letter: u8, delimiter: u8) -> Option<u8>
     }
 }
 
-/// The only byte that may be written as a backslash and this letter.
+/// Returns the only byte that can be written as a backslash and this letter.
 fn candidate(letter: u8) -> u8
     ensures { (delimiter byte : ℕ) → escaped delimiter byte ≡ 92 ∷ letter ∷ [] → byte ≡ result }
 {
@@ -167,7 +167,7 @@ fn candidate(letter: u8) -> u8
     }
 }
 
-/// The fields of a line that is read whole.
+/// Returns the fields of a line that is read whole.
 fn finish(mut reader: Reader, line: &[u8], delimiter: u8) -> Result<Fields, LineFault>
     requires delimiter { IsDelimiter delimiter }
     requires whole { read_so_far delimiter reader ≡ line.now }

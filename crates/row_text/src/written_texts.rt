@@ -1,4 +1,4 @@
-//! Texts as they are written, kept in one buffer with the place where each ends, not one allocation each.
+//! Texts as they are written, kept in one buffer with the places of their ends. So a text needs no allocation of its own.
 
 ghost use Rattle.std.specs.Prelude.{◌≡◌, ◌<◌, ◌==◌, [], ◌∷◌, ◌++◌, length, slice_get, take, vec_len, Some, OnOk, OnErr};
 ghost use Rattle.row_text.specs.Fields.{escaped_text};
@@ -9,7 +9,7 @@ use crate::escapes::{has_escape, letter_of};
 use std::alloc::{AllocError, Global};
 use std::marker::Model;
 
-/// Texts as they are written, one behind the other in one buffer. A contract sees the list of what is written.
+/// Texts as they are written, one after the other in one buffer. A contract sees the list of what is written.
 #[derive(Debug, Drop)]
 pub struct WrittenTexts {
     bytes: Vec<u8>,
@@ -28,7 +28,7 @@ impl Model for WrittenTexts {
 }
 
 impl WrittenTexts {
-    /// No texts, which take no memory.
+    /// Returns no texts. Takes no memory.
     pub fn new(alloc: Global) -> WrittenTexts
         ensures { result ≡ [] }
     {
@@ -38,8 +38,7 @@ impl WrittenTexts {
         }
     }
 
-    /// Puts a text behind the others, as it is written between fields with this delimiter. At `Memory` the texts stay as they
-    /// were.
+    /// Appends a text as it is written between fields with this delimiter. At `Memory` the texts stay as they were.
     pub fn push(&mut self, text: &[u8], delimiter: u8) -> Result<(), Memory>
         ensures appended { OnOk result (self.new ≡ self.old ++ escaped_text delimiter text.now ∷ []) }
         ensures unchanged { OnErr result (self.new ≡ self.old) }
@@ -54,7 +53,7 @@ impl WrittenTexts {
         Err(Memory)
     }
 
-    /// The number of texts.
+    /// Returns the number of texts.
     pub fn len(&self) -> usize
         ensures { result ≡ length self.now }
     {
@@ -68,7 +67,7 @@ impl WrittenTexts {
         self.ends.is_empty()
     }
 
-    /// The text at index `i`, which counts from 0, as it is written.
+    /// Returns the text at index `i`, from 0, as it is written.
     #[inline]
     pub fn get(&self, i: usize) -> &[u8]
         requires { i < length self.now }
@@ -78,7 +77,7 @@ impl WrittenTexts {
     }
 }
 
-/// The text at a place.
+/// Returns the text at a place.
 #[inline]
 fn text_at<'a>(bytes: &'a [u8], ends: &[usize], i: usize) -> &'a [u8]
     requires ends { AreEnds bytes.now ends.now }
@@ -88,7 +87,7 @@ fn text_at<'a>(bytes: &'a [u8], ends: &[usize], i: usize) -> &'a [u8]
     &bytes[start_of(ends, i)..ends[i]]
 }
 
-/// Where the text at a place begins.
+/// Returns where the text at a place begins.
 #[inline]
 fn start_of(ends: &[usize], i: usize) -> usize
     requires { i < length ends.now }
@@ -97,7 +96,7 @@ fn start_of(ends: &[usize], i: usize) -> usize
     if i == 0 { 0 } else { ends[i - 1] }
 }
 
-/// Appends a text as it is written. Where memory is wanting, the bytes that were there still come first.
+/// Appends a text as it is written. If memory runs out, the buffer still begins with the bytes that it held.
 fn put_written(bytes: &mut Vec<u8>, text: &[u8], delimiter: u8) -> Result<(), AllocError>
     ensures appended { OnOk result (bytes.new.items ≡ bytes.old.items ++ escaped_text delimiter text.now) }
     ensures kept { OnErr result (take (vec_len bytes.old) bytes.new.items ≡ bytes.old.items) }
@@ -109,7 +108,7 @@ fn put_written(bytes: &mut Vec<u8>, text: &[u8], delimiter: u8) -> Result<(), Al
     }
 }
 
-/// The same, byte by byte.
+/// Appends a text byte by byte, as `put_written` does.
 fn put_escaped(bytes: &mut Vec<u8>, text: &[u8], delimiter: u8) -> Result<(), AllocError>
     ensures appended { OnOk result (bytes.new.items ≡ bytes.old.items ++ escaped_text delimiter text.now) }
     ensures kept { OnErr result (take (vec_len bytes.old) bytes.new.items ≡ bytes.old.items) }
