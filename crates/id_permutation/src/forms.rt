@@ -1,4 +1,4 @@
-//! The forms that kept orders have, and which form an order gets.
+//! The forms of kept orders, and the form that an order gets.
 
 ghost use Rattle.std.specs.Prelude.{◌≡◌, ◌-◌, ◌<◌, ◌≤◌, ◌^◌, IsTrue, IfOk, OnErr, length};
 ghost use Rattle.id_permutation.specs.Kept.{form_at, form_entries, tables_by, IsFormOf, IsCountable, IsSmall, AreMore};
@@ -12,7 +12,7 @@ use std::alloc::Global;
 
 const LARGEST: u64 = u32::MAX as u64;
 
-/// How orders of one size are kept: each number in its own place, of so many numbers, by rounds, or by tables.
+/// How orders of one size are kept: with each of their numbers in its own place, by rounds, or by tables.
 #[derive(Clone, Copy)]
 pub enum Form {
     InPlace(u64),
@@ -20,8 +20,9 @@ pub enum Form {
     Tables(Shape),
 }
 
-/// The form of a permutation of `size` numbers behind `forms` and `kept` entries: by tables exactly where they pay for all numbers and have at
-/// most `room` entries.
+/// Returns the form of a permutation of `size` numbers that is kept after `forms` and `kept` entries. It is by tables exactly if there
+/// are at most 2^32 numbers and the tables pay for all of them, have at most `room` entries, and end by 2^32 - 1 entries. Else it is
+/// by rounds.
 pub fn permutation_form(forms: &[Form], size: u64, kept: usize, room: u64) -> Form
     requires some { 1 ≤ size }
     requires small { size ≤ 2 ^ 40 }
@@ -39,7 +40,7 @@ pub fn permutation_form(forms: &[Form], size: u64, kept: usize, room: u64) -> Fo
     }
 }
 
-/// The shape of `size` numbers: that of the last form, if it has as many.
+/// Returns the shape of `size` numbers. Takes the last form's shape if it has this size.
 fn shape_of(forms: &[Form], size: u64) -> Shape
     requires some { 1 ≤ size }
     requires small { size ≤ 2 ^ 40 }
@@ -59,7 +60,7 @@ fn last_shape(forms: &[Form]) -> Option<Shape> {
     }
 }
 
-/// The tables that an order of this form has by `seed`: none, but by tables.
+/// Makes the tables of an order of this form by `seed`. Only the form by tables has any.
 pub fn tables_for(alloc: Global, form: &Form, seed: u64) -> Result<Vec<u16>, Memory>
     requires { IsSmall form.now }
     ensures { IfOk result (λ tables. tables.items ≡ tables_by form.now seed) }
@@ -79,7 +80,7 @@ fn shape_tables(alloc: Global, shape: &Shape, seed: u64) -> Result<Vec<u16>, Mem
     Ok(tables)
 }
 
-/// The place of a form among `forms`: the last, or else behind it, where it is put.
+/// Returns the place of a form in `forms`. If it isn't the last form there, appends it. At `Memory` `forms` stays as it was.
 pub fn form_index(forms: &mut Vec<Form>, form: Form) -> Result<u32, Memory>
     ensures more { AreMore forms.old.items forms.new.items }
     ensures below { IfOk result (λ index. index < length forms.new.items) }

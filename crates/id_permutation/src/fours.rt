@@ -1,4 +1,4 @@
-//! Places of numbers side by side, and numbers of places: none waits for the entries of another's rounds.
+//! Places of numbers, and numbers at places, found side by side. No number waits for the table entries of another.
 
 ghost use Rattle.std.specs.Prelude.{◌≡◌, ◌<◌, All, length, map};
 ghost use Rattle.id_permutation.specs.Fours.{AreWithin, four_after, four_by, four_of};
@@ -17,7 +17,7 @@ pub struct Four {
 }
 
 impl<'a> TableNetwork<'a> {
-    /// Puts the places of eight numbers over them.
+    /// Replaces eight numbers with their places.
     #[inline(always)]
     pub fn place_eight(&self, numbers: &mut [u64])
         requires eight { length numbers.old ≡ 8 }
@@ -52,7 +52,7 @@ impl<'a> TableNetwork<'a> {
         }
     }
 
-    /// The even round of a pair, and the odd one after it.
+    /// Moves the halves by the even round of a pair and the odd round after it.
     #[inline(always)]
     fn mix_four(&self, pair: u64, four: Four) -> Four
         requires few { pair < 3 }
@@ -68,7 +68,7 @@ impl<'a> TableNetwork<'a> {
         }
     }
 
-    /// Puts the places of four numbers over them, by their halves after all rounds.
+    /// Replaces four numbers with their places. `four` are their halves after all rounds.
     #[inline(always)]
     fn put_four(&self, four: Four, numbers: &mut [u64])
         requires four { length numbers.old ≡ 4 }
@@ -85,7 +85,7 @@ impl<'a> TableNetwork<'a> {
         numbers[3] = self.settled(fourth, four.fourth);
     }
 
-    /// The place of a number, by its halves after all rounds.
+    /// Returns the place of a number. `halves` are its halves after all rounds.
     #[inline(always)]
     fn settled(&self, number: u64, halves: Halves) -> u64
         requires below { number < self.now.network.size }
@@ -101,7 +101,7 @@ impl<'a> TableNetwork<'a> {
         }
     }
 
-    /// Puts the numbers over eight places that are their own.
+    /// Replaces eight places with the numbers that have them.
     #[inline(always)]
     pub fn number_eight(&self, places: &mut [u64])
         requires eight { length places.old ≡ 8 }
@@ -121,7 +121,7 @@ impl<'a> TableNetwork<'a> {
         self.put_four_numbers(second, high);
     }
 
-    /// The halves that the rounds of a pair make `four` of.
+    /// Returns the halves from which the rounds of a pair make `four`.
     #[inline(always)]
     fn unmix_four(&self, pair: u64, four: Four) -> Four
         requires few { pair < 3 }
@@ -137,7 +137,7 @@ impl<'a> TableNetwork<'a> {
         }
     }
 
-    /// Puts the numbers over four places, by the halves of which all rounds make those of the places.
+    /// Replaces four places with the numbers that have them. From the halves `four` all rounds make the halves of the places.
     #[inline(always)]
     fn put_four_numbers(&self, four: Four, places: &mut [u64])
         requires four { length places.old ≡ 4 }
@@ -154,7 +154,7 @@ impl<'a> TableNetwork<'a> {
         places[3] = self.settled_back(fourth, four.fourth);
     }
 
-    /// The number of a place, by the halves of which all rounds make those of the place.
+    /// Returns the number that has a place. From `halves` all rounds make the halves of the place.
     #[inline(always)]
     fn settled_back(&self, place: u64, halves: Halves) -> u64
         requires below { place < self.now.network.size }

@@ -4,14 +4,14 @@ ghost use Rattle.std.specs.Prelude.{◌≡◌, ◌+◌, ◌*◌, ◌%◌, ◌<�
 
 use fixed_divisors::FixedDivisor;
 
-/// The halves of a number of a rectangle: the row that it lies in, and its place in that row.
+/// The halves of a number in a rectangle: its row, and its place in that row.
 #[derive(Clone, Copy)]
 pub struct Halves {
     pub left: u64,
     pub right: u64,
 }
 
-/// `x` modulo `modulus`. It takes no branch, which in a round would be guessed wrong half of the time.
+/// Returns `x` modulo `modulus`, without a branch. In a round, a branch would be predicted wrong half of the time.
 #[inline(always)]
 pub fn reduce(x: u64, modulus: u64) -> u64
     requires below_twice { x < 2 * modulus }
@@ -22,7 +22,7 @@ pub fn reduce(x: u64, modulus: u64) -> u64
     x.min(x.wrapping_sub(modulus)) // which wraps to a larger number where `x` is below `modulus`
 }
 
-/// `x + addend` modulo `modulus`.
+/// Returns `x + addend` modulo `modulus`.
 #[inline(always)]
 pub fn add_modulo(x: u64, addend: u64, modulus: FixedDivisor) -> u64
     requires below { x < modulus }
@@ -33,7 +33,7 @@ pub fn add_modulo(x: u64, addend: u64, modulus: FixedDivisor) -> u64
     reduce(x + added, modulus.number())
 }
 
-/// The number that gives `x` when `subtrahend` is added to it modulo `modulus`.
+/// Returns the number that gives `x` when `subtrahend` is added modulo `modulus`.
 #[inline(always)]
 pub fn subtract_modulo(x: u64, subtrahend: u64, modulus: FixedDivisor) -> u64
     requires below { x < modulus }

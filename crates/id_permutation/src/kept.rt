@@ -1,4 +1,4 @@
-//! Orders that are kept, one behind the other: those of tables that pay with tables, the others by rounds.
+//! Kept orders, one after the other. An order has tables if they pay, else it goes by rounds.
 
 ghost use Rattle.std.specs.Prelude.{◌≡◌, ◌==◌, ◌+◌, ◌<◌, ◌≤◌, ◌^◌, ◌++◌, ◌∷◌, [], Some, IfSome, IfOk, OnOk, OnErr, length, slice_get};
 ghost use Rattle.id_permutation.specs.Order.{Arrangement};
@@ -11,7 +11,7 @@ use crate::order::Order;
 use std::alloc::Global;
 use std::marker::Model;
 
-/// An order that is kept: which form it has, where its tables begin if it has any, and its seed if it has one. It has 16 bytes.
+/// A kept order of 16 bytes: the place of its form, where its tables begin, if it has any, and its seed, if it has one.
 #[derive(Clone, Copy)]
 struct KeptOrder {
     form: u32,
@@ -19,8 +19,8 @@ struct KeptOrder {
     seed: u64,
 }
 
-/// Orders that are kept, of which a contract sees the list and how many entries their tables have together, of two bytes each. An order
-/// takes 16 bytes, and what its rounds divide by is kept once for neighbours of one size.
+/// Kept orders. A contract sees their list and the number of entries of all tables, of two bytes each. An order takes 16 bytes. The
+/// divisors of its rounds are kept once for adjacent orders of one size.
 pub struct KeptOrders {
     alloc: Global,
     forms: Vec<Form>,
@@ -56,7 +56,7 @@ impl Model for KeptOrders {
 }
 
 impl KeptOrders {
-    /// None, which take no memory.
+    /// Returns no orders. Takes no memory.
     pub fn new(alloc: Global) -> KeptOrders
         ensures none { result.orders ≡ [] }
         ensures no_entries { result.entries ≡ 0 }
@@ -69,10 +69,10 @@ impl KeptOrders {
         }
     }
 
-    /// Keeps one more order, of up to 2^40 numbers: each in its own place where there is no seed, and else the permutation of one
-    /// number or more by `seed`. It has tables exactly where they pay for all its numbers, up to 2^32 of them, and have at most `room`
-    /// entries; one whose tables would begin past 2^32 - 1 entries has none. It is refused only where memory runs out, for more than
-    /// 2^32 forms too, and then nothing more is kept.
+    /// Keeps one more order of up to 2^40 numbers. Without a seed each number is in its own place. With a seed it is the
+    /// permutation of one or more numbers by `seed`. The order has tables exactly if they pay for all its numbers, at most 2^32,
+    /// have at most `room` entries, and end by 2^32 - 1 entries. Refused only if memory runs out, or if there would be more than
+    /// 2^32 forms. Then nothing more is kept.
     pub fn push(&mut self, size: u64, seed: Option<u64>, room: u64) -> Result<(), Memory>
         requires some { IfSome seed (λ _. 1 ≤ size) }
         requires small { size ≤ 2 ^ 40 }
@@ -90,7 +90,7 @@ impl KeptOrders {
         }
     }
 
-    /// How many orders are kept.
+    /// Returns the number of kept orders.
     pub fn len(&self) -> usize
         ensures { result ≡ length self.now.orders }
     {
@@ -104,14 +104,14 @@ impl KeptOrders {
         self.orders.is_empty()
     }
 
-    /// How many entries the tables of all orders have together, of two bytes each.
+    /// Returns the number of entries that the tables of all orders have together, of two bytes each.
     pub fn entries(&self) -> u64
         ensures { result ≡ self.now.entries }
     {
         self.entries.len() as u64
     }
 
-    /// The order `k`, from 0.
+    /// Returns the order `k`, from 0.
     #[inline(always)]
     pub fn get(&self, k: usize) -> Order<'_>
         requires { k < length self.now.orders }

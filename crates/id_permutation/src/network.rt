@@ -26,7 +26,7 @@ pub struct Network {
     ghost narrow: { width ≤ 2 ^ 20 },
 }
 
-/// The number of the function of round `index` at `half`.
+/// Returns the number that the function of round `index` gives for `half`.
 #[inline(always)]
 pub fn round_number(seed: u64, index: u32, half: u64) -> u64
     requires { half < 2 ^ 32 }
@@ -36,7 +36,7 @@ pub fn round_number(seed: u64, index: u32, half: u64) -> u64
 }
 
 impl Network {
-    /// The first of the numbers after `number`, by the rounds, that is below `size`.
+    /// Returns the place of a number: the first number after it, along the rounds, that is below `size`.
     pub fn place(&self, number: u64) -> u64
         requires below { number < self.now.size }
         ensures exact { result ≡ place self.now.size self.now.seed number }
@@ -48,7 +48,7 @@ impl Network {
         place
     }
 
-    /// The number whose place is `place`: the first one before it, by the rounds, that is below `size`.
+    /// Returns the number whose place is `place`: the first number before it, along the rounds, that is below `size`.
     pub fn unplace(&self, place: u64) -> u64
         requires below { place < self.now.size }
         ensures exact { result ≡ unplace self.now.size self.now.seed place }
@@ -60,7 +60,7 @@ impl Network {
         number
     }
 
-    /// Puts the place of each number over it.
+    /// Replaces each number with its place.
     pub fn places(&self, numbers: &mut [u64])
         requires below { All (λ x. x < self.now.size) numbers.old }
         ensures { numbers.new ≡ map (λ x. place self.now.size self.now.seed x) numbers.old }
@@ -70,7 +70,7 @@ impl Network {
         }
     }
 
-    /// Puts the number over each place that is its own.
+    /// Replaces each place with the number that has it.
     pub fn numbers(&self, places: &mut [u64])
         requires below { All (λ y. y < self.now.size) places.old }
         ensures { places.new ≡ map (λ y. unplace self.now.size self.now.seed y) places.old }
@@ -108,7 +108,7 @@ impl Network {
         self.join(halves)
     }
 
-    /// The halves of a number.
+    /// Returns the halves of a number.
     #[inline(always)]
     pub fn split(&self, number: u64) -> Halves
         requires { number < self.now.height * self.now.width }
@@ -125,7 +125,7 @@ impl Network {
         }
     }
 
-    /// The number of two halves.
+    /// Returns the number with these halves.
     #[inline(always)]
     pub fn join(&self, halves: Halves) -> u64
         requires { IsWithin self.now.height self.now.width halves }

@@ -1,4 +1,4 @@
-//! One type over three ways to order the numbers below a size: each in its own place, by rounds, and by tables of the rounds.
+//! One type for three ways to order the numbers below a size: each in its own place, by rounds, or by tables of the rounds.
 
 ghost use Rattle.std.specs.Prelude.{◌≡◌, ◌+◌, ◌*◌, ◌<◌, ◌≤◌, ◌^◌, None, Some, All, length, map};
 ghost use Rattle.id_permutation.specs.Order.{Arrangement, place_in, number_at, order_steps};
@@ -18,8 +18,8 @@ enum Way<'a> {
     Tables(TableNetwork<'a>),
 }
 
-/// An order of the numbers 0..n-1, of which a contract sees `size`, which is n, and `seed`, or `None` where each number is in its own
-/// place. How its places are found shows in no contract: it takes no memory, and may borrow tables of its rounds.
+/// An order of the numbers 0..n-1. A contract sees `size`, which is n, and `seed`, which is `None` if each number is in its own
+/// place. No contract tells how places are found. An order takes no memory, and can borrow tables of its rounds.
 #[derive(Drop)]
 pub struct Order<'a> {
     way: Way<'a>,
@@ -36,7 +36,7 @@ impl<'a> Model for Order<'a> {
 }
 
 impl<'a> Order<'a> {
-    /// Each of `size` numbers in its own place.
+    /// Returns the order with each of `size` numbers in its own place.
     #[inline(always)]
     pub fn in_place(size: u64) -> Order<'a>
         ensures size { result.size ≡ size }
@@ -47,7 +47,7 @@ impl<'a> Order<'a> {
         }
     }
 
-    /// The permutation of `size` numbers, from 1 to 2^40, by `seed`, in no memory.
+    /// Returns the permutation of `size` numbers, from 1 to 2^40, by `seed`. Takes no memory.
     pub fn by_rounds(size: u64, seed: u64) -> Order<'a>
         requires some { 1 ≤ size }
         requires small { size ≤ 2 ^ 40 }
@@ -57,7 +57,7 @@ impl<'a> Order<'a> {
         Order::of_shape(&Shape::new(size), seed)
     }
 
-    /// The permutation of a shape's numbers by `seed`, in no memory.
+    /// Returns the permutation of a shape's numbers by `seed`. Takes no memory.
     #[inline(always)]
     pub fn of_shape(shape: &Shape, seed: u64) -> Order<'a>
         ensures size { result.size ≡ shape.now }
@@ -68,7 +68,7 @@ impl<'a> Order<'a> {
         }
     }
 
-    /// The permutation of a network by the tables of its rounds.
+    /// Returns the permutation of a network, by the tables of its rounds.
     #[inline(always)]
     pub(crate) fn of_tables(network: Network, tables: &'a [u16]) -> Order<'a>
         requires { tables.now ≡ tables_of network.height network.width network.seed }
@@ -80,7 +80,7 @@ impl<'a> Order<'a> {
         }
     }
 
-    /// How many numbers it orders.
+    /// Returns how many numbers it orders.
     #[inline]
     pub fn size(&self) -> u64
         ensures { result ≡ self.now.size }
@@ -92,7 +92,7 @@ impl<'a> Order<'a> {
         }
     }
 
-    /// The place of the number `x`, both from 0 to n - 1. It counts as one step where the order has a seed.
+    /// Returns the place of the number `x`. Both are from 0 to n - 1. Counts as one step if the order has a seed.
     #[inline]
     pub fn place<L: Ledger>(&self, x: u64, steps: &mut Steps<L>) -> u64
         requires below { x < self.now.size }
@@ -105,7 +105,7 @@ impl<'a> Order<'a> {
         self.found_place(x)
     }
 
-    /// The number whose place is `y`, both from 0 to n - 1. It counts as one step where the order has a seed.
+    /// Returns the number whose place is `y`. Both are from 0 to n - 1. Counts as one step if the order has a seed.
     #[inline]
     pub fn unplace<L: Ledger>(&self, y: u64, steps: &mut Steps<L>) -> u64
         requires below { y < self.now.size }
@@ -118,7 +118,7 @@ impl<'a> Order<'a> {
         self.found_number(y)
     }
 
-    /// Puts the place of each number over it, both from 0 to n - 1. Each counts as one step where the order has a seed.
+    /// Replaces each number with its place. Both are from 0 to n - 1. Each counts as one step if the order has a seed.
     pub fn places<L: Ledger>(&self, numbers: &mut [u64], steps: &mut Steps<L>)
         requires below { All (λ x. x < self.now.size) numbers.old }
         ensures exact { numbers.new ≡ map (λ x. place_in self.now x) numbers.old }
@@ -132,7 +132,7 @@ impl<'a> Order<'a> {
         }
     }
 
-    /// Puts the number over each place that is its own, both from 0 to n - 1. Each counts as one step where the order has a seed.
+    /// Replaces each place with the number that has it. Both are from 0 to n - 1. Each counts as one step if the order has a seed.
     pub fn numbers<L: Ledger>(&self, places: &mut [u64], steps: &mut Steps<L>)
         requires below { All (λ y. y < self.now.size) places.old }
         ensures exact { places.new ≡ map (λ y. number_at self.now y) places.old }
@@ -188,7 +188,7 @@ impl<'a> Order<'a> {
         }
     }
 
-    /// Counts as many places or numbers.
+    /// Counts `times` places or numbers.
     #[inline(always)]
     fn count_each<L: Ledger>(&self, times: usize, steps: &mut Steps<L>)
         ensures { steps.new ≡ steps.old + times * order_steps self.now }

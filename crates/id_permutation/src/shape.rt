@@ -1,4 +1,4 @@
-//! The rectangle over which the numbers of a size are permuted, whichever seed they are permuted by.
+//! The rectangle over which the numbers of a size are permuted. It is the same for each seed.
 
 ghost use Rattle.std.specs.Prelude.{◌≡◌, ◌+◌, ◌*◌, ◌<◌, ◌≤◌, ◌^◌};
 ghost use Rattle.id_permutation.specs.Sides.{AreSides};
@@ -8,8 +8,8 @@ use crate::network::Network;
 use fixed_divisors::FixedDivisor;
 use std::marker::Model;
 
-/// A size from 1 to 2^40, of which a contract sees the number, with what the rounds of all its permutations divide by: worked out
-/// once for all orders of as many numbers.
+/// A size from 1 to 2^40, with the divisors that the rounds of all its permutations use. The divisors are worked out once for all
+/// orders of this size. A contract sees the size.
 #[derive(Clone, Copy)]
 pub struct Shape {
     size: u64,
@@ -37,8 +37,8 @@ impl Model for Shape {
 }
 
 impl Shape {
-    /// The shape of `size` numbers, from 1 to 2^40: the rectangle with the least height whose square is at least `size`. This is the
-    /// one call that takes a root and divides.
+    /// Returns the shape of `size` numbers, from 1 to 2^40: the rectangle with the least height whose square is at least `size`.
+    /// Only this call takes a root and divides.
     pub fn new(size: u64) -> Shape
         requires some { 1 ≤ size }
         requires small { size ≤ 2 ^ 40 }
@@ -49,7 +49,7 @@ impl Shape {
         made(size, height, width)
     }
 
-    /// How many numbers it is the shape of.
+    /// Returns the size.
     #[inline(always)]
     pub fn size(&self) -> u64
         ensures size { result ≡ self.now }
@@ -59,7 +59,8 @@ impl Shape {
         self.size
     }
 
-    /// How many entries the tables of each of its permutations have, of 16 bits each where there are up to 2^32 numbers.
+    /// Returns how many entries the tables of one permutation of this size have. An entry has 16 bits if there are at most 2^32
+    /// numbers.
     #[inline(always)]
     pub fn entries(&self) -> u64
         ensures exact { result ≡ table_entries self.now }
@@ -69,7 +70,7 @@ impl Shape {
         3 * (self.height.number() + self.width.number())
     }
 
-    /// The permutation of its numbers by `seed`.
+    /// Returns the permutation of the shape's numbers by `seed`.
     #[inline(always)]
     pub fn network(&self, seed: u64) -> Network
         ensures size { result.size ≡ self.now }
@@ -84,7 +85,7 @@ impl Shape {
     }
 }
 
-/// The shape of these sides.
+/// Returns the shape with these sides.
 fn made(size: u64, height: u64, width: u64) -> Shape
     requires { AreSides size height width }
     ensures { result ≡ size }

@@ -1,4 +1,4 @@
-//! The network of rounds by tables of their functions, so that a round takes no block of Philox and no division.
+//! The network of rounds, by tables of their functions. So a round takes no block of Philox and no division.
 
 ghost use Rattle.std.specs.Prelude.{◌≡◌, ◌+◌, ◌*◌, ◌%◌, ◌<◌, ◌≤◌, ◌^◌, All, map};
 ghost use Rattle.id_permutation.specs.Placement.{IsWithin, round_number, round, mix, place, unplace};
@@ -7,7 +7,7 @@ ghost use Rattle.id_permutation.specs.Tables.{tables_of};
 use crate::halves::{Halves, reduce};
 use crate::network::Network;
 
-/// A network with the tables of its rounds, one behind the other, which are borrowed.
+/// A network with the borrowed tables of its rounds, one after the other.
 #[derive(Drop)]
 pub struct TableNetwork<'a> {
     pub network: Network,
@@ -16,7 +16,7 @@ pub struct TableNetwork<'a> {
 }
 
 impl<'a> TableNetwork<'a> {
-    /// The first of the numbers after `number`, by the rounds, that is below `size`.
+    /// Returns the place of a number: the first number after it, along the rounds, that is below `size`.
     #[inline(always)]
     pub fn place(&self, number: u64) -> u64
         requires below { number < self.now.network.size }
@@ -30,7 +30,7 @@ impl<'a> TableNetwork<'a> {
         }
     }
 
-    /// The number whose place is `place`: the first one before it, by the rounds, that is below `size`.
+    /// Returns the number whose place is `place`: the first number before it, along the rounds, that is below `size`.
     #[inline(always)]
     pub fn unplace(&self, place: u64) -> u64
         requires below { place < self.now.network.size }
@@ -44,7 +44,7 @@ impl<'a> TableNetwork<'a> {
         }
     }
 
-    /// Puts the place of each number over it.
+    /// Replaces each number with its place.
     pub fn places(&self, numbers: &mut [u64])
         requires below { All (λ x. x < self.now.network.size) numbers.old }
         ensures { numbers.new ≡ map (λ x. place self.now.network.size self.now.network.seed x) numbers.old }
@@ -60,7 +60,7 @@ impl<'a> TableNetwork<'a> {
         }
     }
 
-    /// Puts the number over each place that is its own.
+    /// Replaces each place with the number that has it.
     pub fn numbers(&self, places: &mut [u64])
         requires below { All (λ y. y < self.now.network.size) places.old }
         ensures { places.new ≡ map (λ y. unplace self.now.network.size self.now.network.seed y) places.old }
@@ -112,7 +112,7 @@ impl<'a> TableNetwork<'a> {
         self.network.join(halves)
     }
 
-    /// The even round of a pair, and the odd one after it.
+    /// Moves the halves by the even round of a pair and the odd round after it.
     #[inline(always)]
     pub(crate) fn mix_pair(&self, pair: u64, halves: Halves) -> Halves
         requires few { pair < 3 }
@@ -131,7 +131,7 @@ impl<'a> TableNetwork<'a> {
         Halves { left, right }
     }
 
-    /// The halves that the rounds of a pair make `halves` of.
+    /// Returns the halves from which the rounds of a pair make `halves`.
     #[inline(always)]
     pub(crate) fn unmix_pair(&self, pair: u64, halves: Halves) -> Halves
         requires few { pair < 3 }
@@ -171,7 +171,7 @@ impl<'a> TableNetwork<'a> {
         u64::from(self.tables[(first + left) as usize])
     }
 
-    /// Where the table of a pair's even round begins.
+    /// Returns where the table of a pair's even round begins.
     #[inline(always)]
     fn even_table(&self, pair: u64) -> u64
         requires few { pair < 3 }
@@ -181,7 +181,7 @@ impl<'a> TableNetwork<'a> {
         pair * (self.network.height.number() + self.network.width.number())
     }
 
-    /// Where the table of a pair's odd round begins.
+    /// Returns where the table of a pair's odd round begins.
     #[inline(always)]
     fn odd_table(&self, pair: u64) -> u64
         requires few { pair < 3 }
@@ -192,8 +192,8 @@ impl<'a> TableNetwork<'a> {
     }
 }
 
-/// The rest of the walk from `number`, after its first step led to `mixed`. Few numbers walk so far. It is handed copies, so that an
-/// order whose places are found needs no place in memory.
+/// Finishes the walk from `number`, after its first step led to `mixed`. Few numbers walk so far. It is handed copies, so that an
+/// order needs no place in memory when places are found.
 #[cold]
 #[inline(never)]
 pub(crate) fn walk_on(network: Network, tables: &[u16], number: u64, mixed: u64) -> u64
@@ -211,7 +211,7 @@ pub(crate) fn walk_on(network: Network, tables: &[u16], number: u64, mixed: u64)
     place
 }
 
-/// The rest of the walk back from `place`, after its first step led to `unmixed`. Few places walk so far.
+/// Finishes the walk back from `place`, after its first step led to `unmixed`. Few places walk so far.
 #[cold]
 #[inline(never)]
 pub(crate) fn walk_back(network: Network, tables: &[u16], place: u64, unmixed: u64) -> u64

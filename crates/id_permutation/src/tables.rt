@@ -8,7 +8,8 @@ use crate::network::{Network, round_number};
 use fixed_divisors::FixedDivisor;
 use std::alloc::Global;
 
-/// The tables of the six rounds, one behind the other, for sides of at most 2^16: an entry is below the side that its round moves.
+/// Makes the tables of the six rounds, one after the other. The sides must be at most 2^16. Each entry is below the side that its
+/// round moves.
 pub fn tables(alloc: Global, network: &Network) -> Result<Vec<u16>, Memory>
     requires low { network.now.height ≤ 2 ^ 16 }
     requires narrow { network.now.width ≤ 2 ^ 16 }
@@ -22,7 +23,7 @@ pub fn tables(alloc: Global, network: &Network) -> Result<Vec<u16>, Memory>
     Ok(tables)
 }
 
-/// Appends the tables of an even round and the odd one after it.
+/// Appends the tables of an even round and the odd round after it.
 fn put_pair(tables: &mut Vec<u16>, network: &Network, pair: u32) -> Result<(), Memory>
     requires few { pair < 3 }
     requires low { network.now.height ≤ 2 ^ 16 }
@@ -37,7 +38,7 @@ fn put_pair(tables: &mut Vec<u16>, network: &Network, pair: u32) -> Result<(), M
     Ok(())
 }
 
-/// Appends the values of the function of round `index` at the numbers below `count`.
+/// Appends the values that the function of round `index` gives for the numbers below `count`, modulo `modulus`.
 fn put_round(
     tables: &mut Vec<u16>,
     seed: u64,
