@@ -13,7 +13,7 @@ use fixed_divisors::FixedDivisor;
 use std::alloc::Global;
 use std::marker::Model;
 
-/// The cohorts of a table of units 0 to a last one. A contract sees the table's births and the last unit.
+/// The cohorts of a table, of the units 0 to a last one. A contract sees the table's births and the last unit.
 #[derive(Debug, Drop)]
 pub struct Cohorts {
     rows: u64,
@@ -33,8 +33,8 @@ impl Model for Cohorts {
 }
 
 impl Cohorts {
-    /// The cohorts of a table of which `rows` rows are born at unit 0, and others by rates: the first begins at unit 1, and each
-    /// after the one before it.
+    /// Returns the cohorts of a table. `rows` rows are born at unit 0, and the others by rates. The first rate begins at unit 1,
+    /// and each other rate after the one before it.
     pub fn new(alloc: Global, rows: u64, rates: Vec<Rate>, last: u64) -> Result<Cohorts, Memory>
         requires rates { AreRates rates.items }
         requires last { last ≤ 10000 }
@@ -50,7 +50,7 @@ impl Cohorts {
         })
     }
 
-    /// How many rows are born in the units 0 to this one.
+    /// Returns how many rows are born in the units 0 to `unit`.
     #[inline]
     pub fn born(&self, unit: u64) -> u64
         requires { unit ≤ self.now.last }
@@ -64,7 +64,7 @@ impl Cohorts {
         stretch.first + stretch.size * (unit + 1 - stretch.from)
     }
 
-    /// The rows that are born at a unit.
+    /// Returns the rows that are born at a unit.
     #[inline]
     pub fn cohort(&self, unit: u64) -> Cohort
         requires { unit ≤ self.now.last }
@@ -85,7 +85,7 @@ impl Cohorts {
         }
     }
 
-    /// The unit at which the row of an ordinal is born: the one whose cohort has it.
+    /// Returns the unit at which the row of an ordinal is born: the unit whose cohort has the row.
     #[inline]
     pub fn birth(&self, ordinal: u64) -> u64
         requires { ordinal < born_count self.now.births self.now.last }
@@ -104,7 +104,7 @@ impl Cohorts {
 impl Cohorts {
     ghost use Rattle.cohort_sizes.specs.Stretches.{IsStretch};
 
-    /// The stretch that has a unit.
+    /// Returns the stretch that has a unit.
     #[inline]
     fn at_unit(&self, unit: u64) -> Stretch
         requires some { 1 ≤ unit }
@@ -121,7 +121,7 @@ impl Cohorts {
         unreachable!()
     }
 
-    /// The stretch in which the row of an ordinal is born.
+    /// Returns the stretch in which the row of an ordinal is born.
     #[inline]
     fn with_ordinal(&self, ordinal: u64) -> Stretch
         requires late { self.now.births.rows ≤ ordinal }
@@ -139,7 +139,7 @@ impl Cohorts {
     }
 }
 
-/// The stretches of a table's births, from unit 1 to a last one.
+/// Returns the stretches of a table's births, from unit 1 to a last one.
 fn stretches_of(alloc: Global, rows: u64, rates: &[Rate], last: u64) -> Result<Vec<Stretch>, Memory>
     requires rates { AreRates rates.now }
     requires last { last ≤ 10000 }
@@ -167,7 +167,7 @@ fn stretches_of(alloc: Global, rows: u64, rates: &[Rate], last: u64) -> Result<V
     Ok(stretches)
 }
 
-/// The unit after the last one of the rate at a place, up to a last unit.
+/// Returns the unit after the last one of the rate at a place, up to the unit after `last`.
 fn end_of_rate(rates: &[Rate], place: usize, last: u64) -> u64
     requires place { place < length rates.now }
     requires last { last ≤ 10000 }

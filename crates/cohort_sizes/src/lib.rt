@@ -1,8 +1,8 @@
-//! How many rows of a table are born at each unit of time, and when each is born.
+//! How many rows of a table are born at each unit of time, and the unit at which each row is born.
 //!
 //! The rows that are born at one unit are a cohort. A row is named by its ordinal, its place in the order of birth in its table,
-//! counted from 0. Units count from 0 too: some rows are born at unit 0, and at each later unit as many as the rate says that has
-//! begun last.
+//! counted from 0. Units count from 0 too. Some rows are born at unit 0. At each later unit as many rows are born as the last rate
+//! that has begun says.
 #![tactic(auto)]
 
 mod cohort;

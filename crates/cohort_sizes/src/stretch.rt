@@ -1,20 +1,20 @@
-//! Stretches of units at which as many rows are born.
+//! Stretches of units with one number of births at each unit.
 
 use fixed_divisors::FixedDivisor;
 
-/// Units one after the other at each of which as many rows are born.
+/// Consecutive units with one number of births at each unit.
 #[derive(Clone, Copy, Debug)]
 pub(crate) struct Stretch {
     /// The first unit.
     pub from: u64,
     /// The unit after the last.
     pub until: u64,
-    /// The ordinal of the first row that is born in it.
+    /// The ordinal of the first row that is born in the stretch.
     pub first: u64,
-    /// The ordinal after that of the last.
+    /// The ordinal after that of the last row that is born in the stretch.
     pub end: u64,
     /// The number of rows that are born at each unit.
     pub size: u64,
-    /// That number to divide by; 1 where it is 0.
+    /// The divisor by the number of rows that are born at each unit; by 1 if that number is 0.
     pub divisor: FixedDivisor,
 }
