@@ -1,12 +1,12 @@
-//! A dictionary: entries, of which a number selects one by weight.
+//! A dictionary: weighted entries, among which a number selects one.
 
 use crate::entries::Entries;
 use std::alloc::Global;
 use std::marker::Model;
 use weight_tables::{Memory, Weights};
 
-/// A word list. A contract sees its entries and their weights. There are 1 to 1,000,000 entries, each of at most 255
-/// bytes, and a weight is from 1 to 1,000,000.
+/// A word list of 1 to 1,000,000 entries. An entry has at most 255 bytes, and a weight from 1 to 1,000,000. A contract sees the
+/// entries and their weights.
 #[derive(Debug)]
 pub struct Dictionary {
     entries: Entries,
@@ -36,7 +36,7 @@ impl Dictionary {
     ghost use Rattle.weight_tables.specs.Weights.{selected};
     ghost use Rattle.dictionaries.specs.WordList.{IsWordList};
 
-    /// The dictionary of entries with these weights, one for each.
+    /// Returns the dictionary of entries with these weights, one for each entry.
     pub(crate) fn new(
         alloc: Global,
         entries: Entries,
@@ -49,7 +49,7 @@ impl Dictionary {
         Ok(Dictionary { entries, weights })
     }
 
-    /// The number of entries.
+    /// Returns the number of entries.
     pub fn len(&self) -> usize
         ensures exact { result ≡ length self.now.entries }
         ensures bounds { IsWordList self.now }
@@ -57,14 +57,14 @@ impl Dictionary {
         self.entries.len()
     }
 
-    /// Whether there is no entry, which no dictionary is.
+    /// Whether there is no entry. That is never the case.
     pub fn is_empty(&self) -> bool
         ensures { result ≡ (length self.now.entries == 0) }
     {
         self.len() == 0
     }
 
-    /// The entry at index `i`, which counts from 0.
+    /// Returns the entry at index `i`, from 0.
     pub fn entry(&self, i: usize) -> &str
         requires { i < length self.now.entries }
         ensures exact { slice_get self.now.entries i ≡ Some result.now }
@@ -73,7 +73,7 @@ impl Dictionary {
         self.entries.get(i)
     }
 
-    /// The sum of the weights, from 1 to 10^12.
+    /// Returns the sum of the weights, from 1 to 10^12.
     pub fn weight_total(&self) -> u64
         ensures exact { result ≡ sum self.now.weights }
         ensures some { 1 ≤ result }
@@ -82,8 +82,8 @@ impl Dictionary {
         self.weights.total()
     }
 
-    /// The index of the entry that `x` selects, with `x` from 0 to the sum of the weights - 1: the first one whose prefix
-    /// sum exceeds `x`, where the prefix sum of an entry is the sum of the weights up to and with its own.
+    /// Returns the index of the entry that `x` selects: the first entry whose prefix sum exceeds `x`. `x` is from 0 to the sum of
+    /// the weights - 1. The prefix sum of an entry is the sum of the weights up to and including its own.
     pub fn select(&self, x: u64) -> usize
         requires { x < sum self.now.weights }
         ensures exact { result ≡ selected self.now.weights x }

@@ -5,8 +5,8 @@ ghost use Rattle.std.specs.Prelude.{◌≡◌, ◌<◌, ◌∷◌, length, slice
 use std::alloc::{AllocError, Global};
 use std::marker::Model;
 
-/// Texts in order, of which a contract sees the list of their bytes. They stand one behind the other in one text, with the
-/// place where each ends.
+/// Texts in order. They stand one after the other in one text, with the places of their ends. A contract sees the list of their
+/// bytes.
 #[derive(Debug, Drop)]
 pub struct Entries {
     text: String,
@@ -27,7 +27,7 @@ impl Model for Entries {
 impl Entries {
     ghost use Rattle.std.specs.Prelude.{◌≡◌, ◌<◌, [], ◌∷◌, ◌++◌, length, slice_get, Some, OnOk, OnErr};
 
-    /// No entries, which take no memory.
+    /// Returns no entries. Takes no memory.
     pub fn new(alloc: Global) -> Entries
         ensures { result ≡ [] }
     {
@@ -37,14 +37,14 @@ impl Entries {
         }
     }
 
-    /// The number of entries.
+    /// Returns the number of entries.
     pub fn len(&self) -> usize
         ensures { result ≡ length self.now }
     {
         self.ends.len()
     }
 
-    /// The entry at index `i`, which counts from 0.
+    /// Returns the entry at index `i`, from 0.
     pub fn get(&self, i: usize) -> &str
         requires { i < length self.now }
         ensures { slice_get self.now i ≡ Some result.now }
@@ -53,7 +53,7 @@ impl Entries {
         &self.text.as_str()[start..self.ends[i]]
     }
 
-    /// Puts an entry behind the others. Where memory is wanting, they stay as they were.
+    /// Appends an entry. If memory runs out, the entries stay as they were.
     pub fn push(&mut self, entry: &str) -> Result<(), AllocError>
         ensures appended { OnOk result (self.new ≡ self.old ++ entry.now ∷ []) }
         ensures unchanged { OnErr result (self.new ≡ self.old) }
@@ -65,7 +65,7 @@ impl Entries {
     }
 }
 
-/// Where text `i` begins, of texts that end at these places: where the one before it ends.
+/// Returns where text `i` begins, of texts that end at these places: at the end of the text before it.
 fn start_of(ends: &[usize], i: usize) -> usize
     requires { i < length ends.now }
     ensures { result ≡ slice_index (0 ∷ ends.now) i }

@@ -6,22 +6,22 @@ ghost use Rattle.dictionaries.specs.declared.fault.DictFault.TheVariants.{Memory
 use std::alloc::{AllocError, AllocFailed};
 use thiserror::Error;
 
-/// Why bytes give no dictionary. Lines count from 1, the empty ones too.
+/// Why bytes give no dictionary. Lines count from 1, empty lines too.
 #[derive(Clone, Copy, Debug, PartialEq, Eq, Error)]
 pub enum DictFault {
     /// The bytes aren't UTF-8.
     #[error("not UTF-8 at byte {at}")]
     NotUtf8 {
-        /// The length in bytes of their longest prefix that is.
+        /// The length of the longest prefix that is UTF-8, in bytes.
         at: u64,
     },
     /// A text is longer than 255 bytes.
     #[error("long entry at line {line}")]
     LongEntry {
-        /// The number of its line.
+        /// The number of the text's line.
         line: u64,
     },
-    /// What stands after the first tab of a line isn't one to seven decimal digits with a value from 1 to 1,000,000.
+    /// The part of a line after its first tab isn't one to seven decimal digits with a value from 1 to 1,000,000.
     #[error("bad weight at line {line}")]
     BadWeight {
         /// The number of the line.
@@ -30,7 +30,7 @@ pub enum DictFault {
     /// There are more than 1,000,000 entries.
     #[error("too many entries at line {line}")]
     TooMany {
-        /// The number of the line that has entry 1,000,001.
+        /// The number of the line with entry 1,000,001.
         line: u64,
     },
     /// There is no entry.

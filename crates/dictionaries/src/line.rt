@@ -1,4 +1,4 @@
-//! What one line says.
+//! What one line of a word list says.
 
 ghost use Rattle.std.specs.Prelude.{◌≡◌, ◌≢◌, ◌<◌, ◌+◌, Some, None, IfOk, IfErr, OnOk};
 ghost use Rattle.std.specs.Char.{is_ascii_digit};
@@ -8,26 +8,26 @@ ghost use Rattle.dictionaries.specs.Grammar.{text_of, weight_of, weight_named, f
 
 use crate::DictFault;
 
-/// The greatest length of a text, in bytes.
+/// The most bytes of a text.
 const LONGEST_TEXT: usize = 255;
 
-/// The greatest number of entries.
+/// The most entries of a word list.
 const MOST_ENTRIES: usize = 1_000_000;
 
-/// The greatest number of digits of a weight.
+/// The most digits of a weight.
 const MOST_DIGITS: usize = 7;
 
 /// The greatest weight.
 const GREATEST_WEIGHT: u64 = 1_000_000;
 
-/// A part between line feeds, without one carriage return at its end.
+/// Returns a part between line feeds without one carriage return at its end.
 pub fn strip_carriage_return(part: &str) -> &str
     ensures { result.now ≡ strip_carriage_return part.now }
 {
     part.strip_suffix('\r').unwrap_or(part)
 }
 
-/// The text and the weight of line `number`, before which stand `before` entries; or what is wrong with it.
+/// Returns the text and the weight of line `number`, or what is wrong with the line. `before` is the number of entries before it.
 pub fn read_line(line: &str, number: u64, before: usize) -> Result<(&str, u64), DictFault>
     ensures read { IfOk result (λ entry. (fault_of (before + 1) number line.now ≡ None)
         × (text_of line.now ≡ entry.0.now) × (weight_of line.now ≡ Some entry.1)) }
@@ -48,7 +48,7 @@ pub fn read_line(line: &str, number: u64, before: usize) -> Result<(&str, u64), 
     Ok((text, weight))
 }
 
-/// The text of a line, and its weight where it has one.
+/// Returns the text of a line, and its weight if that is right. A line without a tab has the weight 1.
 fn divide(line: &str) -> (&str, Option<u64>)
     ensures text { text_of line.now ≡ result.0.now }
     ensures weight { weight_of line.now ≡ result.1 }
@@ -59,7 +59,7 @@ fn divide(line: &str) -> (&str, Option<u64>)
     }
 }
 
-/// The weight that digits stand for.
+/// Returns the weight that digits stand for. Returns None if they stand for no weight.
 fn read_weight(digits: &str) -> Option<u64>
     ensures { result ≡ weight_named digits.now }
 {

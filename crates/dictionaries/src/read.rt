@@ -8,8 +8,8 @@ use crate::line::{read_line, strip_carriage_return};
 use crate::{DictFault, Dictionary};
 use std::alloc::Global;
 
-/// The entries of lines, and their weights, one for each. They are counted all, and kept as long as memory lasts: so each line
-/// is tried, and want of memory is told of right lines alone.
+/// The entries of lines and their weights, one for each entry. All entries are counted, but they are kept only while memory lasts.
+/// So each line is tried, and want of memory is told only if all lines are right.
 #[derive(Drop)]
 struct Draft {
     entries: Entries,
@@ -19,7 +19,7 @@ struct Draft {
 }
 
 impl Draft {
-    /// No entry.
+    /// Returns a draft without entries.
     fn new(alloc: Global) -> Draft
         ensures entries { result.entries ≡ [] }
         ensures weights { result.weights.items ≡ [] }
@@ -34,7 +34,7 @@ impl Draft {
         }
     }
 
-    /// One entry more.
+    /// Adds an entry and its weight.
     fn keep(&mut self, entry: &str, weight: u64)
         requires { self.old.count < 1000000 }
         ensures count { self.new.count ≡ self.old.count + 1 }
@@ -49,14 +49,14 @@ impl Draft {
     }
 }
 
-/// The text without a byte order mark at its beginning.
+/// Returns the text without a byte order mark at its start.
 fn without_mark(text: &str) -> &str
     ensures { result.now ≡ without_mark text.now }
 {
     text.strip_prefix('\u{feff}').unwrap_or(text)
 }
 
-/// The entries that the lines of a text have, or the first fault of a line.
+/// Returns the entries of a text's lines, or the first fault of a line.
 fn read_lines(alloc: Global, text: &str) -> Result<Draft, DictFault>
     ensures right { OnOk result (first_fault_from 1 (entry_lines text.now) ≡ None) }
     ensures count { IfOk result (λ draft. draft.count ≡ length (entry_lines text.now)) }
@@ -79,9 +79,9 @@ fn read_lines(alloc: Global, text: &str) -> Result<Draft, DictFault>
     Ok(draft)
 }
 
-/// The dictionary that the bytes stand for, or their first fault: that they aren't UTF-8 comes first, then the faults of
-/// the lines, line by line, and then that there is no entry. At one line a long text comes first, then a bad weight, then
-/// that the line has one entry too many. Want of memory is told of a word list alone.
+/// Returns the dictionary of the bytes, or their first fault. The fault that they aren't UTF-8 comes first. Then come the faults of
+/// the lines, line by line, and then the fault that there is no entry. In one line a long text comes first, then a bad weight, then
+/// one entry too many. Want of memory is told only of bytes that are a word list.
 pub fn read_dictionary(alloc: Global, bytes: &[u8]) -> Result<Dictionary, DictFault>
     ensures read { IfOk result (λ dictionary. dictionary_of bytes.now ≡ Ok dictionary) }
     ensures refused { IfErr result (λ fault. fault ≢ DictFault.Memory → dictionary_of bytes.now ≡ Err fault) }
