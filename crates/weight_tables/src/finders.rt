@@ -1,4 +1,4 @@
-//! What finds the group of a number: a table, or the first groups of slices and a search from there on.
+//! How the group of a number is found: by a table, or by the first groups of slices and a search from there on.
 
 ghost use Rattle.std.specs.Prelude.{◌≡◌, ◌<◌, ◌≤◌, ◌^◌, IfOk, length, sum};
 ghost use Rattle.weight_tables.specs.Weights.{Selects};
@@ -8,16 +8,17 @@ ghost use Rattle.weight_tables.specs.Finders.{ArePassed, IsGuide, IsTable};
 use crate::Memory;
 use std::alloc::Global;
 
-/// The greatest total whose numbers stand in a table.
+/// The greatest total of weights for which a table has the groups of all numbers.
 const TABLE: u64 = 1024;
 
-/// How many slices there may be at least: where groups are few, most slices are within one, so that a search hardly goes on.
+/// The number of slices that is always allowed. If there are few groups, most slices lie within one group, and a search hardly goes
+/// on.
 const SLICES: u64 = 2048;
 
-/// The shift at which all numbers, which are below 2^40, are one slice.
+/// The shift at which all numbers are one slice. Numbers are below 2^40.
 const ONE_SLICE: u32 = 40;
 
-/// The last prefix sum, which is the total.
+/// Returns the last prefix sum, which is the total.
 #[inline]
 pub(crate) fn last_sum(sums: &[u64]) -> u64
     requires { ArePrefixSums sums.now }
@@ -28,7 +29,7 @@ pub(crate) fn last_sum(sums: &[u64]) -> u64
     sums[sums.len() - 1]
 }
 
-/// The group that a number selects, searched from a group on before which all groups are passed by the number.
+/// Returns the group that a number selects, searched from the group `first` on. The number must be past all groups before `first`.
 #[inline]
 pub(crate) fn search_from(sums: &[u64], first: usize, x: u64) -> usize
     requires sums { ArePrefixSums sums.now }
@@ -43,7 +44,7 @@ pub(crate) fn search_from(sums: &[u64], first: usize, x: u64) -> usize
     group
 }
 
-/// The group of each number where there are few numbers, and else nothing.
+/// Returns the group of each number if there are few numbers. Else returns an empty table.
 pub(crate) fn group_table(alloc: Global, sums: &[u64]) -> Result<Vec<u16>, Memory>
     requires { ArePrefixSums sums.now }
     ensures { IfOk result (λ table. IsTable (weights_of sums.now) table.items) }
@@ -61,7 +62,7 @@ pub(crate) fn group_table(alloc: Global, sums: &[u64]) -> Result<Vec<u16>, Memor
     Ok(table)
 }
 
-/// The least shift at which there are no more slices than groups, or than there may be at least; where a table knows the group of each
+/// Returns the least shift with at most as many slices as there are groups, or as `SLICES`. If a table has the group of each
 /// number, one slice is enough.
 pub(crate) fn slice_shift(sums: &[u64], searched: bool) -> u32
     requires { ArePrefixSums sums.now }
@@ -80,7 +81,7 @@ pub(crate) fn slice_shift(sums: &[u64], searched: bool) -> u32
     ONE_SLICE
 }
 
-/// For each slice of 2^shift numbers the group that its first number selects.
+/// Returns, for each slice of 2^shift numbers, the group that its first number selects.
 pub(crate) fn first_groups(alloc: Global, sums: &[u64], shift: u32) -> Result<Vec<u32>, Memory>
     requires sums { ArePrefixSums sums.now }
     requires shift { shift ≤ 40 }

@@ -1,4 +1,4 @@
-//! A list of weights, kept so that the group of a number is found at once, or by a short search.
+//! A list of weights, kept so that the group of a number is found at once or by a short search.
 
 ghost use Rattle.std.specs.Prelude.{◌≡◌, ℕ, ◌+◌, ◌<◌, ◌≤◌, ◌^◌, All, IfOk, length, map, slice_index, sum};
 ghost use Rattle.weight_tables.specs.Weights.{Selects, prefix_sum, selected, weight_before};
@@ -13,13 +13,13 @@ use std::marker::Model;
 /// The weight of the first group of harmonic weights.
 const FIRST_HARMONIC_WEIGHT: u64 = 1_000_000_000;
 
-/// A list of weights, of which a contract sees the weights themselves, one a group.
+/// A list of weights, one for each group. A contract sees the weights.
 #[derive(Debug)]
 pub struct Weights {
     prefix_sums: Vec<u64>,
-    /// The group of each number where there are few, else none.
+    /// The group of each number, if there are few numbers; else empty.
     table: Vec<u16>,
-    /// For each slice of 2^shift numbers a group from which on a search finds that of each.
+    /// For each slice of 2^shift numbers, a group from which a search finds the group of each number in the slice.
     first_groups: Vec<u32>,
     shift: u32,
 }
@@ -51,8 +51,8 @@ impl Model for Weights {
 }
 
 impl Weights {
-    /// The weights of the list, one a group, in its order. The list has at least one weight, each is at least 1, and their
-    /// sum is at most 2^40. At `Memory` none are made.
+    /// Returns the weights of the list, one for each group, in the list's order. The list must have at least one weight. Each
+    /// weight must be at least 1, and their sum at most 2^40. Makes none at `Memory`.
     pub fn new(alloc: Global, list: &[u64]) -> Result<Weights, Memory>
         requires some { 0 < length list.now }
         requires positive { All (λ weight. 1 ≤ weight) list.now }
@@ -71,8 +71,8 @@ impl Weights {
         })
     }
 
-    /// The weights of `size` groups, from 1 to 4096, of which group i weighs 10^9 / (i + 1)^power, rounded down, and at
-    /// least 1; `power` is from 1 to 3. At `Memory` none are made.
+    /// Returns the weights of `size` groups, from 1 to 4096. Group i weighs 10^9 / (i + 1)^power, rounded down, and at least 1.
+    /// `power` is from 1 to 3. Makes none at `Memory`.
     pub fn harmonic(alloc: Global, size: u32, power: u32) -> Result<Weights, Memory>
         requires some { 1 ≤ size }
         requires few { size ≤ 4096 }
@@ -87,7 +87,7 @@ impl Weights {
         Weights::new(alloc, &list)
     }
 
-    /// The sum of the weights, from 1 to 2^40.
+    /// Returns the sum of the weights, from 1 to 2^40.
     pub fn total(&self) -> u64
         ensures exact { result ≡ sum self.now }
         ensures some { 1 ≤ result }
@@ -96,7 +96,7 @@ impl Weights {
         last_sum(&self.prefix_sums)
     }
 
-    /// The sum of the weights of the groups before one.
+    /// Returns the sum of the weights of the groups before one.
     #[inline]
     pub fn weight_before(&self, group: usize) -> u64
         requires { group ≤ length self.now }
@@ -109,7 +109,7 @@ impl Weights {
         self.prefix_sums[group - 1]
     }
 
-    /// The weight of a group.
+    /// Returns the weight of a group.
     #[inline]
     pub fn weight(&self, group: usize) -> u64
         requires { group < length self.now }
@@ -118,8 +118,8 @@ impl Weights {
         self.prefix_sums[group] - self.weight_before(group)
     }
 
-    /// The group that `x` selects, with `x` from 0 to the total - 1: the first one whose prefix sum exceeds `x`, where the
-    /// prefix sum of a group is the sum of the weights up to and with its own.
+    /// Returns the group that `x` selects: the first group whose prefix sum exceeds `x`. `x` is from 0 to the total - 1. The prefix
+    /// sum of a group is the sum of the weights up to and including its own.
     #[inline]
     pub fn select(&self, x: u64) -> usize
         requires { x < sum self.now }
@@ -135,7 +135,7 @@ impl Weights {
         }
     }
 
-    /// Puts in place of each number, from 0 to the total - 1, the group that it selects.
+    /// Replaces each number, from 0 to the total - 1, with the group that it selects.
     pub fn select_all(&self, numbers: &mut [u64])
         requires { All (λ x. x < sum self.now) numbers.old }
         ensures { numbers.new ≡ map (selected self.now) numbers.old }
@@ -152,7 +152,7 @@ impl Weights {
         }
     }
 
-    /// The group that `x` selects, searched from the first group of its slice on.
+    /// Returns the group that `x` selects, searched from the first group of its slice on.
     #[inline]
     fn search(&self, x: u64) -> usize
         requires { x < sum self.now }
@@ -163,8 +163,8 @@ impl Weights {
     }
 }
 
-/// The weights of `size` groups, from 1 to 4096, of which group i weighs 10^9 / (i + 1)^power, rounded down, and at least 1; `power`
-/// is from 1 to 3. At `Memory` none are made.
+/// Returns the weights of `size` groups, from 1 to 4096. Group i weighs 10^9 / (i + 1)^power, rounded down, and at least 1. `power`
+/// is from 1 to 3. Makes none at `Memory`.
 pub fn harmonic(alloc: Global, size: u32, power: u32) -> Result<Weights, Memory>
     requires some { 1 ≤ size }
     requires few { size ≤ 4096 }
@@ -175,7 +175,7 @@ pub fn harmonic(alloc: Global, size: u32, power: u32) -> Result<Weights, Memory>
     Weights::harmonic(alloc, size, power)
 }
 
-/// The prefix sum of each weight.
+/// Returns the prefix sum of each weight.
 fn prefix_sums_of(alloc: Global, list: &[u64]) -> Result<Vec<u64>, Memory>
     requires { sum list.now ≤ 2 ^ 40 }
     ensures { IfOk result (λ sums. sums.items ≡ prefix_sums list.now) }
@@ -189,7 +189,7 @@ fn prefix_sums_of(alloc: Global, list: &[u64]) -> Result<Vec<u64>, Memory>
     Ok(sums)
 }
 
-/// The weight of a group of harmonic weights.
+/// Returns the weight of a group of harmonic weights.
 fn harmonic_weight(group: u32, power: u32) -> u64
     requires few { group < 4096 }
     requires greatest_power { power ≤ 3 }
