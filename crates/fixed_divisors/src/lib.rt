@@ -1,5 +1,5 @@
-//! Division by a number that stays the same, with no division instruction: the high half of a product with the number's
-//! reciprocal is the quotient or one less, and the rest tells which.
+//! Division by a number that stays the same, without a division instruction. The number's reciprocal is kept, and the high half of
+//! a product with it is the quotient or one less. The rest tells which.
 #![tactic(auto)]
 
 ghost use Rattle.std.specs.Prelude.{◌≡◌, ℕ, ◌+◌, ◌*◌, ◌/◌, ◌%◌, ◌<◌, ◌^◌, length, map};
@@ -7,7 +7,7 @@ ghost use Rattle.fixed_divisors.specs.Reciprocal.{IsEstimate};
 
 use std::marker::Model;
 
-/// A number from 1 to 2^64 - 1 to divide by, of which a contract sees the number.
+/// A divisor from 1 to 2^64 - 1. A contract sees the number.
 #[derive(Clone, Copy, Debug)]
 pub struct FixedDivisor {
     number: u64,
@@ -30,7 +30,7 @@ impl Model for FixedDivisor {
     ghost inverse_ok = { λ d is. ap (λ r. record { number = d.number; reciprocal = r }) (sym is.exact) };
 }
 
-/// A quotient and the remainder that is left.
+/// A quotient and its remainder.
 #[derive(Clone, Copy, Debug, PartialEq, Eq)]
 pub struct Division {
     pub quotient: u64,
@@ -38,7 +38,7 @@ pub struct Division {
 }
 
 impl FixedDivisor {
-    /// The divisor of this number, which is at least 1. This is the one call that divides.
+    /// Returns the divisor of a number, which must be at least 1. Only this call divides.
     #[inline]
     pub fn new(divisor: u64) -> FixedDivisor
         requires { 0 < divisor }
@@ -50,7 +50,7 @@ impl FixedDivisor {
         }
     }
 
-    /// The number to divide by.
+    /// Returns the number by which it divides.
     #[inline(always)]
     pub fn number(&self) -> u64
         ensures number { result ≡ self.now }
@@ -59,7 +59,7 @@ impl FixedDivisor {
         self.number
     }
 
-    /// The quotient of `x`, or one less.
+    /// Returns the quotient of `x`, or one less.
     #[inline(always)]
     fn estimate(&self, x: u64) -> u64
         ensures { IsEstimate x self.now result }
@@ -67,7 +67,7 @@ impl FixedDivisor {
         high_half(x, self.reciprocal)
     }
 
-    /// `x` divided by the number.
+    /// Returns `x` divided by the number: the quotient, rounded down, and the remainder.
     #[inline(always)]
     pub fn divide(&self, x: u64) -> Division
         ensures quotient { result.quotient ≡ x / self.now }
@@ -82,7 +82,7 @@ impl FixedDivisor {
         }
     }
 
-    /// `x` divided by the number, rounded down.
+    /// Returns `x` divided by the number, rounded down.
     #[inline(always)]
     pub fn quotient(&self, x: u64) -> u64
         ensures { result ≡ x / self.now }
@@ -90,7 +90,7 @@ impl FixedDivisor {
         self.divide(x).quotient
     }
 
-    /// `x` modulo the number.
+    /// Returns `x` modulo the number.
     #[inline(always)]
     pub fn remainder(&self, x: u64) -> u64
         ensures exact { result ≡ x % self.now }
@@ -99,7 +99,7 @@ impl FixedDivisor {
         self.divide(x).remainder
     }
 
-    /// Makes each number its remainder.
+    /// Replaces each number with its remainder.
     #[inline]
     pub fn remainders(&self, numbers: &mut [u64])
         ensures { numbers.new ≡ map (λ x. x % self.now) numbers.old }
@@ -111,7 +111,7 @@ impl FixedDivisor {
     }
 }
 
-/// The high half of the product, of 128 bits.
+/// Returns the high half of the product, which has 128 bits.
 #[inline(always)]
 fn high_half(x: u64, y: u64) -> u64
     ensures { result ≡ x * y / 2 ^ 64 }
@@ -120,7 +120,7 @@ fn high_half(x: u64, y: u64) -> u64
     (product >> 64) as u64
 }
 
-/// How often the divisor goes into a rest below twice the divisor: once or not at all.
+/// Returns how often the divisor goes into `rest`, which is below twice the divisor: once or not at all.
 #[inline(always)]
 fn times_left(rest: u64, divisor: u64) -> u64
     requires { rest < 2 * divisor }
@@ -129,8 +129,8 @@ fn times_left(rest: u64, divisor: u64) -> u64
     u64::from(rest >= divisor)
 }
 
-/// `rest` modulo the divisor, for a rest below twice the divisor. The difference wraps where the rest is below the divisor, so
-/// the smaller one is right: a comparison with a subtraction may become a branch, this doesn't.
+/// Returns `rest` modulo the divisor. `rest` must be below twice the divisor. If `rest` is below the divisor, the difference wraps,
+/// so the smaller number is right. A comparison with a subtraction can become a branch, but this doesn't.
 #[inline(always)]
 fn reduced(rest: u64, divisor: u64) -> u64
     requires { rest < 2 * divisor }
