@@ -1,4 +1,4 @@
-//! The seeds and the draws of many rows at once, in place. Each loop does one thing to each number, with no branch, so that a
+//! The seeds and the draws of many rows at once, in place. Each loop does one thing to each number, without a branch, so that a
 //! processor takes several at a time.
 
 ghost use Rattle.std.specs.Prelude.{◌≡◌, ℕ, ◌+◌, ◌<◌, ◌≤◌, ◌^◌, EachIndex, length, map, slice_index};
@@ -7,7 +7,7 @@ ghost use Rattle.philox_seeds.specs.SeedTree.{draw, row_seed};
 
 use crate::tree::{draw, row_seed};
 
-/// Makes each seed its draw number `n`.
+/// Replaces each seed with its draw number `n`.
 #[inline]
 pub fn draws(seeds: &mut [u64], n: u32)
     ensures { seeds.new ≡ map (λ seed. draw seed n) seeds.old }
@@ -17,7 +17,7 @@ pub fn draws(seeds: &mut [u64], n: u32)
     }
 }
 
-/// Makes each ordinal the seed of its row, all below one unit's seed.
+/// Replaces each ordinal with the seed of its row, below one unit's seed.
 #[inline]
 pub fn row_seeds(unit_seed: u64, ordinals: &mut [u64])
     ensures { ordinals.new ≡ map (row_seed unit_seed) ordinals.old }
@@ -27,7 +27,7 @@ pub fn row_seeds(unit_seed: u64, ordinals: &mut [u64])
     }
 }
 
-/// Fills in the seeds of the rows with the ordinals from `first` on, one for each place, all below one unit's seed.
+/// Fills `seeds` with the seeds of the rows with the ordinals from `first` on, below one unit's seed.
 #[inline]
 pub fn run_row_seeds(unit_seed: u64, first: u64, seeds: &mut [u64])
     requires { first + length seeds.old ≤ 2 ^ 64 }
@@ -38,7 +38,8 @@ pub fn run_row_seeds(unit_seed: u64, first: u64, seeds: &mut [u64])
     }
 }
 
-/// Makes each unit's seed the seed of a row below it: of the ordinal `first` at place 0, and one more at each place.
+/// Replaces each unit's seed with the seed of a row below it. The row at place 0 has the ordinal `first`, and each next one the
+/// next ordinal.
 #[inline]
 pub fn run_row_seeds_by_unit(first: u64, seeds: &mut [u64])
     requires { first + length seeds.old ≤ 2 ^ 64 }

@@ -13,7 +13,7 @@ const WEYL_1: u32 = 0xBB67_AE85;
 
 const ROUNDS: u32 = 10;
 
-/// The four words of a counter, or of what the rounds make of it.
+/// The four words of a counter, or of the result of some rounds.
 #[derive(Clone, Copy)]
 pub struct Words {
     pub c0: u32,
@@ -29,7 +29,7 @@ pub struct Key {
     pub k1: u32,
 }
 
-/// The high 32 bits.
+/// Returns the high 32 bits.
 #[inline(always)]
 pub fn high_word(x: u64) -> u32
     ensures { result ≡ high_word x }
@@ -37,7 +37,7 @@ pub fn high_word(x: u64) -> u32
     (x >> 32) as u32
 }
 
-/// The low 32 bits.
+/// Returns the low 32 bits.
 #[inline(always)]
 pub fn low_word(x: u64) -> u32
     ensures { result ≡ low_word x }
@@ -71,7 +71,7 @@ fn next_key(key: Key) -> Key
     }
 }
 
-/// The block of a counter under a key: ten rounds, between which the key grows.
+/// Returns the block of a counter under a key: ten rounds, with the next key after each.
 #[inline(always)]
 pub fn block(counter: Words, key: Key) -> Words
     ensures { result ≡ philox4x32_10 counter key }
@@ -85,7 +85,7 @@ pub fn block(counter: Words, key: Key) -> Words
     words
 }
 
-/// The block of Philox4x32-10 at `counter` under `key`, words in the order of the paper.
+/// Returns the block of Philox4x32-10 at `counter` under `key`, with the words in the order of the paper.
 #[inline(always)]
 pub fn philox4x32_10(counter: [u32; 4], key: [u32; 2]) -> [u32; 4]
     ensures block { result ≡ listed_words (philox4x32_10

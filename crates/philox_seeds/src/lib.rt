@@ -1,7 +1,7 @@
 //! Philox4x32-10 and the tree of seeds that it makes: from a project's seed to a table, a column, a time unit and a row.
 //!
-//! The generator is the one of Salmon, Moraes, Dror and Shaw, "Parallel Random Numbers: As Easy as 1, 2, 3" (SC 2011).
-//! Every call is a pure function of its arguments: it is total, keeps no state and takes no memory.
+//! The generator is from Salmon, Moraes, Dror and Shaw, "Parallel Random Numbers: As Easy as 1, 2, 3" (SC 2011). Every call is a
+//! pure function of its arguments: it is total, keeps no state and takes no memory.
 #![tactic(auto)]
 
 mod batches;

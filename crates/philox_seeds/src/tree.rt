@@ -1,4 +1,4 @@
-//! The tree of seeds: each seed keys the generator, and a counter names the seed or the draw below it.
+//! The tree of seeds. Each seed keys the generator, and a counter names the seed or the draw below it.
 
 ghost use Rattle.std.specs.Prelude.{◌≡◌, ℕ, slice_index};
 ghost use Rattle.philox_seeds.specs.Philox.{high_word, low_word};
@@ -45,7 +45,8 @@ fn number_at(seed: u64, counter: Words) -> u64
     joined(block.c0, block.c1)
 }
 
-/// The number of 64 bits that `seed`, as the key of Philox4x32-10, gives at `counter`: word 0 of the block, and word 1 above it.
+/// Returns the number of 64 bits that `seed`, as the key of Philox4x32-10, gives at `counter`: word 0 of the block, and word 1
+/// above it.
 #[inline(always)]
 pub fn keyed_number(seed: u64, counter: [u32; 4]) -> u64
     ensures number { result ≡ keyed_number seed (slice_index counter 0) (slice_index counter 1) (slice_index counter 2) (slice_index counter 3) }
@@ -59,7 +60,7 @@ pub fn keyed_number(seed: u64, counter: [u32; 4]) -> u64
     number_at(seed, words)
 }
 
-/// The seed below `seed` that stands at `index` of `level`: the number at the counter (low word, high word of the index, level, 0).
+/// Returns the seed below `seed` at `index` of `level`: the number at the counter (low word, high word of the index, level, 0).
 #[inline(always)]
 #[tactic(auto, unfolding(crate::specs::SeedTree::child))]
 pub fn child(seed: u64, level: u32, index: u64) -> u64
@@ -74,7 +75,7 @@ pub fn child(seed: u64, level: u32, index: u64) -> u64
     number_at(seed, counter)
 }
 
-/// The seed of the table with this place in the schema, from 0, below the project's seed.
+/// Returns the seed of the table with this place in the schema, from 0, below the project's seed.
 #[inline]
 pub fn table_seed(seed: u64, table: u32) -> u64
     ensures seed { result ≡ table_seed seed table }
@@ -82,7 +83,7 @@ pub fn table_seed(seed: u64, table: u32) -> u64
     child(seed, TABLE_LEVEL, u64::from(table))
 }
 
-/// The seed of the column with this place in its table, from 0, below the table's seed.
+/// Returns the seed of the column with this place in its table, from 0, below the table's seed.
 #[inline]
 pub fn column_seed(seed: u64, column: u32) -> u64
     ensures seed { result ≡ column_seed seed column }
@@ -90,7 +91,7 @@ pub fn column_seed(seed: u64, column: u32) -> u64
     child(seed, COLUMN_LEVEL, u64::from(column))
 }
 
-/// The seed of a time unit, below a column's seed.
+/// Returns the seed of a time unit, below a column's seed.
 #[inline(always)]
 pub fn unit_seed(seed: u64, unit: u64) -> u64
     ensures seed { result ≡ unit_seed seed unit }
@@ -98,7 +99,7 @@ pub fn unit_seed(seed: u64, unit: u64) -> u64
     child(seed, UNIT_LEVEL, unit)
 }
 
-/// The seed of the row with this ordinal, its place in the order of birth in its table, below a unit's seed.
+/// Returns the seed of the row with this ordinal, its place in the order of birth in its table, below a unit's seed.
 #[inline(always)]
 pub fn row_seed(seed: u64, ordinal: u64) -> u64
     ensures seed { result ≡ row_seed seed ordinal }
@@ -106,7 +107,7 @@ pub fn row_seed(seed: u64, ordinal: u64) -> u64
     child(seed, ROW_LEVEL, ordinal)
 }
 
-/// Draw number `n` of a seed: the number at the counter (n, 0, 5, 0).
+/// Returns draw number `n` of a seed: the number at the counter (n, 0, 5, 0).
 #[inline(always)]
 #[tactic(auto, unfolding(crate::specs::SeedTree::draw))]
 pub fn draw(seed: u64, n: u32) -> u64
@@ -121,8 +122,8 @@ pub fn draw(seed: u64, n: u32) -> u64
     number_at(seed, counter)
 }
 
-/// The seed of the order of the keys of a cohort: of the table with this place, born at this time unit, below the project's
-/// seed.
+/// Returns the seed of the order of a cohort's keys. The cohort is of the table with this place and is born at this time unit. The
+/// seed is below the project's seed.
 #[inline]
 pub fn key_order_seed(seed: u64, table: u32, unit: u64) -> u64
     ensures seed { result ≡ key_order_seed seed table unit }
@@ -130,7 +131,7 @@ pub fn key_order_seed(seed: u64, table: u32, unit: u64) -> u64
     order_seed(seed, table, KEY_COLUMN, unit)
 }
 
-/// The seed of the order of the lives of a cohort.
+/// Returns the seed of the order of a cohort's lives.
 #[inline]
 pub fn life_order_seed(seed: u64, table: u32, unit: u64) -> u64
     ensures seed { result ≡ life_order_seed seed table unit }
@@ -138,7 +139,7 @@ pub fn life_order_seed(seed: u64, table: u32, unit: u64) -> u64
     order_seed(seed, table, LIFE_COLUMN, unit)
 }
 
-/// The seed of the order of the updates of a cohort.
+/// Returns the seed of the order of a cohort's updates.
 #[inline]
 pub fn update_order_seed(seed: u64, table: u32, unit: u64) -> u64
     ensures seed { result ≡ update_order_seed seed table unit }
@@ -146,7 +147,7 @@ pub fn update_order_seed(seed: u64, table: u32, unit: u64) -> u64
     order_seed(seed, table, UPDATE_COLUMN, unit)
 }
 
-/// The seed of the order in which the references of a cohort, in the column with this place, find their rows.
+/// Returns the seed of the order in which a cohort's rows choose parents by the reference in the column with this place.
 #[inline]
 pub fn reference_order_seed(seed: u64, table: u32, column: u32, unit: u64) -> u64
     ensures seed { result ≡ reference_order_seed seed table column unit }
@@ -154,7 +155,7 @@ pub fn reference_order_seed(seed: u64, table: u32, column: u32, unit: u64) -> u6
     order_seed(seed, table, column, unit)
 }
 
-/// The seed of an order of a cohort, of a column or of one that stands for a purpose.
+/// Returns the seed of an order of a cohort, for a column or for a number that stands for a purpose.
 #[inline]
 fn order_seed(seed: u64, table: u32, column: u32, unit: u64) -> u64
     ensures { result ≡ permutation_seed seed table column unit }
