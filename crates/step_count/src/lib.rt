@@ -1,6 +1,6 @@
-//! A counter of steps that takes no bytes: contracts read it, and no code runs for it.
+//! A counter of steps that takes no bytes. Contracts read it, and no code runs for it.
 //!
-//! What one step stands for is the word of the crate that ticks.
+//! The crate that ticks says what one step stands for.
 #![tactic(auto)]
 
 ghost use Rattle.std.specs.Prelude.{◌≡◌, ℕ, ◌+◌, ◌<◌};
@@ -8,7 +8,7 @@ ghost use Rattle.std.specs.Prelude.{◌≡◌, ℕ, ◌+◌, ◌<◌};
 use std::marker::Model;
 use std::sync::ledger::{Blank, Book, Ledger, Share};
 
-/// How many steps were taken, on the ledger `L`. Only `tick` changes it.
+/// The number of steps that were taken, on the ledger `L`. Only `tick` changes it.
 #[derive(Drop)]
 pub struct Steps<L: Ledger> {
     book: Book<L>,
@@ -24,7 +24,7 @@ impl<L: Ledger> Model for Steps<L> {
 }
 
 impl<L: Ledger> Steps<L> {
-    /// A counter at 0, on a new ledger: the one that `L` names, of at least one part.
+    /// Returns a counter at 0 on a new ledger, the one that `L` names. The ledger must have at least one part.
     pub fn new(blank: Blank) -> Steps<L>
         requires name { blank.name ≡ L.name }
         requires parts { blank.parts ≡ L.parts }
