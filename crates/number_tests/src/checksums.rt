@@ -1,7 +1,7 @@
-//! The permutations of 1 to 200 numbers, from the independent program.
+//! Checksums of the permutations of 1 to 200 numbers, from the independent program.
 
-/// The checksums of the sizes 1 to 200, in order: by the seed 0, and by the project's seed. A checksum folds the places of
-/// 0, 1, .. in turn by c * 1,000,003 + place modulo 2^64.
+/// The checksums of the sizes 1 to 200, in order: by the seed 0, and by the project's seed. A checksum takes in the places of 0, 1,
+/// .. in turn, by c * 1,000,003 + place modulo 2^64.
 pub static CHECKSUMS: [(u64, u64); 200] = [
     (0x0000_0000_0000_0000, 0x0000_0000_0000_0000),
     (0x0000_0000_000f_4243, 0x0000_0000_000f_4243),

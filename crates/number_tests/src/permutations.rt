@@ -1,6 +1,6 @@
-//! Values from outside: the sides of rectangles, worked out by hand, and what an independent program gave, written in Python from
-//! the rules of the placement and of Philox4x32-10, with unbounded integers and no shared code (docs/SECOND_PROGRAM.md). Rounds and
-//! tables are held to the same ones.
+//! Values from outside. The sides of rectangles are worked out by hand. The other values come from an independent program
+//! (docs/SECOND_PROGRAM.md). It is written in Python from the rules of the placement and of Philox4x32-10, with unbounded integers
+//! and no shared code. Rounds and tables are held to the same values.
 
 ghost use Rattle.std.specs.Prelude.{◌≡◌, ℕ, ◌<◌};
 
@@ -26,7 +26,7 @@ const BY_ROUNDS: [(u64, u64); 4] = [
     ((1 << 40) - 1, 998_511_941_863),
 ];
 
-// The same of 2^32.
+// Some numbers of a permutation of 2^32 and their places.
 const BY_TABLES: [(u64, u64); 4] = [
     (0, 3_342_709_767),
     (1, 2_247_032_419),
@@ -75,8 +75,8 @@ fn assert_checksum<L: Ledger>(rt: &impl Abort, order: &Order, wanted: u64, steps
     assert!(rt; sum == wanted, "the checksum of {size}");
 }
 
-// All orders of the checksums are kept behind one another, so that neighbours of one size share what they divide by: those of up to
-// 21 numbers by rounds but for a few, the others by tables.
+// Keeps all orders of the checksums one after the other, so that neighbours of one size share their divisors. Orders of up to 35
+// numbers, and of 37 and 38, go by rounds. The others go by tables.
 fn assert_checksums<L: Ledger>(rt: &impl Abort, alloc: Global, steps: &mut Steps<L>) {
     let mut kept = KeptOrders::new(alloc);
     let mut size = 0u64;
@@ -127,8 +127,8 @@ fn permutations_are_as_worked_out(rt: HostRuntime) {
     assert_permutations::<Brand>(&rt, rt.alloc(), Blank::new(1));
 }
 
-// The tables have three times as many entries as the rectangle has rows and columns: 1 and 1, 2 and 1, 2 and 2, 3 and 3, and
-// 2^16 and 2^16.
+// The tables have three entries for each row and each column of the rectangle. The rectangles here have 1 and 1, 2 and 1, 2 and 2,
+// 3 and 3, and 2^16 and 2^16 rows and columns.
 #[test]
 fn a_shape_has_three_entries_a_row_and_a_column(rt: HostRuntime) {
     for (size, entries) in [(1, 6), (2, 9), (3, 12), (7, 18), (1 << 32, 393_216)] {
@@ -137,7 +137,7 @@ fn a_shape_has_three_entries_a_row_and_a_column(rt: HostRuntime) {
     }
 }
 
-// 35 numbers have 6 rows of 6, 36 entries; 36 numbers are the fewest whose tables pay.
+// 35 numbers have 6 rows of 6, and so 36 entries. 36 is the least size whose tables pay.
 #[test]
 fn tables_are_kept_where_they_pay_and_have_room(rt: HostRuntime) {
     let cases = [

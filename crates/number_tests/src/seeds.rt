@@ -1,5 +1,5 @@
-//! Values from outside: Random123's known answers for `philox4x32` with ten rounds (its file `kat_vectors`), and values that
-//! an independent program gave, written in Python from the paper's text with unbounded integers.
+//! Values from outside: Random123's known answers for `philox4x32` with ten rounds (its file `kat_vectors`), and values from an
+//! independent program. That program is written in Python from the paper's text, with unbounded integers.
 
 use philox_seeds::{
     child, column_seed, draw, draws, key_order_seed, keyed_number, life_order_seed, philox4x32_10,
@@ -44,7 +44,7 @@ fn blocks_are_the_known_answers(rt: HostRuntime) {
     }
 }
 
-// All of it from the Python program.
+// All values are from the Python program.
 #[test]
 fn seeds_go_down_the_tree(rt: HostRuntime) {
     let project = 0x0123_4567_89ab_cdef;
@@ -88,7 +88,7 @@ fn seeds_go_down_the_tree(rt: HostRuntime) {
     }
 }
 
-// The Python program.
+// The values are from the Python program.
 #[test]
 fn slices_hold_the_single_values(rt: HostRuntime) {
     let unit = 0x0663_a25b_d675_e282;
@@ -118,7 +118,7 @@ fn slices_hold_the_single_values(rt: HostRuntime) {
     );
 }
 
-// The Python program.
+// The values are from the Python program.
 #[test]
 fn runs_hold_the_single_values(rt: HostRuntime) {
     let unit = 0x0663_a25b_d675_e282;

@@ -1,16 +1,16 @@
-//! Values from outside: small ones worked out by hand, and the totals of 4096 harmonic weights, which a Python program summed
-//! from the rule that a weight is max(1, 10**9 // (i + 1)**power).
+//! Values from outside. Small values are worked out by hand. A Python program summed the totals of 4096 harmonic weights from the
+//! rule that a weight is max(1, 10**9 // (i + 1)**power).
 
 use std::process::Abort;
 use weight_tables::{Weights, harmonic};
 
-// The number selects the group.
+// Asserts that the number selects the group.
 fn assert_group(rt: &impl Abort, weights: &Weights, x: u64, group: usize) {
     assert!(rt; x < weights.total(), "no group of {x}");
     assert!(rt; weights.select(x) == group, "the group of {x}");
 }
 
-// Each group takes its share of the numbers, from where that of the group before it ends.
+// Asserts that each group takes its share of the numbers, from the end of the share before it.
 fn assert_shares(rt: &impl Abort, weights: &Weights, shares: &[u64]) {
     let mut x = 0u64;
     for (group, share) in shares.iter().enumerate() {
@@ -60,7 +60,7 @@ fn harmonic_weights_are_as_worked_out(rt: HostRuntime) {
     }
 }
 
-// From the Python program: the total, and the weight of the last of 4096 groups.
+// The total and the weight of the last of 4096 groups are from the Python program.
 #[test]
 fn many_harmonic_weights_are_as_summed(rt: HostRuntime) {
     let cases: [(u32, u64, u64); 3] = [
