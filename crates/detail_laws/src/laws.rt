@@ -1,4 +1,4 @@
-//! The laws of detail tables' texts, each the contract of a function that does nothing, for accepted schemas and declarations.
+//! The laws of detail tables' texts, for accepted schemas and declarations. Each law is the contract of a function that does nothing.
 
 ghost use Rattle.std.specs.Prelude.{ℕ, ◌+◌, ◌-◌, ◌≤◌, List, [], ◌∷◌, flat_map};
 ghost use Rattle.std.specs.List.{range_with_len};
@@ -15,8 +15,8 @@ ghost use Rattle.detail_rows.specs.Applying.{detail_streams};
 ghost use Rattle.detail_laws.specs.Naming.{AreDetailLines};
 ghost use Rattle.detail_rows.specs.Lines.{detail_text};
 
-/// What the streams of a unit make of a detail table's text at the unit before is its text at the unit, and so are those of further
-/// units, each in its turn. None is at fault.
+/// Applying the streams of a unit to a detail table's text at the unit before gives its text at the unit. Applying the streams of several
+/// units in turn gives its text at the last of them. No line is at fault.
 pub fn streams_give_the_next_details()
     ensures text { (plan : Project) → IsInLimits plan → (detail : Detail) → KeepsRules plan detail → (t : ℕ) → t ≤ last_unit plan →
         IsAppliedText Two (layout_of plan).delimiter (detail_text plan detail t ∷ []) (detail_text plan detail t) }
@@ -29,7 +29,7 @@ pub fn streams_give_the_next_details()
         (detail_text plan detail (from + count)) }
 {}
 
-/// No two lines of a detail table's text have the same first two fields, and the first of each is the key of exactly one line of the
+/// No two lines of a detail table's text have the same first two fields. The first field of each is the key of exactly one line of the
 /// parent's text at the same unit.
 pub fn lines_name_one_row_each()
     ensures { (plan : Project) → IsInLimits plan → (detail : Detail) → KeepsRules plan detail → (t : ℕ) → t ≤ last_unit plan →

@@ -1,4 +1,4 @@
-//! The theorem of detail tables: what a unit changes makes of a table's text, and what each of its lines names.
+//! The theorem of detail tables: what the changes of a unit make of a table's text, and which row each line names.
 #![tactic(auto)]
 
 pub mod laws;

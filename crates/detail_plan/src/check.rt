@@ -12,13 +12,14 @@ use schema_plan::Plan;
 /// Why a detail table has no plan.
 #[derive(Clone, Copy, Debug, PartialEq, Eq)]
 pub enum DetailFault {
-    /// The first broken rule, E1 as 1.
+    /// The first broken rule. The number 1 means E1.
     Rule { number: u32 },
-    /// No memory was left for the plan of an accepted one.
+    /// No memory was left for the plan of an accepted detail table.
     Memory,
 }
 
-/// The plan of a detail table that keeps its rules over a schema's plan, or the first rule that it breaks. It takes no memory, so `Memory` never comes.
+/// Returns the plan of a detail table that keeps its rules over a schema's plan. Refuses any other for the first rule that it breaks.
+/// It takes no memory, so `Memory` never comes.
 pub fn check_detail(plan: &Plan, detail: Detail) -> Result<DetailPlan, DetailFault>
     ensures plan { IfOk result (λ kept. kept ≡ detail) }
     ensures keeps { OnOk result (KeepsRules plan.now detail) }

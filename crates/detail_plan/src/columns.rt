@@ -14,7 +14,7 @@ use schema_model::{Memory, Text, Texts};
 use std::alloc::Global;
 use toml::{Table, Value};
 
-/// The elements of an array.
+/// Returns the elements of an array, or None for any other value.
 fn elements_of(value: &Value) -> Option<&[Value]>
     ensures { option_map (λ items. map view items.now) result ≡ option_map elements (as_array (view value.now)) }
 {
@@ -33,7 +33,7 @@ fn text_of_value(alloc: Global, value: &Value) -> Result<Option<Text>, Memory>
     }
 }
 
-/// The texts that some values are, where each is one.
+/// Reads some values as texts. Returns None if one of them is no text.
 fn texts_of(alloc: Global, items: &[Value]) -> Result<Option<Texts>, Memory>
     ensures { IfOk result (λ found. found ≡ all_read as_str (map view items.now)) }
 {
@@ -47,7 +47,7 @@ fn texts_of(alloc: Global, items: &[Value]) -> Result<Option<Texts>, Memory>
     Ok(Some(texts))
 }
 
-/// The texts of an array, where a value is one and each element is a text.
+/// Reads the texts of an array. Returns None if the value is no array or an element is no text.
 fn texts_of_value(alloc: Global, value: &Value) -> Result<Option<Texts>, Memory>
     ensures { IfOk result (λ found. found ≡ as_list_of as_str (view value.now)) }
 {
@@ -57,7 +57,7 @@ fn texts_of_value(alloc: Global, value: &Value) -> Result<Option<Texts>, Memory>
     }
 }
 
-/// The entries of a column.
+/// Reads the entries of a column. Returns None if they are missing or of another type.
 fn pick_under(alloc: Global, members: &Table) -> Result<Option<DetailKind>, Memory>
     ensures { IfOk result (λ found. found ≡ pick_under (table_view members.now)) }
 {
@@ -70,7 +70,7 @@ fn pick_under(alloc: Global, members: &Table) -> Result<Option<DetailKind>, Memo
     }
 }
 
-/// The numbers of a column.
+/// Reads the numbers of a column. Returns None if one is missing or of another type.
 fn int_under(members: &Table) -> Option<DetailKind>
     ensures { result ≡ int_under (table_view members.now) }
 {
@@ -79,7 +79,7 @@ fn int_under(members: &Table) -> Option<DetailKind>
     Some(DetailKind::Int { lo, hi })
 }
 
-/// What a column of a kind holds, where its keys are right.
+/// Reads what a column of a named kind holds. Returns None if its keys are wrong.
 fn kind_named(alloc: Global, members: &Table, name: &str) -> Result<Option<DetailKind>, Memory>
     ensures { IfOk result (λ found. found ≡ kind_named (table_view members.now) name.now) }
 {
@@ -90,7 +90,7 @@ fn kind_named(alloc: Global, members: &Table, name: &str) -> Result<Option<Detai
     }
 }
 
-/// What a column holds.
+/// Reads what a column holds. Returns None if its keys are wrong.
 fn kind_under(alloc: Global, members: &Table) -> Result<Option<DetailKind>, Memory>
     ensures { IfOk result (λ found. found ≡ kind_under (table_view members.now)) }
 {
@@ -100,7 +100,7 @@ fn kind_under(alloc: Global, members: &Table) -> Result<Option<DetailKind>, Memo
     }
 }
 
-/// The column that a table declares.
+/// Reads the column that a table declares. Returns None if its keys are wrong.
 fn column_given(alloc: Global, members: &Table) -> Result<Option<DetailColumn>, Memory>
     ensures { IfOk result (λ found. found ≡ column_given (table_view members.now)) }
 {
@@ -129,7 +129,7 @@ fn column_of_value(alloc: Global, value: &Value) -> Result<Option<DetailColumn>,
     }
 }
 
-/// The columns that some values declare, where each declares one.
+/// Reads the columns that some values declare. Returns None if one of them declares none.
 fn columns_of(alloc: Global, items: &[Value]) -> Result<Option<DetailColumns>, Memory>
     ensures { IfOk result (λ found. found ≡ all_read as_column (map view items.now)) }
 {
@@ -143,7 +143,7 @@ fn columns_of(alloc: Global, items: &[Value]) -> Result<Option<DetailColumns>, M
     Ok(Some(columns))
 }
 
-/// The columns of an array, where a value is one and each element declares a column.
+/// Reads the columns of an array. Returns None if the value is no array or an element declares no column.
 fn columns_of_value(alloc: Global, value: &Value) -> Result<Option<DetailColumns>, Memory>
     ensures { IfOk result (λ found. found ≡ as_list_of as_column (view value.now)) }
 {
@@ -153,7 +153,7 @@ fn columns_of_value(alloc: Global, value: &Value) -> Result<Option<DetailColumns
     }
 }
 
-/// The columns of a detail table.
+/// Reads the columns of a detail table. Returns None if they are missing or one is wrong.
 pub(crate) fn columns_under(alloc: Global, members: &Table) -> Result<Option<DetailColumns>, Memory>
     ensures { IfOk result (λ found. found ≡ columns_under (table_view members.now)) }
 {

@@ -1,11 +1,11 @@
-//! What a document declares, as plain data.
+//! The declaration in a document, as plain data.
 
 use schema_model::{Sequence, Text, Texts};
 
-/// A detail table: lines for each row of its parent, which name the row by its key and are numbered from 1.
+/// A detail table: lines for each row of its parent. Each line has the row's key and a number, counted from 1.
 #[derive(Debug, PartialEq)]
 pub struct Detail {
-    /// The number that all its draws begin from.
+    /// The number from which everything random in it is drawn.
     pub seed: i64,
     /// The fewest lines of a row.
     pub lo: i64,
@@ -15,7 +15,7 @@ pub struct Detail {
     pub name: Text,
     /// The name of the table on whose rows the lines hang.
     pub parent: Text,
-    /// The columns behind the key and the number, in the order of the lines.
+    /// The columns after the key and the number, in the order of a line's fields.
     pub columns: DetailColumns,
 }
 
@@ -42,7 +42,7 @@ pub struct DetailColumn {
     pub name: Text,
     /// What its fields hold.
     pub kind: DetailKind,
-    /// Whether its fields are drawn anew where the parent's row changes.
+    /// Whether its fields are drawn anew when the parent's row changes.
     pub changes: bool,
 }
 
@@ -61,9 +61,9 @@ impl Drop for DetailColumn {
 /// What the fields of a column hold.
 #[derive(Debug, PartialEq)]
 pub enum DetailKind {
-    /// A whole number from `lo` to `hi`, each as often.
+    /// A whole number from `lo` to `hi`. All are drawn equally often.
     Int { lo: i64, hi: i64 },
-    /// One of the entries, each as often.
+    /// One of the entries. All are drawn equally often.
     Pick { entries: Texts },
 }
 

@@ -3,7 +3,7 @@
 ghost use Rattle.std.specs.Prelude.{◌≡◌};
 ghost use Rattle.detail_plan.specs.Keys.{key_name};
 
-/// A key of the document. Keys that are written alike are one, wherever they stand.
+/// A key of the document. Keys with one spelling are one key, wherever they stand.
 #[derive(Clone, Copy, Debug, PartialEq, Eq)]
 pub enum DetailKey {
     /// `seed`
@@ -54,7 +54,7 @@ pub(crate) const PICK_KEYS: [DetailKey; 4] = [
 ];
 
 impl DetailKey {
-    /// The key as it stands in the document.
+    /// Returns the key as the document has it.
     pub(crate) fn name(self) -> &'static str
         ensures { result.now ≡ key_name self }
     {

@@ -1,7 +1,7 @@
-//! The declaration of a detail table: lines that hang on the rows of one table of a schema, each with the key of its row and a number.
+//! The declaration of a detail table: lines that hang on the rows of one table of a schema. Each line has its row's key and a number.
 //!
-//! `read_detail` reads a TOML document, and `check_detail` tries its rules over a schema's plan, as a schema is read and checked. What the lines hold
-//! is defined by the crate that makes them.
+//! `read_detail` reads a TOML document, and `check_detail` tries its rules over a schema's plan. The crate `detail_rows` defines what the
+//! lines hold.
 #![tactic(auto)]
 
 mod check;

@@ -1,4 +1,4 @@
-//! The values under the keys of a table. A key that is missing, or of another type, has none.
+//! The values under the keys of a table. A key that is missing, or whose value is of another type, has none.
 
 ghost use Rattle.std.specs.Prelude.{◌≡◌, option_map, string_bytes, IfOk};
 ghost use Rattle.std.specs.List.{list_all};
@@ -14,14 +14,14 @@ use schema_model::{Memory, Text};
 use std::alloc::Global;
 use toml::{Table, Value};
 
-/// What stands under a key.
+/// Returns the value under a key, or None if the key is missing.
 pub(crate) fn member(members: &Table, key: DetailKey) -> Option<&Value>
     ensures { option_map (λ v. view v.now) result ≡ get_member (key_name key) (table_view members.now) }
 {
     members.get(key.name())
 }
 
-/// Whether a key is one of some.
+/// Whether a name is that of one of some keys.
 fn is_among(keys: &[DetailKey], name: &str) -> bool
     ensures { result ≡ is_among keys.now name.now }
 {
@@ -34,21 +34,21 @@ fn are_among(members: &Table, keys: &[DetailKey]) -> bool
     members.keys().all(|name| is_among(keys, name.as_str()))
 }
 
-/// Whether a table has no keys beside some.
+/// Whether a table has no other keys than these.
 pub(crate) fn has_only(members: &Table, keys: &[DetailKey]) -> bool
     ensures { result ≡ has_only keys.now (table_view members.now) }
 {
     are_among(members, keys)
 }
 
-/// The whole number under a key.
+/// Returns the whole number under a key, or None if there is none.
 pub(crate) fn whole_under(members: &Table, key: DetailKey) -> Option<i64>
     ensures { result ≡ under as_integer key (table_view members.now) }
 {
     member(members, key)?.as_integer()
 }
 
-/// The flag under a key, false where the key is missing.
+/// Returns the flag under a key, or false if the key is missing. Returns None if the value is no flag.
 pub(crate) fn flag_under(members: &Table, key: DetailKey) -> Option<bool>
     ensures { result ≡ flag_under key (table_view members.now) }
 {
@@ -58,14 +58,14 @@ pub(crate) fn flag_under(members: &Table, key: DetailKey) -> Option<bool>
     }
 }
 
-/// The text under a key.
+/// Returns the text under a key, or None if there is none.
 pub(crate) fn str_under(members: &Table, key: DetailKey) -> Option<&str>
     ensures { option_copied result ≡ under as_str key (table_view members.now) }
 {
     member(members, key)?.as_str()
 }
 
-/// The text under a key, as a text of its own.
+/// Copies the text under a key, or returns None if there is none. Refuses if memory is wanting.
 pub(crate) fn text_under(
     alloc: Global,
     members: &Table,

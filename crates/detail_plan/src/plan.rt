@@ -5,7 +5,7 @@ use crate::rules::reach;
 use schema_plan::Plan;
 use std::marker::Model;
 
-/// A detail table that was found to keep its rules over a plan. A contract sees it as the detail table.
+/// A detail table that keeps its rules over a plan. A contract sees it as the detail table.
 #[derive(Debug, Drop)]
 pub struct DetailPlan {
     detail: Detail,
@@ -27,7 +27,7 @@ impl DetailPlan {
     ghost use Rattle.detail_plan.specs.Limits.{IsInLimits};
     ghost use Rattle.detail_plan.specs.Rules.{KeepsRules, reach_of};
 
-    /// The plan of a detail table within its limits.
+    /// Makes the plan of a detail table within its limits.
     pub(crate) fn of_accepted(detail: Detail) -> DetailPlan
         requires { IsInLimits detail }
         ensures { result ≡ detail }
@@ -35,7 +35,7 @@ impl DetailPlan {
         DetailPlan { detail }
     }
 
-    /// The detail table.
+    /// Returns the detail table.
     pub fn detail(&self) -> &Detail
         ensures value { result.now ≡ self.now }
         ensures limits { IsInLimits self.now }
@@ -43,7 +43,7 @@ impl DetailPlan {
         &self.detail
     }
 
-    /// The greatest size of all lines of a row of the parent, in bytes: at most 65,536, where the rules hold over the plan.
+    /// Returns the greatest size of all lines of a row of the parent, in bytes. If the rules hold over the plan, it is at most 65,536.
     pub fn reach(&self, plan: &Plan) -> u64
         requires { KeepsRules plan.now self.now }
         ensures reach { result ≡ reach_of plan.now self.now }

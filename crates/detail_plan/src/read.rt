@@ -20,7 +20,7 @@ use toml::Table;
 pub enum DetailReadFault {
     /// The bytes aren't a TOML document.
     Syntax,
-    /// The document has a wrong key: one is missing, of another type, or has no place there.
+    /// The document has a wrong key. A key is missing, is of another type, or has no place there.
     WrongForm,
     /// No memory was left to read the document.
     Memory,
@@ -34,7 +34,7 @@ impl From<Memory> for DetailReadFault {
     }
 }
 
-/// The three whole numbers of a document: its seed, the fewest lines of a row and the most.
+/// Reads the three whole numbers of a document: its seed, and the fewest and the most lines of a row.
 fn wholes_under(members: &Table) -> Option<(i64, i64, i64)>
     ensures { result ≡ wholes_under (table_view members.now) }
 {
@@ -44,7 +44,7 @@ fn wholes_under(members: &Table) -> Option<(i64, i64, i64)>
     Some((seed, lo, hi))
 }
 
-/// The two texts of a document: its name and its parent's.
+/// Reads the two texts of a document: its name and its parent's.
 fn names_under(alloc: Global, members: &Table) -> Result<Option<(Text, Text)>, Memory>
     ensures { IfOk result (λ found. found ≡ names_under (table_view members.now)) }
 {
@@ -57,7 +57,7 @@ fn names_under(alloc: Global, members: &Table) -> Result<Option<(Text, Text)>, M
     }
 }
 
-/// The detail table that the keys of a document declare.
+/// Reads the detail table from the keys of a document. Returns None if one is missing or of another type.
 fn detail_under(alloc: Global, members: &Table) -> Result<Option<Detail>, Memory>
     ensures { IfOk result (λ found. found ≡ detail_under (table_view members.now)) }
 {
@@ -80,7 +80,7 @@ fn detail_under(alloc: Global, members: &Table) -> Result<Option<Detail>, Memory
     }
 }
 
-/// The TOML document that the bytes are.
+/// Parses the bytes as a TOML document. Refuses bytes that aren't one. Refuses too if memory is wanting.
 fn parse(alloc: Global, bytes: &[u8]) -> Result<Table, DetailReadFault>
     ensures read { IfOk result (λ t. document bytes.now ≡ Some (table_view t)) }
     ensures refused { IfErr result (λ fault. fault ≢ DetailReadFault.Memory → (fault ≡ DetailReadFault.Syntax) × (document bytes.now ≡ None)) }
@@ -103,7 +103,7 @@ fn parse(alloc: Global, bytes: &[u8]) -> Result<Table, DetailReadFault>
     }
 }
 
-/// The detail table that a document declares.
+/// Reads the detail table that a document declares. Refuses a document with a wrong key. Refuses too if memory is wanting.
 fn detail_of_table(alloc: Global, members: &Table) -> Result<Detail, DetailReadFault>
     ensures read { IfOk result (λ detail. declared_by (Some (table_view members.now)) ≡ Ok detail) }
     ensures refused { IfErr result (λ fault. fault ≢ DetailReadFault.Memory → declared_by (Some (table_view members.now)) ≡ Err fault) }
@@ -117,8 +117,8 @@ fn detail_of_table(alloc: Global, members: &Table) -> Result<Detail, DetailReadF
     }
 }
 
-/// The detail table that the bytes declare. `Syntax` comes exactly where they are no TOML document, and `WrongForm` exactly where the document has
-/// a wrong key. Whether the rules hold is not tried here.
+/// Reads the detail table that the bytes declare. `Syntax` comes only if they are no TOML document, and `WrongForm` only if the document
+/// has a wrong key. Whether the rules hold isn't tried here.
 #[tactic(auto, unfolding(crate::specs::Reading::declared))]
 pub fn read_detail(alloc: Global, bytes: &[u8]) -> Result<Detail, DetailReadFault>
     ensures read { IfOk result (λ detail. declared bytes.now ≡ Ok detail) }

@@ -29,13 +29,13 @@ const MAX_REACH: u64 = 65_536;
 /// The greatest length of a whole number of 64 bits with its sign, in bytes.
 const WHOLE_SIZE: u64 = 20;
 
-/// The least greatest size of a field: that of a null one, in bytes.
+/// The length of a null field, in bytes. No greatest size of an entry's field is less.
 const NULL_SIZE: u64 = 2;
 
-/// The greatest size of the key of a row and the number of a line, each with the byte behind it.
+/// The greatest size of a row's key and a line's number, with a byte after each, in bytes.
 const HEAD_SIZE: u64 = 24;
 
-/// The number of the first rule that a detail table breaks over a plan, E1 as 1.
+/// Returns the number of the first rule that a detail table breaks over a plan, or None if it keeps all. The number 1 means E1.
 pub(crate) fn first_broken(plan: &Plan, detail: &Detail) -> Option<u32>
     ensures { result ≡ first_broken plan.now detail.now }
 {
@@ -82,14 +82,14 @@ fn has_columns(detail: &Detail) -> bool
         && are_kinds(columns)
 }
 
-/// Whether each column has a name that none before it has.
+/// Whether each column has a valid name that no column before it has.
 fn are_new_names(columns: &[DetailColumn]) -> bool
     ensures { result ≡ are_new_names columns.now }
 {
     (0..columns.len()).all(|place| is_new_column(columns, place))
 }
 
-/// Whether the column at a place has a name that no column before it has.
+/// Whether the column at a place has a valid name that no column before it has.
 fn is_new_column(columns: &[DetailColumn], place: usize) -> bool
     requires { place < length columns.now }
     ensures { result ≡ is_new_at (names_of columns.now) place }
@@ -98,7 +98,7 @@ fn is_new_column(columns: &[DetailColumn], place: usize) -> bool
     is_name(name) && !is_column_named(&columns[..place], name)
 }
 
-/// Whether one of some columns has a name.
+/// Whether one of some columns has this name.
 fn is_column_named(columns: &[DetailColumn], name: &Text) -> bool
     ensures { result ≡ list_any (λ column. same_text column.name name.now) columns.now }
 {
@@ -120,7 +120,7 @@ fn is_kind(kind: &DetailKind) -> bool
     }
 }
 
-/// The greatest size of one of some entries as it is written, in bytes.
+/// Returns the greatest size of an entry as it is written, in bytes.
 fn greatest_entry(delimiter: u8, entries: &[Text]) -> u64
     ensures { result ≡ greatest_by (written_size delimiter) entries.now }
 {
@@ -131,7 +131,7 @@ fn greatest_entry(delimiter: u8, entries: &[Text]) -> u64
     most
 }
 
-/// The greatest size of a field, in bytes.
+/// Returns the greatest size of a field, in bytes.
 fn kind_size(delimiter: u8, kind: &DetailKind) -> u64
     ensures { result ≡ kind_size delimiter kind.now }
 {
@@ -143,7 +143,7 @@ fn kind_size(delimiter: u8, kind: &DetailKind) -> u64
     }
 }
 
-/// The sum of the greatest sizes of the fields of some columns, in bytes.
+/// Returns the sum of the greatest sizes of the fields of some columns, in bytes, at most 2^64 - 1.
 fn columns_size(delimiter: u8, columns: &[DetailColumn]) -> u64
     ensures { result ≡ capped (sum_by (column_size delimiter) columns.now) }
 {
@@ -154,7 +154,7 @@ fn columns_size(delimiter: u8, columns: &[DetailColumn]) -> u64
     size
 }
 
-/// The greatest size of all lines of a row of the parent, in bytes. One past the end of 64 bits stands at the end.
+/// Returns the greatest size of all lines of a row of the parent, in bytes, at most 2^64 - 1.
 pub(crate) fn reach(delimiter: u8, detail: &Detail) -> u64
     ensures { result ≡ capped (reach_by delimiter detail.now) }
 {

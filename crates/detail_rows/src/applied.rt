@@ -9,12 +9,12 @@ ghost use Rattle.detail_rows.specs.Applying.{IsFirstFault, detail_fault};
 use std::alloc::Global;
 use stream_apply::{ApplyFault, KeyFields, TurnFault, apply_slices};
 
-/// Why streams aren't applied to a detail table: what is wrong with the first line that is at fault, by its number, which counts from
-/// 1, and its input, which counts from 0: the text, and what is deleted, updated and inserted.
+/// Why streams aren't applied to a detail table: what is wrong with the first line at fault. Lines count from 1. Inputs count from 0: the
+/// text, and then the deletions, the updates and the insertions.
 #[derive(Clone, Copy, Debug, PartialEq, Eq)]
 pub enum DetailApplyFault {
-    /// The line has no line feed or is no line body, it has fewer than two fields, one of the first two is null, or it has more where
-    /// it is to be deleted.
+    /// The line has no line feed or is no line body, it has fewer than two fields, or one of the first two is null. A line to be deleted is
+    /// also bad if it has more than two fields.
     BadLine { input: u32, line: u64 },
     /// An earlier line of the same input has the same first two fields.
     DoubleKey { input: u32, line: u64 },
@@ -26,9 +26,9 @@ pub enum DetailApplyFault {
     Memory,
 }
 
-/// The text of a detail table behind what a unit deletes, updates and inserts in it, with the delimiter, a tab (9) or a bar (124), that
-/// stands between two fields. Lines are known by their first two fields. Refused at the first line that is at fault of the first input
-/// that has one, or for want of memory.
+/// Applies a unit's deletions, updates and insertions to the text of a detail table, and returns the later text. The delimiter between
+/// two fields is a tab (9) or a bar (124). Lines are known by their first two fields. Refuses at the first line at fault of the first
+/// input that has one. Refuses too if memory is wanting.
 pub fn apply_details(
     alloc: Global,
     text: &[u8],
@@ -48,7 +48,7 @@ pub fn apply_details(
     }
 }
 
-/// The fault of an input, which counts from 0.
+/// Returns the fault of an input, which counts from 0, as one of the detail table.
 fn fault_of(input: u32, fault: ApplyFault) -> DetailApplyFault
     ensures { result ≡ detail_fault input fault }
 {

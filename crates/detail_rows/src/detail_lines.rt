@@ -1,4 +1,4 @@
-//! The lines of rows of the parent, one row after the other.
+//! The lines of a detail table for rows of its parent, one row after the other.
 
 ghost use Rattle.std.specs.Prelude.{◌≡◌, ◌<◌, ◌≤◌, ◌+◌, ◌-◌, ◌*◌, ◌^◌, ◌++◌, ◌∷◌, ℕ, All, IfOk, decimal, get_or, length, map};
 ghost use Rattle.std.specs.List.{range_with_len};
@@ -24,21 +24,21 @@ use std::marker::Model;
 /// The most columns of a detail table.
 pub(crate) const MOST_COLUMNS: usize = 32;
 
-/// The column that stands for the number of lines of a row.
+/// The column number whose seed draws how many lines a row has.
 const COUNT_COLUMN: u32 = 32;
 
-/// How many lines a row has at most.
+/// The most lines of a row.
 const MOST_LINES: u64 = 64;
 
-/// The size of the longest key and number of a line, with the delimiter between them.
+/// The size of the longest key and number of a line with the delimiter between them, in bytes.
 const HEAD_SIZE: usize = 23;
 
-/// How the lines of a row are told.
+/// How the lines of a row are written.
 #[derive(Clone, Copy, Debug, PartialEq, Eq)]
 pub enum LineKind {
-    /// Whole.
+    /// As whole lines.
     Whole,
-    /// With their keys alone.
+    /// As keys only.
     KeysAlone,
 }
 
@@ -79,7 +79,7 @@ impl<'a> Model for DetailLines<'a> {
     ghost invariant = { λ l. AreKept (record { delimiter = l.delimiter; detail = l.detail.now }) l.counts l.least l.spread l.values.items l.seeds.items };
 }
 
-/// What the fields of some columns hold.
+/// Makes ready what the fields of some columns hold.
 fn values_of(
     alloc: Global,
     delimiter: u8,
@@ -95,7 +95,7 @@ fn values_of(
     Ok(values)
 }
 
-/// The seeds of so many columns below a seed.
+/// Returns the seeds of the first `many` columns below a seed.
 fn column_seeds(alloc: Global, seed: u64, many: u32) -> Result<Vec<u64>, Memory>
     ensures { IfOk result (λ seeds. seeds.items ≡ map (column_seed seed) (range_with_len 0 many)) }
 {
@@ -106,7 +106,7 @@ fn column_seeds(alloc: Global, seed: u64, many: u32) -> Result<Vec<u64>, Memory>
     Ok(seeds)
 }
 
-/// Appends the key of a row and the number of a line, with the delimiter between them. 23 bytes have to be free.
+/// Appends the key of a row and the number of a line, with the delimiter between them. 23 bytes must be free.
 fn put_head(delimiter: u8, key: u64, number: u64, page: &mut PageBuf)
     requires number { number ≤ 64 }
     requires room { length page.old.text + HEAD_SIZE ≤ page.old.room }
@@ -119,7 +119,7 @@ fn put_head(delimiter: u8, key: u64, number: u64, page: &mut PageBuf)
     page.put_number(number);
 }
 
-/// The unit at which the fields of a column are drawn for a row.
+/// Returns the unit at which the fields of a column are drawn for a row.
 fn draw_unit(column: &DetailColumn, row: &ParentRow) -> u64
     ensures { result ≡ told_unit column.now row.now }
 {
@@ -131,7 +131,7 @@ fn draw_unit(column: &DetailColumn, row: &ParentRow) -> u64
 }
 
 impl<'a> DetailLines<'a> {
-    /// The lines of a detail table with a delimiter. At `Memory` there are none.
+    /// Makes ready the lines of a detail table with a delimiter. Refuses if memory is wanting.
     pub(crate) fn new(
         alloc: Global,
         delimiter: u8,
@@ -156,7 +156,7 @@ impl<'a> DetailLines<'a> {
         })
     }
 
-    /// The detail table.
+    /// Returns the detail table.
     fn declared(&self) -> &Detail
         ensures value { result.now ≡ self.now.detail }
         ensures limits { IsInLimits self.now.detail }
@@ -164,7 +164,7 @@ impl<'a> DetailLines<'a> {
         self.detail.detail()
     }
 
-    /// The greatest size of all lines of a row, in bytes, where the rules hold over a plan.
+    /// Returns the greatest size of all lines of a row, in bytes. The detail table must keep its rules over the plan.
     pub(crate) fn reach(&self, plan: &Plan) -> u64
         requires { KeepsRules plan.now self.now.detail }
         ensures reach { result ≡ reach_of plan.now self.now.detail }
@@ -173,14 +173,14 @@ impl<'a> DetailLines<'a> {
         self.detail.reach(plan)
     }
 
-    /// The byte between two fields.
+    /// Returns the byte between two fields.
     fn delimiter(&self) -> u8
         ensures { result ≡ self.now.delimiter }
     {
         self.delimiter
     }
 
-    /// What the fields of the columns hold.
+    /// Returns what the fields of the columns hold.
     fn values(&self) -> &[ReadyValue]
         ensures values { result.now ≡ ready_columns self.now.delimiter self.now.detail }
         ensures limits { IsInLimits self.now.detail }
@@ -188,14 +188,14 @@ impl<'a> DetailLines<'a> {
         self.values.as_slice()
     }
 
-    /// The seeds of the columns, below the detail table's.
+    /// Returns the seeds of the columns, below that of the detail table.
     fn seeds(&self) -> &[u64]
         ensures { result.now ≡ column_seeds self.now.detail }
     {
         self.seeds.as_slice()
     }
 
-    /// How many columns there are.
+    /// Returns the number of columns.
     pub(crate) fn columns(&self) -> usize
         ensures many { result ≡ length self.now.detail.columns }
         ensures few { result ≤ MOST_COLUMNS }
@@ -203,7 +203,7 @@ impl<'a> DetailLines<'a> {
         self.declared().columns.len()
     }
 
-    /// How many lines a row has.
+    /// Returns how many lines a row has.
     fn count(&self, row: &ParentRow) -> u64
         ensures count { result ≡ told_count self.now.detail row.now }
         ensures most { result ≤ count self.now.detail.hi }
@@ -214,7 +214,7 @@ impl<'a> DetailLines<'a> {
         self.least + self.spread.remainder(draw(seed, 1))
     }
 
-    /// Puts the seeds of the columns for the units at which a row's fields are drawn.
+    /// Puts the seed of each column for the unit at which a row's field is drawn.
     pub(crate) fn put_seeds(&self, row: &ParentRow, seeds: &mut [u64])
         requires { length seeds.old ≡ length self.now.detail.columns }
         ensures { AreSeeds self.now.detail row.now seeds.new }
@@ -256,7 +256,7 @@ impl<'a> DetailLines<'a> {
         }
     }
 
-    /// Appends a line of a row with its key alone.
+    /// Appends the key of a line of a row, with a line feed.
     fn put_key_line(&self, row: &ParentRow, number: u64, page: &mut PageBuf)
         requires number { number ≤ MOST_LINES }
         requires room { length page.old.text + line_size self.now.delimiter self.now.detail ≤ page.old.room }
@@ -267,7 +267,7 @@ impl<'a> DetailLines<'a> {
         page.put_piece(&Piece::of_byte(b'\n'));
     }
 
-    /// Appends all lines of a row with their keys alone.
+    /// Appends the keys of all lines of a row, each with a line feed.
     pub(crate) fn put_key_lines(&self, row: &ParentRow, page: &mut PageBuf)
         requires { length page.old.text + reach_by self.now.delimiter self.now.detail ≤ page.old.room }
         ensures text { page.new ≡ record page.old { text = page.old.text ++ told_key_lines self.now row.now } }
@@ -278,7 +278,7 @@ impl<'a> DetailLines<'a> {
         }
     }
 
-    /// Puts the seeds for the row at a place, after those for the row before it. They stay where the two are drawn at the same units.
+    /// Puts the seeds for the row at a place, after those for the row before it. They stay if both rows are drawn at the same units.
     fn follow(&self, rows: &ParentRows<'_>, i: usize, many: usize, seeds: &mut [u64])
         requires many { AreMany many rows.now }
         requires within { i < many }
@@ -296,7 +296,7 @@ impl<'a> DetailLines<'a> {
         }
     }
 
-    /// Appends all lines of the row at a place, whole or with their keys alone.
+    /// Appends all lines of the row at a place, whole or as keys only.
     fn put_row(
         &self,
         kind: LineKind,
@@ -327,7 +327,7 @@ impl<'a> DetailLines<'a> {
         }
     }
 
-    /// Appends all lines of some rows, whole or with their keys alone.
+    /// Appends all lines of the first `many` rows, whole or as keys only.
     pub(crate) fn put_rows(
         &self,
         kind: LineKind,

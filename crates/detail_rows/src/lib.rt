@@ -1,5 +1,5 @@
-//! Detail tables' lines: for each row of the parent its key, a number and what the columns hold. A `DetailPacker` makes them, package by package, and
-//! `apply_details` applies what units change to a text of them.
+//! The lines of detail tables: for each row of the parent its key, a number and the fields of the columns. A `DetailPacker` makes them, package by
+//! package. `apply_details` applies the changes of a unit to a text of such lines.
 #![tactic(auto)]
 
 mod applied;

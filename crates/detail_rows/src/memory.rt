@@ -1,4 +1,4 @@
-//! Want of memory.
+//! The fault of calls that run out of memory.
 
 use std::alloc::{AllocError, AllocFailed};
 

@@ -15,21 +15,21 @@ use std::marker::{Brand, Model};
 use std::sync::ledger::{Blank, Ledger};
 use step_count::Steps;
 
-/// Which lines are told, of which rows of the parent.
+/// Which lines are made, and of which rows of the parent.
 #[derive(Clone, Copy, Debug)]
 pub enum Rows<'a> {
     /// The lines of all rows that the parent holds at a unit.
     All { unit: u64 },
-    /// The lines of the rows of these ordinals, with their keys alone.
+    /// Only the keys of the lines of the rows of these ordinals.
     Keys { ordinals: &'a [u64] },
     /// The lines at a unit of the rows of these ordinals.
     Lines { ordinals: &'a [u64], unit: u64 },
-    /// The lines of the rows that are born at a unit, as `Lines` of all their ordinals gives them.
+    /// The lines of the rows that are born at a unit. `Lines` gives the same for all their ordinals.
     Born { unit: u64 },
 }
 
-/// The packages of a detail table's lines, each of so many rows of its parent. Each is made from the plan, with the orders that are kept for its rows,
-/// and from the rows that are told alone. A contract sees the plan, the detail table, the rows and the number of rows of a package.
+/// The packages of a detail table's lines, each of so many rows of the parent. A package is made only from the plan, the orders that are kept for its
+/// rows, and the given rows. A contract sees the plan, the detail table, the rows and the number of rows of a package.
 #[derive(Drop)]
 pub struct DetailPacker<'a> {
     lines: ParentLines<'a>,
@@ -51,7 +51,7 @@ impl<'a> Model for DetailPacker<'a> {
     ghost invariant = { λ p. ArePackages (record { plan = p.lines.plan; detail = p.lines.detail; rows = p.told; size = p.size }) p.many p.count p.room };
 }
 
-/// How many rows there are: all that are born by the unit, or those that are listed.
+/// Returns the number of rows: those born by the unit, those listed, or those born at the unit.
 fn rows_in(lines: &ParentLines<'_>, told: &Rows<'_>) -> u64
     requires { AreTold lines.now.plan lines.now.detail told.now }
     ensures many { result ≡ rows_in lines.now.plan lines.now.detail told.now }
@@ -64,7 +64,7 @@ fn rows_in(lines: &ParentLines<'_>, told: &Rows<'_>) -> u64
     }
 }
 
-/// How many packages of at most so many rows are wanted for so many.
+/// Returns how many packages of at most `size` rows hold `many` rows.
 fn package_count(size: u64, many: u64) -> u64
     requires some { 1 ≤ size }
     requires size { size ≤ 1000000 }
@@ -75,7 +75,7 @@ fn package_count(size: u64, many: u64) -> u64
     (many + (size - 1)) / size
 }
 
-/// Puts the lines of the rows from a position up to another on a page, which is empty.
+/// Puts the lines of the rows from position `first` up to the one before `end` on an empty page.
 fn put_range<L: Ledger>(
     lines: &ParentLines<'_>,
     told: &Rows<'_>,
@@ -109,8 +109,8 @@ fn put_range<L: Ledger>(
 }
 
 impl<'a> DetailPacker<'a> {
-    /// The packages of the lines of some rows of a detail table's parent, over the rows of a plan, of so many rows each: 1 to 1,000,000. At `Memory`
-    /// nothing is made.
+    /// Makes the packages of the lines of some rows of a detail table's parent, over the rows of a plan. A package has `size` rows, 1 to 1,000,000.
+    /// Refuses if memory is wanting.
     pub fn new(
         alloc: Global,
         rows: life_intervals::Rows<'a>,
@@ -137,7 +137,7 @@ impl<'a> DetailPacker<'a> {
         })
     }
 
-    /// Puts the lines of a package on a page, which is empty.
+    /// Puts the lines of package `n` on an empty page.
     fn put_package<B: Ledger>(&self, n: u64, page: &mut PageBuf, blank: Blank)
         requires name { blank.name ≡ B.name }
         requires parts { blank.parts ≡ B.parts }
@@ -153,7 +153,7 @@ impl<'a> DetailPacker<'a> {
         put_range(&self.lines, &self.told, first, end, page, &mut steps);
     }
 
-    /// Makes a package, and counts no steps.
+    /// Puts the lines of package `n` on an empty page, and counts no steps.
     fn put_uncounted(&self, n: u64, page: &mut PageBuf)
         requires number { n < count_of self.now }
         requires empty { page.old.text ≡ [] }

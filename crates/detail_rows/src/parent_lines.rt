@@ -1,4 +1,4 @@
-//! The lines of the rows of the parent, by their ordinals: of some at once, from what the plan tells of these.
+//! The lines for rows of the parent, named by their ordinals and made in runs.
 
 ghost use Rattle.std.specs.Prelude.{◌≡◌, ◌<◌, ◌≤◌, ◌+◌, ◌*◌, ◌^◌, ◌++◌, ℕ, IfOk, get_or, length, map, take};
 ghost use Rattle.schema_plan.specs.Layout.{layout_of};
@@ -24,7 +24,7 @@ use std::marker::Model;
 use std::sync::ledger::Ledger;
 use step_count::Steps;
 
-/// The lines of the rows of a detail table's parent, with what doesn't change from row to row. A contract sees the plan and the detail table.
+/// The lines for the rows of a detail table's parent, with what doesn't change from row to row. A contract sees the plan and the detail table.
 #[derive(Drop)]
 pub(crate) struct ParentLines<'a> {
     rows: Rows<'a>,
@@ -42,7 +42,7 @@ impl<'a> Model for ParentLines<'a> {
     ghost invariant = { λ l. AreParentLines (record { plan = l.rows; detail = l.lines.detail }) l.lines l.table };
 }
 
-/// The place in a plan's schema of the parent of a detail table that keeps its rules over it.
+/// Returns the place of a detail table's parent in a plan's schema. The detail table must keep its rules over the plan.
 pub fn parent_of(plan: &Plan, detail: &DetailPlan) -> u32
     requires { KeepsRules plan.now detail.now }
     ensures place { result ≡ parent_place plan.now detail.now }
@@ -55,7 +55,8 @@ pub fn parent_of(plan: &Plan, detail: &DetailPlan) -> u32
 }
 
 impl<'a> ParentLines<'a> {
-    /// The lines of the rows of the parent of a detail table that keeps its rules over a plan. At `Memory` there are none.
+    /// Makes ready the lines for the rows of a detail table's parent. The detail table must keep its rules over the plan. Refuses if memory is
+    /// wanting.
     pub(crate) fn new(
         alloc: Global,
         rows: Rows<'a>,
@@ -70,14 +71,14 @@ impl<'a> ParentLines<'a> {
         Ok(ParentLines { rows, lines, table })
     }
 
-    /// The rows of the plan.
+    /// Returns the rows of the plan.
     fn rows(&self) -> &Rows<'a>
         ensures { result.now ≡ self.now.plan }
     {
         &self.rows
     }
 
-    /// The lines of the detail table.
+    /// Returns the lines of the detail table.
     fn lines(&self) -> &DetailLines<'a>
         ensures value { result.now ≡ record { delimiter = (layout_of self.now.plan).delimiter; detail = self.now.detail } }
         ensures keeps { KeepsRules self.now.plan self.now.detail }
@@ -85,7 +86,7 @@ impl<'a> ParentLines<'a> {
         &self.lines
     }
 
-    /// The place of the parent.
+    /// Returns the place of the parent in the schema.
     pub(crate) fn table(&self) -> u32
         ensures place { result ≡ parent_place self.now.plan self.now.detail }
         ensures within { result < length self.now.plan.schema.tables }
@@ -93,14 +94,14 @@ impl<'a> ParentLines<'a> {
         self.table
     }
 
-    /// The last unit.
+    /// Returns the last unit.
     pub(crate) fn last_unit(&self) -> u64
         ensures { result ≡ last_unit self.now.plan }
     {
         self.rows().plan().units()
     }
 
-    /// The greatest size of all lines of a row, in bytes.
+    /// Returns the greatest size of all lines of a row, in bytes.
     pub(crate) fn reach(&self) -> u64
         ensures reach { result ≡ reach_of self.now.plan self.now.detail }
         ensures most { result ≤ 65536 }
@@ -108,7 +109,7 @@ impl<'a> ParentLines<'a> {
         self.lines().reach(self.rows().plan())
     }
 
-    /// How many rows of the parent are born by unit `t`.
+    /// Returns how many rows of the parent are born by unit `t`.
     pub(crate) fn born(&self, t: u64) -> u64
         requires { t ≤ last_unit self.now.plan }
         ensures count { result ≡ born_by self.now.plan self.now.detail t }
@@ -117,7 +118,7 @@ impl<'a> ParentLines<'a> {
         born(self.rows().plan(), self.table(), t)
     }
 
-    /// The rows of the parent that are born at unit `t`.
+    /// Returns the rows of the parent that are born at unit `t`.
     pub(crate) fn cohort(&self, t: u64) -> Cohort
         requires { t ≤ last_unit self.now.plan }
         ensures first { result.first ≡ first_born self.now.plan self.now.detail t }
@@ -129,7 +130,7 @@ impl<'a> ParentLines<'a> {
         cohort(self.rows().plan(), self.table(), t)
     }
 
-    /// Puts the units at which rows changed last by unit `t`, where whole lines are told.
+    /// Puts the units at which rows changed last by unit `t`. For keys only it puts nothing.
     fn put_changes<L: Ledger>(
         &self,
         kind: LineKind,
@@ -155,7 +156,7 @@ impl<'a> ParentLines<'a> {
         }
     }
 
-    /// Appends the lines at unit `t` of some rows, which are born by it, from what is told of these.
+    /// Appends the lines at unit `t` of some rows, from their keys, births and changes. The rows are born by the unit.
     fn put_told(&self, kind: LineKind, t: u64, told: &ParentRows<'_>, page: &mut PageBuf)
         requires unit { t ≤ last_unit self.now.plan }
         requires many { AreMany (length told.now.ordinals.now) told.now }
@@ -172,7 +173,7 @@ impl<'a> ParentLines<'a> {
         self.lines().put_rows(kind, told, told.ordinals.len(), page);
     }
 
-    /// Appends the lines at unit `t` of the rows of these ordinals, which are born by it and no more than a run has.
+    /// Appends the lines at unit `t` of the rows of these ordinals. The rows are born by the unit, and no more than a run has.
     fn put_run<L: Ledger>(
         &self,
         kind: LineKind,
@@ -211,7 +212,7 @@ impl<'a> ParentLines<'a> {
         self.put_told(kind, t, &told, page);
     }
 
-    /// The same of as many as there are.
+    /// Appends the lines at unit `t` of the rows of these ordinals, run by run. The rows are born by the unit.
     pub(crate) fn put_listed<L: Ledger>(
         &self,
         kind: LineKind,
@@ -233,7 +234,8 @@ impl<'a> ParentLines<'a> {
         }
     }
 
-    /// Appends the lines at unit `t` of the living among some rows from the one of ordinal `first` on, which are born by it and no more than a run has.
+    /// Appends the lines at unit `t` of the living among `some` rows from ordinal `first` on. The rows are born by the unit, and no more than a
+    /// run has.
     fn put_living_run<L: Ledger>(
         &self,
         t: u64,
@@ -256,8 +258,8 @@ impl<'a> ParentLines<'a> {
         self.put_run(LineKind::Whole, t, &ordinals[..living], page, steps);
     }
 
-    /// Puts the ordinals of the living among some rows from the one of ordinal `first` on to the begin of a list, which is as long, and tells how many they
-    /// are.
+    /// Puts the ordinals of the living among `some` rows from ordinal `first` on at the beginning of a list of `some` places. Returns how many
+    /// rows are alive.
     fn find_living<L: Ledger>(
         &self,
         t: u64,
@@ -287,7 +289,7 @@ impl<'a> ParentLines<'a> {
         keep(ordinals, live)
     }
 
-    /// Puts which rows are alive at unit `t`.
+    /// Puts for each row whether it is alive at unit `t`.
     fn put_lives<L: Ledger>(
         &self,
         t: u64,
@@ -322,7 +324,7 @@ impl<'a> ParentLines<'a> {
         );
     }
 
-    /// Appends the lines at unit `t` of the living among `count` rows from the one of ordinal `first` on, which are born by it.
+    /// Appends the lines at unit `t` of the living among `count` rows from ordinal `first` on. The rows are born by the unit.
     pub(crate) fn put_living<L: Ledger>(
         &self,
         t: u64,

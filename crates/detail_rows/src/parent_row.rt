@@ -1,6 +1,6 @@
 //! Rows of the parent.
 
-/// What the lines of a row take from it: its key, its ordinal, and the units of its birth and of its last change.
+/// What the lines of a row follow from: its key, its ordinal, and the units of its birth and of its last change.
 #[derive(Clone, Copy, Debug)]
 pub(crate) struct ParentRow {
     pub(crate) key: u64,
@@ -9,7 +9,7 @@ pub(crate) struct ParentRow {
     pub(crate) changed: u64,
 }
 
-/// Rows side by side, each at one place of the four lists.
+/// Rows as four lists. Each row has one place in all of them.
 #[derive(Clone, Copy)]
 pub(crate) struct ParentRows<'a> {
     pub(crate) keys: &'a [u64],
@@ -22,7 +22,7 @@ impl<'a> ParentRows<'a> {
     ghost use Rattle.std.specs.Prelude.{◌≡◌, ◌<◌, ℕ};
     ghost use Rattle.detail_rows.specs.Told.{AreMany, row_of};
 
-    /// The row at a place, of so many.
+    /// Returns the row at place `i` of `many`.
     #[inline(always)]
     pub(crate) fn row(&self, i: usize, many: usize) -> ParentRow
         requires many { AreMany many self.now }

@@ -20,13 +20,13 @@ use std::alloc::Global;
 
 /// What the fields of a column hold, ready for lines.
 pub(crate) enum ReadyValue {
-    /// A number from `lo` to `hi`, of so many.
+    /// A number from `lo` to `hi`. `choices` is how many there are.
     Number {
         lo: i64,
         hi: i64,
         choices: FixedDivisor,
     },
-    /// One of the entries, as they are written, of so many.
+    /// One of the entries, as they are written. `choices` is how many there are.
     Entry {
         entries: WrittenTexts,
         choices: FixedDivisor,
@@ -49,7 +49,7 @@ impl Drop for ReadyValue {
     }
 }
 
-/// The entries as they are written.
+/// Returns the entries as they are written.
 fn written_entries(alloc: Global, delimiter: u8, entries: &[Text]) -> Result<WrittenTexts, Memory>
     ensures { IfOk result (λ written. written ≡ map (escaped_text delimiter) entries.now) }
 {
@@ -60,7 +60,7 @@ fn written_entries(alloc: Global, delimiter: u8, entries: &[Text]) -> Result<Wri
     Ok(written)
 }
 
-/// How many numbers there are from `lo` to `hi`.
+/// Returns how many numbers there are from `lo` to `hi`.
 fn choices(lo: i64, hi: i64) -> FixedDivisor
     requires { IsRange lo hi }
     ensures { result ≡ count (hi -ℤ lo) + 1 }
@@ -79,7 +79,7 @@ fn ready_entry(alloc: Global, delimiter: u8, entries: &[Text]) -> Result<ReadyVa
     })
 }
 
-/// What the fields of a column of a kind within its limits hold.
+/// Makes ready what the fields of a column hold. The column's kind is within its limits.
 pub(crate) fn ready_value(
     alloc: Global,
     delimiter: u8,
@@ -98,7 +98,7 @@ pub(crate) fn ready_value(
     }
 }
 
-/// The number from `lo` to `hi` that a draw gives, of so many.
+/// Returns the number from `lo` to `hi` that a draw gives. `choices` is how many there are.
 #[inline(always)]
 fn number_of(lo: i64, hi: i64, choices: &FixedDivisor, number: u64) -> i64
     requires { IsNumber lo hi choices.now }
@@ -107,7 +107,7 @@ fn number_of(lo: i64, hi: i64, choices: &FixedDivisor, number: u64) -> i64
     lo + choices.remainder(number) as i64
 }
 
-/// Appends a number in decimal, with a minus sign where it is negative. 20 bytes have to be free.
+/// Appends a number in decimal, with a minus sign if it is negative. 20 bytes must be free.
 #[inline(always)]
 fn put_number(value: i64, page: &mut PageBuf)
     requires { length page.old.text + 20 ≤ page.old.room }
@@ -117,7 +117,7 @@ fn put_number(value: i64, page: &mut PageBuf)
     page.put_signed(value);
 }
 
-/// Appends the entry that a draw gives, of so many. The size of the greatest has to be free.
+/// Appends the entry that a draw gives. `choices` is how many entries there are. The size of the greatest must be free.
 #[inline(always)]
 fn put_entry(entries: &WrittenTexts, choices: &FixedDivisor, number: u64, page: &mut PageBuf)
     requires choices { AreChoices entries.now choices.now }
@@ -128,7 +128,7 @@ fn put_entry(entries: &WrittenTexts, choices: &FixedDivisor, number: u64, page: 
     page.put(entries.get(choices.remainder(number) as usize));
 }
 
-/// Appends what a draw gives, as it is written. Its greatest size has to be free.
+/// Appends the value that a draw gives, as it is written. Its greatest size must be free.
 #[inline(always)]
 fn put_value(value: &ReadyValue, number: u64, page: &mut PageBuf)
     requires ready { IsReadyValue value.now }
@@ -146,7 +146,7 @@ fn put_value(value: &ReadyValue, number: u64, page: &mut PageBuf)
     }
 }
 
-/// Appends the fields of a line, each with the delimiter before it: by the seeds of the columns for a unit, and by an ordinal.
+/// Appends the fields of a line, each with the delimiter before it. They are drawn by the seeds of the columns for a unit, and by an ordinal.
 pub(crate) fn put_fields(
     delimiter: u8,
     values: &[ReadyValue],

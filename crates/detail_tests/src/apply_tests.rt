@@ -1,4 +1,4 @@
-//! Texts of detail tables, and streams for them, worked out by hand.
+//! Texts of detail tables and streams that are applied to them, worked out by hand.
 
 use detail_rows::{DetailApplyFault, apply_details};
 use std::alloc::Global;
@@ -6,7 +6,7 @@ use std::process::Abort;
 
 const TEXT: &[u8] = b"1\t1\ta\n1\t2\tb\n2\t1\tc\n";
 
-/// Two lines for each of three customers, and what a unit changes in them.
+/// Two lines for each of three customers, and the changes of a unit.
 const ITEMS: [&[u8]; 4] = [
     b"1\t1\t5\n1\t2\t5\n2\t1\t5\n2\t2\t5\n3\t1\t5\n3\t2\t5\n",
     b"1\t1\n1\t2\n",
@@ -16,10 +16,10 @@ const ITEMS: [&[u8]; 4] = [
 
 const ITEMS_BEHIND: &[u8] = b"2\t1\t5\n2\t2\t5\n3\t1\t5\n3\t2\t5\n4\t1\t5\n4\t2\t5\n";
 
-/// Both fields are the key: neither of them alone, nor both without the delimiter.
+/// Lines whose keys look alike. Both fields are the key, not only one of them, nor the two joined without the delimiter.
 const ALIKE: [&[u8]; 4] = [b"1\t11\n11\t1\n", b"11\t1\n", b"1\t11\t\n", b"11\t11\n"];
 
-/// A text, what is deleted, updated and inserted, and the text behind it.
+/// A text, its deletions, updates and insertions, and the text after them.
 const APPLIED: [([&[u8]; 4], &[u8]); 6] = [
     ([TEXT, b"", b"", b""], TEXT),
     ([b"", b"", b"", b"1\t1\n"], b"1\t1\n"),
@@ -32,7 +32,7 @@ const APPLIED: [([&[u8]; 4], &[u8]); 6] = [
     ([b"\t\n", b"\t\n", b"", b"1\t\n\t1\n"], b"1\t\n\t1\n"),
 ];
 
-/// The same with bars.
+/// Cases with bars between the fields.
 const WITH_BARS: [([&[u8]; 4], &[u8]); 1] = [(
     [b"1|1|\\|\n1|2|\\t\n", b"1|1\n", b"1|2|a\n", b"1|3\n"],
     b"1|2|a\n1|3\n",
@@ -65,9 +65,9 @@ enum Wrong {
     Held,
 }
 
-/// What is wrong first, with its input and its line: of a text, and of what is deleted, updated and inserted.
+/// The first fault of a case, with its input and its line. The inputs are a text and its deletions, updates and insertions.
 const REFUSED: [(Wrong, u32, u64, [&[u8]; 4]); 28] = [
-    // no line feed, and no line body
+    // no line feed, or no line body
     (Wrong::Line, 0, 2, [b"1\t1\n2\t1", b"", b"", b""]),
     (Wrong::Line, 1, 1, [TEXT, b"1\t1", b"", b""]),
     (Wrong::Line, 2, 1, [TEXT, b"", b"1\t1\t\\q\n", b""]),
@@ -83,7 +83,7 @@ const REFUSED: [(Wrong, u32, u64, [&[u8]; 4]); 28] = [
     (Wrong::Line, 1, 1, [TEXT, b"1\t\\N\n", b"", b""]),
     (Wrong::Line, 2, 1, [TEXT, b"", b"\\N\t1\ta\n", b""]),
     (Wrong::Line, 3, 1, [TEXT, b"", b"", b"3\t\\N\ta\n"]),
-    // more than two, where it is to be deleted
+    // more than two fields in a line to be deleted
     (Wrong::Line, 1, 2, [TEXT, b"1\t1\n1\t2\tb\n", b"", b""]),
     (Wrong::Line, 1, 1, [TEXT, b"1\t1\t\n", b"", b""]),
     // two lines with one key
@@ -101,7 +101,7 @@ const REFUSED: [(Wrong, u32, u64, [&[u8]; 4]); 28] = [
     (Wrong::Absent, 2, 2, [TEXT, b"", b"1\t1\tx\n3\t1\tx\n", b""]),
     (Wrong::Absent, 2, 1, [TEXT, b"1\t1\n", b"1\t1\tx\n", b""]),
     (Wrong::Held, 3, 2, [TEXT, b"", b"", b"2\t2\tx\n2\t1\tx\n"]),
-    // several: the first input, and in it the first line, and of this the first
+    // several faults: the first input, in it the first line, and in this line the first fault
     (Wrong::Double, 0, 2, [b"1\t1\n1\t1\n", b"1\n", b"", b""]),
     (Wrong::Absent, 1, 1, [TEXT, b"9\t9\n1\n", b"1\n", b"1\n"]),
     (Wrong::Absent, 2, 1, [TEXT, b"", b"9\t9\n", b"1\n"]),

@@ -1,4 +1,4 @@
-//! What several tests need: a schema, plans, and texts that are put together.
+//! What several tests need: a schema, plans, and texts that are joined.
 
 use schema_check::check;
 use schema_plan::{Dictionaries, Plan};
@@ -6,7 +6,7 @@ use schema_read::read_schema;
 use std::alloc::Global;
 use std::process::Abort;
 
-/// Customers, one at each unit, who live three units and change every two, and orders, each of the oldest customer of the last three units.
+/// Customers, one born at each unit, who live three units and change every two. Each order has the oldest customer of the last three units.
 pub(crate) const SALES: &str = r#"
 seed = 7
 units = 5
@@ -32,18 +32,18 @@ column = [
 ]
 "#;
 
-/// The plan of a schema that is accepted.
+/// Returns the plan of a schema that is accepted.
 pub(crate) fn plan_of(rt: &impl Abort, alloc: Global, text: &str) -> Plan {
     let schema = read_schema(alloc, text.as_bytes()).expect(rt, "no schema");
     check(alloc, schema, Dictionaries::new(alloc)).expect(rt, "no plan")
 }
 
-/// The pieces, one behind the other.
+/// Joins the pieces, one after the other.
 pub(crate) fn joined(rt: &impl Abort, alloc: Global, pieces: &[&str]) -> String {
     pieces.concat(alloc).expect(rt, "memory")
 }
 
-/// For each number from 0 on the number between a front and an end.
+/// Joins the numbers from 0 on, `count` of them, each between `front` and `end`.
 pub(crate) fn numbered(
     rt: &impl Abort,
     alloc: Global,

@@ -1,4 +1,4 @@
-//! Tests of declarations of detail tables, of their lines, and of what units change in them, by public calls.
+//! Tests of detail tables by public calls: their declarations, their lines, and the changes of units.
 #![tactic(auto)]
 
 #[cfg(test)]

@@ -1,5 +1,5 @@
-//! The lines of detail tables in packages of several sizes. Those of the first are worked out by hand, those of the others by an independent
-//! program, written in Python from the rules, with no shared code (docs/SECOND_PROGRAM.md).
+//! The lines of detail tables in packages of several sizes. The first case is worked out by hand. The others come from an independent program,
+//! written in Python from the rules, with no shared code (docs/SECOND_PROGRAM.md).
 
 ghost use Rattle.std.specs.Prelude.{◌≡◌, ◌<◌, ◌≤◌, ℕ, get_or, length, true};
 ghost use Rattle.life_intervals.specs.Generator.{last_unit};
@@ -16,7 +16,7 @@ use schema_plan::Plan;
 use std::alloc::Global;
 use std::process::Abort;
 
-/// The detail table that a text declares over a plan.
+/// Returns the detail table that a text declares over a plan.
 fn declared(rt: &impl Abort, alloc: Global, plan: &Plan, text: &str) -> DetailPlan
     ensures { KeepsRules plan.now result }
 {
@@ -44,7 +44,7 @@ fn are_born(plan: &Plan, detail: &DetailPlan, ordinals: &[u64], unit: u64) -> bo
     true
 }
 
-/// Whether rows that are to be told are the parent's.
+/// Whether the rows of a packer are rows of the parent.
 fn are_told(plan: &Plan, detail: &DetailPlan, told: &Rows<'_>) -> bool
     requires { KeepsRules plan.now detail.now }
     ensures { result ≡ true → AreTold plan.now detail.now told.now }
@@ -58,7 +58,7 @@ fn are_told(plan: &Plan, detail: &DetailPlan, told: &Rows<'_>) -> bool
     }
 }
 
-/// All packages of a packer, one behind the other; None where memory ran out.
+/// Joins all packages of a packer, one after the other. Returns None if memory is wanting.
 fn packed(alloc: Global, packer: &DetailPacker<'_>) -> Option<Vec<u8>> {
     let mut text = Vec::new(alloc);
     let Ok(mut page) = PageBuf::with_room(alloc, packer.room()) else {
@@ -74,7 +74,7 @@ fn packed(alloc: Global, packer: &DetailPacker<'_>) -> Option<Vec<u8>> {
     Some(text)
 }
 
-/// The lines of some rows, in packages of so many rows; None where memory ran out, and where the rows aren't the parent's.
+/// Makes the lines of some rows, in packages of `size` rows. Returns None if memory is wanting or the rows aren't the parent's.
 fn text_by(
     alloc: Global,
     plan: &Plan,
@@ -103,7 +103,7 @@ struct Case<'a> {
     texts: &'a [(Rows<'a>, &'a [u8])],
 }
 
-/// Two lines for each customer, each of them of the quantity 5.
+/// Two lines for each customer, each with the quantity 5.
 const ITEMS: &str = r#"
 seed = 1
 name = "item"
@@ -113,7 +113,7 @@ hi = 2
 column = [{ name = "qty", kind = "int", lo = 5, hi = 5 }]
 "#;
 
-/// Columns that change and one that doesn't; of the customers 1 to 5 as many lines as 3, 0, 2, 1 and 1.
+/// A column that doesn't change and two that do. The customers 1 to 5 have 3, 0, 2, 1 and 1 lines.
 const NOTES: &str = r#"
 seed = 19
 name = "item"
@@ -127,7 +127,7 @@ column = [
 ]
 "#;
 
-/// Customers who come more at some units than at others, and of whom few change.
+/// Customers of whom more are born at later units, and of whom few change.
 const CUSTOMERS: &str = r#"
 seed = 0
 units = 15
@@ -140,7 +140,7 @@ update = 10000
 column = [{ name = "id", kind = "key", base = 1 }]
 "#;
 
-/// No line for some of them.
+/// Quantities. Some customers have no line.
 const QUANTITIES: &str = r#"
 seed = 6401751718962498050
 name = "item"
@@ -150,7 +150,7 @@ hi = 3
 column = [{ name = "qty", kind = "int", lo = 100, hi = 1100, changes = true }]
 "#;
 
-/// Orders of scrambled keys that live three units, with bars between their fields.
+/// Orders with scrambled keys that live three units, with bars between the fields.
 const ORDERS: &str = r#"
 seed = 9223372036854775807
 units = 15
@@ -164,7 +164,7 @@ update = 5
 column = [{ name = "id", kind = "key", base = 1000, scramble = true }]
 "#;
 
-/// Entries that are written with backslashes before some of their bytes, empty ones, and ones that stand twice.
+/// Entries that are written with backslashes before some bytes, empty entries, and entries that stand twice.
 const MARKS: &str = r#"
 seed = 8250867271653808470
 name = "item"

@@ -1,11 +1,11 @@
-//! Declarations that are read, and what they declare, or why they declare nothing, worked out by hand.
+//! Declarations that are read: what they declare, or why they declare nothing, worked out by hand.
 
 use crate::fixtures::joined;
 use detail_plan::{DetailReadFault, read_detail};
 use std::alloc::Global;
 use std::process::Abort;
 
-/// All keys and kinds, and numbers and names that no rule accepts, since the rules are not tried here.
+/// A declaration with all keys and kinds. No rule accepts its numbers and names, since reading tries no rule.
 const TEXT: &str = r#"
 hi = -16
 column = [
@@ -20,7 +20,7 @@ lo = 0x46
 seed = -7
 "#;
 
-/// What it declares, as `{:?}` writes it.
+/// The detail table that `TEXT` declares, as `{:?}` writes it.
 const DETAIL: &str = concat!(
     r#"Detail { seed: -7, lo: 70, hi: -16, name: Text { text: "no name" }, parent: Text { text: "None" }, columns: Sequence { items: ["#,
     r#"DetailColumn { name: Text { text: "" }, kind: Int { lo: 9223372036854775807, hi: -9223372036854775808 }, changes: false }, "#,
@@ -37,7 +37,7 @@ fn each_key_is_read(rt: HostRuntime) {
     assert!(rt; told.as_str() == DETAIL, "{told}");
 }
 
-/// The keys of a declaration, each right and of another type.
+/// The keys of a declaration, each with its right line and with one of another type.
 const TOP: [(&str, &str); 6] = [
     ("seed=1\n", "seed='1'\n"),
     ("lo=1\n", "lo=1.0\n"),
@@ -47,10 +47,10 @@ const TOP: [(&str, &str); 6] = [
     ("column=[]\n", "column={}\n"),
 ];
 
-/// Those of a declaration before its columns.
+/// The keys of a declaration before its columns.
 const FRONT: &str = "seed=1\nlo=1\nhi=2\nname='item'\nparent='customer'\n[[column]]\n";
 
-/// Those of a column of numbers.
+/// The keys of a column of numbers, as in `TOP`.
 const INT: [(&str, &str); 4] = [
     ("name='qty'\n", "name=['qty']\n"),
     ("kind='int'\n", "kind=1\n"),
@@ -58,14 +58,14 @@ const INT: [(&str, &str); 4] = [
     ("hi=5\n", "hi=true\n"),
 ];
 
-/// Those of a column of entries.
+/// The keys of a column of entries, as in `TOP`.
 const PICK: [(&str, &str); 3] = [
     ("name='mark'\n", "name=1\n"),
     ("kind='pick'\n", "kind=['pick']\n"),
     ("entries=['a','b']\n", "entries='a'\n"),
 ];
 
-/// The right lines but for the one at a place, in whose stead another stands.
+/// Joins the right lines. At place `at` another line stands in place of the right one.
 fn with_line(
     rt: &impl Abort,
     alloc: Global,
@@ -82,13 +82,13 @@ fn with_line(
     text
 }
 
-/// A text declares nothing, for this reason.
+/// Asserts that a text declares nothing, for this reason.
 fn assert_refused(rt: &impl Abort, alloc: Global, text: &[u8], fault: DetailReadFault) {
     let told = read_detail(alloc, text).err();
     assert!(rt; told == Some(fault), "{told:?}: {text:?}");
 }
 
-/// Each of the keys has to be there, and to be of its type.
+/// Asserts that each key must be there and be of its type.
 fn assert_required(rt: &impl Abort, alloc: Global, front: &str, lines: &[(&str, &str)]) {
     let right = with_line(rt, alloc, front, lines, lines.len(), "");
     assert!(rt;
@@ -111,7 +111,7 @@ fn each_key_is_required_and_of_its_type(rt: HostRuntime) {
     assert_required(&rt, rt.alloc(), FRONT, &PICK);
 }
 
-/// Columns behind the front, which have a wrong key, or none.
+/// Columns that follow the front, and whether their keys are right.
 const COLUMNS: [(&str, bool); 12] = [
     ("name='c'\nkind='int'\nlo=1\nhi=1\n", true),
     ("name='c'\nkind='int'\nlo=1\nhi=1\nchanges=1\n", false),
@@ -130,7 +130,7 @@ const COLUMNS: [(&str, bool); 12] = [
     ("name='c'\nkind='pick'\nentries=['a']\n[further]\n", false),
 ];
 
-/// Whole texts: no document, or one with a wrong key.
+/// Whole texts that are no document or have a wrong key.
 const TEXTS: [(&[u8], DetailReadFault); 7] = [
     (b"seed = ", DetailReadFault::Syntax),
     (b"seed=1\nseed=1\n", DetailReadFault::Syntax),

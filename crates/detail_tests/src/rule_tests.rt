@@ -1,4 +1,4 @@
-//! The rules of detail tables, each at its bounds and one past them. What is told follows from the wording of the rules.
+//! The rules of detail tables, each at its bounds and one past them. The expected results follow from the wording of the rules.
 
 use crate::fixtures::{SALES, joined, numbered, plan_of};
 use detail_plan::{DetailFault, check_detail, read_detail};
@@ -6,7 +6,7 @@ use schema_plan::Plan;
 use std::alloc::Global;
 use std::process::Abort;
 
-/// The number of the rule that a declaration breaks over a plan; 0 where it keeps all.
+/// Returns the number of the first rule that a declaration breaks over a plan, or 0 if it keeps all.
 fn told_of(rt: &impl Abort, alloc: Global, plan: &Plan, text: &str) -> u32 {
     let detail = read_detail(alloc, text.as_bytes()).expect(rt, "nothing declared");
     match check_detail(plan, detail) {
@@ -16,7 +16,7 @@ fn told_of(rt: &impl Abort, alloc: Global, plan: &Plan, text: &str) -> u32 {
     }
 }
 
-/// Of each of some texts between a front and an end this is told.
+/// Asserts what is told of each text, joined between a front and an end.
 fn assert_told(rt: &impl Abort, alloc: Global, front: &str, cases: &[(&str, u32)], end: &str) {
     let plan = plan_of(rt, alloc, SALES);
     for (inner, due) in cases {
@@ -28,10 +28,10 @@ fn assert_told(rt: &impl Abort, alloc: Global, front: &str, cases: &[(&str, u32)
 
 const COLUMN: &str = "column=[{name='qty',kind='int',lo=5,hi=5}]\n";
 
-/// What is behind the seed and the name.
+/// The keys after the seed and the name.
 const PARENT: &str = "parent='customer'\nlo=2\nhi=2\ncolumn=[{name='id',kind='int',lo=5,hi=5}]\n";
 
-/// Seeds, and names: of 32 bytes or less, and no table's.
+/// Seeds and names. A name has at most 32 bytes and is that of no table.
 const NAMES: [(&str, u32); 11] = [
     ("seed=0\nname='i'\n", 0),
     ("seed=9223372036854775807\nname='item_2'\n", 0),
@@ -54,7 +54,7 @@ const PARENTS: [(&str, u32); 5] = [
     ("parent='item'\nlo=2\nhi=2\n", 2),
 ];
 
-/// How many lines a row has.
+/// Numbers of lines of a row.
 const LINES: [(&str, u32); 8] = [
     ("parent='customer'\nlo=0\nhi=1\n", 0),
     ("parent='customer'\nlo=1\nhi=1\n", 0),
@@ -66,7 +66,7 @@ const LINES: [(&str, u32); 8] = [
     ("parent='customer'\nlo=0\nhi=65\n", 3),
 ];
 
-/// Several rules are broken.
+/// Declarations that break several rules.
 const SEVERAL: [(&str, u32); 4] = [
     ("seed=-1\nname='i'\nparent=''\nlo=2\nhi=1\n", 1),
     ("seed=1\nname='i'\nparent=''\nlo=2\nhi=1\n", 2),
@@ -82,10 +82,10 @@ fn names_parents_and_numbers_of_lines(rt: HostRuntime) {
     assert_told(&rt, rt.alloc(), "", &SEVERAL, "column=[]\n");
 }
 
-/// What is before the columns.
+/// The keys before the columns.
 const FRONT: &str = "seed=1\nname='item'\nparent='customer'\nlo=2\nhi=2\ncolumn=[";
 
-/// One column and others.
+/// Lists of columns: none, one, or two.
 const COLUMNS: [(&str, u32); 13] = [
     ("", 4),
     ("{name='item',kind='int',lo=5,hi=5}", 0),
@@ -108,7 +108,8 @@ const COLUMNS: [(&str, u32); 13] = [
     ),
 ];
 
-/// How often a piece stands between a front and an end, with numbers behind its begin.
+/// A front, the beginning of a piece, how many pieces there are, the end of a piece, the end of the text, and what is told. Each piece has a
+/// number after its beginning.
 const COUNTS: [(&str, &str, usize, &str, &str, u32); 4] = [
     ("", "{name='n", 32, "',kind='int',lo=5,hi=5},", "", 0),
     ("", "{name='n", 33, "',kind='int',lo=5,hi=5},", "", 4),
@@ -130,11 +131,12 @@ fn columns_have_names_and_choices(rt: HostRuntime) {
     assert_counts(&rt, rt.alloc(), &COUNTS);
 }
 
-/// So many lines, so many columns of numbers, another column, and one whose two entries are a text so many times.
+/// The most lines of a row, the number of columns of numbers, another column, and a column with two equal entries: a text and how often it is
+/// repeated. The last number is what is told.
 type Long<'a> = (u32, usize, &'a str, &'a str, usize, u32);
 
-/// All lines of a row have 65,536 bytes at most: each has 24, 20 and one more for a column of numbers, and for one of entries as many as
-/// its longest as it is written, but never less than 2, and one more.
+/// All lines of a row have at most 65,536 bytes. A line has 24 bytes, and each column its greatest size and one byte more. The size is 20 for
+/// numbers. For entries it is that of the longest as it is written, and at least 2.
 const LONG: [Long<'static>; 18] = [
     (64, 0, "", "a", 999, 0),
     (64, 0, "", "a", 1000, 5),
@@ -170,7 +172,7 @@ const LONG: [Long<'static>; 18] = [
     (64, 0, "", "|", 999, 0),
 ];
 
-/// The same where a bar is between two fields.
+/// Cases with a bar between two fields.
 const WITH_BARS: [Long<'static>; 2] = [(64, 0, "", "|", 499, 0), (64, 0, "", "|", 500, 5)];
 
 fn text_of(rt: &impl Abort, alloc: Global, long: Long<'_>) -> String {

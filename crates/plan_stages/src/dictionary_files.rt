@@ -1,4 +1,4 @@
-//! The dictionaries that files hold, read one after the other.
+//! Dictionaries, read from files one after the other.
 
 ghost use Rattle.std.specs.Prelude.{◌≡◌, ◌≤◌, ◌⊎◌, ◌+◌, ◌++◌, [], Err, IfErr, IfSome, Ok, OnOk, false, length};
 ghost use Rattle.std.specs.Option.{option_map};
@@ -19,7 +19,7 @@ use std::alloc::Global;
 /// The most bytes of a dictionary.
 const DICTIONARY_LIMIT: u64 = 16_777_216;
 
-/// Reads the dictionaries of these names, each in its turn, up to the first fault.
+/// Reads the dictionaries of these names, one after the other, up to the first fault.
 pub(crate) fn read_dictionaries<L: Library>(
     alloc: Global,
     library: &mut L,
@@ -53,7 +53,7 @@ pub(crate) fn read_dictionaries<L: Library>(
     Ok(dictionaries)
 }
 
-/// Reads the dictionary of a name, and puts it behind the others.
+/// Reads the dictionary of a name and appends it to the others.
 fn add_dictionary<L: Library>(
     alloc: Global,
     library: &mut L,

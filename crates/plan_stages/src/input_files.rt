@@ -12,13 +12,13 @@ use pd_outside::{Library, ReadFault, read_whole};
 use schema_model::Texts;
 use std::alloc::Global;
 
-/// The bytes of the files of these names, which are read one after the other, each to its end, up to the first fault. An
+/// Reads the files of these names, one after the other, each to its end, up to the first fault. Returns their bytes. An
 /// absent file is empty, or isn't read.
 ///
-/// All files together have at most `limit` bytes. `TooLong` comes at the first file with which they have more, once a byte
-/// more was taken of it than those before it leave. `Failed` comes only where the library's count of faults rose, by one, and
-/// nothing is called after it. `Memory` tells neither. Where the library doesn't tell its files, the clauses say only what
-/// can be said. Of no names it asks nothing and gives no bytes.
+/// All files together have at most `limit` bytes. `TooLong` comes at the first file with which they have more. By then one
+/// byte more was taken of it than the files before it leave. `Failed` comes only if the library's count of faults rose by
+/// one, and nothing is called after it. `Memory` tells neither. If the library doesn't tell its files, the clauses say only
+/// what can be said. For no names it asks nothing and returns no bytes.
 pub fn read_in_turn<L: Library>(
     alloc: Global,
     library: &mut L,
@@ -52,7 +52,7 @@ pub fn read_in_turn<L: Library>(
     Ok(inputs)
 }
 
-/// Reads the file of a name, puts its bytes behind the others, and tells how many they are.
+/// Reads the file of a name, appends its bytes to the others, and returns how many bytes they are.
 fn add_input<L: Library>(
     alloc: Global,
     library: &mut L,

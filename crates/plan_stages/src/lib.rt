@@ -1,4 +1,4 @@
-//! From a schema's name to its plan, stage by stage: what is read, in which order, and what is wrong first.
+//! From a schema's name to its plan, stage by stage: what is read, in which order, and which fault comes first.
 #![tactic(auto)]
 
 mod dictionary_files;

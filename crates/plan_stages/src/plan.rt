@@ -21,28 +21,28 @@ use std::alloc::Global;
 /// The most bytes of a schema's text.
 const SCHEMA_LIMIT: u64 = 1_048_576;
 
-/// The plan of the schema in the file of this name, for which that file is read and then each word list that the schema
-/// cites, in the order in which it first names them, up to the first fault.
+/// Makes the plan of the schema in the file of this name. It reads that file, and then each word list that the schema cites,
+/// in the order of their first citations, up to the first fault.
 ///
-/// The schema's text has at most 1,048,576 bytes and a word list 16,777,216. `Reading` tells that the text wasn't read,
-/// `Schema` that it is no schema, `Dictionary` that a word list isn't read, by its number from 1, and `Check` that the schema
-/// breaks a rule: each only where nothing is wrong before. Want of memory is told by any of them. Where the library doesn't
-/// tell its files, the clauses say only what can be said.
+/// The schema's text has at most 1,048,576 bytes, and a word list at most 16,777,216. `Reading` means that the text wasn't
+/// read, and `Schema` that it is no schema. `Dictionary` means that a word list isn't read; word lists count from 1. `Check`
+/// means that the schema breaks a rule. Each comes only if nothing is wrong before. Any of them can also tell that memory is
+/// wanting. If the library doesn't tell its files, the clauses say only what can be said.
 pub fn plan_of<L: Library>(alloc: Global, library: &mut L, name: &str) -> Result<Plan, PlanFault>
     ensures plan { IfSome (told_files (L.content library.old)) (λ files. Decides plan_status (λ plan. plan) result (plan_in files name.now)) }
     ensures after { LibraryAfter (ended plan_status result) (limit_told limit_at result) (told_files (L.content library.old)) (L.content library.new)
         (L.taken library.new) (L.is_started library.new) (L.faults library.old) (L.faults library.new) }
 
-    // What was taken tells which file was too long, and that the schema's wasn't.
+    // The bytes taken tell which file was too long, and that the schema's file wasn't.
     ensures longer_schema { AskedAlone name.now (L.asked library.old) (L.asked library.new) →
         (L.taken library.new ≤ schema_limit) ⊎ (ended plan_status result ≡ 10) }
     ensures longer_dictionary { L.taken library.new ≡ dictionary_limit + 1 → ended plan_status result ≡ 10 }
     ensures schema_read { ended plan_status result ≡ 3 → L.taken library.new ≤ schema_limit }
 
-    // No other name is asked than the schema's and those that it cites, in turn, and none behind the first at fault.
+    // Only the schema's name and the names that it cites are asked, in turn, and none after the first at fault.
     ensures asked { AsksForPlan name.now (told_files (L.content library.old)) (L.asked library.old) (L.asked library.new) }
 
-    // A plan tells which text was read, and that each of those names was asked.
+    // A plan tells which text was read, and that each of these names was asked.
     ensures read { IfOk result (λ plan.
         PlanRead plan.schema name.now (told_files (L.content library.old)) (L.asked library.old) (L.asked library.new)) }
 {
@@ -50,7 +50,7 @@ pub fn plan_of<L: Library>(alloc: Global, library: &mut L, name: &str) -> Result
     plan_of_text(alloc, library, &bytes)
 }
 
-/// The plan of a schema's text, which was read to its end.
+/// Makes the plan of a schema's text, which was read to its end.
 fn plan_of_text<L: Library>(alloc: Global, library: &mut L, bytes: &[u8]) -> Result<Plan, PlanFault>
     requires taken { L.taken library.old ≤ schema_limit }
     requires read_out { IsReadOut (L.content library.old) }
@@ -70,7 +70,7 @@ fn plan_of_text<L: Library>(alloc: Global, library: &mut L, bytes: &[u8]) -> Res
     plan_of_schema(alloc, library, schema)
 }
 
-/// The plan of a schema with the dictionaries that it cites, each of which is read.
+/// Makes the plan of a schema. It reads each dictionary that the schema cites.
 fn plan_of_schema<L: Library>(
     alloc: Global,
     library: &mut L,

@@ -1,10 +1,10 @@
-//! The name of a file in an array.
+//! The name of a file, held in an array.
 
 ghost use Rattle.std.specs.Prelude.{◌≡◌, ◌≤◌, length};
 
 use std::marker::Model;
 
-/// The name of a file, of up to 64 bytes, which takes no memory.
+/// The name of a file, of at most 64 bytes. It takes no memory.
 #[derive(Clone, Copy, Debug, PartialEq, Eq)]
 pub struct FileName {
     bytes: [u8; FileName::ROOM],
@@ -33,7 +33,7 @@ impl FileName {
     /// The most bytes of a name.
     pub const ROOM: usize = 64;
 
-    /// The name of these bytes. They fit.
+    /// Makes a name of these bytes, at most 64.
     pub fn of(name: &[u8]) -> FileName
         requires { length name.now ≤ FileName.ROOM }
         ensures { result ≡ name.now }
@@ -44,7 +44,7 @@ impl FileName {
         FileName { bytes, len }
     }
 
-    /// The bytes of the name.
+    /// Returns the bytes of the name.
     pub fn as_bytes(&self) -> &[u8]
         ensures text { result.now ≡ self.now }
         ensures within { length result.now ≤ FileName.ROOM }

@@ -1,4 +1,4 @@
-//! Why the program carries a request out or not: each refusal with its exit status and its message.
+//! Why a request isn't carried out: each refusal with its exit status and its message.
 #![tactic(auto)]
 
 mod file_name;

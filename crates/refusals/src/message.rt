@@ -1,4 +1,4 @@
-//! The messages, and the words that they are made of.
+//! The messages and the words in them.
 
 ghost use Rattle.std.specs.Prelude.{◌≡◌, ◌≤◌, ◌+◌, ◌++◌, length, codes, decimal};
 ghost use Rattle.refusals.specs.Messages.{applying_text, broken_text, cause_text, dashed_text, details_text, expected_text, grammar_fault_text, grammar_text, input_text, job_fault_text, keeper_failed_text, key_text, line_fault_text, message_line, option_text, place_text, plan_fault_text, reading_dictionary_text, reading_details_text, reading_input_text, reading_text, reason_text, refusal_text, rule_text, schema_fault_text, shape_text, usage_text, wanted_text, write_failed_text};
@@ -16,7 +16,7 @@ use schema_check::CheckFault;
 use schema_read::{Expected, Place, ReadSchemaFault, SchemaKey};
 use stream_apply::ApplyFault;
 
-/// The message of these words: the program's name before them, and a line feed behind.
+/// Returns a message: the program's name, these words and a line feed.
 pub(crate) fn line(words: &[u8]) -> Message
     requires { length words.now + 7 ≤ Message.ROOM }
     ensures { result ≡ message_line words.now }
@@ -28,14 +28,14 @@ pub(crate) fn line(words: &[u8]) -> Message
     message
 }
 
-/// The message of a failed write.
+/// Returns the message of a failed write.
 pub fn write_failed_message() -> Message
     ensures { result ≡ write_failed_text }
 {
     line(b"write failed")
 }
 
-/// The message of a store that failed.
+/// Returns the message of a store that failed.
 pub fn keeper_failed_message() -> Message
     ensures { result ≡ keeper_failed_text }
 {
@@ -107,7 +107,7 @@ fn put_plan_fault(message: &mut Message, fault: PlanFault)
     }
 }
 
-/// Appends why the file that declares a detail table gives none.
+/// Appends why the file of a declaration gives no detail table.
 fn put_details_fault(message: &mut Message, cause: DetailsCause)
     requires { length message.old + 50 ≤ Message.ROOM }
     ensures text { message.new ≡ message.old ++ details_text cause }
@@ -135,7 +135,7 @@ fn put_dictionary_fault(message: &mut Message, fault: DictionaryFault)
     }
 }
 
-/// Appends why the dictionary of this number wasn't read.
+/// Appends why the dictionary of this number isn't read.
 fn put_reading_fault(message: &mut Message, number: u64, fault: ReadFault)
     requires { length message.old + 50 ≤ Message.ROOM }
     ensures text { message.new ≡ message.old ++ reading_dictionary_text number fault }
@@ -148,7 +148,7 @@ fn put_reading_fault(message: &mut Message, number: u64, fault: ReadFault)
     }
 }
 
-/// Appends why the bytes of the dictionary of this number give none.
+/// Appends why the bytes of the dictionary of this number are no dictionary.
 fn put_grammar_fault(message: &mut Message, number: u64, fault: DictFault)
     requires { length message.old + 100 ≤ Message.ROOM }
     ensures text { message.new ≡ message.old ++ grammar_fault_text number fault }
@@ -160,7 +160,7 @@ fn put_grammar_fault(message: &mut Message, number: u64, fault: DictFault)
     }
 }
 
-/// Appends a dictionary by its number, and what is wrong with its bytes.
+/// Appends the number of a dictionary, and what is wrong with its bytes.
 fn put_broken(message: &mut Message, number: u64, fault: DictFault)
     requires { length message.old + 100 ≤ Message.ROOM }
     ensures text { message.new ≡ message.old ++ broken_text number fault }
@@ -170,7 +170,7 @@ fn put_broken(message: &mut Message, number: u64, fault: DictFault)
     put_grammar(message, fault);
 }
 
-/// Appends what is wrong with a dictionary's bytes, behind its number.
+/// Appends what is wrong with a dictionary's bytes, after its number.
 fn put_grammar(message: &mut Message, fault: DictFault)
     requires { length message.old + 50 ≤ Message.ROOM }
     ensures text { message.new ≡ message.old ++ grammar_text fault }
@@ -208,7 +208,7 @@ fn put_input_fault(message: &mut Message, fault: InputFault)
     }
 }
 
-/// Appends why the file of this name wasn't read.
+/// Appends why the file of this name isn't read.
 fn put_reading_input(message: &mut Message, file: FileName, fault: ReadFault)
     requires { length message.old + 80 ≤ Message.ROOM }
     ensures text { message.new ≡ message.old ++ reading_input_text file fault }
@@ -240,7 +240,7 @@ fn put_applying(message: &mut Message, file: FileName, fault: ApplyFault)
     }
 }
 
-/// What is wrong with a line that is undone.
+/// Returns what is wrong with a line of an undo text.
 fn reason_words(reason: LineReason) -> &'static str
     ensures text { result.now ≡ reason_text reason }
     ensures short { length result.now ≤ 11 }
@@ -254,7 +254,7 @@ fn reason_words(reason: LineReason) -> &'static str
     }
 }
 
-/// Appends what was done with a file, a line of it by its number, and what is wrong with it.
+/// Appends what was done with a file, the number of a line, and what is wrong with that line.
 fn put_line_fault(message: &mut Message, verb: &[u8], file: FileName, number: u64, words: &[u8])
     requires room { length message.old + length words.now + 100 ≤ Message.ROOM }
     requires verb { length verb.now ≤ 8 }
@@ -268,7 +268,7 @@ fn put_line_fault(message: &mut Message, verb: &[u8], file: FileName, number: u6
     message.put(words);
 }
 
-/// Appends what is wrong with the words.
+/// Appends what is wrong with the words of a command line.
 fn put_usage(message: &mut Message, fault: UsageFault)
     requires { length message.old + 40 ≤ Message.ROOM }
     ensures text { message.new ≡ message.old ++ usage_text fault }
@@ -290,7 +290,7 @@ fn put_usage(message: &mut Message, fault: UsageFault)
     }
 }
 
-/// Appends what is wrong at a key of a schema, with its place.
+/// Appends what is wrong at a key of a schema, with the key's place.
 fn put_shape(message: &mut Message, place: Place, key: SchemaKey, expected: Expected)
     requires { length message.old + 150 ≤ Message.ROOM }
     ensures text { message.new ≡ message.old ++ shape_text place key expected }
@@ -301,7 +301,7 @@ fn put_shape(message: &mut Message, place: Place, key: SchemaKey, expected: Expe
     put_key(message, key, expected);
 }
 
-/// Appends the number of a broken rule and its place.
+/// Appends the number of a broken rule and the place at which it is broken.
 fn put_rule(message: &mut Message, number: u32, table: u64, column: u64)
     requires { length message.old + 150 ≤ Message.ROOM }
     ensures text { message.new ≡ message.old ++ rule_text number table column }
@@ -319,7 +319,7 @@ fn put_rule(message: &mut Message, number: u32, table: u64, column: u64)
     );
 }
 
-/// Appends a place of a schema.
+/// Appends a place in a schema.
 fn put_place(message: &mut Message, place: Place)
     requires { length message.old + 82 ≤ Message.ROOM }
     ensures text { message.new ≡ message.old ++ place_text place.table place.column place.branch }
@@ -340,7 +340,7 @@ fn put_place(message: &mut Message, place: Place)
     put_counted(message, b" branch ", place.branch);
 }
 
-/// Appends what is wrong at a key, behind its place.
+/// Appends what is wrong at a key, after its place.
 fn put_key(message: &mut Message, key: SchemaKey, expected: Expected)
     requires { length message.old + 60 ≤ Message.ROOM }
     ensures text { message.new ≡ message.old ++ key_text key expected }
@@ -352,7 +352,7 @@ fn put_key(message: &mut Message, key: SchemaKey, expected: Expected)
     }
 }
 
-/// Appends a key and what it wants, behind its place.
+/// Appends a key and the type that it wants, after its place.
 fn put_wanted(message: &mut Message, key: SchemaKey, expected: Expected)
     requires { length message.old + 60 ≤ Message.ROOM }
     ensures text { message.new ≡ message.old ++ wanted_text key expected }
@@ -364,7 +364,7 @@ fn put_wanted(message: &mut Message, key: SchemaKey, expected: Expected)
     message.put(expected_words(expected).as_bytes());
 }
 
-/// Appends words and an option behind them.
+/// Appends words and then an option.
 fn put_named(message: &mut Message, words: &[u8], name: OptionName)
     requires { length message.old + length words.now + 10 ≤ Message.ROOM }
     ensures text { message.new ≡ message.old ++ (words.now ++ option_text name) }
@@ -374,7 +374,7 @@ fn put_named(message: &mut Message, words: &[u8], name: OptionName)
     put_option(message, name);
 }
 
-/// Appends an option as it is written among the words.
+/// Appends an option as it stands among the words of a command line.
 fn put_option(message: &mut Message, name: OptionName)
     requires { length message.old + 10 ≤ Message.ROOM }
     ensures text { message.new ≡ message.old ++ option_text name }
@@ -386,7 +386,7 @@ fn put_option(message: &mut Message, name: OptionName)
     }
 }
 
-/// Appends an option's name behind two hyphens.
+/// Appends two hyphens and an option's name.
 fn put_dashed(message: &mut Message, name: OptionName)
     requires { length message.old + 10 ≤ Message.ROOM }
     ensures text { message.new ≡ message.old ++ dashed_text name }
@@ -396,7 +396,7 @@ fn put_dashed(message: &mut Message, name: OptionName)
     message.put(name.word().as_bytes());
 }
 
-/// Appends words and a number behind them.
+/// Appends words and then a number.
 fn put_counted(message: &mut Message, words: &[u8], number: u64)
     requires { length message.old + length words.now + 20 ≤ Message.ROOM }
     ensures text { message.new ≡ message.old ++ (words.now ++ decimal number) }
@@ -407,7 +407,7 @@ fn put_counted(message: &mut Message, words: &[u8], number: u64)
     message.put(digits.format(number).as_bytes());
 }
 
-/// Why a schema's text wasn't read.
+/// Returns why a schema's text wasn't read.
 fn reading_words(fault: ReadFault) -> &'static str
     ensures text { result.now ≡ reading_text fault }
     ensures short { length result.now ≤ 16 }
@@ -419,7 +419,7 @@ fn reading_words(fault: ReadFault) -> &'static str
     }
 }
 
-/// Why the file that declares a detail table wasn't read.
+/// Returns why the file that declares a detail table wasn't read.
 fn reading_details_words(fault: ReadFault) -> &'static str
     ensures text { result.now ≡ reading_details_text fault }
     ensures short { length result.now ≤ 17 }
@@ -431,7 +431,7 @@ fn reading_details_words(fault: ReadFault) -> &'static str
     }
 }
 
-/// The type of value that a key wants.
+/// Returns the words for the type that a key wants.
 fn expected_words(expected: Expected) -> &'static str
     ensures text { result.now ≡ expected_text expected }
     ensures short { length result.now ≤ 31 }

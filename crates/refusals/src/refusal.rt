@@ -1,4 +1,4 @@
-//! Why a request isn't carried out, by the stage that found it. Each stage's fault stays as it came.
+//! Why a request isn't carried out: the fault of the stage that found it. The fault of a stage isn't changed.
 
 ghost use Rattle.std.specs.Prelude.{◌≡◌};
 ghost use Rattle.refusals.specs.Messages.{message_of};
@@ -33,11 +33,11 @@ pub enum Refusal {
 pub enum JobFault {
     /// The schema has no plan.
     Plan(PlanFault),
-    /// What the option names isn't in the schema.
+    /// The schema doesn't have what the option names.
     Range(OptionName),
-    /// A file that is to be applied isn't read, or can't be applied.
+    /// A file that is to be applied isn't read or can't be applied.
     Input(InputFault),
-    /// The file that declares a detail table gives none.
+    /// The file of a declaration gives no detail table.
     Details(DetailsCause),
     /// Memory ran out.
     Memory,
@@ -90,11 +90,11 @@ pub struct InputFault {
 pub enum InputCause {
     /// The file wasn't read.
     Reading(ReadFault),
-    /// Its bytes are no lines of a table, or don't fit the table that they are applied to.
+    /// Its bytes are no lines of a table, or don't fit the table to which they are applied.
     Applying(ApplyFault),
-    /// The record of this number, counted from 1, is the first of its CSV that is bad.
+    /// A record of its CSV is bad. This is the number of the first bad one, counted from 1.
     BadRecord(u64),
-    /// A line of it can't be undone.
+    /// A line of the file can't be undone.
     Reverting(LineFault),
 }
 
@@ -103,42 +103,42 @@ pub enum InputCause {
 pub struct LineFault {
     /// The line's number, counted from 1.
     pub line: u64,
-    /// What is wrong with it.
+    /// What is wrong with the line.
     pub reason: LineReason,
 }
 
-/// What is wrong with a line that is undone.
+/// What is wrong with a line of an undo text.
 #[derive(Clone, Copy, Debug, PartialEq, Eq)]
 pub enum LineReason {
-    /// It isn't of the form.
+    /// The line isn't of the right form.
     BadLine,
-    /// Its key stood on an earlier line.
+    /// An earlier line has the line's key.
     DoubleKey,
-    /// The table doesn't hold its key.
+    /// The table doesn't hold the line's key.
     NoSuchKey,
-    /// The table holds its key already.
+    /// The table already holds the line's key.
     KeyExists,
-    /// Its place isn't behind the one before, or past the end of the table.
+    /// The line's place isn't greater than that of the line added before, or is past the end of the list.
     BadPlace,
 }
 
-/// Why the file that declares a detail table gives none.
+/// Why the file of a declaration gives no detail table.
 #[derive(Clone, Copy, Debug, PartialEq, Eq)]
 pub enum DetailsCause {
     /// The file wasn't read.
     Reading(ReadFault),
-    /// Its bytes are no TOML.
+    /// The bytes aren't a TOML document.
     Syntax,
-    /// A key is missing, of another type or one more.
+    /// A key is missing, is of another type, or has no place there.
     WrongForm,
-    /// It breaks the rule of this number, counted from 1, and none before.
+    /// The declaration breaks the rule of this number, and none before it. The number 1 means E1.
     Rule(u32),
     /// Memory ran out.
     Memory,
 }
 
 impl Refusal {
-    /// The exit status.
+    /// Returns the exit status.
     pub fn status(&self) -> u8
         ensures { result ≡ status_of self.now }
     {
@@ -149,7 +149,7 @@ impl Refusal {
         }
     }
 
-    /// The message: one line, with its line feed.
+    /// Returns the message: one line with its line feed.
     pub fn message(self) -> Message
         ensures { result ≡ message_of self }
     {
@@ -235,7 +235,7 @@ impl InputCause {
     }
 }
 
-/// The status of a file that wasn't read.
+/// Returns the status for a file that wasn't read.
 fn reading_status(fault: ReadFault) -> u8
     ensures { result ≡ reading_status fault }
 {
@@ -246,7 +246,7 @@ fn reading_status(fault: ReadFault) -> u8
     }
 }
 
-/// The status of bytes that aren't applied.
+/// Returns the status for bytes that aren't applied.
 fn applying_status(fault: ApplyFault) -> u8
     ensures { result ≡ applying_status fault }
 {

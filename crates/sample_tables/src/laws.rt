@@ -1,4 +1,4 @@
-//! Laws of the definitions that the contracts cite, each the contract of a function without a body.
+//! Laws of the definitions that the contracts cite. Each law is the contract of a function without a body.
 
 ghost use Rattle.std.specs.Prelude.{◌≡◌, ◌≤◌, ◌∷◌, ◌++◌, ℕ, [], codes};
 ghost use Rattle.schema_plan.specs.Rules.{IsAccepted};

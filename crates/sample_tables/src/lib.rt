@@ -1,5 +1,5 @@
-//! The schema of a sample: customers, who live and change, their orders, and the lines of these, as many as a size says. It stands here as a
-//! schema's text, as a schema, and as the plan that this one always has, since it breaks no rule.
+//! The schema of a sample: customers, who live and change, their orders, and the lines of the orders. A size says how many there are. This crate
+//! has the schema's text, the schema, and its plan. The schema breaks no rule, so it always has a plan.
 #![tactic(auto)]
 
 pub mod laws;

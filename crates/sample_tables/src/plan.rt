@@ -9,7 +9,7 @@ use schema_model::Memory;
 use schema_plan::{Dictionaries, Plan};
 use std::alloc::Global;
 
-/// The plan of the schema of a size, 1 to 1,000: it breaks no rule, so that this is refused for want of memory alone.
+/// Makes the plan of the schema of a size from 1 to 1,000. The schema breaks no rule, so this refuses only if memory is wanting.
 pub fn sample_plan(alloc: Global, size: u64) -> Result<Plan, Memory>
     requires some { 1 ≤ size }
     requires limit { size ≤ 1000 }

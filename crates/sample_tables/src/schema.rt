@@ -12,12 +12,13 @@ use std::alloc::Global;
 /// The first key of each table.
 const FIRST_KEY: i64 = 1_000_000_000;
 
-/// The first and the last day of 2024, counted from 1970-01-01.
+/// The first day of 2024, where day 0 is 1970-01-01.
 const FIRST_DAY: i32 = 19_723;
 
+/// The last day of 2024, where day 0 is 1970-01-01.
 const LAST_DAY: i32 = 20_088;
 
-/// The schema of a size.
+/// Makes the schema of a size. Refuses if memory is wanting.
 pub(crate) fn sample_of(alloc: Global, size: u64) -> Result<Schema, Memory>
     requires { size ≤ 1000 }
     ensures { IfOk result (λ schema. schema ≡ sample_of size) }
@@ -34,7 +35,7 @@ pub(crate) fn sample_of(alloc: Global, size: u64) -> Result<Schema, Memory>
     })
 }
 
-/// A number as a signed one.
+/// Returns a number as a signed one.
 fn long(number: u64) -> i64
     requires { number < 2 ^ 63 }
     ensures { result ≡ pos number }
@@ -42,7 +43,7 @@ fn long(number: u64) -> i64
     number as i64
 }
 
-/// The customers.
+/// Makes the table of customers.
 fn customer(alloc: Global, size: u64) -> Result<Table, Memory>
     requires { size ≤ 1000 }
     ensures { IfOk result (λ table. table ≡ customer size) }
@@ -67,7 +68,7 @@ fn customer(alloc: Global, size: u64) -> Result<Table, Memory>
     })
 }
 
-/// Their orders.
+/// Makes the table of orders.
 fn orders(alloc: Global, size: u64) -> Result<Table, Memory>
     requires { size ≤ 1000 }
     ensures { IfOk result (λ table. table ≡ orders size) }
@@ -86,7 +87,7 @@ fn orders(alloc: Global, size: u64) -> Result<Table, Memory>
     })
 }
 
-/// The lines of these.
+/// Makes the table of the lines of orders.
 fn order_lines(alloc: Global, size: u64) -> Result<Table, Memory>
     requires { size ≤ 1000 }
     ensures { IfOk result (λ table. table ≡ order_lines size) }
@@ -109,7 +110,7 @@ fn order_lines(alloc: Global, size: u64) -> Result<Table, Memory>
     })
 }
 
-/// The one phase in which as many rows are born at each unit after the first.
+/// Makes one phase: so many rows are born at each unit after the first.
 fn at_each_unit(alloc: Global, rows: u64) -> Result<Phases, Memory>
     requires { rows < 2 ^ 63 }
     ensures { IfOk result (λ phases. phases ≡ at_each_unit rows) }
@@ -122,7 +123,7 @@ fn at_each_unit(alloc: Global, rows: u64) -> Result<Phases, Memory>
     Ok(phases)
 }
 
-/// A column that neither changes nor is null.
+/// Makes a column that neither changes nor is null.
 fn plain(alloc: Global, name: &str, kind: Kind) -> Result<Column, Memory>
     ensures { IfOk result (λ column. column ≡ plain name.now kind) }
 {
@@ -134,7 +135,7 @@ fn plain(alloc: Global, name: &str, kind: Kind) -> Result<Column, Memory>
     })
 }
 
-/// A table's key.
+/// Makes the key of a table.
 fn key(alloc: Global) -> Result<Column, Memory>
     ensures { IfOk result (λ column. column ≡ key) }
 {
@@ -145,7 +146,7 @@ fn key(alloc: Global) -> Result<Column, Memory>
     plain(alloc, "id", kind)
 }
 
-/// A reference to the rows of a table that are born at the same unit.
+/// Makes a reference to the rows of a table that are born at the same unit.
 fn reference(alloc: Global, name: &str, table: &str) -> Result<Column, Memory>
     ensures { IfOk result (λ column. column ≡ reference name.now table.now) }
 {
@@ -160,7 +161,7 @@ fn reference(alloc: Global, name: &str, table: &str) -> Result<Column, Memory>
     plain(alloc, name, kind)
 }
 
-/// The scores of customers, drawn anew where these change.
+/// Makes the scores of customers. They are drawn anew when the customer changes.
 fn score(alloc: Global) -> Result<Column, Memory>
     ensures { IfOk result (λ column. column ≡ score) }
 {

@@ -7,8 +7,8 @@ use itoa::Buffer;
 use schema_model::Memory;
 use std::alloc::Global;
 
-/// The text of the schema of a size, 1 to 1,000: a customer's table with 100 rows for each 1 of the size and ten more at each of four
-/// units, three times as many orders and six times as many lines of orders.
+/// Makes the text of the schema of a size from 1 to 1,000. For each 1 of the size there are 100 customers at unit 0, and 10 more at each of
+/// four later units. There are three times as many orders, and six times as many lines of orders.
 pub fn sample_schema(alloc: Global, size: u64) -> Result<Vec<u8>, Memory>
     requires some { 1 ≤ size }
     requires limit { size ≤ 1000 }
@@ -62,7 +62,7 @@ fn push_lines(text: &mut Vec<u8>, size: u64) -> Result<(), Memory>
     Ok(())
 }
 
-/// Appends how a table begins, behind an empty line.
+/// Appends an empty line and the beginning of a table.
 fn push_table(text: &mut Vec<u8>, name: &[u8], rows: u64, insert: u64) -> Result<(), Memory>
     ensures { OnOk result (text.new.items ≡ text.old.items ++ table_head name.now rows insert) }
 {
@@ -72,7 +72,7 @@ fn push_table(text: &mut Vec<u8>, name: &[u8], rows: u64, insert: u64) -> Result
     push_number(text, b"insert", insert)
 }
 
-/// Appends how a column begins.
+/// Appends the beginning of a column.
 fn push_column(text: &mut Vec<u8>, name: &[u8], kind: &[u8]) -> Result<(), Memory>
     ensures { OnOk result (text.new.items ≡ text.old.items ++ column_head name.now kind.now) }
 {
@@ -81,7 +81,7 @@ fn push_column(text: &mut Vec<u8>, name: &[u8], kind: &[u8]) -> Result<(), Memor
     push_text(text, b"kind", kind)
 }
 
-/// Appends a table's key.
+/// Appends the key of a table.
 fn push_key(text: &mut Vec<u8>) -> Result<(), Memory>
     ensures { OnOk result (text.new.items ≡ text.old.items ++ key_text) }
 {

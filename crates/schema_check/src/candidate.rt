@@ -5,7 +5,7 @@ use schema_model::Schema;
 use schema_plan::{Dictionaries, TableFacts};
 use std::marker::Model;
 
-/// A schema with its dictionaries, and what is worked out of them before rules are tried. A contract sees the two.
+/// A schema with its dictionaries, and what is worked out before the rules are tried. A contract sees the schema and the dictionaries.
 #[derive(Drop)]
 pub(crate) struct Candidate<'a> {
     schema: &'a Schema,
@@ -33,7 +33,7 @@ impl<'a> Candidate<'a> {
     ghost use Rattle.schema_plan.specs.Citations.{cited_names};
     ghost use Rattle.schema_plan.specs.Dictionaries.{project_of};
 
-    /// A schema with dictionaries, the names that it cites, and the facts of its first tables.
+    /// Joins a schema with its dictionaries, the names that it cites, and the facts of its first tables.
     pub(crate) fn new(
         schema: &'a Schema,
         dictionaries: &'a Dictionaries,
@@ -52,28 +52,28 @@ impl<'a> Candidate<'a> {
         }
     }
 
-    /// The schema.
+    /// Returns the schema.
     pub(crate) fn schema(&self) -> &'a Schema
         ensures { result.now ≡ self.now.schema }
     {
         self.schema
     }
 
-    /// The dictionaries.
+    /// Returns the dictionaries.
     pub(crate) fn dictionaries(&self) -> &'a Dictionaries
         ensures { result.now ≡ self.now.dictionaries }
     {
         self.dictionaries
     }
 
-    /// The names of the dictionaries that the schema cites.
+    /// Returns the names of the dictionaries that the schema cites.
     pub(crate) fn names(&self) -> &'a CitedNames<'a>
         ensures { result.now ≡ cited_names self.now.schema.tables }
     {
         self.names
     }
 
-    /// The facts of the first tables.
+    /// Returns the facts of the first tables.
     pub(crate) fn facts(&self) -> &'a [TableFacts]
         ensures { result.now ≡ first_facts self.now }
     {

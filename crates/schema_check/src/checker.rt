@@ -20,8 +20,8 @@ use std::alloc::Global;
 /// Why a schema has no plan.
 #[derive(Clone, Copy, Debug, PartialEq, Eq)]
 pub enum CheckFault {
-    /// The first broken rule, V1 as 1, at the first table and column that break it. Tables and columns count from 1, and
-    /// 0 stands where there is none.
+    /// The first broken rule, at the first table and column that break it. The number 1 means V1. Tables and columns count from
+    /// 1, and 0 means that there is none.
     Rule {
         number: u32,
         table: u64,
@@ -31,9 +31,9 @@ pub enum CheckFault {
     Memory,
 }
 
-/// The names of the dictionaries that a schema cites, each once, in the order of their first citations; or the rule of
-/// dictionaries, where the schema may not cite them: a name has 1 to 255 bytes, and at most 64 different ones are cited.
-/// Want of memory is told of a schema that may cite them alone.
+/// Returns the names of the dictionaries that a schema cites, each once, in the order of their first citations. Refuses by the
+/// rule of dictionaries if the schema can't cite them. A name has 1 to 255 bytes, and at most 64 different names are cited.
+/// Refuses with `Memory` only if the schema can cite them.
 pub fn citations(alloc: Global, schema: &Schema) -> Result<Texts, CheckFault>
     ensures names { IfOk result (λ names. names ≡ cited_names schema.now.tables) }
     ensures citable { OnOk result (citation_refusal schema.now ≡ None) }
@@ -56,8 +56,8 @@ pub fn citations(alloc: Global, schema: &Schema) -> Result<Texts, CheckFault>
     }
 }
 
-/// The plan of a schema that keeps all rules with its dictionaries, or the first rule that it breaks, at its first place. At a
-/// fault the schema and the dictionaries are given up.
+/// Returns the plan of a schema that keeps all rules with its dictionaries. Refuses any other schema for the first rule that it
+/// breaks, at its first site. At a fault the schema and the dictionaries are dropped.
 pub fn check(alloc: Global, schema: Schema, dictionaries: Dictionaries) -> Result<Plan, CheckFault>
     ensures plan { IfOk result (λ plan. plan ≡ project_of schema dictionaries) }
     ensures accepted { OnOk result (IsAccepted (project_of schema dictionaries)) }
@@ -76,7 +76,7 @@ pub fn check(alloc: Global, schema: Schema, dictionaries: Dictionaries) -> Resul
     }
 }
 
-/// The first rule that a schema breaks with its dictionaries, as it is told.
+/// Returns the first rule that a schema breaks with its dictionaries, as a fault.
 pub(crate) fn first_fault(
     schema: &Schema,
     dictionaries: &Dictionaries,
@@ -94,7 +94,7 @@ pub(crate) fn first_fault(
     }
 }
 
-/// A broken rule of a schema as it is told.
+/// Returns a broken rule of a schema as a fault.
 pub(crate) fn fault_of(schema: &Schema, broken: Broken) -> CheckFault
     requires { IsSiteOf schema.now broken.site }
     ensures { result ≡ told broken }
@@ -108,7 +108,7 @@ pub(crate) fn fault_of(schema: &Schema, broken: Broken) -> CheckFault
     }
 }
 
-/// How many columns the table of a column's site has, which bounds the column's number; 0 at any other site.
+/// Returns how many columns the table of a column's site has, a bound on the column's number. Any other site gives 0.
 fn columns_beside(schema: &Schema, site: Site) -> usize
     requires { IsSiteOf schema.now site }
     ensures { column_number site ≤ result }

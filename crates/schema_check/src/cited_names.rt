@@ -14,13 +14,13 @@ use schema_plan::Memory;
 use std::alloc::Global;
 use std::marker::Model;
 
-/// The most dictionaries that a schema cites.
+/// The most different dictionaries that a schema can cite.
 const MAX_NAMES: usize = 64;
 
 /// The most bytes of a dictionary's name.
 const MAX_LEN: usize = 255;
 
-/// The first different names that are cited, at most 64. A contract sees the list.
+/// The first different names that a schema cites, at most 64. A contract sees them as a list.
 #[derive(Drop)]
 pub(crate) struct CitedNames<'a> {
     names: [&'a str; MAX_NAMES],
@@ -42,7 +42,7 @@ impl<'a> CitedNames<'a> {
     ghost use Rattle.std.specs.List.{fold};
     ghost use Rattle.schema_plan.specs.Citations.{cited_names, has_name, leaves_of, names_in_columns, names_in_leaf, with_name};
 
-    /// No name.
+    /// Returns no names.
     fn none() -> CitedNames<'a>
         ensures { result ≡ [] }
     {
@@ -52,21 +52,21 @@ impl<'a> CitedNames<'a> {
         }
     }
 
-    /// The names, in order.
+    /// Returns the names, in order.
     pub(crate) fn as_slice(&self) -> &[&'a str]
         ensures { map (λ name. name.now) result.now ≡ self.now }
     {
         &self.names[..self.count]
     }
 
-    /// Whether a name is one of them.
+    /// Whether a name is one of these names.
     fn has(&self, name: &str) -> bool
         ensures { result ≡ has_name self.now name.now }
     {
         is_among(self.as_slice(), name)
     }
 
-    /// The first names that the tables of a schema cite.
+    /// Returns the first names that the tables of a schema cite.
     #[tactic(auto, unfolding(schema_plan::specs::Citations::cited_names))]
     pub(crate) fn of(schema: &'a Schema) -> CitedNames<'a>
         ensures { result ≡ cited_names schema.now.tables }
@@ -78,7 +78,7 @@ impl<'a> CitedNames<'a> {
         names
     }
 
-    /// Those of a table too.
+    /// Adds the names that a table cites.
     fn add_table(&mut self, table: &'a Table)
         ensures { (before : List (List ℕ)) → self.old ≡ take 64 before →
             self.new ≡ take 64 (fold with_name before (names_in_columns table.now.columns)) }
@@ -88,7 +88,7 @@ impl<'a> CitedNames<'a> {
         }
     }
 
-    /// Those of a column too.
+    /// Adds the names that a column cites.
     fn add_column(&mut self, column: &'a Column)
         ensures { (before : List (List ℕ)) → self.old ≡ take 64 before →
             self.new ≡ take 64 (fold with_name before (flat_map names_in_leaf (leaves_of column.now.kind))) }
@@ -98,7 +98,7 @@ impl<'a> CitedNames<'a> {
         }
     }
 
-    /// That of a drawn value too, where it has one.
+    /// Adds the name that a drawn value cites, if it cites one.
     fn add_leaf(&mut self, leaf: &'a Leaf)
         ensures { (before : List (List ℕ)) → self.old ≡ take 64 before →
             self.new ≡ take 64 (fold with_name before (names_in_leaf leaf.now)) }
@@ -109,7 +109,7 @@ impl<'a> CitedNames<'a> {
         }
     }
 
-    /// A name too, where it isn't one of them and there is room.
+    /// Adds a name, if it is new and there is room.
     fn add(&mut self, name: &'a str)
         ensures { (before : List (List ℕ)) → self.old ≡ take 64 before →
             self.new ≡ take 64 (with_name before name.now) }
@@ -119,14 +119,14 @@ impl<'a> CitedNames<'a> {
         }
     }
 
-    /// The number of names.
+    /// Returns the number of names.
     fn len(&self) -> usize
         ensures { result ≡ length self.now }
     {
         self.count
     }
 
-    /// A name behind the others.
+    /// Appends a name.
     fn push(&mut self, name: &'a str)
         requires { length self.old < 64 }
         ensures { self.new ≡ self.old ++ name.now ∷ [] }
@@ -136,14 +136,14 @@ impl<'a> CitedNames<'a> {
     }
 }
 
-/// Whether one of some names is this one.
+/// Whether a name is one of some names.
 fn is_among(names: &[&str], name: &str) -> bool
     ensures { result ≡ list_any (λ other. same_text other.now name.now) names.now }
 {
     names.iter().any(|other| *other == name)
 }
 
-/// Whether all that some drawn values cite may be cited: names of 1 to 255 bytes that are among the first ones.
+/// Whether some drawn values cite only names of 1 to 255 bytes that are among the first ones.
 pub(crate) fn are_citable(names: &CitedNames<'_>, leaves: &[Leaf]) -> bool
     ensures { result ≡ list_all (may_cite_all names.now) leaves.now }
 {
@@ -165,7 +165,7 @@ fn is_citable(names: &CitedNames<'_>, name: &Text) -> bool
     1 <= name.len() && name.len() <= MAX_LEN && names.has(name.as_str())
 }
 
-/// Whether all that some drawn values cite may be cited, and is there.
+/// Whether some drawn values cite only names that can be cited and have a dictionary.
 pub(crate) fn are_supplied(candidate: &Candidate<'_>, leaves: &[Leaf]) -> bool
     ensures { result ≡ list_all (are_supplied candidate.now) leaves.now }
 {
@@ -187,7 +187,7 @@ fn is_supplied(candidate: &Candidate<'_>, name: &Text) -> bool
     is_citable(candidate.names(), name) && candidate.dictionaries().has(name.as_str())
 }
 
-/// The names as texts of their own.
+/// Copies the names as texts. Refuses if memory is wanting.
 pub(crate) fn copied_names(alloc: Global, names: &CitedNames<'_>) -> Result<Texts, Memory>
     ensures { IfOk result (λ copied. copied ≡ names.now) }
 {

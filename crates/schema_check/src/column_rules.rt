@@ -1,4 +1,4 @@
-//! What the rules ask of columns that speak of others, of changes and of nulls.
+//! What the rules ask of columns that cite others, of changes and of nulls.
 
 ghost use Rattle.std.specs.Prelude.{◌≡◌, ◌<◌, ◌≤◌, ◌||◌, length};
 ghost use Rattle.std.specs.List.{list_all};
@@ -11,11 +11,11 @@ use schema_plan::{becomes_null, place_of_column};
 /// The most parts of a template.
 const MAX_PARTS: usize = 32;
 
-/// How many of a thousand fields are null at most.
+/// The most fields of a thousand that can be null.
 const MAX_NULL: i64 = 999;
 
-/// Whether the column at a place, where it is a template, has a part and not too many, each a text or an earlier column
-/// that is no template, case or lookup.
+/// Whether the column at a place keeps the rule of templates. A template has 1 to 32 parts. Each is a text or cites an
+/// earlier column that is no template, case or lookup.
 pub(crate) fn is_template(columns: &[Column], place: usize) -> bool
     requires { place < length columns.now }
     ensures { result ≡ is_template columns.now place (kind_at columns.now place) }
@@ -30,7 +30,7 @@ pub(crate) fn is_template(columns: &[Column], place: usize) -> bool
     }
 }
 
-/// Whether each of some parts is one that the template at a place may have.
+/// Whether the template at a place can have each of some parts.
 fn are_parts(columns: &[Column], place: usize, parts: &[Part]) -> bool
     requires { place < length columns.now }
     ensures { result ≡ list_all (is_part columns.now place) parts.now }
@@ -60,7 +60,7 @@ fn is_citable(kind: &Kind) -> bool
     }
 }
 
-/// Whether the column at a place, where it is a case, names an earlier pick of an entry for each of its branches.
+/// Whether the column at a place keeps the rule of cases. A case names an earlier pick with as many entries as it has branches.
 pub(crate) fn is_case(columns: &[Column], place: usize) -> bool
     requires { place < length columns.now }
     ensures { result ≡ is_case columns.now place (kind_at columns.now place) }
@@ -74,7 +74,7 @@ pub(crate) fn is_case(columns: &[Column], place: usize) -> bool
     }
 }
 
-/// Whether a kind is a pick of so many entries.
+/// Whether a kind is a pick of `count` entries.
 fn is_pick_of(count: usize, kind: &Kind) -> bool
     ensures { result ≡ is_pick_of count kind.now }
 {
@@ -84,7 +84,7 @@ fn is_pick_of(count: usize, kind: &Kind) -> bool
     }
 }
 
-/// Whether the column at a place cites no column that moves, or changes itself. Templates and cases cite columns.
+/// Whether the column at a place changes, or cites no column that moves. Only templates and cases cite columns.
 pub(crate) fn cites_still(columns: &[Column], place: usize) -> bool
     requires { place < length columns.now }
     ensures { result ≡ cites_still columns.now place }
@@ -104,7 +104,7 @@ fn is_still_kind(columns: &[Column], kind: &Kind) -> bool
     }
 }
 
-/// Whether none of some parts cites a column that moves.
+/// Whether no part of some cites a column that moves.
 fn are_still(columns: &[Column], parts: &[Part]) -> bool
     ensures { result ≡ list_all (is_still_part columns.now) parts.now }
 {
@@ -120,7 +120,7 @@ fn is_still_part(columns: &[Column], part: &Part) -> bool
     }
 }
 
-/// Whether the column with a name moves: it is drawn anew where a row changes, or is of a kind that moves.
+/// Whether the column with a name moves: it changes, or is of a kind that moves.
 fn is_moving(columns: &[Column], name: &Text) -> bool
     ensures { result ≡ moves_at columns.now (place_of_column columns.now name.now) }
 {
@@ -134,8 +134,8 @@ pub(crate) fn moves(column: &Column) -> bool
     column.changes || is_moving_kind(&column.kind)
 }
 
-/// Whether the fields of a kind move though nothing is drawn anew: the unit of a row's last change, and a reference that becomes
-/// null.
+/// Whether the fields of a kind move though they aren't drawn anew. These are the unit of a row's last change, and a reference that
+/// becomes null.
 fn is_moving_kind(kind: &Kind) -> bool
     ensures { result ≡ is_moving_kind kind.now }
 {
@@ -146,14 +146,14 @@ fn is_moving_kind(kind: &Kind) -> bool
     }
 }
 
-/// Whether a column that changes is of a kind that may.
+/// Whether a column changes only if its kind can.
 pub(crate) fn is_change(column: &Column) -> bool
     ensures { result ≡ is_change column.now.kind column.now.changes }
 {
     !column.changes || may_change(&column.kind)
 }
 
-/// Whether the fields of a kind may be drawn anew where a row changes: no key, no unit, and none that other rows tell.
+/// Whether the fields of a kind can be drawn anew when a row changes. Keys, units and fields that follow from other rows can't.
 fn may_change(kind: &Kind) -> bool
     ensures { result ≡ may_be_redrawn kind.now }
 {
@@ -163,7 +163,7 @@ fn may_change(kind: &Kind) -> bool
     )
 }
 
-/// Whether at most 999 of a thousand fields of a column are null, and none of a key or a reference.
+/// Whether at most 999 fields of a thousand are null. In a key or a reference none is.
 pub(crate) fn is_null_share(column: &Column) -> bool
     ensures { result ≡ is_null_share column.now.kind column.now.null }
 {

@@ -15,10 +15,10 @@ use std::slice;
 /// The most digits after a point.
 const MAX_DECIMALS: i64 = 9;
 
-/// The day 0001-01-01, counted from 1970-01-01.
+/// The day 0001-01-01, where day 0 is 1970-01-01.
 const FIRST_DAY: i32 = -719_162;
 
-/// The day 9999-12-31, counted from 1970-01-01.
+/// The day 9999-12-31, where day 0 is 1970-01-01.
 const LAST_DAY: i32 = 2_932_896;
 
 /// The most entries of a pick.
@@ -39,7 +39,7 @@ const MAX_LENGTH: i64 = 1_000;
 /// The most characters of an alphabet.
 const MAX_CHARACTERS: usize = 256;
 
-/// The values that are drawn for a column: the one of a leaf, or those of the branches of a case.
+/// Returns the values that are drawn for a column: that of a leaf, or those of the branches of a case.
 pub(crate) fn leaves_of(kind: &Kind) -> &[Leaf]
     ensures { result.now ≡ leaves_of kind.now }
 {
@@ -50,35 +50,35 @@ pub(crate) fn leaves_of(kind: &Kind) -> &[Leaf]
     }
 }
 
-/// Whether the numbers among some drawn values have ranges, and steps of at least 1 or at most 9 digits after the point.
+/// Whether the numbers among some drawn values have ranges. Their steps are at least 1, or their decimals 0 to 9.
 pub(crate) fn are_number_ranges(leaves: &[Leaf]) -> bool
     ensures { result ≡ list_all is_number_range leaves.now }
 {
     leaves.iter().all(|leaf| is_number_range(leaf))
 }
 
-/// Whether the dates among some drawn values are from 0001-01-01 to 9999-12-31.
+/// Whether the dates among some drawn values have ranges from 0001-01-01 to 9999-12-31.
 pub(crate) fn are_date_ranges(leaves: &[Leaf]) -> bool
     ensures { result ≡ list_all is_date_range leaves.now }
 {
     leaves.iter().all(|leaf| is_date_range(leaf))
 }
 
-/// Whether the picks among some drawn values have a weight for each entry, and not too many.
+/// Whether the picks among some drawn values have 1 to 256 entries, a weight of at least 1 for each, and a sum of at most 2^32.
 pub(crate) fn are_weighted(leaves: &[Leaf]) -> bool
     ensures { result ≡ list_all is_weighted leaves.now }
 {
     leaves.iter().all(|leaf| is_weighted(leaf))
 }
 
-/// Whether the skews among some drawn values have a number and not too many, and a power from 1 to 3.
+/// Whether the skews among some drawn values have 1 to 4,096 numbers of 64 bits, and a power from 1 to 3.
 pub(crate) fn are_skew_ranges(leaves: &[Leaf]) -> bool
     ensures { result ≡ list_all is_skew_range leaves.now }
 {
     leaves.iter().all(|leaf| is_skew_range(leaf))
 }
 
-/// Whether the texts of words or characters among some drawn values have lengths from 0 to 1,000, and alphabets.
+/// Whether the words and characters among some drawn values have lengths from 0 to 1,000, and alphabets of 1 to 256 characters.
 pub(crate) fn are_length_ranges(leaves: &[Leaf]) -> bool
     ensures { result ≡ list_all is_length_range leaves.now }
 {
@@ -97,7 +97,7 @@ fn is_number_range(leaf: &Leaf) -> bool
     }
 }
 
-/// Whether `hi` is at least `lo`, and at most 2^63 - 1 past it.
+/// Whether `hi` is at least `lo`, and at most 2^63 - 1 more.
 pub fn is_range(lo: i64, hi: i64) -> bool
     ensures { result ≡ is_range lo hi }
 {
@@ -127,7 +127,7 @@ fn is_weighted(leaf: &Leaf) -> bool
     }
 }
 
-/// Whether each of some weights is at least 1, and their sum isn't too great.
+/// Whether each of some weights is at least 1, and their sum is at most 2^32.
 fn are_weights(weights: &[i64]) -> bool
     ensures { result ≡ (list_all (int_le (pos 1)) weights.now && nat_le (sum (map count weights.now)) (2 ^ 32)) }
 {
@@ -140,7 +140,7 @@ fn are_positive(weights: &[i64]) -> bool
     weights.iter().all(|weight| 1 <= *weight)
 }
 
-/// The sum of some weights.
+/// Returns the sum of some weights, at most 2^64 - 1.
 fn total(weights: &[i64]) -> u64
     ensures { result ≡ capped (sum (map count weights.now)) }
 {
@@ -166,7 +166,7 @@ fn is_skew_range(leaf: &Leaf) -> bool
     }
 }
 
-/// Whether the last of so many numbers from `lo` on is one of 64 bits.
+/// Whether the last of `size` numbers from `lo` on is at most 2^63 - 1.
 fn is_last_in_range(lo: i64, size: i64) -> bool
     requires { pos 1 ≤ℤ size }
     ensures { result ≡ int_le (lo +ℤ (size -ℤ pos 1)) (pos (2 ^ 63 - 1)) }
@@ -186,14 +186,14 @@ fn is_length_range(leaf: &Leaf) -> bool
     }
 }
 
-/// Whether lengths aren't below 0, nor `hi` below `lo` or past the greatest length.
+/// Whether `lo` is at least 0, `hi` at least `lo`, and `hi` at most the greatest length.
 fn is_length_between(lo: i64, hi: i64) -> bool
     ensures { result ≡ is_length_between lo hi }
 {
     0 <= lo && lo <= hi && hi <= MAX_LENGTH
 }
 
-/// Whether an alphabet has a character and not too many.
+/// Whether an alphabet has 1 to 256 characters.
 fn is_alphabet(alphabet: &str) -> bool
     ensures { result ≡ (nat_le 1 (length (chars alphabet.now)) && nat_le (length (chars alphabet.now)) 256) }
 {
@@ -201,7 +201,7 @@ fn is_alphabet(alphabet: &str) -> bool
     1 <= characters && characters <= MAX_CHARACTERS
 }
 
-/// The number of characters of a text, not of bytes.
+/// Returns the number of characters of a text, not of its bytes.
 fn character_count(text: &str) -> usize
     ensures { result ≡ length (chars text.now) }
 {

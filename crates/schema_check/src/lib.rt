@@ -1,7 +1,7 @@
 //! The rules of a schema.
 //!
-//! A schema may be read whole and still make no sense. `check` tries its rules in their order and gives either the first
-//! one that is broken, at its first site, or the schema's plan.
+//! A schema can be read whole and still make no sense. `check` tries its rules in their order. It returns the schema's plan, or the first
+//! broken rule at its first site.
 #![tactic(auto)]
 
 mod candidate;

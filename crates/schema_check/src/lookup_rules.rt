@@ -7,8 +7,8 @@ use crate::column_rules::moves;
 use schema_model::{Column, Kind, OnDelete, Table, Text};
 use schema_plan::{columns_of, place_of_column, place_of_table};
 
-/// Whether the column at a place, where it is a lookup, names an earlier reference, with whose parent the row is deleted, and a column
-/// of the parent's table that doesn't move and is no lookup.
+/// Whether the column at a place keeps the rule of lookups. A lookup names an earlier cascading reference, and a column of the parent's
+/// table that doesn't move and is no lookup.
 pub(crate) fn is_lookup(tables: &[Table], columns: &[Column], place: usize) -> bool
     requires { place < length columns.now }
     ensures { result ≡ is_lookup tables.now columns.now place (kind_at columns.now place) }
@@ -22,7 +22,7 @@ pub(crate) fn is_lookup(tables: &[Table], columns: &[Column], place: usize) -> b
     }
 }
 
-/// Whether a kind is a reference, with whose parent the row is deleted, to a table that has such a column of a name.
+/// Whether a kind is a cascading reference, and its table has a column of this name that doesn't move and is no lookup.
 fn is_looked_up(tables: &[Table], kind: &Kind, name: &Text) -> bool
     ensures { result ≡ is_looked_up tables.now kind.now name.now }
 {
@@ -41,7 +41,7 @@ fn is_looked_up(tables: &[Table], kind: &Kind, name: &Text) -> bool
     }
 }
 
-/// Whether some columns have one of a name that doesn't move and is no lookup.
+/// Whether some columns have one of this name that doesn't move and is no lookup.
 fn has_still_column(columns: &[Column], name: &Text) -> bool
     ensures { result ≡ has_still_column columns.now name.now }
 {

@@ -9,7 +9,7 @@ use schema_model::Text;
 /// The most bytes of a name.
 const MAX_LEN: usize = 32;
 
-/// Whether a text is a name: a letter from a to z, and then letters, digits and `_`, at most 32 bytes together.
+/// Whether a text is a name: a letter from a to z, then letters, digits and `_`, with at most 32 bytes in all.
 pub fn is_name(text: &Text) -> bool
     ensures { result ≡ is_name text.now }
 {

@@ -13,13 +13,14 @@ use schema_plan::{cohort_size, count};
 /// The most phases of a table.
 const MAX_PHASES: usize = 64;
 
-/// The last unit from which on a phase may begin.
+/// The last unit at which a phase can begin.
 const MAX_BEGIN: i64 = 10_000;
 
-/// The most rows that a table may gain up to the last unit.
+/// The most rows that can be born in a table up to the last unit.
 const MAX_ROWS: u64 = 1 << 40;
 
-/// Whether a table gains no negative number of rows, by phases one after the other, and not too many by the last unit.
+/// Whether a table keeps the rule of births: no number is negative, the phases rise, and at most 2^40 rows are born by the last unit. If the
+/// last unit is past the greatest, the rows aren't counted.
 pub(crate) fn is_row_count(units: i64, table: &Table) -> bool
     ensures { result ≡ is_row_count units table.now }
 {
@@ -28,7 +29,7 @@ pub(crate) fn is_row_count(units: i64, table: &Table) -> bool
         && (MAX_UNITS < units || rows_by(count(units), table) <= MAX_ROWS)
 }
 
-/// How many rows of a table are born by a unit.
+/// Returns how many rows of a table are born by a unit.
 fn rows_by(unit: u64, table: &Table) -> u64
     requires { unit ≤ 10000 }
     ensures { result ≡ capped (born_count (births_of table.now) unit) }
@@ -40,7 +41,7 @@ fn rows_by(unit: u64, table: &Table) -> u64
     rows
 }
 
-/// Whether there are 1 to 64 phases, the first from unit 1 on, that rise.
+/// Whether there are 1 to 64 phases, the first begins at unit 1, and they rise.
 fn are_phases(phases: &[Phase]) -> bool
     ensures { result ≡ are_phases phases.now }
 {
@@ -50,8 +51,8 @@ fn are_phases(phases: &[Phase]) -> bool
     }
 }
 
-/// Whether each phase begins after the one before it, the first of them after unit 0, and none too late; and by none is a negative
-/// number of rows born.
+/// Whether each phase begins after the one before it. The first begins after unit 0, none begins too late, and no rate is
+/// negative.
 fn do_phases_rise(phases: &[Phase]) -> bool
     ensures { result ≡ do_phases_rise (pos 0) phases.now }
 {

@@ -29,7 +29,7 @@ fn is_reference(kind: &Kind) -> bool
     matches!(kind, Kind::Ref { .. })
 }
 
-/// How many of the columns before a place are references.
+/// Returns how many of the columns before a place are references.
 fn references_before(columns: &[Column], place: usize) -> usize
     requires { place ≤ length columns.now }
     ensures count { result ≡ references_before columns.now place }
@@ -44,7 +44,7 @@ fn references_before(columns: &[Column], place: usize) -> usize
     count
 }
 
-/// Whether the column at a place of the table at a place, where it is a reference, names an earlier table and is one of at most 8.
+/// Whether a column keeps the rule of targets. A reference names an earlier table, and a table has at most 8 references.
 pub(crate) fn is_target(tables: &[Table], table: usize, columns: &[Column], column: usize) -> bool
     requires { column < length columns.now }
     ensures { result ≡ is_target tables.now table (references_before columns.now column) (kind_at columns.now column) }
@@ -58,7 +58,7 @@ pub(crate) fn is_target(tables: &[Table], table: usize, columns: &[Column], colu
     }
 }
 
-/// Whether each row that is born in a window is alive at its end, by how long the rows live for sure.
+/// Whether each row that is born in a window is alive at the window's end, by the sure life of such rows.
 fn is_within_life(sure_life: Option<u64>, window: Window) -> bool
     ensures { result ≡ is_within_life sure_life window }
 {
@@ -69,7 +69,7 @@ fn is_within_life(sure_life: Option<u64>, window: Window) -> bool
     }
 }
 
-/// Whether a kind, where it is a reference, has a window within the sure life of the parent's rows.
+/// Whether a kind keeps the rule of windows. The window of a reference is within the sure life of the parent's rows.
 pub(crate) fn is_window(candidate: &Candidate<'_>, kind: &Kind) -> bool
     ensures { result ≡ is_window candidate.now kind.now }
 {
@@ -79,7 +79,7 @@ pub(crate) fn is_window(candidate: &Candidate<'_>, kind: &Kind) -> bool
     }
 }
 
-/// Whether a window is within the sure life of the rows of the table with a name, where it is one of the first 64 tables.
+/// Whether a window is within the sure life of the named table's rows. It is true past the first 64 tables.
 fn is_window_of(candidate: &Candidate<'_>, parent: &Text, window: Window) -> bool
     ensures { (spread on_delete : _) → result ≡ is_window candidate.now (Kind.Ref parent.now window spread on_delete) }
 {
@@ -90,7 +90,7 @@ fn is_window_of(candidate: &Candidate<'_>, parent: &Text, window: Window) -> boo
     is_within_life(lineage_at(candidate.facts(), parent).sure_life, window)
 }
 
-/// How many rows of the table at a place are born at a unit; none past the last table.
+/// Returns how many rows of the table at a place are born at a unit. Past the last table there are none.
 fn cohort_size_at(tables: &[Table], place: usize, unit: u64) -> u64
     ensures { result ≡ cohort_size (births_of (table_in tables.now place)) unit }
 {
@@ -101,7 +101,7 @@ fn cohort_size_at(tables: &[Table], place: usize, unit: u64) -> u64
     }
 }
 
-/// Whether a row of the parent's table is born in the window at each unit up to a last one at which rows of the child's are.
+/// Whether each cohort of the child's table up to unit `last` has a row of the parent's table in its window. An empty cohort needs none.
 fn has_parent_rows(tables: &[Table], child: usize, parent: usize, window: Window, last: u64) -> bool
     requires { last ≤ 10000 }
     ensures { result ≡ has_parent_rows last (births_of (table_in tables.now child)) (births_of (table_in tables.now parent)) (window_layout window) }
@@ -118,7 +118,7 @@ fn has_parent_rows(tables: &[Table], child: usize, parent: usize, window: Window
     true
 }
 
-/// The same up to the last unit of a schema, where this isn't past the greatest.
+/// Whether `has_parent_rows` holds up to the last unit of a schema. It is true if that unit is past the greatest.
 fn has_candidates(tables: &[Table], child: usize, parent: usize, window: Window, units: i64) -> bool
     ensures { result ≡ (nat_lt 10000 (count units)
         || has_parent_rows (count units) (births_of (table_in tables.now child)) (births_of (table_in tables.now parent)) (window_layout window)) }
@@ -127,7 +127,7 @@ fn has_candidates(tables: &[Table], child: usize, parent: usize, window: Window,
     last > MAX_UNITS as u64 || has_parent_rows(tables, child, parent, window, last)
 }
 
-/// Whether a window that ends at a unit reaches back to another, where there is one.
+/// Whether a window that ends at `unit` reaches back to unit `latest`. It is false if there is no such unit.
 fn reaches(window: Window, unit: u64, latest: Option<u64>) -> bool
     ensures { result ≡ option_map_or (nat_le (window_start (window_layout window) unit)) latest false }
 {
@@ -138,7 +138,7 @@ fn reaches(window: Window, unit: u64, latest: Option<u64>) -> bool
     }
 }
 
-/// Whether a kind of the table at a place, where it is a reference, has parents at each unit.
+/// Whether a kind of the table at a place has parents at each unit, if it is a reference.
 pub(crate) fn has_parents(schema: &Schema, table: usize, kind: &Kind) -> bool
     ensures { result ≡ has_parents schema.now table kind.now }
 {
@@ -161,7 +161,7 @@ pub(crate) fn has_parents(schema: &Schema, table: usize, kind: &Kind) -> bool
     }
 }
 
-/// Whether a kind, where it is a reference, has a spread of 1 to 64 weights of 1 to 1,000 each.
+/// Whether a kind keeps the rule of spreads. A reference has 1 to 64 weights from 1 to 1,000 each.
 pub(crate) fn is_spread(kind: &Kind) -> bool
     ensures { result ≡ is_spread kind.now }
 {

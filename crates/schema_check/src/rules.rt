@@ -1,4 +1,4 @@
-//! The rules of a schema as tests of its sites, and the search for the first that is broken.
+//! The rules of a schema as tests of its sites, and the search for the first broken rule.
 
 ghost use Rattle.std.specs.Prelude.{◌≡◌, ◌<◌, ◌&&◌, IfSome, int_le, length, map, pos};
 ghost use Rattle.std.specs.List.{list_any};
@@ -23,7 +23,7 @@ use schema_plan::{Broken, MAX_ITEMS, Rule, Site, TableFacts};
 /// The greatest last unit.
 pub(crate) const MAX_UNITS: i64 = 10_000;
 
-/// The greatest number that the keys of a table may begin from.
+/// The greatest base of a table's keys.
 const MAX_BASE: i64 = 1 << 62;
 
 /// The longest life, in units.
@@ -67,8 +67,8 @@ const ORDER: [Rule; 25] = [
     Rule::ChangesAndNulls,
 ];
 
-/// The first rule that a schema breaks with its dictionaries, at its first site: the whole before the tables, in their order, and
-/// a table before its columns, in their order.
+/// Returns the first rule that a schema breaks with its dictionaries, at its first site. The whole schema comes before the tables, and
+/// each table before its columns. Tables and columns keep their order.
 #[tactic(auto, unfolding(schema_plan::specs::Rules::first_broken))]
 pub(crate) fn first_broken(candidate: &Candidate<'_>) -> Option<Broken>
     ensures first { result ≡ first_broken candidate.now }
@@ -82,7 +82,7 @@ pub(crate) fn first_broken(candidate: &Candidate<'_>) -> Option<Broken>
     None
 }
 
-/// The first site at which a rule is broken.
+/// Returns the first site at which a rule is broken, or None if there is none.
 pub(crate) fn first_break(rule: Rule, candidate: &Candidate<'_>) -> Option<Site>
     ensures first { result ≡ first_break rule candidate.now }
     ensures site { IfSome result (IsSiteOf candidate.now.schema) }
@@ -98,7 +98,7 @@ pub(crate) fn first_break(rule: Rule, candidate: &Candidate<'_>) -> Option<Site>
     None
 }
 
-/// The first site of a table at which a rule is broken.
+/// Returns the first site of a table at which a rule is broken, or None if there is none.
 fn break_in_table(rule: Rule, candidate: &Candidate<'_>, table: usize) -> Option<Site>
     requires { IsSiteOf candidate.now.schema (Site.OfTable table) }
     ensures first { result ≡ break_in_table rule candidate.now table }
@@ -116,7 +116,7 @@ fn break_in_table(rule: Rule, candidate: &Candidate<'_>, table: usize) -> Option
     None
 }
 
-/// Whether the rule holds at a site. Where it asks nothing there, it holds.
+/// Whether a rule holds at a site. It holds if it asks nothing there.
 fn holds(rule: Rule, candidate: &Candidate<'_>, site: Site) -> bool
     requires { IsSiteOf candidate.now.schema site }
     ensures { result ≡ holds rule candidate.now site }
@@ -128,7 +128,7 @@ fn holds(rule: Rule, candidate: &Candidate<'_>, site: Site) -> bool
     }
 }
 
-/// Whether it holds of a schema as a whole.
+/// Whether a rule holds at the schema as a whole.
 fn holds_of_whole(rule: Rule, candidate: &Candidate<'_>) -> bool
     ensures { result ≡ holds rule candidate.now Site.Whole }
 {
@@ -140,7 +140,7 @@ fn holds_of_whole(rule: Rule, candidate: &Candidate<'_>) -> bool
     }
 }
 
-/// Whether it holds of the table at a place.
+/// Whether a rule holds at the table at a place.
 fn holds_of_table(rule: Rule, candidate: &Candidate<'_>, table: usize) -> bool
     requires { table < length candidate.now.schema.tables }
     ensures { result ≡ holds rule candidate.now (Site.OfTable table) }
@@ -159,7 +159,7 @@ fn holds_of_table(rule: Rule, candidate: &Candidate<'_>, table: usize) -> bool
     }
 }
 
-/// Whether it holds of the column at a place in the table at a place.
+/// Whether a rule holds at the column at a place, in the table at a place.
 fn holds_of_column(rule: Rule, candidate: &Candidate<'_>, table: usize, column: usize) -> bool
     requires { IsSiteOf candidate.now.schema (Site.OfColumn table column) }
     ensures { result ≡ holds rule candidate.now (Site.OfColumn table column) }
@@ -190,7 +190,7 @@ fn holds_of_column(rule: Rule, candidate: &Candidate<'_>, table: usize, column: 
     }
 }
 
-/// The columns of the table at a place.
+/// Returns the columns of the table at a place.
 pub(crate) fn columns_at(schema: &Schema, table: usize) -> &[Column]
     requires { table < length schema.now.tables }
     ensures { result.now ≡ columns_at schema.now table }
@@ -210,7 +210,7 @@ fn is_one_to_64(items: usize) -> bool
     1 <= items && items <= MAX_ITEMS
 }
 
-/// Whether the table at a place has a name that no table before it has.
+/// Whether the table at a place has a valid name that no table before it has.
 fn is_new_table(tables: &[Table], place: usize) -> bool
     requires { place < length tables.now }
     ensures { result ≡ is_new_at (map (λ table. table.name) tables.now) place }
@@ -219,14 +219,14 @@ fn is_new_table(tables: &[Table], place: usize) -> bool
     is_name(name) && !is_table_named(&tables[..place], name)
 }
 
-/// Whether one of some tables has a name.
+/// Whether one of some tables has this name.
 fn is_table_named(tables: &[Table], name: &Text) -> bool
     ensures { result ≡ list_any (λ table. same_text table.name name.now) tables.now }
 {
     tables.iter().any(|table| table.name == *name)
 }
 
-/// Whether the column at a place has a name that no column before it has.
+/// Whether the column at a place has a valid name that no column before it has.
 fn is_new_column(columns: &[Column], place: usize) -> bool
     requires { place < length columns.now }
     ensures { result ≡ is_new_at (map (λ column. column.name) columns.now) place }
@@ -235,14 +235,14 @@ fn is_new_column(columns: &[Column], place: usize) -> bool
     is_name(name) && !is_column_named(&columns[..place], name)
 }
 
-/// Whether one of some columns has a name.
+/// Whether one of some columns has this name.
 fn is_column_named(columns: &[Column], name: &Text) -> bool
     ensures { result ≡ list_any (λ column. same_text column.name name.now) columns.now }
 {
     columns.iter().any(|column| column.name == *name)
 }
 
-/// Whether the first column, at place 0, is a key in range, and any other none.
+/// Whether the column at place 0 is a key with its base in range, and a column at any other place is no key.
 fn is_key_first(place: usize, kind: &Kind) -> bool
     ensures { result ≡ is_key_first place kind.now }
 {

@@ -9,9 +9,9 @@ pub struct Column {
     pub name: Text,
     /// What its fields hold.
     pub kind: Kind,
-    /// Whether its fields are drawn anew where a row changes.
+    /// Whether its fields are drawn anew when a row changes.
     pub changes: bool,
-    /// How many of a thousand fields are null.
+    /// How many fields of a thousand are null.
     pub null: i64,
 }
 
@@ -31,35 +31,35 @@ impl Drop for Column {
 /// What the fields of a column hold.
 #[derive(Debug, PartialEq)]
 pub enum Kind {
-    /// The key of the row: numbers from `base` on, within a unit in a drawn order where `scramble` is set.
+    /// The key of the row: numbers from `base` on. With `scramble` the keys of a unit are in a drawn order.
     Key {
         base: i64,
         scramble: bool,
     },
-    /// The unit in which the row was born.
+    /// The unit of the row's birth.
     Born,
-    /// The unit in which the row last changed.
+    /// The unit of the row's last change, or of its birth.
     Changed,
-    /// A value that is drawn for the field alone.
+    /// A value that is drawn for the field only.
     Leaf(Leaf),
     /// The parts, one after the other.
     Template {
         parts: Parts,
     },
-    /// The branch whose number is that of the entry that the pick column named `on` selected.
+    /// A branch. The pick column named `on` selects it: entry i of that column selects branch i.
     Case {
         on: Text,
         branches: Leaves,
     },
-    /// The key of a row of the table of this name, which was born in the window. The spread has a weight for each
-    /// of the groups that the candidates are divided into.
+    /// The key of a row of the table of this name, born in the window. The candidates are divided into groups, and the
+    /// spread has a weight for each group.
     Ref {
         table: Text,
         window: Window,
         spread: Longs,
         on_delete: OnDelete,
     },
-    /// The field of a column of the row that the reference column named `via` names.
+    /// A field of another row. The reference column named `via` selects the row, and `column` names the row's column.
     Lookup {
         via: Text,
         column: Text,
@@ -98,22 +98,22 @@ impl Drop for Kind {
     }
 }
 
-/// A value that is drawn for a field alone.
+/// A value that is drawn for a field only.
 #[derive(Debug, PartialEq)]
 pub enum Leaf {
-    /// A whole number from `lo` to `hi`, a multiple of `step` past `lo`.
+    /// A whole number from `lo` to `hi`: `lo` plus a multiple of `step`.
     Int { lo: i64, hi: i64, step: i64 },
-    /// A number from `lo` to `hi` whose last `decimals` digits stand after a point.
+    /// A number with a point before its last `decimals` digits. Without the point it is a whole number from `lo` to `hi`.
     Fixed { lo: i64, hi: i64, decimals: i64 },
-    /// A date. Days are counted from 1970-01-01, which is day 0.
+    /// A date from day `lo` to day `hi`. Day 0 is 1970-01-01.
     Date { lo: i32, hi: i32 },
-    /// One of the entries, each as often as its weight says.
+    /// One of the entries. The weights say how often each is drawn.
     Pick { entries: Texts, weights: Longs },
-    /// A number from `lo` to `lo + size - 1`, the first ones more often: the k-th has the weight 1 / k^power.
+    /// A number from `lo` to `lo + size - 1`. The k-th has the weight 1 / k^power.
     Skew { lo: i64, size: i64, power: i64 },
     /// An entry of the dictionary of this name.
     Dict { file: Text },
-    /// From `lo` to `hi` entries of the dictionary of this name, with a space between two.
+    /// From `lo` to `hi` entries of the dictionary of this name, with a space between each two.
     Words { file: Text, lo: i64, hi: i64 },
     /// From `lo` to `hi` characters of the alphabet.
     Chars { alphabet: Text, lo: i64, hi: i64 },
@@ -155,7 +155,7 @@ impl Drop for Leaf {
 /// A part of a template.
 #[derive(Debug, PartialEq)]
 pub enum Part {
-    /// This text.
+    /// A fixed text.
     Literal(Text),
     /// The field of the column of this name.
     Cited(Text),
@@ -169,16 +169,16 @@ impl Drop for Part {
     }
 }
 
-/// The units in which the row that a reference names may have been born.
+/// The units in which the parent of a row can be born.
 #[derive(Clone, Copy, Debug, PartialEq, Eq)]
 pub enum Window {
-    /// From this many units before the row's own birth on.
+    /// From this many units before the row's own birth to its birth.
     Units(i64),
     /// All units up to the row's own birth.
     All,
 }
 
-/// What becomes of a row when the row that a reference names is deleted.
+/// What happens to a row when its parent is deleted.
 #[derive(Clone, Copy, Debug, PartialEq, Eq)]
 pub enum OnDelete {
     /// The row is deleted too.

@@ -1,7 +1,7 @@
-//! The types of a schema: what a schema's text stands for, as plain data.
+//! The types of a schema: the content of a schema's text, as plain data.
 //!
-//! A schema has a seed, a last unit, a delimiter and tables; a table has rows and columns; a column has a kind, which
-//! says what its fields hold. Nothing here says which schemas are accepted: a value of these types may break any rule.
+//! A schema has a seed, a last unit, a delimiter and tables. A table has rows and columns. A column has a kind, which
+//! says what its fields hold. These types don't say which schemas are accepted: a value of theirs can break any rule.
 #![tactic(auto)]
 
 mod column;

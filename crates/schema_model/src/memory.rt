@@ -1,8 +1,8 @@
-//! The one fault of this crate.
+//! The only fault of this crate.
 
 use std::alloc::{AllocError, AllocFailed};
 
-/// No memory was left for what a call had to keep.
+/// No memory was left for what a call must keep.
 #[derive(Clone, Copy, Debug, PartialEq, Eq)]
 pub struct Memory;
 

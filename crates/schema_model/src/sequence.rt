@@ -1,4 +1,4 @@
-//! Sequences that contracts see as lists.
+//! Sequences, which contracts see as lists.
 
 use crate::{Column, Leaf, Memory, Part, Phase, Table, Text};
 use std::alloc::Global;
@@ -42,7 +42,7 @@ impl<T> Model for Sequence<T> {
 impl<T> Sequence<T> {
     ghost use Rattle.std.specs.Prelude.{◌≡◌, ◌==◌, ◌<◌, [], length, slice_get, Some};
 
-    /// The empty sequence, which takes no memory.
+    /// Returns the empty sequence. It takes no memory.
     pub fn new(alloc: Global) -> Sequence<T>
         ensures { result ≡ [] }
     {
@@ -51,21 +51,21 @@ impl<T> Sequence<T> {
         }
     }
 
-    /// The number of items.
+    /// Returns the number of items.
     pub fn len(&self) -> usize
         ensures { result ≡ length self.now }
     {
         self.items.len()
     }
 
-    /// Whether there is no item.
+    /// Whether the sequence has no items.
     pub fn is_empty(&self) -> bool
         ensures { result ≡ (length self.now == 0) }
     {
         self.items.is_empty()
     }
 
-    /// The item at index `i`, which counts from 0.
+    /// Returns the item at place `i`, counted from 0.
     pub fn get(&self, i: usize) -> &T
         requires { i < length self.now }
         ensures { slice_get self.now i ≡ Some result.now }
@@ -73,7 +73,7 @@ impl<T> Sequence<T> {
         &self.items[i]
     }
 
-    /// The items, in order.
+    /// Returns the items, in order.
     pub fn as_slice(&self) -> &[T]
         ensures { result.now ≡ self.now }
     {
@@ -84,7 +84,7 @@ impl<T> Sequence<T> {
 impl<T: Drop> Sequence<T> {
     ghost use Rattle.std.specs.Prelude.{◌≡◌, [], ◌∷◌, ◌++◌, OnOk, OnErr};
 
-    /// Puts an item behind the others. Where memory is wanting, the sequence stays as it was and the item is dropped.
+    /// Appends an item. If memory is wanting, the sequence stays as it was and the item is dropped.
     pub fn push(&mut self, item: T) -> Result<(), Memory>
         ensures appended { OnOk result (self.new ≡ self.old ++ item ∷ []) }
         ensures unchanged { OnErr result (self.new ≡ self.old) }

@@ -11,12 +11,12 @@ pub enum Delimiter {
     Bar,
 }
 
-/// What a schema's text says as a whole.
+/// A schema: the content of its text as a whole.
 #[derive(Debug, PartialEq)]
 pub struct Schema {
-    /// The number that all draws begin from.
+    /// The number from which everything random is drawn.
     pub seed: i64,
-    /// The last unit of time; unit 0 is the first.
+    /// The last unit of time. The first is unit 0.
     pub units: i64,
     /// The byte between the fields of a line.
     pub delimiter: Delimiter,
@@ -36,7 +36,7 @@ impl Drop for Schema {
     }
 }
 
-/// From which unit on how many rows are born at each unit: until the next phase of the table begins.
+/// A phase of a table: how many rows are born at each unit, from a first unit on. It lasts until the next phase begins.
 #[derive(Clone, Copy, Debug, PartialEq, Eq)]
 pub struct Phase {
     /// The phase's first unit.
@@ -45,7 +45,7 @@ pub struct Phase {
     pub rate: i64,
 }
 
-/// How many units a row lives: at least `lo` and at most `hi`.
+/// How many units a row lives: `lo` to `hi`.
 #[derive(Clone, Copy, Debug, PartialEq, Eq)]
 pub struct Life {
     /// The shortest life, in units.
@@ -54,20 +54,20 @@ pub struct Life {
     pub hi: i64,
 }
 
-/// A table: how many rows it gains, how long they live, and what they hold.
+/// A table: how many rows are born, how long they live, and what they hold.
 #[derive(Debug, PartialEq)]
 pub struct Table {
     /// The table's name.
     pub name: Text,
     /// The number of rows that are born at unit 0.
     pub rows: i64,
-    /// The numbers of rows that are born at later units, by phases.
+    /// The numbers of rows that are born at later units, as phases.
     pub insert: Phases,
-    /// How long rows live; without it they live for ever.
+    /// How long rows live. Without it they live for ever.
     pub life: Option<Life>,
-    /// The number of units from one change of a row to its next; without it rows never change.
+    /// The number of units from one change of a row to its next. Without it rows never change.
     pub update: Option<i64>,
-    /// The columns, in the order of the lines.
+    /// The columns, in the order of a line's fields.
     pub columns: Columns,
 }
 

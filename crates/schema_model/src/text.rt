@@ -1,10 +1,10 @@
-//! Text that contracts see as its bytes.
+//! Texts, which contracts see as their bytes.
 
 use crate::Memory;
 use std::alloc::Global;
 use std::marker::Model;
 
-/// A text. A contract sees it as the list of its bytes in UTF-8, as it sees a `&str`.
+/// A text. A contract sees it as the list of its UTF-8 bytes, as it sees a `&str`.
 #[derive(Debug, Drop)]
 pub struct Text {
     text: String,
@@ -21,7 +21,7 @@ impl Model for Text {
 impl Text {
     ghost use Rattle.std.specs.Prelude.{◌≡◌, ◌==◌, [], ◌++◌, length, IfOk, OnOk, OnErr, IsUtf8};
 
-    /// The empty text, which takes no memory.
+    /// Returns the empty text. It takes no memory.
     pub fn new(alloc: Global) -> Text
         ensures { result ≡ [] }
     {
@@ -30,7 +30,7 @@ impl Text {
         }
     }
 
-    /// A text of its own with these bytes.
+    /// Copies a text. Refuses if memory is wanting.
     pub fn of(alloc: Global, text: &str) -> Result<Text, Memory>
         ensures { IfOk result (λ made. made ≡ text.now) }
     {
@@ -38,21 +38,21 @@ impl Text {
         Ok(Text { text })
     }
 
-    /// The length in bytes.
+    /// Returns the length in bytes.
     pub fn len(&self) -> usize
         ensures { result ≡ length self.now }
     {
         self.text.len()
     }
 
-    /// Whether the text has no byte.
+    /// Whether the text has no bytes.
     pub fn is_empty(&self) -> bool
         ensures { result ≡ (length self.now == 0) }
     {
         self.text.is_empty()
     }
 
-    /// The text itself.
+    /// Returns the text as a `&str`.
     pub fn as_str(&self) -> &str
         ensures value { result.now ≡ self.now }
         ensures utf8 { IsUtf8 self.now }
@@ -60,7 +60,7 @@ impl Text {
         self.text.as_str()
     }
 
-    /// Appends a piece. Where memory is wanting, the text stays as it was.
+    /// Appends a piece. If memory is wanting, the text stays as it was.
     pub fn push(&mut self, piece: &str) -> Result<(), Memory>
         ensures appended { OnOk result (self.new ≡ self.old ++ piece.now) }
         ensures unchanged { OnErr result (self.new ≡ self.old) }

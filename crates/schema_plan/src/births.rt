@@ -1,4 +1,4 @@
-//! How many rows of tables are born at each unit, as the schema says it.
+//! How many rows of each table are born at each unit, by the schema.
 
 ghost use Rattle.std.specs.Prelude.{◌≡◌, ◌≤◌, All, IfOk, map};
 ghost use Rattle.cohort_sizes.specs.Births.{cohort_size};
@@ -12,7 +12,7 @@ use cohort_sizes::{Cohorts, Rate};
 use schema_model::{Phase, Table};
 use std::alloc::Global;
 
-/// How many rows of a table are born at a unit, whatever its phases.
+/// Returns how many rows of a table are born at a unit, for any list of phases.
 pub fn cohort_size(table: &Table, unit: u64) -> u64
     ensures { result ≡ cohort_size (births_of table.now) unit }
 {
@@ -28,7 +28,7 @@ pub fn cohort_size(table: &Table, unit: u64) -> u64
     size
 }
 
-/// The cohorts of each of some tables of units 0 to a last one, in order.
+/// Returns the cohorts of each table from unit 0 to a last one, in the order of the tables.
 pub(crate) fn cohorts_of_tables(
     alloc: Global,
     tables: &[Table],
@@ -45,7 +45,7 @@ pub(crate) fn cohorts_of_tables(
     Ok(cohorts)
 }
 
-/// The cohorts of a table of units 0 to a last one.
+/// Returns the cohorts of a table from unit 0 to a last one.
 fn cohorts_of(alloc: Global, table: &Table, last: u64) -> Result<Cohorts, Memory>
     requires last { last ≤ 10000 }
     requires births { AreBirthsInLimits last (births_of table.now) }
@@ -55,7 +55,7 @@ fn cohorts_of(alloc: Global, table: &Table, last: u64) -> Result<Cohorts, Memory
     Ok(Cohorts::new(alloc, count(table.rows), rates, last)?)
 }
 
-/// The rates of some phases, in order.
+/// Returns the rates of some phases, in order.
 fn rates_of(alloc: Global, phases: &[Phase]) -> Result<Vec<Rate>, Memory>
     ensures { IfOk result (λ rates. rates.items ≡ map rate_of phases.now) }
 {

@@ -3,9 +3,11 @@
 use crate::rules::Rule;
 use crate::site::Site;
 
-/// The rule that a schema breaks, and the first site at which it does.
+/// A rule that a schema breaks, with the first site at which the schema breaks it.
 #[derive(Clone, Copy, Debug, PartialEq, Eq)]
 pub struct Broken {
+    /// The rule.
     pub rule: Rule,
+    /// The first site at which the schema breaks the rule.
     pub site: Site,
 }

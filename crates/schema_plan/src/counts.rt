@@ -1,9 +1,9 @@
-//! The numbers of a schema that count something.
+//! Numbers of a schema that count something.
 
 ghost use Rattle.std.specs.Prelude.{◌≡◌};
 ghost use Rattle.schema_plan.specs.Counts.{count};
 
-/// The count that a number of a schema stands for; a number below 0 counts as 0.
+/// Returns a number of a schema as a count. A number below 0 counts as 0.
 pub fn count(number: i64) -> u64
     ensures { result ≡ count number }
 {

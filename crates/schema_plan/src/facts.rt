@@ -1,4 +1,4 @@
-//! What doesn't change from row to row in a table.
+//! The facts of a table, which don't change from row to row.
 
 ghost use Rattle.std.specs.Prelude.{◌≡◌, ◌<◌, length, map, min};
 ghost use Rattle.std.specs.List.{range_with_len};
@@ -16,18 +16,20 @@ use crate::places::keys_of;
 use crate::word_lists::Dictionaries;
 use schema_model::{Delimiter, Schema, Table};
 
-/// What doesn't change from row to row in a table.
+/// The facts of a table, which don't change from row to row.
 #[derive(Clone, Copy, Debug, PartialEq, Eq)]
 pub struct TableFacts {
+    /// The keys: their base, and whether they are scrambled.
     pub keys: Keys,
+    /// How long the rows live, and what their deaths and losses cost.
     pub lineage: Lineage,
-    /// The cost of a row, which bounds the permutations of its report.
+    /// The cost of a row: a bound on the permutations of its report.
     pub cost: u64,
     /// The greatest length of a line, in bytes.
     pub max_line: u64,
 }
 
-/// Of a table without rows and columns.
+/// The facts of a table without rows and columns.
 pub const NO_FACTS: TableFacts = TableFacts {
     keys: Keys {
         base: 0,
@@ -38,7 +40,7 @@ pub const NO_FACTS: TableFacts = TableFacts {
     max_line: 0,
 };
 
-/// Puts the facts of the first tables of a schema in place, one for each place that is given. No memory is taken.
+/// Fills in the facts of the first tables of a schema, one for each given place. It takes no memory.
 pub fn fill_facts(schema: &Schema, dictionaries: &Dictionaries, facts: &mut [TableFacts])
     requires { length facts.old ≡ min (length schema.now.tables) 64 }
     ensures { facts.new ≡ first_facts (project_of schema.now dictionaries.now) }
@@ -48,7 +50,7 @@ pub fn fill_facts(schema: &Schema, dictionaries: &Dictionaries, facts: &mut [Tab
     }
 }
 
-/// The facts of the table at a place, by those of the tables before it.
+/// Returns the facts of the table at a place, from the facts of the tables before it.
 fn facts_of(
     schema: &Schema,
     dictionaries: &Dictionaries,
@@ -81,7 +83,7 @@ fn facts_of(
     }
 }
 
-/// What the line of a table's rows takes: the sizes of its fields and one byte behind each, and their permutations.
+/// Returns the bounds of a table's lines: the sizes of the fields, a byte after each, and the fields' permutations.
 fn line_bounds(
     delimiter: u8,
     dictionaries: &Dictionaries,
@@ -100,7 +102,7 @@ fn line_bounds(
     FieldBounds { size, permutations }
 }
 
-/// The byte between two fields.
+/// Returns the byte between two fields.
 pub(crate) fn delimiter_byte(delimiter: Delimiter) -> u8
     ensures { result ≡ byte_of delimiter }
 {
@@ -110,7 +112,7 @@ pub(crate) fn delimiter_byte(delimiter: Delimiter) -> u8
     }
 }
 
-/// The greatest line of all, in bytes.
+/// Returns the greatest length of a line of any table, in bytes.
 pub(crate) fn greatest_line(facts: &[TableFacts]) -> u64
     ensures { result ≡ greatest_by (λ fact. fact.max_line) facts.now }
 {

@@ -1,4 +1,4 @@
-//! What a field takes at most: bytes as they are written, and permutations.
+//! Field bounds: the most bytes that a field is written as, and the most permutations that it asks.
 
 ghost use Rattle.std.specs.Prelude.{◌≡◌, ◌+◌, List, encode_utf8, map};
 ghost use Rattle.std.specs.Str.{chars};
@@ -20,7 +20,7 @@ const KEY_SIZE: u64 = 20;
 /// The greatest length of a whole number of 64 bits with its sign, in bytes.
 const WHOLE_SIZE: u64 = 20;
 
-/// The greatest length of such a number with a point, in bytes.
+/// The greatest length of a whole number of 64 bits with its sign and a point, in bytes.
 const FIXED_SIZE: u64 = 21;
 
 /// The length of a date, in bytes.
@@ -29,19 +29,19 @@ const DATE_SIZE: u64 = 10;
 /// The greatest length of a unit, in bytes.
 const UNIT_SIZE: u64 = 5;
 
-/// The least greatest size of a field: that of a null one, in bytes.
+/// The length of a null field, in bytes. No bound on a field's size is less.
 const NULL_SIZE: u64 = 2;
 
-/// What a field takes at most.
+/// The most bytes that a field is written as, and the most permutations that it asks.
 #[derive(Clone, Copy, Debug, PartialEq, Eq)]
 pub(crate) struct FieldBounds {
-    /// Its length as it is written, in bytes.
+    /// The greatest length of the field as it is written, in bytes.
     pub size: u64,
-    /// The permutations that it asks.
+    /// The most permutations that the field asks.
     pub permutations: u64,
 }
 
-/// What a field takes that has this size and asks this many permutations: never less than a null one.
+/// Returns the bounds of a field of this size and with this many permutations. The size is at least a null field's.
 fn bounds(size: u64, permutations: u64) -> FieldBounds
     ensures { result ≡ bounds size permutations }
 {
@@ -51,14 +51,14 @@ fn bounds(size: u64, permutations: u64) -> FieldBounds
     }
 }
 
-/// The size of a text as it is written.
+/// Returns the size of a text as it is written, in bytes.
 pub(crate) fn written_size(delimiter: u8, bytes: &[u8]) -> u64
     ensures { result ≡ written_size delimiter bytes.now }
 {
     field_size(Some(bytes), delimiter) as u64
 }
 
-/// The greatest size of an entry as it is written.
+/// Returns the greatest size of an entry as it is written, in bytes.
 fn greatest_entry(delimiter: u8, entries: &[Text]) -> u64
     ensures { result ≡ greatest_by (written_size delimiter) entries.now }
 {
@@ -69,7 +69,7 @@ fn greatest_entry(delimiter: u8, entries: &[Text]) -> u64
     most
 }
 
-/// The greatest size of a character of an alphabet as it is written.
+/// Returns the greatest size of a character of an alphabet as it is written, in bytes.
 fn greatest_character(delimiter: u8, alphabet: &str) -> u64
     ensures { result ≡ greatest_by (λ c. written_size delimiter (encode_utf8 c)) (chars alphabet.now) }
 {
@@ -78,7 +78,7 @@ fn greatest_character(delimiter: u8, alphabet: &str) -> u64
         .fold(0, |most: u64, c| most.max(character_size(delimiter, c)))
 }
 
-/// The size of a character as it is written.
+/// Returns the size of a character as it is written, in bytes.
 fn character_size(delimiter: u8, c: char) -> u64
     ensures { result ≡ written_size delimiter (encode_utf8 c) }
 {
@@ -86,7 +86,7 @@ fn character_size(delimiter: u8, c: char) -> u64
     written_size(delimiter, c.encode_utf8(&mut bytes).as_bytes())
 }
 
-/// The greatest size of a drawn value.
+/// Returns the greatest size of a drawn value as it is written, in bytes.
 fn leaf_size(delimiter: u8, dictionaries: &Dictionaries, leaf: &Leaf) -> u64
     ensures { result ≡ capped (leaf_size delimiter (leaf_layout dictionaries.now leaf.now)) }
 {
@@ -108,7 +108,7 @@ fn leaf_size(delimiter: u8, dictionaries: &Dictionaries, leaf: &Leaf) -> u64
     }
 }
 
-/// The size of some items of at most a size, with a byte between two.
+/// Returns the size of some items of at most `size` bytes each, with a byte between each two.
 fn joined_size(items: u64, size: u64) -> u64
     ensures { result ≡ capped (joined_size items size) }
 {
@@ -117,7 +117,7 @@ fn joined_size(items: u64, size: u64) -> u64
         .saturating_add(items.saturating_sub(1))
 }
 
-/// The greatest size of one of some drawn values.
+/// Returns the greatest size of any of some drawn values as it is written, in bytes.
 fn greatest_leaf(delimiter: u8, dictionaries: &Dictionaries, leaves: &[Leaf]) -> u64
     ensures { result ≡ capped (greatest_by (leaf_size delimiter) (map (leaf_layout dictionaries.now) leaves.now)) }
 {
@@ -128,7 +128,7 @@ fn greatest_leaf(delimiter: u8, dictionaries: &Dictionaries, leaves: &[Leaf]) ->
     most
 }
 
-/// What the field of a reference takes: its permutation, and its parent's key.
+/// Returns the bounds of a reference: a permutation for the parent, and one more if the parent's keys are scrambled.
 fn bounds_of_reference(tables: &[Table], parent: usize) -> FieldBounds
     ensures { (dictionaries : List Dictionary) →
         result ≡ bounds 20 (1 + one_if (table_at (table_layouts dictionaries tables.now) parent).key.scramble) }
@@ -137,7 +137,7 @@ fn bounds_of_reference(tables: &[Table], parent: usize) -> FieldBounds
     bounds(KEY_SIZE, 1 + u64::from(scramble))
 }
 
-/// What a field takes that needs no other column.
+/// Returns the bounds of a field that needs no other column. A template or a lookup gives those of a null field.
 fn bounds_alone(
     delimiter: u8,
     dictionaries: &Dictionaries,
@@ -164,7 +164,7 @@ fn bounds_alone(
     }
 }
 
-/// What the field of the column at a place takes that needs no other column.
+/// Returns the bounds of the column at a place, if it needs no other column. Otherwise it returns those of a null field.
 fn bounds_alone_at(
     delimiter: u8,
     dictionaries: &Dictionaries,
@@ -189,7 +189,7 @@ fn bounds_alone_at(
     }
 }
 
-/// What a part of a template takes.
+/// Returns the bounds of a part of a template.
 fn bounds_of_part(
     delimiter: u8,
     dictionaries: &Dictionaries,
@@ -212,7 +212,7 @@ fn bounds_of_part(
     }
 }
 
-/// What all parts of a template take.
+/// Returns the bounds of all parts of a template together.
 fn bounds_of_parts(
     delimiter: u8,
     dictionaries: &Dictionaries,
@@ -233,7 +233,7 @@ fn bounds_of_parts(
     bounds(size, permutations)
 }
 
-/// What a field takes that needs no other table.
+/// Returns the bounds of a field that needs no other table.
 fn bounds_in_table(
     delimiter: u8,
     dictionaries: &Dictionaries,
@@ -256,7 +256,7 @@ fn bounds_in_table(
     }
 }
 
-/// What the field of the column with a name takes in the table at a place.
+/// Returns the bounds of the named column in the table at a place.
 fn bounds_of_named(
     delimiter: u8,
     dictionaries: &Dictionaries,
@@ -286,7 +286,7 @@ fn bounds_of_named(
     }
 }
 
-/// What a field takes: a lookup takes the permutation of its reference, and what its parent's field takes.
+/// Returns the bounds of a field. A lookup takes a permutation for its reference, and what its parent's field takes.
 pub(crate) fn bounds_of(
     delimiter: u8,
     dictionaries: &Dictionaries,

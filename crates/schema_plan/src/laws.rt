@@ -1,4 +1,4 @@
-//! Laws of the definitions that the contracts cite, each the contract of a function without a body.
+//! Laws of the definitions that the contracts cite. Each law is the contract of a function without a body.
 
 ghost use Rattle.std.specs.Prelude.{◌≡◌, ◌∷◌, [], Some, None, map};
 ghost use Rattle.schema_plan.specs.Layout.{layout_of};
@@ -6,8 +6,8 @@ ghost use Rattle.schema_plan.specs.Lineage.{longest_life, sure_life};
 ghost use Rattle.schema_plan.specs.TableFacts.{cost, max_line, reach};
 ghost use Rattle.schema_plan.specs.Worked.{people, places, sales, sizes_of, talks};
 
-/// Lives worked out by hand: orders may name a customer who is two units older, lines an order of their own unit, and
-/// rows of tables without lives and parents have no end, nor have those that outlive their parents.
+/// Lives worked out by hand. Orders can name a customer who is two units older, and lines an order of their own unit. Rows
+/// of tables without lives and parents have no end, and neither do rows that outlive their parents.
 pub fn worked_lives()
     ensures customer { sure_life (layout_of sales).tables 0 ≡ Some 3 }
     ensures orders { sure_life (layout_of sales).tables 1 ≡ Some 1 }
@@ -22,7 +22,7 @@ pub fn worked_lives()
     ensures remark_at_most { longest_life (layout_of talks).tables 1 ≡ None }
 {}
 
-/// Costs worked out by hand: that a customer is dead is asked for the change of a remark, and for each field that shows the customer.
+/// Costs worked out by hand. A remark's change, and each field that shows the customer, asks whether the customer is dead.
 pub fn worked_costs()
     ensures customer { cost (layout_of sales) 0 ≡ 3 }
     ensures orders { cost (layout_of sales) 1 ≡ 5 }
@@ -32,7 +32,7 @@ pub fn worked_costs()
     ensures remark { cost (layout_of talks) 1 ≡ 7 }
 {}
 
-/// Sizes worked out by hand: a tab and a backslash are written as two bytes; the words of a text have spaces between.
+/// Sizes worked out by hand. A tab and a backslash are written as two bytes each. The words of a text have spaces between.
 pub fn worked_sizes()
     ensures customer { max_line (layout_of sales) 0 ≡ 33 }
     ensures orders { max_line (layout_of sales) 1 ≡ 42 }

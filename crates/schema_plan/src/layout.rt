@@ -1,4 +1,4 @@
-//! What a layout says of a table's rows, keys and references.
+//! The keys, lives and references of a table in a layout.
 
 ghost use Rattle.std.specs.Prelude.{◌≡◌};
 ghost use Rattle.schema_plan.specs.Layout.{becomes_null};
@@ -8,13 +8,13 @@ use schema_model::OnDelete;
 /// The keys of a table.
 #[derive(Clone, Copy, Debug, PartialEq, Eq)]
 pub struct Keys {
-    /// The number that the keys count from.
+    /// The number from which the keys count.
     pub base: u64,
-    /// Whether the keys of a cohort, the rows that are born at one unit, stand in a drawn order.
+    /// Whether the keys of a cohort are in a drawn order. A cohort is the rows that are born at one unit.
     pub scramble: bool,
 }
 
-/// For how many units a row lives.
+/// How many units a row lives.
 #[derive(Clone, Copy, Debug, PartialEq, Eq)]
 pub struct Span {
     /// The shortest life, in units.
@@ -23,7 +23,7 @@ pub struct Span {
     pub most: u64,
 }
 
-/// Whether a reference becomes null where its parent is deleted; else its row is deleted too.
+/// Whether a reference becomes null when its parent is deleted. Otherwise its row is deleted too.
 pub fn becomes_null(on_delete: OnDelete) -> bool
     ensures { result ≡ becomes_null on_delete }
 {

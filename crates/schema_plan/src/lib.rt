@@ -1,8 +1,9 @@
 //! The layout of a schema, its facts, and the plan of an accepted one.
 //!
-//! A schema names tables, columns and word lists; its layout has their places in the names' stead. Facts of a table, as the cost of
-//! a row, follow from the layout and from the facts of the tables before it. A plan is made of a schema that keeps all rules, and holds what
-//! doesn't change from row to row. Which schemas keep the rules is defined here, and tried by the crate that stands on this one.
+//! A schema names tables, columns and word lists. Its layout has the places of tables and columns, and the words of the lists, in the names'
+//! stead. Facts of a table, such as the cost of a row, follow from the layout and from the facts of the tables before it. A plan is made from
+//! a schema that keeps all rules. It holds what doesn't change from row to row. This crate defines which schemas keep the rules, and
+//! `schema_check` tries them.
 #![tactic(auto)]
 
 mod births;

@@ -1,4 +1,4 @@
-//! What the rows of a table take over from the tables that they refer to.
+//! What rows take over from the tables that they refer to.
 
 ghost use Rattle.std.specs.Prelude.{◌≡◌, List, length, map};
 ghost use Rattle.schema_plan.specs.Capped.{capped_lineage};
@@ -16,22 +16,22 @@ use crate::null_costs::null_cost_of_line;
 use crate::places::place_of_table;
 use schema_model::{Kind, Life, OnDelete, Table, Window};
 
-/// For how long the rows of a table live, what their death costs, and what it costs to tell which of their parents they have lost.
+/// How long the rows of a table live, what their death costs, and what telling their lost parents costs.
 #[derive(Clone, Copy, Debug, PartialEq, Eq)]
 pub struct Lineage {
-    /// For how many units at least; None where that is unbounded.
+    /// How many units a row lives at least; None if that is unbounded.
     pub sure_life: Option<u64>,
-    /// For how many units at most; None where that is unbounded.
+    /// How many units a row lives at most; None if that is unbounded.
     pub longest_life: Option<u64>,
-    /// How many permutations are asked at most to find the unit of a row's death.
+    /// The most permutations asked to find the unit of a row's death.
     pub death_cost: u64,
-    /// How many are asked at most to find when a row lost the parents that it outlives.
+    /// The most permutations asked to find when a row lost the parents that it outlives.
     pub loss_cost: u64,
-    /// How many are asked at most to tell which of the references that a row's line shows are null.
+    /// The most permutations asked to tell which references in a row's line are null.
     pub null_cost: u64,
 }
 
-/// A table that nothing ends.
+/// The lineage of a table whose rows never die.
 pub(crate) const ENDLESS: Lineage = Lineage {
     sure_life: None,
     longest_life: None,
@@ -40,7 +40,7 @@ pub(crate) const ENDLESS: Lineage = Lineage {
     null_cost: 0,
 };
 
-/// The lineage of a table, by what is known of the tables before it.
+/// Returns the lineage of a table, from the facts of the tables before it.
 pub(crate) fn lineage_of(tables: &[Table], earlier: &[TableFacts], table: &Table) -> Lineage
     ensures { (dictionaries : List Dictionary) (given : List Lineage) → map (λ facts. facts.lineage) earlier.now ≡ map capped_lineage given →
         result ≡ capped_lineage (lineage_of given (table_layout dictionaries tables.now table.now)) }
@@ -56,7 +56,7 @@ pub(crate) fn lineage_of(tables: &[Table], earlier: &[TableFacts], table: &Table
     }
 }
 
-/// The lineage of a table's own life.
+/// Returns the lineage that a table's own life gives.
 fn own_lineage(life: Option<Life>) -> Lineage
     ensures { result ≡ own_lineage (option_map span_of life) }
 {
@@ -72,7 +72,7 @@ fn own_lineage(life: Option<Life>) -> Lineage
     }
 }
 
-/// For how many units a row lives.
+/// Returns how many units a row lives at least and at most.
 pub(crate) fn span_of(life: Life) -> Span
     ensures { result ≡ span_of life }
 {
@@ -82,8 +82,8 @@ pub(crate) fn span_of(life: Life) -> Span
     }
 }
 
-/// A lineage with what a column of this kind adds: a reference has a parent, with whom the row is deleted or whom it outlives, and
-/// no other kind has.
+/// Returns a lineage with what a column of this kind adds. A reference adds a parent: the row is deleted with the parent or outlives it.
+/// No other kind adds one.
 fn with_kind(tables: &[Table], earlier: &[TableFacts], own: Lineage, kind: &Kind) -> Lineage
     ensures { (dictionaries : List Dictionary) (given : List Lineage) (before : Lineage) (columns : List Column) →
         map (λ facts. facts.lineage) earlier.now ≡ map capped_lineage given → own ≡ capped_lineage before →
@@ -106,7 +106,7 @@ fn with_kind(tables: &[Table], earlier: &[TableFacts], own: Lineage, kind: &Kind
     }
 }
 
-/// The lineage of the table at a place among those before.
+/// Returns the lineage of the table at a place among the earlier ones. Past their end it returns `ENDLESS`.
 pub fn lineage_at(earlier: &[TableFacts], place: usize) -> Lineage
     ensures { result ≡ lineage_at (map (λ facts. facts.lineage) earlier.now) place }
 {
@@ -117,7 +117,7 @@ pub fn lineage_at(earlier: &[TableFacts], place: usize) -> Lineage
     }
 }
 
-/// A lineage with a parent, with whom the row is deleted.
+/// Returns a lineage with one more parent, with whom the row is deleted.
 fn with_parent(own: Lineage, parent: Lineage, window: Window) -> Lineage
     ensures { result ≡ capped_lineage (with_parent own parent (window_layout window)) }
 {
@@ -136,7 +136,7 @@ fn with_parent(own: Lineage, parent: Lineage, window: Window) -> Lineage
     }
 }
 
-/// A lineage with a parent whom the row outlives.
+/// Returns a lineage with one more parent, whom the row outlives.
 fn with_loss(own: Lineage, parent: Lineage) -> Lineage
     ensures { result ≡ capped_lineage (with_loss own parent) }
 {
@@ -147,7 +147,7 @@ fn with_loss(own: Lineage, parent: Lineage) -> Lineage
     }
 }
 
-/// The lesser of two lives; None is a life without a bound.
+/// Returns the lesser of two lives. None is a life without a bound.
 fn lesser_life(life: Option<u64>, other: Option<u64>) -> Option<u64>
     ensures { result ≡ lesser_life life other }
 {

@@ -1,4 +1,4 @@
-//! The fault of what takes memory for a plan.
+//! The fault of calls that take memory for a plan.
 
 use std::alloc::{AllocError, AllocFailed};
 

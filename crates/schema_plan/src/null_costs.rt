@@ -1,4 +1,4 @@
-//! What it takes to tell which of the references that a line shows are null.
+//! The cost of telling which references in a line are null.
 
 ghost use Rattle.std.specs.Prelude.{◌≡◌, List, map, sum_by};
 ghost use Rattle.schema_plan.specs.Capped.{capped};
@@ -12,7 +12,7 @@ use crate::lineage::lineage_at;
 use crate::places::{place_of_column, place_of_table};
 use schema_model::{Column, Kind, OnDelete, Part, Table};
 
-/// How many permutations tell at most which of the references that a line of some columns shows are null.
+/// Returns the most permutations that it takes to tell which references in a line of these columns are null.
 pub(crate) fn null_cost_of_line(tables: &[Table], earlier: &[TableFacts], columns: &[Column]) -> u64
     ensures { (dictionaries : List Dictionary) →
         result ≡ capped (null_cost_of_line (map (λ facts. facts.lineage) earlier.now) (map (column_layout dictionaries tables.now columns.now) columns.now)) }
@@ -24,7 +24,7 @@ pub(crate) fn null_cost_of_line(tables: &[Table], earlier: &[TableFacts], column
     cost
 }
 
-/// How many tell it of the references that a field of one of some columns shows.
+/// Returns the most permutations for the references that one field shows. The columns are those of its table.
 fn null_cost_of_field(
     tables: &[Table],
     earlier: &[TableFacts],
@@ -43,7 +43,7 @@ fn null_cost_of_field(
     }
 }
 
-/// How many tell it of the references that the parts of a template cite.
+/// Returns the most permutations for the references that the parts of a template cite.
 fn null_cost_of_parts(
     tables: &[Table],
     earlier: &[TableFacts],
@@ -61,7 +61,7 @@ fn null_cost_of_parts(
     cost
 }
 
-/// How many tell it of what a part of a template cites.
+/// Returns the most permutations for the column that a part of a template cites.
 fn null_cost_of_part(
     tables: &[Table],
     earlier: &[TableFacts],
@@ -80,7 +80,7 @@ fn null_cost_of_part(
     }
 }
 
-/// How many tell it of the column at a place.
+/// Returns the most permutations for the column at a place.
 fn null_cost_at(tables: &[Table], earlier: &[TableFacts], columns: &[Column], place: usize) -> u64
     ensures { (dictionaries : List Dictionary) →
         result ≡ null_cost_of (map (λ facts. facts.lineage) earlier.now) (column_at (map (column_layout dictionaries tables.now columns.now) columns.now) place).kind }
@@ -92,7 +92,7 @@ fn null_cost_at(tables: &[Table], earlier: &[TableFacts], columns: &[Column], pl
     }
 }
 
-/// How many tell whether a reference is null, by its kind.
+/// Returns the most permutations that tell whether a reference of this kind is null.
 fn null_cost_of(tables: &[Table], earlier: &[TableFacts], kind: &Kind) -> u64
     ensures { (dictionaries : List Dictionary) (columns : List Column) →
         result ≡ null_cost_of (map (λ facts. facts.lineage) earlier.now) (kind_layout dictionaries tables.now columns kind.now) }

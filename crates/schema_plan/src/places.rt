@@ -1,4 +1,4 @@
-//! Names to places, which count from 0. A name that nothing has stands for the place past the last one.
+//! Names resolved to places, which count from 0. A name that nothing has gives the place past the last one.
 
 ghost use Rattle.std.specs.Prelude.{◌≡◌, ◌≤◌, length};
 ghost use Rattle.std.specs.List.{position};
@@ -9,7 +9,7 @@ use crate::counts::count;
 use crate::layout::Keys;
 use schema_model::{Column, Kind, Table, Text};
 
-/// The place of the table with a name.
+/// Returns the place of the table with a name.
 pub fn place_of_table(tables: &[Table], name: &Text) -> usize
     ensures place { result ≡ place_of_table tables.now name.now }
     ensures within { result ≤ length tables.now }
@@ -17,14 +17,14 @@ pub fn place_of_table(tables: &[Table], name: &Text) -> usize
     find_table(tables, name).unwrap_or(tables.len())
 }
 
-/// The place of the first of some tables that has a name.
+/// Returns the place of the first table with a name, or None if there is none.
 fn find_table(tables: &[Table], name: &Text) -> Option<usize>
     ensures { result ≡ position (λ table. same_text table.name name.now) tables.now }
 {
     tables.iter().position(|table| table.name == *name)
 }
 
-/// The place of the column with a name.
+/// Returns the place of the column with a name.
 pub fn place_of_column(columns: &[Column], name: &Text) -> usize
     ensures place { result ≡ place_of_column columns.now name.now }
     ensures within { result ≤ length columns.now }
@@ -32,14 +32,14 @@ pub fn place_of_column(columns: &[Column], name: &Text) -> usize
     find_column(columns, name).unwrap_or(columns.len())
 }
 
-/// The place of the first of some columns that has a name.
+/// Returns the place of the first column with a name, or None if there is none.
 fn find_column(columns: &[Column], name: &Text) -> Option<usize>
     ensures { result ≡ position (λ column. same_text column.name name.now) columns.now }
 {
     columns.iter().position(|column| column.name == *name)
 }
 
-/// The place of the table that a kind names as its parent; the place past the last one where it names none.
+/// Returns the place of the parent table that a kind names. A kind that names none gives the place past the last table.
 fn parent_of(tables: &[Table], kind: &Kind) -> usize
     ensures place { result ≡ place_of_parent tables.now kind.now }
     ensures within { result ≤ length tables.now }
@@ -50,7 +50,7 @@ fn parent_of(tables: &[Table], kind: &Kind) -> usize
     }
 }
 
-/// The place of the table that the column with a name refers to.
+/// Returns the place of the table that the column with a name refers to.
 pub fn parent_via(tables: &[Table], columns: &[Column], via: &Text) -> usize
     ensures place { result ≡ parent_via tables.now columns.now via.now }
     ensures within { result ≤ length tables.now }
@@ -63,7 +63,7 @@ pub fn parent_via(tables: &[Table], columns: &[Column], via: &Text) -> usize
     }
 }
 
-/// The columns of the table at a place; none past the last one.
+/// Returns the columns of the table at a place. Past the last table there are none.
 pub fn columns_of(tables: &[Table], place: usize) -> &[Column]
     ensures { result.now ≡ columns_of tables.now place }
 {
@@ -73,7 +73,7 @@ pub fn columns_of(tables: &[Table], place: usize) -> &[Column]
     }
 }
 
-/// The keys of a table, which its first column holds.
+/// Returns the keys of a table, by its first column.
 pub(crate) fn keys_of(columns: &[Column]) -> Keys
     ensures { result ≡ keys_of columns.now }
 {
@@ -86,7 +86,7 @@ pub(crate) fn keys_of(columns: &[Column]) -> Keys
     }
 }
 
-/// The keys that a column of some kind holds.
+/// Returns the keys that a column of a kind holds.
 fn keys_of_kind(kind: &Kind) -> Keys
     ensures { result ≡ keys_of_kind kind.now }
 {

@@ -29,7 +29,7 @@ use schema_model::{Schema, Sequence, Table};
 use std::alloc::Global;
 use std::marker::Model;
 
-/// An accepted schema with its dictionaries, and what doesn't change from row to row. A contract sees the two.
+/// An accepted schema with its dictionaries, and what doesn't change from row to row. A contract sees the schema and the dictionaries.
 ///
 /// A table is named by its place in the schema, counted from 0. Lives are in units, sizes in bytes.
 pub struct Plan {
@@ -71,7 +71,7 @@ impl Model for Plan {
 }
 
 impl Plan {
-    /// The plan of a schema that keeps all rules with its dictionaries, and so is within their limits, by the facts of its tables.
+    /// Makes the plan of a schema that keeps all rules with its dictionaries, from the facts of its tables. Refuses if memory is wanting.
     pub fn of_accepted(
         alloc: Global,
         schema: Schema,
@@ -97,7 +97,7 @@ impl Plan {
         })
     }
 
-    /// The schema.
+    /// Returns the schema.
     pub fn schema(&self) -> &Schema
         ensures value { result.now ≡ self.now.schema }
         ensures accepted { IsAccepted self.now }
@@ -106,14 +106,14 @@ impl Plan {
         &self.schema
     }
 
-    /// The number that all draws begin from.
+    /// Returns the number from which everything random is drawn.
     pub fn seed(&self) -> u64
         ensures { result ≡ (layout_of self.now).seed }
     {
         self.schema.seed as u64
     }
 
-    /// The byte between two fields.
+    /// Returns the byte between two fields.
     #[inline]
     pub fn delimiter(&self) -> u8
         ensures { result ≡ (layout_of self.now).delimiter }
@@ -121,21 +121,21 @@ impl Plan {
         delimiter_byte(self.schema.delimiter)
     }
 
-    /// The last unit.
+    /// Returns the last unit.
     pub fn units(&self) -> u64
         ensures { result ≡ (layout_of self.now).units }
     {
         self.schema.units as u64
     }
 
-    /// The number of tables.
+    /// Returns the number of tables.
     pub fn tables(&self) -> u32
         ensures { result ≡ length self.now.schema.tables }
     {
         self.schema.tables.len() as u32
     }
 
-    /// The table with a name; None exactly where no table has it.
+    /// Returns the table with a name, or None exactly if no table has it.
     pub fn table_named(&self, name: &str) -> Option<u32>
         ensures { result ≡ table_named self.now.schema name.now }
     {
@@ -145,14 +145,14 @@ impl Plan {
         }
     }
 
-    /// The words of the first dictionary with a name that was handed in; None exactly where none has it.
+    /// Returns the first dictionary with a name, or None exactly if no dictionary has it.
     pub fn dictionary(&self, name: &str) -> Option<&Dictionary>
         ensures { option_copied result ≡ dictionary_named self.now.dictionaries name.now }
     {
         self.dictionaries.named(name)
     }
 
-    /// The table at a place, as the schema has it.
+    /// Returns the table at a place, as the schema has it.
     pub fn table(&self, table: u32) -> &Table
         requires { table < length self.now.schema.tables }
         ensures found { slice_get self.now.schema.tables table ≡ Some result.now }
@@ -162,7 +162,7 @@ impl Plan {
         self.schema.tables.get(table as usize)
     }
 
-    /// The columns of a table, ready for rows.
+    /// Returns the columns of a table, ready for rows.
     #[inline]
     pub fn columns(&self, table: u32) -> &[ReadyColumn]
         requires { table < length self.now.schema.tables }
@@ -173,7 +173,7 @@ impl Plan {
         self.ready[table as usize].as_slice()
     }
 
-    /// The cohorts of a table, the rows that are born at each unit.
+    /// Returns the cohorts of a table. A cohort is the rows that are born at one unit.
     #[inline]
     pub fn cohorts(&self, table: u32) -> &Cohorts
         requires { table < length self.now.schema.tables }
@@ -182,7 +182,7 @@ impl Plan {
         &self.cohorts[table as usize]
     }
 
-    /// The keys of a table.
+    /// Returns the keys of a table.
     pub fn keys(&self, table: u32) -> Keys
         requires { table < length self.now.schema.tables }
         ensures { result ≡ (table_at (layout_of self.now).tables table).key }
@@ -190,7 +190,7 @@ impl Plan {
         self.facts_of(table).keys
     }
 
-    /// For how many units a row of a table lives, by a life of the table's own; None exactly where it has none.
+    /// Returns a table's own life: how many units a row lives. Returns None exactly if the table has no life of its own.
     pub fn life(&self, table: u32) -> Option<Span>
         requires { table < length self.now.schema.tables }
         ensures life { result ≡ (table_at (layout_of self.now).tables table).life }
@@ -202,7 +202,7 @@ impl Plan {
         }
     }
 
-    /// The number of units from one change of a row of a table to its next; None exactly where its rows never change.
+    /// Returns the number of units from one change of a row to its next, or None exactly if the table's rows never change.
     pub fn update(&self, table: u32) -> Option<u64>
         requires { table < length self.now.schema.tables }
         ensures update { result ≡ (table_at (layout_of self.now).tables table).update }
@@ -214,7 +214,7 @@ impl Plan {
         }
     }
 
-    /// For how many units the rows of a table live at least; None exactly where that is unbounded.
+    /// Returns how many units the rows of a table live at least, or None exactly if that is unbounded.
     pub fn sure_life(&self, table: u32) -> Option<u64>
         requires { table < length self.now.schema.tables }
         ensures { result ≡ sure_life (layout_of self.now).tables table }
@@ -222,7 +222,7 @@ impl Plan {
         self.facts_of(table).lineage.sure_life
     }
 
-    /// For how many units the rows of a table live at most; None exactly where that is unbounded.
+    /// Returns how many units the rows of a table live at most, or None exactly if that is unbounded.
     pub fn longest_life(&self, table: u32) -> Option<u64>
         requires { table < length self.now.schema.tables }
         ensures { result ≡ longest_life (layout_of self.now).tables table }
@@ -230,8 +230,8 @@ impl Plan {
         self.facts_of(table).lineage.longest_life
     }
 
-    /// The cost of a row of a table. It bounds the permutations that the report of a row asks: one to find the row by its key,
-    /// and those of its death and of its line.
+    /// Returns the cost of a row of a table. It bounds the permutations that the row's report asks: one that finds the row by its key, and
+    /// those of its death and of its line.
     pub fn cost(&self, table: u32) -> u64
         requires { table < length self.now.schema.tables }
         ensures { result ≡ cost (layout_of self.now) table }
@@ -239,7 +239,7 @@ impl Plan {
         self.facts_of(table).cost
     }
 
-    /// The greatest length of a line of a table, in bytes, with its line feed.
+    /// Returns the greatest length of a line of a table with its line feed, in bytes.
     pub fn max_line(&self, table: u32) -> u64
         requires { table < length self.now.schema.tables }
         ensures size { result ≡ max_line (layout_of self.now) table }
@@ -248,7 +248,7 @@ impl Plan {
         self.facts_of(table).max_line
     }
 
-    /// The greatest length of a line of any table, in bytes.
+    /// Returns the greatest length of a line of any table, in bytes.
     pub fn reach(&self) -> u64
         ensures { result ≡ reach (layout_of self.now) }
     {
@@ -264,7 +264,7 @@ impl Plan {
     }
 }
 
-/// The place of the first of some tables that has a name.
+/// Returns the place of the first table with a name, or None if there is none.
 fn place_of(tables: &[Table], name: &str) -> Option<usize>
     ensures { result ≡ position (λ table. same_text table.name name.now) tables.now }
 {

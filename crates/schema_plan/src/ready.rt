@@ -1,4 +1,4 @@
-//! What a plan keeps of the columns, so that nothing that stays the same is worked out for a row.
+//! Columns as a plan keeps them: all is worked out that doesn't change from row to row.
 
 use crate::ready_words::ReadyWords;
 use fixed_divisors::FixedDivisor;
@@ -10,9 +10,9 @@ use weight_tables::Weights;
 pub struct ReadyColumn {
     /// What its fields hold.
     pub kind: ReadyKind,
-    /// Whether they are drawn anew where a row changes.
+    /// Whether its fields are drawn anew when a row changes.
     pub changes: bool,
-    /// How many of a thousand fields are null.
+    /// How many fields of a thousand are null.
     pub null: u64,
 }
 
@@ -27,28 +27,28 @@ impl Drop for ReadyColumn {
     }
 }
 
-/// What the fields of a column hold, ready for rows. Columns are named by their places in the table, counted from 0.
+/// What the fields of a column hold, ready for rows. A column is named by its place in its table, counted from 0.
 pub enum ReadyKind {
     /// The key of the row.
     Key,
-    /// The row's unit of birth.
+    /// The unit of the row's birth.
     Born,
-    /// The unit in which the row last changed.
+    /// The unit of the row's last change, or of its birth.
     Changed,
-    /// A value that is drawn for the field alone.
+    /// A value that is drawn for the field only.
     Drawn(ReadyLeaf),
     /// The parts, one after the other.
     Template {
         parts: Sequence<ReadyPart>,
     },
-    /// The branch whose number is that of the entry that the pick column at the place `on` selected.
+    /// A branch. The pick column at place `on` selects it: entry i of that column selects branch i.
     Case {
         on: u64,
         branches: Sequence<ReadyLeaf>,
     },
     /// The key of the parent.
     Reference(ReadyReference),
-    /// What the parent holds that the row has by one of its references.
+    /// A field of the parent that the row has by one of its references.
     Lookup(ReadyLookup),
 }
 
@@ -64,20 +64,20 @@ impl Drop for ReadyKind {
     }
 }
 
-/// By what a row's parent is chosen, ready for rows.
+/// How a row's parent is chosen, ready for rows.
 #[derive(Debug)]
 pub struct ReadyReference {
     /// The place of the parent's table in the schema, counted from 0.
     pub parent: u32,
-    /// By how many units a parent may be older than its child; None where by any.
+    /// How many units older than its child a parent can be. None sets no bound.
     pub window: Option<u64>,
     /// The weights of the spread.
     pub spread: Weights,
-    /// How many they are.
+    /// The number of weights.
     pub groups: u64,
-    /// Their sum.
+    /// The sum of the weights.
     pub total: FixedDivisor,
-    /// Whether the reference becomes null where the parent is deleted; else its row is deleted too.
+    /// Whether the reference becomes null when the parent is deleted. Otherwise its row is deleted too.
     pub nulls: bool,
 }
 
@@ -95,14 +95,14 @@ impl Drop for ReadyReference {
     }
 }
 
-/// Where a lookup finds what it shows.
+/// Where a lookup finds its field.
 #[derive(Clone, Copy, Debug, PartialEq, Eq)]
 pub struct ReadyLookup {
-    /// The place of the reference's column in the table.
+    /// The place of the reference in the lookup's table, counted from 0.
     pub via: u64,
     /// The place of the parent's table in the schema, counted from 0.
     pub parent: u32,
-    /// The place of the column in the parent's table.
+    /// The place of the shown column in the parent's table, counted from 0.
     pub column: u64,
 }
 

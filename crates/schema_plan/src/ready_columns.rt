@@ -24,7 +24,7 @@ use schema_model::{Column, Kind, Leaf, OnDelete, Schema, Sequence, Table, Text, 
 use std::alloc::Global;
 use weight_tables::Weights;
 
-/// The columns of each table of a schema within its limits, in order.
+/// Makes ready the columns of each table of a schema within its limits, in order. Refuses if memory is wanting.
 pub(crate) fn ready_tables(
     alloc: Global,
     schema: &Schema,
@@ -44,7 +44,7 @@ pub(crate) fn ready_tables(
     Ok(ready)
 }
 
-/// The columns of one of some tables, in order. What is made ready of them is within its limits.
+/// Makes ready the columns of a table, in order. Their kinds are within the limits.
 fn ready_columns(
     alloc: Global,
     lexicon: &Lexicon<'_>,
@@ -63,7 +63,7 @@ fn ready_columns(
     Ok(ready)
 }
 
-/// One of some columns. What is made ready of it is within its limits.
+/// Makes ready one column of a table. Its kind is within the limits.
 fn ready_column(
     alloc: Global,
     lexicon: &Lexicon<'_>,
@@ -83,7 +83,7 @@ fn ready_column(
     })
 }
 
-/// What one of some columns holds. What is made ready of it is within its limits.
+/// Makes ready the kind of a column of a table. The kind is within the limits.
 fn ready_kind(
     alloc: Global,
     lexicon: &Lexicon<'_>,
@@ -125,7 +125,7 @@ fn ready_kind(
     }
 }
 
-/// A reference to the table at a place.
+/// Makes ready a reference to the table at a place.
 fn ready_reference(
     alloc: Global,
     parent: u32,
@@ -148,7 +148,7 @@ fn ready_reference(
     })
 }
 
-/// A lookup of one of some columns: by the reference with a name, of the parent's column with another.
+/// Makes ready a lookup of a table. It names one of the table's references, and a column of the parent's table.
 fn ready_lookup(tables: &[Table], columns: &[Column], via: &Text, column: &Text) -> ReadyLookup
     requires { length tables.now ≤ 64 }
     ensures { (delimiter : ℕ) (dictionaries : List Dictionary) → ReadyKind.Lookup result ≡ ready_kind delimiter (kind_layout dictionaries tables.now columns.now (Kind.Lookup via.now column.now)) }
@@ -161,7 +161,7 @@ fn ready_lookup(tables: &[Table], columns: &[Column], via: &Text, column: &Text)
     }
 }
 
-/// By how many units a parent may be older; None where by any.
+/// Returns how many units older than its child a parent can be. None sets no bound.
 fn units_of(window: Window) -> Option<u64>
     ensures { result ≡ window_layout window }
 {
@@ -171,7 +171,7 @@ fn units_of(window: Window) -> Option<u64>
     }
 }
 
-/// The branches of a case, in order, each within its limits.
+/// Makes ready the branches of a case, in order. Each is within its limits.
 fn ready_branches(
     alloc: Global,
     lexicon: &Lexicon<'_>,

@@ -20,7 +20,7 @@ use schema_model::{Leaf, Text};
 use std::alloc::Global;
 use weight_tables::Weights;
 
-/// A drawn value within its limits, ready for rows.
+/// Makes ready a drawn value within its limits. Refuses if memory is wanting.
 pub(crate) fn ready_leaf(
     alloc: Global,
     lexicon: &Lexicon<'_>,
@@ -49,7 +49,7 @@ pub(crate) fn ready_leaf(
     }
 }
 
-/// How many numbers stand from `lo` to `hi` in steps, `lo` being the first.
+/// Returns how many numbers there are from `lo` to `hi` in steps. The first is `lo`.
 fn choices(lo: i64, hi: i64, step: u64) -> FixedDivisor
     requires range { IsRange lo hi }
     requires step { 1 ≤ step }
@@ -118,7 +118,7 @@ fn ready_pick(
     })
 }
 
-/// The entries as they are written.
+/// Returns the entries as they are written.
 fn written_entries(alloc: Global, delimiter: u8, entries: &[Text]) -> Result<WrittenTexts, Memory>
     ensures { IfOk result (λ written. written ≡ map (escaped_text delimiter) entries.now) }
 {
@@ -129,7 +129,7 @@ fn written_entries(alloc: Global, delimiter: u8, entries: &[Text]) -> Result<Wri
     Ok(written)
 }
 
-/// The counts that some numbers stand for.
+/// Returns numbers of a schema as counts.
 pub(crate) fn counts(alloc: Global, numbers: &[i64]) -> Result<Vec<u64>, Memory>
     ensures { IfOk result (λ counts. counts.items ≡ map count numbers.now) }
 {
@@ -183,7 +183,7 @@ fn ready_chars(
     })
 }
 
-/// The characters as they are written.
+/// Returns the characters of an alphabet as they are written.
 fn written_characters(alloc: Global, delimiter: u8, alphabet: &str) -> Result<WrittenTexts, Memory>
     ensures { IfOk result (λ written. written ≡ map (λ c. escaped_text delimiter (encode_utf8 c)) (chars alphabet.now)) }
 {

@@ -12,7 +12,7 @@ use row_text::WrittenTexts;
 use schema_model::{Column, Part, Sequence};
 use std::alloc::Global;
 
-/// The parts of a template of a table with these columns, in order.
+/// Makes ready the parts of a template, in order. The columns are those of its table.
 pub(crate) fn ready_parts(
     alloc: Global,
     delimiter: u8,
@@ -46,7 +46,7 @@ fn ready_part(
     }
 }
 
-/// A text as it is written.
+/// Returns a text as it is written.
 fn written_text(alloc: Global, delimiter: u8, text: &[u8]) -> Result<Sequence<u8>, Memory>
     ensures { IfOk result (λ written. written ≡ escaped_text delimiter text.now) }
 {
@@ -55,7 +55,7 @@ fn written_text(alloc: Global, delimiter: u8, text: &[u8]) -> Result<Sequence<u8
     kept_bytes(alloc, texts.get(0))
 }
 
-/// These bytes.
+/// Copies bytes into a sequence.
 fn kept_bytes(alloc: Global, bytes: &[u8]) -> Result<Sequence<u8>, Memory>
     ensures { IfOk result (λ kept. kept ≡ bytes.now) }
 {

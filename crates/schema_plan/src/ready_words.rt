@@ -15,8 +15,8 @@ use std::alloc::Global;
 use std::marker::Model;
 use std::sync::Arc;
 
-/// A word list, ready for rows. A contract sees its entries as they are written, and their weights. All columns that draw from
-/// a dictionary share its entries.
+/// A word list, ready for rows. A contract sees the entries as they are written, and their weights. All columns that draw from
+/// one dictionary share its entries.
 pub struct ReadyWords {
     entries: Arc<WrittenTexts, Global>,
     words: Arc<Dictionary, Global>,
@@ -53,7 +53,7 @@ impl ReadyWords {
     ghost use Rattle.weight_tables.specs.Weights.{selected};
     ghost use Rattle.schema_plan.specs.ReadyWords.{written_words};
 
-    /// A named dictionary, its entries as they are written with a delimiter.
+    /// Makes ready a named dictionary. Its entries are kept as they are written with a delimiter.
     fn new(alloc: Global, delimiter: u8, named: &NamedWords) -> Result<ReadyWords, Memory>
         ensures { IfOk result (λ ready. ready ≡ written_words delimiter named.now.words) }
     {
@@ -67,7 +67,7 @@ impl ReadyWords {
         })
     }
 
-    /// The same word list once more.
+    /// Returns another handle to this word list. Refuses if memory is wanting.
     fn shared(&self) -> Result<ReadyWords, Memory>
         ensures { IfOk result (λ ready. ready ≡ self.now) }
     {
@@ -79,14 +79,14 @@ impl ReadyWords {
         })
     }
 
-    /// The number of entries.
+    /// Returns the number of entries.
     pub fn len(&self) -> usize
         ensures { result ≡ length self.now.entries }
     {
         self.entries.len()
     }
 
-    /// The entry at index `i`, which counts from 0, as it is written.
+    /// Returns the entry at place `i`, counted from 0, as it is written.
     #[inline]
     pub fn entry(&self, i: usize) -> &[u8]
         requires { i < length self.now.entries }
@@ -95,8 +95,8 @@ impl ReadyWords {
         self.entries.get(i)
     }
 
-    /// The index of the entry that a draw chooses: each takes as many of the draws, modulo the sum of the weights, as its weight
-    /// says.
+    /// Returns the place of the entry that a draw chooses. The draw is taken modulo the sum of the weights, and each entry has as
+    /// many of the remainders as its weight says.
     #[inline]
     pub fn choose(&self, draw: u64) -> usize
         ensures exact { result ≡ selected self.now.weights (draw % sum self.now.weights) }
@@ -106,7 +106,7 @@ impl ReadyWords {
     }
 }
 
-/// The entries of a word list as they are written.
+/// Returns the entries of a word list as they are written.
 fn written_entries(alloc: Global, delimiter: u8, words: &Dictionary) -> Result<WrittenTexts, Memory>
     ensures { IfOk result (λ written. written ≡ map (escaped_text delimiter) words.now.entries) }
 {
@@ -117,7 +117,7 @@ fn written_entries(alloc: Global, delimiter: u8, words: &Dictionary) -> Result<W
     Ok(written)
 }
 
-/// The dictionaries of a schema and its delimiter, with the entries as they are written.
+/// The dictionaries and the delimiter of a schema, with the entries as they are written.
 #[derive(Drop)]
 pub(crate) struct Lexicon<'a> {
     delimiter: u8,
@@ -143,7 +143,7 @@ impl<'a> Lexicon<'a> {
     ghost use Rattle.schema_plan.specs.Dictionaries.{words_named};
     ghost use Rattle.schema_plan.specs.ReadyWords.{written_words};
 
-    /// All dictionaries, with a delimiter.
+    /// Makes ready all dictionaries with a delimiter. Refuses if memory is wanting.
     pub(crate) fn new(
         alloc: Global,
         delimiter: u8,
@@ -159,14 +159,14 @@ impl<'a> Lexicon<'a> {
         })
     }
 
-    /// The byte between two fields.
+    /// Returns the byte between two fields.
     pub(crate) fn delimiter(&self) -> u8
         ensures { result ≡ self.now.delimiter }
     {
         self.delimiter
     }
 
-    /// The words of the first dictionary with a name, which there is.
+    /// Returns the word list of the first dictionary with a name. There must be one.
     pub(crate) fn words(&self, name: &Text) -> Result<ReadyWords, Memory>
         requires { IsWordList (words_named self.now.dictionaries name.now) }
         ensures { IfOk result (λ ready. ready ≡ written_words self.now.delimiter (words_named self.now.dictionaries name.now)) }
@@ -174,7 +174,7 @@ impl<'a> Lexicon<'a> {
         self.ready_words(name).shared()
     }
 
-    /// The same as they are kept.
+    /// Borrows the word list of the first dictionary with a name. There must be one.
     fn ready_words(&self, name: &Text) -> &ReadyWords
         requires { IsWordList (words_named self.now.dictionaries name.now) }
         ensures { result.now ≡ written_words self.now.delimiter (words_named self.now.dictionaries name.now) }
@@ -184,7 +184,7 @@ impl<'a> Lexicon<'a> {
     }
 }
 
-/// Each of some dictionaries, in order.
+/// Makes ready each dictionary, in order.
 fn ready_words(
     alloc: Global,
     delimiter: u8,

@@ -11,7 +11,7 @@ pub const MAX_ITEMS: usize = 64;
 pub enum Rule {
     /// V13
     Dictionaries,
-    /// V13 as far as a schema alone tells it.
+    /// The part of V13 that a schema without its dictionaries tells.
     CitedNames,
     /// V1
     SeedAndUnits,
@@ -64,7 +64,7 @@ pub enum Rule {
 }
 
 impl Rule {
-    /// The number in messages, 1 for V1.
+    /// Returns the rule's number in messages: 1 for V1.
     pub fn number(self) -> u32
         ensures { result ≡ rule_number self }
     {

@@ -11,13 +11,13 @@ use std::alloc::Global;
 use std::marker::Model;
 use std::sync::Arc;
 
-/// A word list with its name, and the sizes of its greatest entry as it is written.
+/// A word list with its name, and the size of its greatest entry as it is written.
 pub(crate) struct NamedWords {
     name: Text,
     words: Arc<Dictionary, Global>,
-    /// Between tabs, in bytes.
+    /// The size of the greatest entry in bytes, if tabs delimit fields.
     between_tabs: u64,
-    /// Between bars, in bytes.
+    /// The size of the greatest entry in bytes, if bars delimit fields.
     between_bars: u64,
 }
 
@@ -51,7 +51,7 @@ impl NamedWords {
     ghost use Rattle.std.specs.Prelude.{◌≡◌, IfOk};
     ghost use Rattle.schema_plan.specs.FieldBounds.{entry_size};
 
-    /// A word list with this name.
+    /// Gives a word list this name. Refuses if memory is wanting.
     fn new(alloc: Global, name: &str, words: Dictionary) -> Result<NamedWords, Memory>
         ensures { IfOk result (λ named. named ≡ record { name = name.now; words = words }) }
     {
@@ -67,21 +67,21 @@ impl NamedWords {
         })
     }
 
-    /// The word list.
+    /// Returns the word list.
     pub(crate) fn words(&self) -> &Dictionary
         ensures { result.now ≡ self.now.words }
     {
         &self.words
     }
 
-    /// The same word list once more.
+    /// Returns another handle to the word list. Refuses if memory is wanting.
     pub(crate) fn shared(&self) -> Result<Arc<Dictionary, Global>, Memory>
         ensures { IfOk result (λ words. words.value ≡ self.now.words) }
     {
         Ok(Arc::try_clone(&self.words)?)
     }
 
-    /// The size of the greatest entry as it is written, in bytes.
+    /// Returns the size of the greatest entry as it is written, in bytes.
     fn entry_size(&self, delimiter: u8) -> u64
         ensures { result ≡ entry_size delimiter self.now.words }
     {
@@ -93,7 +93,7 @@ impl NamedWords {
     }
 }
 
-/// The size of the greatest entry as it is written, in bytes.
+/// Returns the size of the greatest entry of a word list as it is written, in bytes.
 fn greatest_entry(delimiter: u8, words: &Dictionary) -> u64
     ensures { result ≡ entry_size delimiter words.now }
 {
@@ -104,7 +104,7 @@ fn greatest_entry(delimiter: u8, words: &Dictionary) -> u64
     most
 }
 
-/// Dictionaries in order. A contract sees the list of their names with their words.
+/// Dictionaries in order. A contract sees a list of names with word lists.
 pub struct Dictionaries {
     alloc: Global,
     items: Vec<NamedWords>,
@@ -136,7 +136,7 @@ impl Dictionaries {
     ghost use Rattle.schema_plan.specs.FieldBounds.{entry_size};
     ghost use Rattle.schema_plan.specs.Names.{same_text};
 
-    /// No dictionary, which takes no memory.
+    /// Returns no dictionaries. It takes no memory.
     pub fn new(alloc: Global) -> Dictionaries
         ensures { result ≡ [] }
     {
@@ -146,8 +146,7 @@ impl Dictionaries {
         }
     }
 
-    /// Puts a dictionary with its name behind the others. At `Memory` the others stay as they were, and the dictionary is
-    /// dropped.
+    /// Appends a dictionary with its name. If memory is wanting, the others stay as they were and the dictionary is dropped.
     pub fn push(&mut self, name: &str, dictionary: Dictionary) -> Result<(), Memory>
         ensures appended { OnOk result (self.new ≡ self.old ++ record { name = name.now; words = dictionary } ∷ []) }
         ensures unchanged { OnErr result (self.new ≡ self.old) }
@@ -158,7 +157,7 @@ impl Dictionaries {
         Ok(())
     }
 
-    /// The number of dictionaries.
+    /// Returns the number of dictionaries.
     pub fn len(&self) -> usize
         ensures count { result ≡ length self.now }
         ensures lists { AreWordLists self.now }
@@ -166,14 +165,14 @@ impl Dictionaries {
         self.items.len()
     }
 
-    /// Whether there is no dictionary.
+    /// Whether there are no dictionaries.
     pub fn is_empty(&self) -> bool
         ensures { result ≡ (length self.now == 0) }
     {
         self.items.is_empty()
     }
 
-    /// The words of the first dictionary with a name; None exactly where none has it.
+    /// Returns the first word list with a name, or None exactly if none has it.
     pub fn named(&self, name: &str) -> Option<&Dictionary>
         ensures { option_copied result ≡ dictionary_named self.now name.now }
     {
@@ -183,28 +182,28 @@ impl Dictionaries {
         }
     }
 
-    /// Whether one has a name.
+    /// Whether a dictionary has this name.
     pub fn has(&self, name: &str) -> bool
         ensures { result ≡ is_some (dictionary_named self.now name.now) }
     {
         self.named(name).is_some()
     }
 
-    /// The first dictionary with a name.
+    /// Returns the first dictionary with a name, or None if there is none.
     fn find(&self, name: &str) -> Option<&NamedWords>
         ensures { option_copied result ≡ find (λ named. same_text named.name name.now) self.now }
     {
         self.items.iter().find(|named| named.name.as_str() == name)
     }
 
-    /// The place of the first dictionary with a name, counted from 0; that past the last one where none has it.
+    /// Returns the place of the first dictionary with a name, counted from 0. If none has it, returns the place past the last one.
     pub(crate) fn place_of(&self, name: &str) -> usize
         ensures { result ≡ position_or_len (λ named. same_text named.name name.now) self.now }
     {
         self.position(name).unwrap_or(self.len())
     }
 
-    /// The place of the first dictionary with a name.
+    /// Returns the place of the first dictionary with a name, or None if there is none.
     fn position(&self, name: &str) -> Option<usize>
         ensures { result ≡ position (λ named. same_text named.name name.now) self.now }
     {
@@ -213,7 +212,7 @@ impl Dictionaries {
             .position(|named| named.name.as_str() == name)
     }
 
-    /// The size of the greatest entry of a named dictionary as it is written, in bytes; 0 where none has the name.
+    /// Returns the size of the greatest entry of a named dictionary as it is written, in bytes. It is 0 if none has the name.
     pub(crate) fn entry_size(&self, delimiter: u8, name: &str) -> u64
         ensures { result ≡ entry_size delimiter (words_named self.now name.now) }
     {
@@ -223,7 +222,7 @@ impl Dictionaries {
         }
     }
 
-    /// The dictionaries, in order.
+    /// Returns the dictionaries, in order.
     pub(crate) fn as_slice(&self) -> &[NamedWords]
         ensures { result.now ≡ self.now }
     {

@@ -1,4 +1,4 @@
-//! The kinds of a column, by what stands under their keys.
+//! The kind of a column, from the values under its keys.
 
 ghost use Rattle.std.specs.Prelude.{◌≡◌, [], ◌∷◌, map, pos, IfOk, option_map};
 ghost use Rattle.toml.specs.Data.{as_table};
@@ -28,14 +28,14 @@ impl Element for Leaf {
     }
 }
 
-/// The branches of a case, in order.
+/// Reads the branches of a case, in order.
 fn read_branches(alloc: Global, members: &Table) -> Result<Leaves, Memory>
     ensures { IfOk result (λ branches. branches ≡ map branch (tables SchemaKey.Branches (table_view members.now))) }
 {
     list_at(alloc, members, SchemaKey::Branches)
 }
 
-/// The one weight 1.
+/// Returns the spread of a reference that states none: the one weight 1.
 fn even_spread(alloc: Global) -> Result<Longs, Memory>
     ensures { IfOk result (λ spread. spread ≡ pos 1 ∷ []) }
 {
@@ -76,7 +76,7 @@ fn read_case(alloc: Global, members: &Table) -> Result<Kind, Memory>
     Ok(Kind::Case { on, branches })
 }
 
-/// The kind of this name that the keys give.
+/// Reads the kind of this name from the keys of a column.
 pub fn read_kind(alloc: Global, members: &Table, kind: KindName) -> Result<Kind, Memory>
     ensures { IfOk result (λ read. read ≡ kind_value kind (table_view members.now)) }
 {

@@ -5,7 +5,7 @@ ghost use Rattle.schema_read.specs.Dates.{is_digit, digit, is_date_text, day_num
 
 use jiff_core::civil::Date;
 
-/// The digit at an index.
+/// Returns the digit at a place as a number.
 fn digit_at(bytes: &[u8], i: usize) -> u8
     requires within { i < length bytes.now }
     requires is_digit { IsTrue (is_digit (slice_index bytes.now i)) }
@@ -46,8 +46,8 @@ fn number_of_day(year: u16, month: u8, day: u8) -> Option<i32>
     }
 }
 
-/// The day number of the date that a text names: ten bytes YYYY-MM-DD, of an existing day of a year from 0001 to
-/// 9999. Day 0 is 1970-01-01.
+/// Returns the day number of the date that a text names, or None for any other text. A date has ten bytes YYYY-MM-DD,
+/// and its day exists in a year from 0001 to 9999. Day 0 is 1970-01-01.
 pub fn day_of_text(text: &str) -> Option<i32>
     ensures { result ≡ day_named text.now }
 {

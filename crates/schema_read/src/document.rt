@@ -1,4 +1,4 @@
-//! The schema of a document, by what stands under its keys.
+//! The schema of a document, from the values under its keys.
 
 ghost use Rattle.std.specs.Prelude.{◌≡◌, map, IfOk, option_map};
 ghost use Rattle.toml.specs.Data.{as_table};
@@ -40,7 +40,7 @@ impl Element for Column {
     }
 }
 
-/// The columns of a table, in order.
+/// Reads the columns of a table, in order.
 fn read_columns(alloc: Global, members: &toml::Table) -> Result<Columns, Memory>
     ensures { IfOk result (λ columns. columns ≡ map column (tables SchemaKey.Column (table_view members.now))) }
 {
@@ -77,14 +77,14 @@ impl Element for Table {
     }
 }
 
-/// The tables of a schema, in order.
+/// Reads the tables of a schema, in order.
 fn read_tables(alloc: Global, members: &toml::Table) -> Result<Tables, Memory>
     ensures { IfOk result (λ read. read ≡ map table (tables SchemaKey.Table (table_view members.now))) }
 {
     list_at(alloc, members, SchemaKey::Table)
 }
 
-/// The schema that the keys of a document give. A key that is missing, or of another type, gives its default.
+/// Reads the schema from the keys of a document. A key that is missing or of another type gives its default.
 pub fn read_document(alloc: Global, members: &toml::Table) -> Result<Schema, Memory>
     ensures { IfOk result (λ read. read ≡ schema (table_view members.now)) }
 {

@@ -1,16 +1,16 @@
-//! What may be wrong with a schema's document.
+//! What can be wrong with a schema's document.
 
 use crate::schema_key::SchemaKey;
 
-/// A place of a schema's document. Tables, columns and branches count from 1; a part is 0 where the place isn't
-/// inside one.
+/// A place in a schema's document. Tables, columns and branches count from 1. A number is 0 if the place isn't inside
+/// such an item.
 #[derive(Clone, Copy, Debug, PartialEq, Eq)]
 pub struct Place {
-    /// The table, from 1.
+    /// The table, from 1; or 0.
     pub table: u64,
-    /// The column of the table, from 1.
+    /// The column of the table, from 1; or 0.
     pub column: u64,
-    /// The branch of the column, from 1.
+    /// The branch of the column, from 1; or 0.
     pub branch: u64,
 }
 
@@ -60,13 +60,13 @@ pub enum Expected {
     NoSuchKey,
 }
 
-/// A wrong key: where it is, which it is and what it wants.
+/// A wrong key, with its place and the type that it wants.
 #[derive(Clone, Copy, Debug, PartialEq, Eq)]
 pub struct Wrong {
-    /// Where it is.
+    /// The place at which the key is wrong.
     pub place: Place,
-    /// The key, `Other` where it has no place there.
+    /// The key. It is `Other` if a key has no place there.
     pub key: SchemaKey,
-    /// What it wants.
+    /// The type that the key wants.
     pub expected: Expected,
 }

@@ -89,7 +89,7 @@ fn is_part_list(value: &Value) -> bool
     }
 }
 
-/// Whether a value is of the type that is expected.
+/// Whether a value is of the expected type.
 pub fn fits(expected: Expected, value: &Value) -> bool
     ensures { result ≡ fits expected (view value.now) }
 {

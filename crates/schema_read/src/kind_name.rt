@@ -3,7 +3,7 @@
 ghost use Rattle.std.specs.Prelude.{◌≡◌};
 ghost use Rattle.schema_read.specs.Kinds.{kind_named, leaf_named};
 
-/// A kind of value that is drawn for a field alone; a branch of a case is of one of these.
+/// A leaf kind: a kind of value that is drawn for a field only. Each branch of a case is of a leaf kind.
 #[derive(Clone, Copy, Debug, PartialEq, Eq)]
 pub enum LeafName {
     /// `int`
@@ -45,7 +45,7 @@ pub enum KindName {
     Leaf(LeafName),
 }
 
-/// The leaf kind of this name.
+/// Returns the leaf kind of this name, or None if there is none.
 pub fn leaf_of_name(name: &str) -> Option<LeafName>
     ensures { result ≡ leaf_named name.now }
 {
@@ -62,7 +62,7 @@ pub fn leaf_of_name(name: &str) -> Option<LeafName>
     }
 }
 
-/// The kind of this name.
+/// Returns the kind of this name, or None if there is none.
 pub fn kind_of_name(name: &str) -> Option<KindName>
     ensures { result ≡ kind_named name.now }
 {

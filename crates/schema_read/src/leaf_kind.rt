@@ -1,4 +1,4 @@
-//! The leaf kinds, by what stands under their keys.
+//! The leaf kinds, from the values under their keys.
 
 ghost use Rattle.std.specs.Prelude.{◌≡◌, map, pos, IfOk};
 ghost use Rattle.toml.specs.View.{table_view};
@@ -13,7 +13,7 @@ use schema_model::{Leaf, Longs, Memory, Text, Texts};
 use std::alloc::Global;
 use toml::Table;
 
-/// One weight of 1 for each of so many entries.
+/// Returns a weight of 1 for each entry.
 fn equal_weights(alloc: Global, entries: &[Text]) -> Result<Longs, Memory>
     ensures { IfOk result (λ weights. weights ≡ map (λ _. pos 1) entries.now) }
 {
@@ -35,7 +35,7 @@ fn read_pick(alloc: Global, members: &Table) -> Result<Leaf, Memory>
     Ok(Leaf::Pick { entries, weights })
 }
 
-/// The leaf kind of this name that the keys give.
+/// Reads the leaf kind of this name from the keys of a column or a branch.
 pub fn read_leaf(alloc: Global, members: &Table, kind: LeafName) -> Result<Leaf, Memory>
     ensures { IfOk result (λ leaf. leaf ≡ leaf_given kind (table_view members.now)) }
 {

@@ -1,4 +1,4 @@
-//! The lists of a document as sequences.
+//! Lists of a document, read as sequences.
 
 ghost use Rattle.std.specs.Prelude.{◌≡◌, [], map, Option, IfOk};
 ghost use Rattle.toml.specs.Data.{Data, as_integer, as_str};
@@ -13,11 +13,11 @@ use schema_model::{Memory, Part, Phase, Phases, Sequence, Text};
 use std::alloc::Global;
 use toml::{Table, Value};
 
-/// What an element of an array is read as.
+/// A type as which the elements of an array are read.
 pub trait Element: Drop {
     ghost read: { Data → Option Self };
 
-    /// The element, where the value is one.
+    /// Reads the element from a value, or returns None if the value isn't one. Refuses if memory is wanting.
     fn of_value(alloc: Global, value: &Value) -> Result<Option<Self>, Memory>
     where
         Self: Sized,
@@ -81,7 +81,7 @@ fn sequence_of<T: Element>(alloc: Global, items: &[Value]) -> Result<Option<Sequ
     Ok(Some(sequence))
 }
 
-/// The elements of an array, where the value is one and each is of the type.
+/// Reads the elements of an array. Returns None if the value is no array or an element is of another type.
 fn sequence_of_value<T: Element>(
     alloc: Global,
     value: &Value,
@@ -94,7 +94,7 @@ fn sequence_of_value<T: Element>(
     }
 }
 
-/// The elements of the array under a key, where there is one and each is of the type.
+/// Reads the elements of the array under a key. Returns None if there is no array or an element is of another type.
 pub fn list_if_any<T: Element>(
     alloc: Global,
     table: &Table,
@@ -108,7 +108,7 @@ pub fn list_if_any<T: Element>(
     }
 }
 
-/// The same, and no element where there is no such array.
+/// Reads the elements of the array under a key. Returns the empty sequence where `list_if_any` returns None.
 pub fn list_at<T: Element>(
     alloc: Global,
     table: &Table,
@@ -122,7 +122,7 @@ pub fn list_at<T: Element>(
     }
 }
 
-/// The one phase of a rate that stays.
+/// Returns the one phase of a constant rate, from unit 1 on.
 pub fn one_phase_of(alloc: Global, rate: i64) -> Result<Phases, Memory>
     ensures { IfOk result (λ phases. phases ≡ one_phase rate) }
 {
@@ -131,7 +131,7 @@ pub fn one_phase_of(alloc: Global, rate: i64) -> Result<Phases, Memory>
     Ok(phases)
 }
 
-/// The phases of a whole number or of an array of pairs.
+/// Reads the phases of a whole number or of an array of pairs. Returns None for any other value.
 fn phases_of_value(alloc: Global, value: &Value) -> Result<Option<Phases>, Memory>
     ensures { IfOk result (λ found. found ≡ as_phases (view value.now)) }
 {
@@ -141,7 +141,7 @@ fn phases_of_value(alloc: Global, value: &Value) -> Result<Option<Phases>, Memor
     }
 }
 
-/// The phases under a key.
+/// Reads the phases under a key, or returns None if there are none.
 pub fn phases_if_any(alloc: Global, table: &Table, key: SchemaKey) -> Result<Option<Phases>, Memory>
     ensures { IfOk result (λ found. found ≡ value_under as_phases key (table_view table.now)) }
 {

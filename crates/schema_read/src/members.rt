@@ -13,14 +13,14 @@ use crate::schema_key::SchemaKey;
 use crate::wanted::Wanted;
 use toml::{Table, Value};
 
-/// What stands under a key.
+/// Returns the value under a key, or None if the key is missing.
 pub fn member(table: &Table, key: SchemaKey) -> Option<&Value>
     ensures { option_map (λ v. view v.now) result ≡ get_member (key_name key) (table_view table.now) }
 {
     table.get(key.name())
 }
 
-/// Whether a key is one of these.
+/// Whether a name is that of a common key or of a key of the table's own kind.
 fn is_known(name: &str, common: &[Wanted], own: &[Wanted]) -> bool
     ensures { result ≡ is_wanted (common.now ++ own.now) name.now }
 {
@@ -38,7 +38,7 @@ fn has_known_keys(table: &Table, common: &[Wanted], own: &[Wanted]) -> bool
         .all(|name| is_known(name.as_str(), common, own))
 }
 
-/// Whether a table has no keys beside these: the common ones, and those of its own kind.
+/// Whether a table has no further keys beside the common ones and those of its own kind.
 pub fn has_only(table: &Table, common: &[Wanted], own: &[Wanted]) -> bool
     ensures { result ≡ list_all (is_wanted (common.now ++ own.now)) (member_names (table_view table.now)) }
 {

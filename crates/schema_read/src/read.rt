@@ -1,4 +1,4 @@
-//! The schema that bytes stand for.
+//! The schema that bytes give.
 
 ghost use Rattle.std.specs.Prelude.{◌≡◌, ◌≢◌, Ok, Err, Some, None, IfOk, IfErr, IsOk, IsUtf8};
 ghost use Rattle.toml.specs.View.{table_view};
@@ -18,17 +18,17 @@ use std::alloc::Global;
 pub enum ReadSchemaFault {
     /// The bytes aren't a TOML document.
     Syntax,
-    /// The document has a wrong key, of which this is the first: it is missing, of another type than is expected, or
-    /// has no place there. Places go depth first, each with its known keys in order and then any further key.
+    /// The document has a wrong key, and this is the first. It is missing, is of another type than expected, or has no
+    /// place there. Places go depth first, each with its known keys in order and then any further key.
     Shape {
-        /// Where the key is.
+        /// The place at which the key is wrong.
         place: Place,
-        /// The key, `Other` where it has no place there.
+        /// The key. It is `Other` if a key has no place there.
         key: SchemaKey,
-        /// What the key wants.
+        /// The type that the key wants.
         expected: Expected,
     },
-    /// No memory was left to parse the bytes, so nothing tells whether they are a document.
+    /// No memory was left to parse the bytes, so it is unknown whether they are a document.
     ParseMemory,
     /// No memory was left for the schema. Each key of the document is right.
     Memory,
@@ -42,7 +42,7 @@ impl From<Memory> for ReadSchemaFault {
     }
 }
 
-/// The TOML document that the bytes are.
+/// Parses the bytes as a TOML document. Refuses bytes that aren't one. Refuses too if memory is wanting.
 fn parse(alloc: Global, bytes: &[u8]) -> Result<toml::Table, ReadSchemaFault>
     ensures read { IfOk result (λ t. document bytes.now ≡ Some (table_view t)) }
     ensures refused { IfErr result (λ fault. fault ≢ ReadSchemaFault.ParseMemory → (fault ≡ ReadSchemaFault.Syntax) × (document bytes.now ≡ None)) }
@@ -64,7 +64,7 @@ fn parse(alloc: Global, bytes: &[u8]) -> Result<toml::Table, ReadSchemaFault>
     }
 }
 
-/// The schema of a document whose keys are right, or its first wrong key.
+/// Reads the schema of a document, or refuses the document for its first wrong key. Refuses too if memory is wanting.
 fn schema_of_table(alloc: Global, table: &toml::Table) -> Result<Schema, ReadSchemaFault>
     ensures read { IfOk result (λ read. schema_of_document (Some (table_view table.now)) ≡ Ok read) }
     ensures refused { IfErr result (λ fault. fault ≢ ReadSchemaFault.Memory → schema_of_document (Some (table_view table.now)) ≡ Err fault) }
@@ -86,8 +86,8 @@ fn schema_of_table(alloc: Global, table: &toml::Table) -> Result<Schema, ReadSch
     }
 }
 
-/// The schema that the bytes stand for, with each default in place of a key that is missing. Which schemas are
-/// accepted is not tried here.
+/// Reads the schema from the bytes of its text. A key that is missing gives its default. Whether the schema is accepted
+/// isn't tried here.
 #[tactic(auto, unfolding(crate::specs::Schema::schema_of))]
 pub fn read_schema(alloc: Global, bytes: &[u8]) -> Result<Schema, ReadSchemaFault>
     ensures read { IfOk result (λ schema. schema_of bytes.now ≡ Ok schema) }

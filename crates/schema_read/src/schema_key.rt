@@ -3,7 +3,7 @@
 ghost use Rattle.std.specs.Prelude.{◌≡◌};
 ghost use Rattle.schema_read.specs.Keys.{key_name};
 
-/// A key of a schema's text, or any further one. Keys that are written alike are one, wherever they stand.
+/// A key of a schema's text, or any further key. Keys with one spelling are one key, wherever they stand.
 #[derive(Clone, Copy, Debug, PartialEq, Eq)]
 pub enum SchemaKey {
     /// `seed`
@@ -75,7 +75,7 @@ pub enum SchemaKey {
 }
 
 impl SchemaKey {
-    /// The key as it stands in a schema's text. `Other` has none, and gives the empty text.
+    /// Returns the key as a schema's text has it. `Other` gives the empty text.
     pub fn name(self) -> &'static str
         ensures { result.now ≡ key_name self }
     {

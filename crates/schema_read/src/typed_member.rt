@@ -1,4 +1,4 @@
-//! The values under the keys of a table. A key that is missing, or of another type, has none.
+//! The values under the keys of a table. A key that is missing, or whose value is of another type, has none.
 
 ghost use Rattle.std.specs.Prelude.{◌≡◌, IfOk};
 ghost use Rattle.toml.specs.Data.{as_bool, as_integer};
@@ -19,63 +19,63 @@ use schema_model::{Delimiter, Life, Memory, OnDelete, Text, Window};
 use std::alloc::Global;
 use toml::{Table, Value};
 
-/// The whole number under a key.
+/// Returns the whole number under a key.
 pub fn whole_if_any(table: &Table, key: SchemaKey) -> Option<i64>
     ensures { result ≡ value_under as_integer key (table_view table.now) }
 {
     member(table, key)?.as_integer()
 }
 
-/// The whole number under a key, and 0 where there is none.
+/// Returns the whole number under a key, or 0 if there is none.
 pub fn whole_at(table: &Table, key: SchemaKey) -> i64
     ensures { result ≡ whole key (table_view table.now) }
 {
     whole_if_any(table, key).unwrap_or(0)
 }
 
-/// The flag under a key.
+/// Returns the flag under a key.
 pub fn flag_if_any(table: &Table, key: SchemaKey) -> Option<bool>
     ensures { result ≡ value_under as_bool key (table_view table.now) }
 {
     member(table, key)?.as_bool()
 }
 
-/// The delimiter under a key.
+/// Returns the delimiter under a key.
 pub fn delimiter_if_any(table: &Table, key: SchemaKey) -> Option<Delimiter>
     ensures { result ≡ value_under as_delimiter key (table_view table.now) }
 {
     delimiter_of(member(table, key)?)
 }
 
-/// The two whole numbers under a key.
+/// Returns the life under a key: two whole numbers.
 pub fn life_if_any(table: &Table, key: SchemaKey) -> Option<Life>
     ensures { result ≡ value_under as_life key (table_view table.now) }
 {
     life_of_value(member(table, key)?)
 }
 
-/// The day number of the date under a key.
+/// Returns the day number of the date under a key.
 pub fn day_if_any(table: &Table, key: SchemaKey) -> Option<i32>
     ensures { result ≡ value_under as_day key (table_view table.now) }
 {
     day_of(member(table, key)?)
 }
 
-/// The window under a key.
+/// Returns the window under a key.
 pub fn window_if_any(table: &Table, key: SchemaKey) -> Option<Window>
     ensures { result ≡ value_under as_window key (table_view table.now) }
 {
     window_of(member(table, key)?)
 }
 
-/// What a deletion does, as it stands under a key.
+/// Returns what a deletion does, from the name under a key.
 pub fn deletion_if_any(table: &Table, key: SchemaKey) -> Option<OnDelete>
     ensures { result ≡ value_under as_deletion key (table_view table.now) }
 {
     deletion_of(member(table, key)?)
 }
 
-/// The kind of a column, and `born` where none is named.
+/// Returns the kind of a column, or `born` if none is named.
 pub fn kind_at(column: &Table) -> KindName
     ensures { result ≡ kind_of (table_view column.now) }
 {
@@ -85,7 +85,7 @@ pub fn kind_at(column: &Table) -> KindName
     }
 }
 
-/// The leaf kind of a branch, and `int` where none is named.
+/// Returns the leaf kind of a branch, or `int` if none is named.
 pub fn leaf_kind_at(branch: &Table) -> LeafName
     ensures { result ≡ leaf_of (table_view branch.now) }
 {
@@ -95,7 +95,7 @@ pub fn leaf_kind_at(branch: &Table) -> LeafName
     }
 }
 
-/// The text under a key, as a text of its own, and the empty text where there is none.
+/// Copies the text under a key, or returns the empty text if there is none. Refuses if memory is wanting.
 pub fn text_at(alloc: Global, table: &Table, key: SchemaKey) -> Result<Text, Memory>
     ensures { IfOk result (λ found. found ≡ text key (table_view table.now)) }
 {
@@ -108,7 +108,7 @@ pub fn text_at(alloc: Global, table: &Table, key: SchemaKey) -> Result<Text, Mem
     }
 }
 
-/// The tables of the list under a key, and none where there is no such list.
+/// Returns the tables of the list under a key, or none if there is no such list.
 pub fn tables_at(table: &Table, key: SchemaKey) -> &[Value]
     ensures { members_of_values result.now ≡ tables key (table_view table.now) }
 {

@@ -26,7 +26,7 @@ fn delimiter_of_name(name: &str) -> Option<Delimiter>
     }
 }
 
-/// The delimiter of the text `tab` or `bar`, and `None` for every other value.
+/// Returns the delimiter that the text `tab` or `bar` names, or None for any other value.
 pub fn delimiter_of(value: &Value) -> Option<Delimiter>
     ensures { result ≡ as_delimiter (view value.now) }
 {
@@ -36,7 +36,7 @@ pub fn delimiter_of(value: &Value) -> Option<Delimiter>
     }
 }
 
-/// The kind that a text names, and `None` for every other value.
+/// Returns the kind that a text names, or None for any other value.
 pub fn kind_of(value: &Value) -> Option<KindName>
     ensures { result ≡ as_kind (view value.now) }
 {
@@ -46,7 +46,7 @@ pub fn kind_of(value: &Value) -> Option<KindName>
     }
 }
 
-/// The leaf kind that a text names, and `None` for every other value.
+/// Returns the leaf kind that a text names, or None for any other value.
 pub fn leaf_kind_of(value: &Value) -> Option<LeafName>
     ensures { result ≡ as_leaf (view value.now) }
 {
@@ -56,7 +56,7 @@ pub fn leaf_kind_of(value: &Value) -> Option<LeafName>
     }
 }
 
-/// The day number of a date.
+/// Returns the day number of a date, or None for any other value.
 pub fn day_of(value: &Value) -> Option<i32>
     ensures { result ≡ as_day (view value.now) }
 {
@@ -75,7 +75,7 @@ fn window_of_name(name: &str) -> Option<Window>
     }
 }
 
-/// The window of a whole number or of the text `all`, and `None` for every other value.
+/// Returns the window of a whole number or of the text `all`, or None for any other value.
 pub fn window_of(value: &Value) -> Option<Window>
     ensures { result ≡ as_window (view value.now) }
 {
@@ -98,7 +98,7 @@ fn deletion_of_name(name: &str) -> Option<OnDelete>
     }
 }
 
-/// What a deletion does, of the text `cascade` or `null`, and `None` for every other value.
+/// Returns what a deletion does, from the text `cascade` or `null`, or None for any other value.
 pub fn deletion_of(value: &Value) -> Option<OnDelete>
     ensures { result ≡ as_deletion (view value.now) }
 {
@@ -108,7 +108,7 @@ pub fn deletion_of(value: &Value) -> Option<OnDelete>
     }
 }
 
-/// The name of the column that a table with the one key `column` cites.
+/// Returns the name of the column that a table cites, if `column` is its only key and is a text. Returns None otherwise.
 pub fn cited_name(members: &Table) -> Option<&str>
     ensures { option_copied result ≡ cited (table_view members.now) }
 {
@@ -119,7 +119,7 @@ pub fn cited_name(members: &Table) -> Option<&str>
     }
 }
 
-/// The elements of an array.
+/// Returns the elements of an array, or None for any other value.
 pub fn array_elements(value: &Value) -> Option<&[Value]>
     ensures { option_map (λ items. map view items.now) result ≡ option_map elements (as_array (view value.now)) }
 {
@@ -140,7 +140,7 @@ fn pair_of_items(items: &[Value]) -> Option<(i64, i64)>
     Some((first.as_integer()?, second.as_integer()?))
 }
 
-/// The two whole numbers of an array.
+/// Returns the two whole numbers of an array, or None for any other value.
 fn pair_of_value(value: &Value) -> Option<(i64, i64)>
     ensures { result ≡ as_pair (view value.now) }
 {
@@ -150,7 +150,7 @@ fn pair_of_value(value: &Value) -> Option<(i64, i64)>
     }
 }
 
-/// The life of two whole numbers.
+/// Returns the life of two whole numbers, or None for any other value.
 pub fn life_of_value(value: &Value) -> Option<Life>
     ensures { result ≡ as_life (view value.now) }
 {
@@ -160,7 +160,7 @@ pub fn life_of_value(value: &Value) -> Option<Life>
     }
 }
 
-/// The phase of two whole numbers.
+/// Returns the phase of two whole numbers, or None for any other value.
 pub fn phase_of_value(value: &Value) -> Option<Phase>
     ensures { result ≡ as_phase (view value.now) }
 {
@@ -176,7 +176,7 @@ fn are_tables(items: &[Value]) -> bool
     items.iter().all(|item| item.is_table())
 }
 
-/// The elements of an array that are all tables.
+/// Returns the elements of an array of tables, or None for any other value.
 pub fn table_elements(value: &Value) -> Option<&[Value]>
     ensures { option_map (λ items. members_of_values items.now) result ≡ as_list_of as_table (view value.now) }
 {

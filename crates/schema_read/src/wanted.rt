@@ -1,4 +1,4 @@
-//! The keys that each place of a document is to have.
+//! The keys that each place of a document must or can have.
 
 ghost use Rattle.std.specs.Prelude.{◌≡◌};
 ghost use Rattle.schema_read.specs.Shape.{leaf_keys, kind_keys};
@@ -7,19 +7,19 @@ use crate::fault::Expected;
 use crate::kind_name::{KindName, LeafName};
 use crate::schema_key::SchemaKey;
 
-/// A key of a place, with the type that it wants.
+/// A key that a place must or can have, with the type of its value.
 #[derive(Clone, Copy)]
 pub enum Wanted {
-    /// A key that may not be missing.
+    /// A key that must be there.
     Required(SchemaKey, Expected),
-    /// A key that may be missing.
+    /// A key that can be missing.
     Optional(SchemaKey, Expected),
 }
 
 impl Wanted {
     ghost use Rattle.schema_read.specs.Wanted.{wanted_key, expected_of, may_be_missing};
 
-    /// The key.
+    /// Returns the key.
     pub fn key(self) -> SchemaKey
         ensures { result ≡ wanted_key self }
     {
@@ -28,7 +28,7 @@ impl Wanted {
         }
     }
 
-    /// The type that it wants.
+    /// Returns the type that the key wants.
     pub fn expected(self) -> Expected
         ensures { result ≡ expected_of self }
     {
@@ -37,7 +37,7 @@ impl Wanted {
         }
     }
 
-    /// Whether the key may be missing.
+    /// Whether the key can be missing.
     pub fn may_be_missing(self) -> bool
         ensures { result ≡ may_be_missing self }
     {
@@ -122,7 +122,7 @@ const CHARS_KEYS: [Wanted; 3] = [
     Wanted::Required(SchemaKey::Hi, Expected::Whole),
 ];
 
-/// The keys that a column or a branch of this leaf kind has of its own.
+/// Returns the keys that belong to this leaf kind, in a column or a branch.
 pub fn keys_of_leaf(kind: LeafName) -> &'static [Wanted]
     ensures { result.now ≡ leaf_keys kind }
 {
@@ -162,7 +162,7 @@ const LOOKUP_KEYS: [Wanted; 2] = [
     Wanted::Required(SchemaKey::Column, Expected::TextValue),
 ];
 
-/// The keys that a column of this kind has of its own.
+/// Returns the keys that belong to this kind of column.
 pub fn keys_of_kind(kind: KindName) -> &'static [Wanted]
     ensures { result.now ≡ kind_keys kind }
 {

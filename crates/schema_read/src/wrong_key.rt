@@ -1,4 +1,4 @@
-//! The first wrong key of a document, which is found in no memory.
+//! The first wrong key of a document. The search takes no memory.
 
 ghost use Rattle.std.specs.Prelude.{◌≡◌, ◌++◌, find, not};
 ghost use Rattle.std.specs.Option.{option_copied};
@@ -18,7 +18,7 @@ use crate::wanted::{
 };
 use toml::{Table, Value};
 
-/// Whether a wanted key is right.
+/// Whether a table has a wanted key right: of the wanted type, or missing if it can be.
 fn is_right(members: &Table, wanted: Wanted) -> bool
     ensures { result ≡ is_right_in (table_view members.now) wanted }
 {
@@ -28,7 +28,7 @@ fn is_right(members: &Table, wanted: Wanted) -> bool
     }
 }
 
-/// The first that is wrong of the keys that a table is to have: the common ones, and those of its own kind.
+/// Returns the first wanted key that a table has wrong. The common keys come first, then those of its own kind.
 fn first_not_right<'a>(
     members: &Table,
     common: &'a [Wanted],
@@ -42,7 +42,7 @@ fn first_not_right<'a>(
         .find(|wanted| !is_right(members, **wanted))
 }
 
-/// The same, told at the table's place.
+/// Returns the first wanted key that a table has wrong, with the table's place.
 fn first_of(place: Place, members: &Table, common: &[Wanted], own: &[Wanted]) -> Option<Wrong>
     ensures { result ≡ first_of place (common.now ++ own.now) (table_view members.now) }
 {
@@ -56,7 +56,7 @@ fn first_of(place: Place, members: &Table, common: &[Wanted], own: &[Wanted]) ->
     }
 }
 
-/// A further key, where a table has one beside these.
+/// Reports a further key, if a table has one beside the common keys and those of its own kind.
 fn further_key(place: Place, members: &Table, common: &[Wanted], own: &[Wanted]) -> Option<Wrong>
     ensures { result ≡ further_key place (common.now ++ own.now) (table_view members.now) }
 {
@@ -71,7 +71,7 @@ fn further_key(place: Place, members: &Table, common: &[Wanted], own: &[Wanted])
     }
 }
 
-/// The first wrong key of a table that is to have these keys and no others.
+/// Returns the first wrong key of a table: of its wanted keys, and then any further key.
 fn first_wrong(place: Place, members: &Table, common: &[Wanted], own: &[Wanted]) -> Option<Wrong>
     ensures { result ≡ first_wrong place (common.now ++ own.now) (table_view members.now) }
 {
@@ -81,7 +81,7 @@ fn first_wrong(place: Place, members: &Table, common: &[Wanted], own: &[Wanted])
     }
 }
 
-/// The first wrong key of a branch.
+/// Returns the first wrong key of a branch.
 fn wrong_in_branch_members(place: Place, members: &Table) -> Option<Wrong>
     ensures { result ≡ branch_wrong place.table place.column place.branch (table_view members.now) }
 {
@@ -89,7 +89,7 @@ fn wrong_in_branch_members(place: Place, members: &Table) -> Option<Wrong>
     first_wrong(place, members, &BRANCH_KEYS, own)
 }
 
-/// The first wrong key of the branch that stands at a place. A value that is no table has no keys.
+/// Returns the first wrong key of the branch at a place. A value that is no table has no keys.
 fn wrong_in_branch(place: Place, item: &Value) -> Option<Wrong>
     ensures { result ≡ branch_wrong place.table place.column place.branch (members_of_value item.now) }
 {
@@ -103,7 +103,7 @@ fn wrong_in_branch(place: Place, item: &Value) -> Option<Wrong>
     }
 }
 
-/// The first wrong key of the branches of a case.
+/// Returns the first wrong key of the branches of a case.
 fn wrong_in_branches(place: Place, items: &[Value]) -> Option<Wrong>
     ensures { result ≡ each_from (branch_wrong place.table place.column) 1 (members_of_values items.now) }
 {
@@ -120,7 +120,7 @@ fn wrong_in_branches(place: Place, items: &[Value]) -> Option<Wrong>
     None
 }
 
-/// The first wrong key of the places inside a column of a kind.
+/// Returns the first wrong key of the places inside a column of a kind.
 fn wrong_in_kind(place: Place, members: &Table, kind: KindName) -> Option<Wrong>
     ensures { result ≡ branches_wrong place.table place.column kind (table_view members.now) }
 {
@@ -130,7 +130,7 @@ fn wrong_in_kind(place: Place, members: &Table, kind: KindName) -> Option<Wrong>
     }
 }
 
-/// The first wrong key of a column: of its own keys, and then of the places inside.
+/// Returns the first wrong key of a column: of its own keys, and then of the places inside.
 fn wrong_in_column_members(place: Place, members: &Table) -> Option<Wrong>
     requires { place ≡ column_place place.table place.column }
     ensures { result ≡ column_wrong place.table place.column (table_view members.now) }
@@ -142,7 +142,7 @@ fn wrong_in_column_members(place: Place, members: &Table) -> Option<Wrong>
     }
 }
 
-/// The first wrong key of the column that stands at a place. A value that is no table has no keys.
+/// Returns the first wrong key of the column at a place. A value that is no table has no keys.
 fn wrong_in_column(place: Place, item: &Value) -> Option<Wrong>
     requires { place ≡ column_place place.table place.column }
     ensures { result ≡ column_wrong place.table place.column (members_of_value item.now) }
@@ -157,7 +157,7 @@ fn wrong_in_column(place: Place, item: &Value) -> Option<Wrong>
     }
 }
 
-/// The first wrong key of the columns of a table.
+/// Returns the first wrong key of the columns of a table.
 fn wrong_in_columns(place: Place, items: &[Value]) -> Option<Wrong>
     ensures { result ≡ each_from (column_wrong place.table) 1 (members_of_values items.now) }
 {
@@ -174,7 +174,7 @@ fn wrong_in_columns(place: Place, items: &[Value]) -> Option<Wrong>
     None
 }
 
-/// The first wrong key of a table: of its own keys, and then of its columns.
+/// Returns the first wrong key of a table: of its own keys, and then of its columns.
 fn wrong_in_table_members(place: Place, members: &Table) -> Option<Wrong>
     requires { place ≡ table_place place.table }
     ensures { result ≡ table_wrong place.table (table_view members.now) }
@@ -185,7 +185,7 @@ fn wrong_in_table_members(place: Place, members: &Table) -> Option<Wrong>
     }
 }
 
-/// The first wrong key of the table that stands at a place. A value that is no table has no keys.
+/// Returns the first wrong key of the table at a place. A value that is no table has no keys.
 fn wrong_in_table(place: Place, item: &Value) -> Option<Wrong>
     requires { place ≡ table_place place.table }
     ensures { result ≡ table_wrong place.table (members_of_value item.now) }
@@ -200,7 +200,7 @@ fn wrong_in_table(place: Place, item: &Value) -> Option<Wrong>
     }
 }
 
-/// The first wrong key of the tables of a schema.
+/// Returns the first wrong key of the tables of a schema.
 fn wrong_in_tables(items: &[Value]) -> Option<Wrong>
     ensures { result ≡ each_from table_wrong 1 (members_of_values items.now) }
 {
@@ -217,7 +217,7 @@ fn wrong_in_tables(items: &[Value]) -> Option<Wrong>
     None
 }
 
-/// The first wrong key of a document: of its own keys, and then of its tables.
+/// Returns the first wrong key of a document: of its own keys, and then of its tables.
 pub fn first_wrong_key(members: &Table) -> Option<Wrong>
     ensures { result ≡ first_wrong_key (table_view members.now) }
 {

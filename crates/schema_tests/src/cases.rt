@@ -1,4 +1,4 @@
-//! What the cases of the tests are tried with. Where memory is wanting, the test ends.
+//! The helpers that try the cases of tests. If memory is wanting, the test ends.
 
 use schema_check::{CheckFault, check};
 use schema_plan::{Dictionaries, Plan};
@@ -6,10 +6,10 @@ use schema_read::read_schema;
 use std::alloc::Global;
 use std::process::Abort;
 
-/// A broken rule with its table and its column, from 1 on and 0 where there is none; None where all rules are kept.
+/// A broken rule with its table and its column, which count from 1; 0 means that there is none. None means that all rules are kept.
 pub(crate) type Told = Option<(u32, u64, u64)>;
 
-/// The fault that tells of a broken rule.
+/// Returns the fault that tells of a broken rule.
 pub(crate) fn fault_of(told: Told) -> Option<CheckFault> {
     match told {
         Some((number, table, column)) => Some(CheckFault::Rule {
@@ -21,7 +21,7 @@ pub(crate) fn fault_of(told: Told) -> Option<CheckFault> {
     }
 }
 
-/// The check of a text tells so.
+/// Asserts what the check of a text tells.
 pub(crate) fn assert_told(
     rt: &impl Abort,
     alloc: Global,
@@ -34,18 +34,18 @@ pub(crate) fn assert_told(
     assert!(rt; fault == fault_of(told), "{text}");
 }
 
-/// The pieces, one behind the other.
+/// Joins the pieces, one after the other.
 pub(crate) fn joined(rt: &impl Abort, alloc: Global, pieces: &[&str]) -> String {
     pieces.concat(alloc).expect(rt, "memory")
 }
 
-/// The check tells so of the text that the pieces make, without dictionaries.
+/// Asserts what the check of the joined pieces tells, without dictionaries.
 pub(crate) fn try_text(rt: &impl Abort, alloc: Global, pieces: &[&str], told: Told) {
     let text = joined(rt, alloc, pieces);
     assert_told(rt, alloc, text.as_str(), Dictionaries::new(alloc), told);
 }
 
-/// The same for each of some texts between a front and an end.
+/// Asserts what the check tells of each text, joined between a front and an end.
 pub(crate) fn try_texts(
     rt: &impl Abort,
     alloc: Global,
@@ -58,7 +58,7 @@ pub(crate) fn try_texts(
     }
 }
 
-/// The same for texts that keep a rule, or break it at one place.
+/// Asserts of each text, joined between a front and an end, that it keeps a rule or breaks it at one place.
 pub(crate) fn try_rule(
     rt: &impl Abort,
     alloc: Global,
@@ -73,7 +73,7 @@ pub(crate) fn try_rule(
     }
 }
 
-/// The plan of a text that is accepted.
+/// Returns the plan of a text that is accepted.
 pub(crate) fn plan_of(
     rt: &impl Abort,
     alloc: Global,
@@ -84,7 +84,7 @@ pub(crate) fn plan_of(
     check(alloc, schema, dictionaries).expect(rt, "refused")
 }
 
-/// For each number from 0 on the number between a front and an end.
+/// Joins the numbers from 0 on, `count` of them, each between `front` and `end`.
 pub(crate) fn numbered(
     rt: &impl Abort,
     alloc: Global,
@@ -100,13 +100,13 @@ pub(crate) fn numbered(
     text
 }
 
-/// A weight so many times, with a comma behind each.
+/// Repeats a weight, with a comma after each.
 fn run(rt: &impl Abort, alloc: Global, run: (usize, i64)) -> String {
     let weight = format!(in alloc; "{},", run.1).expect(rt, "memory");
     weight.as_str().repeat(alloc, run.0).expect(rt, "memory")
 }
 
-/// The same of two weights.
+/// Repeats two weights, one run after the other, with a comma after each weight.
 pub(crate) fn weights(
     rt: &impl Abort,
     alloc: Global,

@@ -9,7 +9,7 @@ use schema_read::read_schema;
 use std::alloc::Global;
 use std::process::Abort;
 
-/// A table of two columns.
+/// The beginning of a table of two columns.
 const TABLE_FRONT: &str =
     "seed=1\nunits=2\ntable=[{name='t',rows=1,insert=1,column=[{name='id',kind=";
 
@@ -37,14 +37,14 @@ fn keys(rt: HostRuntime) {
     try_texts(&rt, rt.alloc(), TABLE_FRONT, &KEYS, "}]}]");
 }
 
-/// A key, and a pick that changes or not.
+/// A key, and a pick whose `changes` follows.
 const WORD: &str =
     "seed=1\nunits=2\ntable=[{name='t',rows=1,insert=1,column=[{name='id',kind='key',base=1},{name='word',kind='pick',entries=['x'],weights=[1],changes=";
 
-/// The unit of the last change, and a fourth column.
+/// The unit of the last change, and the beginning of a fourth column.
 const FOURTH: &str = "},{name='unit',kind='changed'},{name='c',kind=";
 
-/// A fourth column that cites the pick, or one beside it.
+/// Fourth columns that cite the pick, or another column.
 const OF_WORD: &str = "'template',parts=[{column='word'}]";
 
 const OF_UNIT: &str = "'template',parts=[{column='unit'}]";
@@ -53,7 +53,7 @@ const OF_KEY: &str = "'template',parts=[{column='id'}]";
 
 const CASE: &str = "'case',on='word',branches=[{kind='date',lo='1970-01-02',hi='1970-01-03'}]";
 
-/// A fourth column, with whether the pick and whether itself changes, and what is told.
+/// A fourth column, whether the pick changes, whether the fourth column changes, and what is told.
 type Fourth = (&'static str, bool, bool, Told);
 
 const FOURTHS: [Fourth; 16] = [
@@ -62,7 +62,7 @@ const FOURTHS: [Fourth; 16] = [
     (CASE, true, true, None),
     ("'born'", true, true, Some((25, 1, 4))),
     ("'changed'", true, true, Some((25, 1, 4))),
-    // A citation of a column that moves is told where the citing column doesn't change.
+    // A citation of a column that moves is told if the citing column doesn't change.
     (OF_WORD, false, false, None),
     (OF_WORD, true, false, Some((17, 1, 4))),
     (OF_WORD, true, true, None),
@@ -93,7 +93,7 @@ fn columns_that_change(rt: HostRuntime) {
     try_fourths(&rt, rt.alloc(), &FOURTHS);
 }
 
-/// Two tables, of which the second holds a drawn value in its third column.
+/// Two tables. The second has a drawn value in its third column.
 const DRAWN: &str =
     "seed=1\nunits=2\ntable=[{name='t',rows=1,insert=1,column=[{name='id',kind='key',base=1},{name='born',kind='born'}]},{name='u',rows=1,insert=1,column=[{name='id',kind='key',base=1},{name='born',kind='born'},{name='drawn',kind=";
 
@@ -136,7 +136,7 @@ fn push(rt: &impl Abort, alloc: Global, columns: &mut Columns, name: &str, kind:
     columns.push(column).expect(rt, "memory");
 }
 
-/// The columns of days from one to another, behind a key and units of birth.
+/// Makes three columns: a key, units of birth, and days from `lo` to `hi`.
 fn columns_of_days(rt: &impl Abort, alloc: Global, lo: i32, hi: i32) -> Columns {
     let mut columns = Columns::new(alloc);
     let (base, scramble) = (1, false);
@@ -155,7 +155,7 @@ fn columns_of_days(rt: &impl Abort, alloc: Global, lo: i32, hi: i32) -> Columns 
 const ONE_TABLE: &[u8] =
     b"seed=1\nunits=2\ntable=[{name='t',rows=1,insert=1,column=[{name='id',kind='key',base=1},{name='born',kind='born'}]}]";
 
-// 0001-01-01 is the day -719,162 from 1970-01-01, and 9999-12-31 the day 2,932,896. No text names a day past them.
+// 0001-01-01 is day -719,162 from 1970-01-01, and 9999-12-31 is day 2,932,896. No text names a day before or after them.
 const DAYS: [(i32, i32, Told); 6] = [
     (0, 0, None),
     (1, 0, Some((10, 2, 3))),
@@ -165,7 +165,7 @@ const DAYS: [(i32, i32, Told); 6] = [
     (i32::MIN, i32::MAX, Some((10, 2, 3))),
 ];
 
-/// A table of a row at each unit.
+/// Makes the table `u`, with a row born at each unit.
 fn table_of(rt: &impl Abort, alloc: Global, columns: Columns) -> Table {
     let name = Text::of(alloc, "u").expect(rt, "memory");
     let mut insert = Phases::new(alloc);
@@ -180,7 +180,7 @@ fn table_of(rt: &impl Abort, alloc: Global, columns: Columns) -> Table {
     }
 }
 
-/// The first fault of a schema whose second table has these days in its third column.
+/// Returns the first fault of a schema whose second table has these days in its third column.
 fn fault_of_days(rt: &impl Abort, alloc: Global, lo: i32, hi: i32) -> Option<CheckFault> {
     let mut schema = read_schema(alloc, ONE_TABLE).expect(rt, "no schema");
     let table = table_of(rt, alloc, columns_of_days(rt, alloc, lo, hi));
@@ -197,7 +197,7 @@ fn try_days(rt: &impl Abort, alloc: Global, cases: &[(i32, i32, Told)]) {
     }
 }
 
-/// How many entries, and two runs of weights: each so many times one weight.
+/// The number of entries, two runs of weights, and what is told. A run is a number of weights, and the weight.
 type Entries = (usize, (usize, i64), (usize, i64), Told);
 
 // The last weights add up to 2^64 + 1.
@@ -271,7 +271,7 @@ fn drawn_values(rt: HostRuntime) {
     try_rule(&rt, alloc, (14, 2, 3), DRAWN, &CHARACTERS, "}]}]");
 }
 
-/// A date and a whole number, both of ranges that end before they begin, in a table of so many rows.
+/// A date and a whole number, both with ranges that end before they begin. The number of the table's rows stands before.
 const TWICE_BROKEN: &str =
     ",insert=1,column=[{name='id',kind='key',base=1},{name='born',kind='born'},{name='days',kind='date',lo='1970-01-02',hi='1970-01-01'},{name='numbers',kind='int',lo=1,hi=0,step=1}]}]";
 

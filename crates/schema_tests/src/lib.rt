@@ -1,4 +1,4 @@
-//! The tests of schemas: their types, word lists, how a text is read, the rules, and the plan of an accepted schema.
+//! Tests of schemas: their types, word lists, the reading of a text, the rules, and the plan of an accepted schema.
 #![tactic(auto)]
 
 #[cfg(test)]

@@ -10,7 +10,7 @@ fn text(rt: &impl Abort, alloc: Global, text: &str) -> Text {
     Text::of(alloc, text).expect(rt, "memory")
 }
 
-/// The text `Zoë!`, put together from two pieces.
+/// Makes the text `Zoë!` from two pieces.
 fn name(rt: &impl Abort, alloc: Global) -> Text {
     let mut name = Text::new(alloc);
     assert!(rt; name.is_empty());
@@ -19,7 +19,7 @@ fn name(rt: &impl Abort, alloc: Global) -> Text {
     name
 }
 
-// Each text and each list takes what is put into it, and is equal to another one exactly where they hold the same.
+// Each text and each list takes what is put into it. Two of them are equal exactly if they hold the same.
 #[test]
 fn texts_hold_what_is_put_in(rt: HostRuntime) {
     let alloc = rt.alloc();

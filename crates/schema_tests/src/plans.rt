@@ -7,10 +7,10 @@ use std::alloc::Global;
 use std::process::Abort;
 use std::thread;
 
-/// A table's place, the cost of a row, the greatest length of a line, and for how many units its rows live at least and at most.
+/// A table's place, the cost of a row, the greatest length of a line, and the fewest and the most units that its rows live.
 pub(crate) type Bounds = (u32, u64, u64, Option<u64>, Option<u64>);
 
-/// The tables have these bounds.
+/// Asserts that the tables have these bounds.
 pub(crate) fn assert_bounds(rt: &impl Abort, plan: &Plan, tables: &[Bounds]) {
     for (table, cost, max_line, sure, longest) in tables {
         assert!(rt; *table < plan.tables());
@@ -19,7 +19,7 @@ pub(crate) fn assert_bounds(rt: &impl Abort, plan: &Plan, tables: &[Bounds]) {
     }
 }
 
-/// Three tables of one, two and three columns, the keys of the last scrambled.
+/// Three tables of one, two and three columns. The keys of the last table are scrambled.
 const THREE: &str = "seed=1
 units=2
 table=[
@@ -37,7 +37,7 @@ table=[
     ]},
 ]";
 
-// A line of a key alone has 20 bytes and its line feed; a unit of birth adds 5 and a tab. A scrambled key takes a
+// A line of only a key has 20 bytes and its line feed. A unit of birth adds 5 bytes and a tab. A scrambled key takes a
 // permutation.
 const BOUNDS_OF_THREE: [Bounds; 3] = [
     (0, 1, 21, None, None),
@@ -45,7 +45,7 @@ const BOUNDS_OF_THREE: [Bounds; 3] = [
     (2, 2, 33, None, None),
 ];
 
-/// Three tables whose rows live for ever and never change.
+/// Asserts that there are three tables whose rows live for ever and never change.
 fn assert_three(rt: &impl Abort, plan: &Plan) {
     assert!(rt; plan.schema().tables.len() == 3);
     assert!(rt; plan.units() == 2 && plan.tables() == 3 && plan.reach() == 33);
@@ -69,8 +69,8 @@ fn threads_share_a_plan(rt: HostRuntime) {
     assert!(rt; names == (Some(1), None));
 }
 
-/// Cities with a scrambled key and a name, which live three to five units, and a table with a column of each kind, which changes
-/// every two units.
+/// Cities with a scrambled key and a name, which live three to five units. The other table has a column of each kind, and changes every
+/// two units.
 const EACH_KIND: &str = r#"seed=1
 units=2
 table=[
@@ -132,8 +132,8 @@ const ALL: TableFacts = TableFacts {
     max_line: 227,
 };
 
-// A city has 20 + 6 bytes, its row, the draw of its key and of its life. The other fields have 20, 5, 5, 20, 21, 10, 6, 20, 2, 8,
-// 6, 20, 20, 6 and 43 bytes. Their reference asks 2 permutations, twice more in the text, and the lookup 1.
+// A city's line has 20 + 6 bytes. A city costs a permutation each for its row, its key and its life. The fields of `all` have 20, 5, 5,
+// 20, 21, 10, 6, 20, 2, 8, 6, 20, 20, 6 and 43 bytes. The reference asks 2 permutations, the template that cites it twice 4, and the lookup 1.
 #[test]
 fn facts_of_each_kind(rt: HostRuntime) {
     let schema = read_schema(rt.alloc(), EACH_KIND.as_bytes()).expect(&rt, "no schema");
@@ -143,13 +143,13 @@ fn facts_of_each_kind(rt: HostRuntime) {
     assert!(rt; facts[0] == CITY && facts[1] == ALL);
 }
 
-/// The number of references of each table of a chain to the table before it, whose keys are scrambled, what each table says
-/// beside, and what is told.
+/// A chain of tables: how many references each table has to the one before it, the place of the table with scrambled keys, what each
+/// table says beside, and what is told.
 type Chain = (&'static [usize], usize, &'static str, Told);
 
-// With 8 references deaths cost 0, 8, 72, 584 and 4,680, and no 64 bits hold the cost from the 23rd table on. In the last two chains
-// they cost 0, 2, 5 * 3 = 15, 6 * 16 = 96, 6 * 97 = 582 and 7 * 583 = 4,081. The row comes on top, and 2 permutations for each
-// of its 7 references to scrambled keys: 4,096. A change takes one more.
+// With 8 references deaths cost 0, 8, 72, 584 and 4,680, and from the 23rd table on the cost doesn't fit in 64 bits. In the last two
+// chains they cost 0, 2, 5 * 3 = 15, 6 * 16 = 96, 6 * 97 = 582 and 7 * 583 = 4,081. The row adds 1, and each of its 7 references to
+// scrambled keys adds 2: 4,096. A change takes one more.
 const CHAINS: [Chain; 4] = [
     (&[8; 4], 64, "", None),
     (&[8; 64], 64, "", Some((23, 5, 0))),
@@ -157,7 +157,7 @@ const CHAINS: [Chain; 4] = [
     (&[0, 2, 5, 6, 6, 7], 4, "update=1,", Some((23, 6, 0))),
 ];
 
-/// A table of a chain, with its number and so many references to the table before it.
+/// Makes a table of a chain, with its number and `count` references to the table before it.
 fn link(
     rt: &impl Abort,
     alloc: Global,
@@ -177,7 +177,7 @@ fn link(
     table.expect(rt, "memory")
 }
 
-/// The tables of a chain. The first has no table before it.
+/// Makes the tables of a chain. The first has no table before it.
 fn chain(
     rt: &impl Abort,
     alloc: Global,

@@ -1,4 +1,4 @@
-//! A text that is read, and the schema that it says, worked out by hand.
+//! A text that is read, and its schema, worked out by hand.
 
 use schema_model::Delimiter;
 use schema_read::read_schema;
@@ -52,8 +52,8 @@ insert = []
 column = []
 "#;
 
-/// The schema that it says, as `{:?}` writes it. The days are those of the calendar: 0001-01-01 is day -719162, 9999-12-31 day 2932896
-/// and 2000-03-01 day 11017.
+/// The schema of `TEXT`, as `{:?}` writes it. The days are those of the calendar: 0001-01-01 is day -719162, 9999-12-31 is day 2932896
+/// and 2000-03-01 is day 11017.
 const SCHEMA: &str = concat!(
     "Schema { seed: -7, units: 16, delimiter: Bar, tables: Sequence { items: [",
     r#"Table { name: Text { text: "all" }, rows: 3, insert: Sequence { items: [Phase { from: 1, rate: 4 }] }, life: Some(Life { lo: 2, hi: 5 }), update: Some(6), columns: Sequence { items: ["#,

@@ -1,4 +1,4 @@
-//! What a plan keeps of a schema's columns, worked out by hand.
+//! The columns of a schema as a plan keeps them, worked out by hand.
 
 use crate::cases::plan_of;
 use crate::plans::{Bounds, assert_bounds};
@@ -11,10 +11,10 @@ use schema_plan::{
 use std::process::Abort;
 use weight_tables::Weights;
 
-/// A column of each drawn value. Characters that are null at times, and a number where a pick has its first entry and a date where it
-/// has its second. Customers who live 3 units and change every 2; orders that live 9 units at most, of a customer who is at most 2
-/// units older, and their lines, which are as old as the order. Parents who live for ever, and children of any of them, who show when
-/// these were born. An entry of a word list, and up to three of them.
+/// A table with two numbers, a date, a pick and a skew. Characters that are sometimes null, and a case: a number for the first entry of a
+/// pick and a date for the second. Customers who live 3 units and change every 2. Orders that live at most 9 units, each of a customer who
+/// is at most 2 units older. Lines, each as old as its order. Parents who live for ever, and children of any of them, who show when their
+/// parents were born. An entry of a word list, and up to three of them.
 const KEPT: &str = r#"seed=1
 units=4
 delimiter='bar'
@@ -67,7 +67,7 @@ table=[
 /// The least and the greatest number of a range, its step or its unit, its choices and its decimals.
 type Range = (i64, i64, u64, u64, u32);
 
-/// The numbers of a value that is drawn from a range.
+/// Returns the numbers of a value that is drawn from a range.
 fn range_of(leaf: &ReadyLeaf) -> Option<Range> {
     match leaf {
         ReadyLeaf::Int {
@@ -97,7 +97,7 @@ fn assert_range(rt: &impl Abort, column: &ReadyColumn, range: Range) {
     }
 }
 
-/// Two weights have this sum, and these are the last number of the first one and the first number of the second.
+/// Asserts the sum of some weights. `last` is the last number of the first weight, and `first` the first number of the second.
 fn assert_weights(
     rt: &impl Abort,
     weights: &Weights,
@@ -118,7 +118,7 @@ fn assert_texts(rt: &impl Abort, texts: &WrittenTexts, written: &[&[u8]]) {
     }
 }
 
-/// The entries with the escapes of bars.
+/// Asserts the entries with the escapes of bars.
 fn assert_word(rt: &impl Abort, word: &ReadyColumn) {
     match &word.kind {
         ReadyKind::Drawn(
@@ -135,7 +135,7 @@ fn assert_word(rt: &impl Abort, word: &ReadyColumn) {
     }
 }
 
-/// 10^9 + 10^9 / 4 + 10^9 / 9 + 10^9 / 16 as the total of the harmonic weights.
+/// Asserts the harmonic weights. Their total is 10^9 + 10^9 / 4 + 10^9 / 9 + 10^9 / 16.
 fn assert_rank(rt: &impl Abort, rank: &ReadyColumn) {
     match &rank.kind {
         ReadyKind::Drawn(ReadyLeaf::Skew { lo, weights, total }) => {
@@ -153,7 +153,7 @@ fn assert_rank(rt: &impl Abort, rank: &ReadyColumn) {
     }
 }
 
-/// A key, which is never null, and a unit of birth; 25 / 4 + 1 numbers in steps of 4, 1,000 hundredths, 32 days.
+/// Asserts a key that is never null, a unit of birth, 25 / 4 + 1 numbers in steps of 4, 1,000 hundredths and 32 days.
 fn assert_drawn(rt: &impl Abort, columns: &[ReadyColumn]) {
     match columns {
         [key, born, count, price, day, word, rank] => {
@@ -169,7 +169,7 @@ fn assert_drawn(rt: &impl Abort, columns: &[ReadyColumn]) {
     }
 }
 
-/// 2 to 5 characters, with the escape of the bar.
+/// Asserts 2 to 5 characters, with the escape of the bar.
 fn assert_code(rt: &impl Abort, code: &ReadyColumn) {
     assert!(rt; code.null == 250);
     match &code.kind {
@@ -188,7 +188,7 @@ fn assert_code(rt: &impl Abort, code: &ReadyColumn) {
     }
 }
 
-/// Branches by the entry of the column at place 2: 4 numbers in steps of 3, or one of 5 days.
+/// Asserts branches by the entry of the column at place 2: 4 numbers in steps of 3, and 5 days.
 fn assert_choice(rt: &impl Abort, choice: &ReadyColumn) {
     assert!(rt; choice.null == 999);
     match &choice.kind {
@@ -211,13 +211,13 @@ fn assert_composed(rt: &impl Abort, columns: &[ReadyColumn]) {
     }
 }
 
-/// The reference to the table at a place, in a window, with two weights of 3.
+/// Asserts a reference to the table at a place, in a window, with two weights of 3.
 fn assert_made(rt: &impl Abort, made: &ReadyReference, parent: u32, window: Option<u64>) {
     assert!(rt; made.parent == parent && made.window == window && made.groups == 2);
     assert_weights(rt, &made.spread, &made.total, 2, 3, 6);
 }
 
-/// A table of a key and such a reference.
+/// Asserts a table of a key and a reference with two weights of 3.
 fn assert_referring(rt: &impl Abort, columns: &[ReadyColumn], parent: u32, window: Option<u64>) {
     match columns {
         [_, reference] => match &reference.kind {
@@ -228,7 +228,7 @@ fn assert_referring(rt: &impl Abort, columns: &[ReadyColumn], parent: u32, windo
     }
 }
 
-/// A table of a key, a reference without a window to the table at place 5, and what its second column shows by the second one here.
+/// Asserts a table of a key, a reference without a window to the table at place 5, and a lookup of that table's second column.
 fn assert_looking_up(rt: &impl Abort, columns: &[ReadyColumn]) {
     let (via, parent, column) = (1, 5, 1);
     let wanted = ReadyLookup {
@@ -248,7 +248,7 @@ fn assert_looking_up(rt: &impl Abort, columns: &[ReadyColumn]) {
     }
 }
 
-/// Entries are kept as they are written between bars. The first has 3 of 4 draws.
+/// Asserts the entries as they are written between bars. The first has 3 of 4 draws.
 fn assert_words(rt: &impl Abort, words: &ReadyWords) {
     assert!(rt; words.len() == 2);
     assert!(rt; words.entry(0) == b"A\\|n".as_slice());
@@ -257,7 +257,7 @@ fn assert_words(rt: &impl Abort, words: &ReadyWords) {
     assert!(rt; words.choose(4) == 0 && words.choose(7) == 1);
 }
 
-/// Two columns draw such words.
+/// Asserts that two columns draw these words.
 fn assert_drawing(rt: &impl Abort, columns: &[ReadyColumn]) {
     match columns {
         [_, one, some] => match (&one.kind, &some.kind) {
@@ -284,9 +284,9 @@ fn assert_columns(rt: &impl Abort, plan: &Plan) {
     assert_drawing(rt, plan.columns(7));
 }
 
-// An order lives at least 3 - 2 units, and no row longer than its customer. A row takes 1 permutation, and each reference 1. The
-// death of a customer takes 1 and a change 1, the death of an order 1 + 1 + 1, that of a line 1 + 3. A line has at most 20 bytes for
-// a key, as many for a reference, 4 for an entry, and for up to three words three entries and two spaces; each has a byte behind.
+// An order lives at least 3 - 2 units, and no row lives longer than its customer. A row takes 1 permutation, and each reference 1. The
+// death of a customer takes 1 and a change 1, the death of an order 1 + 1 + 1, and that of a line 1 + 3. A line has at most 20 bytes for
+// a key, 20 for a reference and 4 for an entry. Up to three words take three entries and two spaces. Each field has a byte after it.
 const BOUNDS: [Bounds; 4] = [
     (2, 3, 21, Some(3), Some(3)),
     (3, 5, 42, Some(1), Some(3)),

@@ -5,7 +5,7 @@ use crate::cases::{Told, numbered, try_rule, try_text, try_texts, weights};
 use std::alloc::Global;
 use std::process::Abort;
 
-/// Parents who live for ever, one row of them at each unit, and a child whose second column is a reference.
+/// Parents who live for ever, one born at each unit, and a child whose second column is a reference.
 const CHILD: &str =
     "seed=1\nunits=2\ntable=[{name='p',rows=1,insert=1,column=[{name='id',kind='key',base=1}]},{name='c',rows=1,insert=1,column=[{name='id',kind='key',base=1},{name='ref',kind='ref',";
 
@@ -21,10 +21,10 @@ const TARGETS: [(&str, bool); 5] = [
 const THIRD: &str =
     ",window='all'}]},{name='d',rows=1,insert=1,column=[{name='id',kind='key',base=1}]}]";
 
-/// How many references a child has to its parents. The ninth is the tenth column.
+/// The number of references of a child to its parents. The ninth is the tenth column.
 const NUMBERS: [(usize, Told); 3] = [(8, None), (9, Some((18, 2, 10))), (12, Some((18, 2, 10)))];
 
-/// A parent, and a child whose further columns follow.
+/// A parent, and the beginning of a child with further columns.
 const PARENT_AND_CHILD: &str =
     "seed=1\nunits=2\ntable=[{name='p',rows=1,insert=1,column=[{name='id',kind='key',base=1}]},{name='c',rows=1,insert=1,column=[{name='id',kind='key',base=1},";
 
@@ -51,7 +51,7 @@ fn targets(rt: HostRuntime) {
     try_numbers(&rt, rt.alloc(), &NUMBERS);
 }
 
-/// The life of parents, where they have one, and the window of their children.
+/// The life of parents, if they have one, the window of their children, and whether the rule is kept.
 const WINDOWS: [(&str, &str, bool); 11] = [
     (",life=[3,3]", "0", true),
     (",life=[3,3]", "2", true),
@@ -66,7 +66,7 @@ const WINDOWS: [(&str, &str, bool); 11] = [
     ("", "-1", false),
 ];
 
-/// Children of those parents.
+/// The children of those parents, up to their window.
 const CHILDREN: &str =
     ",column=[{name='id',kind='key',base=1}]},{name='c',rows=1,insert=1,column=[{name='id',kind='key',base=1},{name='ref',kind='ref',table='p',window=";
 
@@ -78,7 +78,7 @@ fn try_windows(rt: &impl Abort, alloc: Global, cases: &[(&str, &str, bool)]) {
     }
 }
 
-/// The last unit, the rows of parents and of their children, and the window.
+/// The last unit, the rows of parents, the rows of their children, the window, and whether the rule is kept.
 type Rows = (&'static str, &'static str, &'static str, &'static str, bool);
 
 const ROWS: [Rows; 14] = [
@@ -124,11 +124,11 @@ fn rows_of_parents(rt: HostRuntime) {
     try_counts(&rt, rt.alloc(), &ROWS);
 }
 
-/// Grandparents who live 3 units, and parents with no life of their own who are at most 1 unit younger.
+/// Grandparents who live 3 units. Their children, the parents, have no life of their own and are at most 1 unit younger.
 const MORTAL: &str =
     "seed=1\nunits=2\ntable=[{name='g',rows=1,insert=1,life=[3,3],column=[{name='id',kind='key',base=1}]},{name='p',rows=1,insert=1,column=[{name='id',kind='key',base=1},{name='ref',kind='ref',table='g',window=1}]},{name='c',rows=1,insert=1,column=[{name='id',kind='key',base=1},{name='ref',kind='ref',table='p',window=";
 
-/// The window of children of those parents, of whom each lives at least 3 - 1 units.
+/// The window of children of those parents. Each parent lives at least 3 - 1 units.
 const MORTAL_WINDOWS: [(&str, bool); 3] = [("1", true), ("2", false), ("'all'", false)];
 
 #[test]
@@ -137,7 +137,7 @@ fn windows(rt: HostRuntime) {
     try_rule(&rt, rt.alloc(), (19, 3, 2), MORTAL, &MORTAL_WINDOWS, "}]}]");
 }
 
-/// Two runs of weights, each so many times one weight.
+/// Two runs of weights, and whether the rule is kept. A run is a number of weights, and the weight.
 type Spread = ((usize, i64), (usize, i64), bool);
 
 const SPREADS: [Spread; 10] = [
@@ -172,7 +172,7 @@ fn spreads(rt: HostRuntime) {
     try_spreads(&rt, rt.alloc(), &SPREADS);
 }
 
-/// What a reference says where it may break several rules. In the second case a third table refers to itself.
+/// References that can break several rules. In the second case a third table refers to itself.
 const SEVERAL: [(&str, Told); 5] = [
     ("table='p',window=-1,spread=[0]", Some((19, 2, 2))),
     (
@@ -190,14 +190,14 @@ const SEVERAL: [(&str, Told); 5] = [
     ),
 ];
 
-// An earlier rule is told before a later one, even where it is broken at a later table. References neither change nor are null.
+// An earlier rule is told before a later one, even if it is broken at a later table. References neither change nor are null.
 #[test]
 fn rules_of_references_in_order(rt: HostRuntime) {
     try_texts(&rt, rt.alloc(), CHILD, &SEVERAL, "}]}]");
 }
 
-/// Countries, each with a name, and cities, with a column of each kind that speaks for itself, one that moves, and their country with
-/// its name. Houses are in a city.
+/// Countries with a name. Cities with columns of several kinds, one column that moves, and their country with its name. Houses, each in
+/// a city.
 const LAND: &str = "seed=1
 units=2
 table=[
@@ -219,7 +219,7 @@ table=[
         {name='id',kind='key',base=1},
         {name=";
 
-/// The lookup of a house behind its city: the reference, the column that it shows, and what it says beside.
+/// The lookup of a house after its reference to a city: the reference, the shown column and further keys, and what is told.
 const LOOKUPS: [(&str, Told); 17] = [
     ("via='city',column='id'", None),
     ("via='city',column='born'", None),

@@ -5,13 +5,13 @@ use crate::cases::{Told, joined, numbered, try_rule, try_text, try_texts};
 use std::alloc::Global;
 use std::process::Abort;
 
-/// The table One with a name: a key and units of birth, a row of it at each unit.
+/// The beginning of the table One, up to its name. It has a key and units of birth, and a row is born at each unit.
 const NAMED: &str = "seed=1\nunits=2\ntable=[{name='";
 
 const ONE: &str =
     "',rows=1,insert=1,column=[{name='id',kind='key',base=1},{name='born',kind='born'}]}]";
 
-/// That table under the name `t`, behind what the schema says beside.
+/// The table One with the name `t`. Other keys of the schema stand before it.
 const ONE_TABLE: &str =
     "table=[{name='t',rows=1,insert=1,column=[{name='id',kind='key',base=1},{name='born',kind='born'}]}]";
 
@@ -29,7 +29,7 @@ fn schema_bounds(rt: HostRuntime) {
     try_texts(&rt, rt.alloc(), "", &BOUNDS, ONE_TABLE);
 }
 
-/// So many columns: a key, and then units of birth.
+/// Makes `count` columns: a key, and then units of birth.
 fn columns(rt: &impl Abort, alloc: Global, count: usize) -> String {
     if count == 0 {
         return String::new(alloc);
@@ -48,7 +48,7 @@ fn columns(rt: &impl Abort, alloc: Global, count: usize) -> String {
     )
 }
 
-/// How many tables, each of how many columns.
+/// The number of tables, the number of columns of each, and what is told.
 const NUMBERS: [(usize, usize, Told); 6] = [
     (0, 1, Some((2, 0, 0))),
     (64, 1, None),
@@ -90,11 +90,11 @@ const NAMES: [(&str, bool); 10] = [
     ("é", false),
 ];
 
-/// A table whose second column has a name.
+/// A table up to the name of its second column.
 const COLUMN_FRONT: &str =
     "seed=1\nunits=2\ntable=[{name='t',rows=1,insert=1,column=[{name='id',kind='key',base=1},{name='";
 
-/// A second table with a name behind the table One, whose name is `t`.
+/// The table One with the name `t`, and a second table up to its name.
 const SECOND: &str =
     "seed=1\nunits=2\ntable=[{name='t',rows=1,insert=1,column=[{name='id',kind='key',base=1},{name='born',kind='born'}]},{name='";
 
@@ -118,7 +118,7 @@ fn names(rt: HostRuntime) {
     try_text(&rt, alloc, &[COLUMN_FRONT, SAME, end], Some((4, 1, 3)));
 }
 
-/// The last unit, rows at unit 0 and at each later one.
+/// The last unit, the rows at unit 0 and at each later unit, and whether the rule is kept.
 const ROWS: [(&str, bool); 10] = [
     ("2\ntable=[{name='t',rows=0,insert=0", true),
     ("2\ntable=[{name='t',rows=1099511627776,insert=0", true),
@@ -144,7 +144,7 @@ const ROWS: [(&str, bool); 10] = [
 /// The columns of the table One.
 const COLUMNS: &str = ",column=[{name='id',kind='key',base=1},{name='born',kind='born'}]}]";
 
-/// The table One with what it says beside.
+/// The table One up to further keys.
 const TABLE_FRONT: &str = "seed=1\nunits=2\ntable=[{name='t',rows=1,insert=1,";
 
 const LIVES: [(&str, bool); 8] = [
@@ -175,12 +175,12 @@ fn rows_and_their_lives(rt: HostRuntime) {
     try_rule(&rt, alloc, (8, 1, 0), TABLE_FRONT, &UPDATES, COLUMNS);
 }
 
-/// The table One with one entry behind its fields.
+/// The table One with a third column of one entry, up to that entry.
 const ENTRY_FRONT: &str =
     "seed=1\nunits=2\ntable=[{name='t',rows=1,insert=1,column=[{name='id',kind='key',base=1},{name='born',kind='born'},{name='drawn',kind='pick',entries=['";
 
-// A key takes 20 bytes and a unit of birth 5, and three bytes stand between and behind the fields: 65,508 more are a line
-// of 65,536.
+// A key takes 20 bytes and a unit of birth 5. Three bytes stand between and after the fields. So 65,508 bytes more make a line of
+// 65,536.
 const SIZES: [(usize, Told); 3] = [
     (65_508, None),
     (65_509, Some((24, 1, 0))),
@@ -200,7 +200,7 @@ fn sizes_of_lines(rt: HostRuntime) {
     try_sizes(&rt, rt.alloc(), &SIZES);
 }
 
-/// Two tables of one row at each later unit, of which the first, `t`, has -1 rows.
+/// Two tables with one row born at each later unit. The first, `t`, has -1 rows.
 const PLACES: [(&str, Told); 3] = [
     (
         "{name='born',kind='born'},{name='id',kind='key',base=1}]},{name='t',rows=1,insert=1,column=[{name='id',kind='key',base=1},{name='born',kind='born'}",

@@ -1,4 +1,4 @@
-//! The word lists that a schema cites. The places follow from the wording of the rule.
+//! The word lists that a schema cites. The expected places follow from the wording of the rule.
 
 use crate::cases::{Told, assert_told, fault_of, joined, numbered};
 use dictionaries::read_dictionary;
@@ -8,7 +8,7 @@ use schema_read::read_schema;
 use std::alloc::Global;
 use std::process::Abort;
 
-/// A text cites so many names, in the order of their first citations: these stand from a place on.
+/// Asserts how many names a text cites, in the order of their first citations, and which stand from a place on.
 fn assert_cited(
     rt: &impl Abort,
     alloc: Global,
@@ -29,7 +29,7 @@ fn assert_cited(
     }
 }
 
-/// The names that a text cites are refused.
+/// Asserts that the names that a text cites are refused.
 fn assert_refused(rt: &impl Abort, alloc: Global, text: &str, told: Told) {
     let schema = read_schema(alloc, text.as_bytes()).expect(rt, "no schema");
     assert!(rt; citations(alloc, &schema).err() == fault_of(told), "{text}");
@@ -94,7 +94,7 @@ fn names_have_at_most_255_bytes(rt: HostRuntime) {
     assert_longer(&rt, rt.alloc());
 }
 
-/// The columns of a pick of so many entries and of a case with a word list for each of them, with what stands before its number.
+/// Makes a key, a pick, and a case with a word list for each entry of the pick. `branch` stands before the number of each list.
 fn branching(rt: &impl Abort, alloc: Global, entries: usize, branch: &str) -> String {
     let branches = numbered(rt, alloc, branch, entries, "'},");
     let entries = "'x',".repeat(alloc, entries).expect(rt, "memory");
@@ -108,7 +108,7 @@ fn branching(rt: &impl Abort, alloc: Global, entries: usize, branch: &str) -> St
     joined(rt, alloc, &pieces)
 }
 
-/// A text of two tables of such columns.
+/// Makes a text of two tables, each with the columns of `branching`.
 fn branching_twice(rt: &impl Abort, alloc: Global, first: usize, second: usize) -> String {
     let first = branching(rt, alloc, first, "{kind='dict',file='a");
     let second = branching(rt, alloc, second, "{kind='dict',file='b");
@@ -133,13 +133,13 @@ fn at_most_64_names_are_cited(rt: HostRuntime) {
     assert_refused(&rt, alloc, text.as_str(), Some((13, 1, 3)));
 }
 
-/// Puts a word list behind the others.
+/// Appends a word list to the others.
 fn push_words(rt: &impl Abort, alloc: Global, all: &mut Dictionaries, name: &str, bytes: &[u8]) {
     let words = read_dictionary(alloc, bytes).expect(rt, "no dictionary");
     all.push(name, words).expect(rt, "memory");
 }
 
-/// Word lists of two names, each of these bytes.
+/// Makes two word lists with these names and the same bytes.
 pub(crate) fn word_lists(
     rt: &impl Abort,
     alloc: Global,
@@ -153,7 +153,7 @@ pub(crate) fn word_lists(
     all
 }
 
-/// The seed, the two names that are cited, the two that are given, and what is told.
+/// The seed, the two cited names, the two given names, and what is told.
 type Given = (
     &'static str,
     &'static str,
@@ -163,7 +163,7 @@ type Given = (
     Told,
 );
 
-// A dictionary that is wanting comes before a broken seed, and a seed is told where none is wanting.
+// A missing dictionary is told before a broken seed. The seed is told if no dictionary is missing.
 const GIVEN: [Given; 5] = [
     ("1", "a", "b", "b", "a", None),
     ("-1", "a", "b", "c", "a", Some((13, 1, 3))),

@@ -12,7 +12,7 @@ fn assert_selects(rt: &impl Abort, dictionary: &Dictionary, x: u64, i: usize) {
     assert!(rt; x < dictionary.weight_total() && dictionary.select(x) == i);
 }
 
-/// Each entry is selected by as many numbers as its weight says, from where those of the one before it end.
+/// Asserts that each entry is selected by as many numbers as its weight says, after the numbers of the entry before it.
 fn assert_entries(rt: &impl Abort, alloc: Global, bytes: &[u8], entries: &[(&str, u64)]) {
     let dictionary = read_dictionary(alloc, bytes).expect(rt, "refused");
     let mut end = 0u64;
@@ -35,11 +35,11 @@ const ENTRIES: [(&[u8], &[(&str, u64)]); 15] = [
     (b"\n\r\na\t2\n\r\n\nb", &[("a", 2), ("b", 1)]),
     (b"a\r\r\n\r\r", &[("a\r", 1), ("\r", 1)]),
     (b"\ra\rb\n", &[("\ra\rb", 1)]),
-    // A byte order mark, which is one at the beginning alone.
+    // A byte order mark, which counts as one only at the beginning.
     (b"\xEF\xBB\xBFa\t7\nb", &[("a", 7), ("b", 1)]),
     (b"\xEF\xBB\xBF\xEF\xBB\xBFa", &[("\u{feff}a", 1)]),
     (b"a\n\xEF\xBB\xBF\n", &[("a", 1), ("\u{feff}", 1)]),
-    // The text before the first tab, which may be empty, and characters of several bytes.
+    // The text before the first tab, which can be empty, and characters of several bytes.
     (b"\t3\na\t4", &[("", 3), ("a", 4)]),
     (
         b"Zo\xC3\xAB\t2\r\n\xCE\xBA \xF0\x9F\x98\x80\n",
@@ -80,16 +80,16 @@ const FAULTS: [(&[u8], DictFault); 31] = [
     (b"a\t1\t1", DictFault::BadWeight { line: 1 }),
     (b"a\tb\t1", DictFault::BadWeight { line: 1 }),
     (b"\t", DictFault::BadWeight { line: 1 }),
-    // A digit, but none of ASCII.
+    // A digit that isn't an ASCII one.
     (b"a\t\xD9\xA1", DictFault::BadWeight { line: 1 }),
     (b"A\n\xFF", DictFault::NotUtf8 { at: 2 }),
     (b"\xFF", DictFault::NotUtf8 { at: 0 }),
     (b"ab\xC0\x80c", DictFault::NotUtf8 { at: 2 }),
-    // A byte order mark counts, also a truncated one, and what isn't UTF-8 is told before what a line has.
+    // A byte order mark counts, also a truncated one. What isn't UTF-8 is told before a fault of a line.
     (b"\xEF\xBB\xBFa\xC3", DictFault::NotUtf8 { at: 4 }),
     (b"\xEF\xBB", DictFault::NotUtf8 { at: 0 }),
     (b"a\t0\n\xE2\x82", DictFault::NotUtf8 { at: 4 }),
-    // Of two faulty lines the first, and lines without an entry count.
+    // Of two faulty lines the first is told. Lines without an entry count.
     (b"a\nb\t0\nc\tx", DictFault::BadWeight { line: 2 }),
     (b"\n\r\na\t0", DictFault::BadWeight { line: 3 }),
     (
@@ -107,14 +107,14 @@ fn try_faults(rt: &impl Abort, alloc: Global, cases: &[(&[u8], DictFault)]) {
     }
 }
 
-/// A piece so many times, and then the rest.
+/// Repeats a piece, and appends the rest.
 fn repeated(rt: &impl Abort, alloc: Global, piece: &[u8], count: usize, rest: &[u8]) -> Vec<u8> {
     let mut bytes = piece.repeat(alloc, count).expect(rt, "memory");
     bytes.extend_from_slice(rest).expect(rt, "memory");
     bytes
 }
 
-/// What stands behind 255 letters.
+/// What follows 255 letters.
 const SHORT: [&[u8]; 5] = [b"", b"\t1", b"\t1000000\n", b"\r\n", b"\r"];
 
 fn try_short(rt: &impl Abort, alloc: Global, rests: &[&[u8]]) {
@@ -131,8 +131,8 @@ fn entries_are_read_with_their_weights(rt: HostRuntime) {
     try_short(&rt, rt.alloc(), &SHORT);
 }
 
-/// A piece so many times, and what stands behind them. A long text is told before a bad weight, and its line before a later one; one has
-/// 254 letters and a character of two bytes. The entry 1,000,001 is told at its line, and after the other faults of that line.
+/// A piece, how often it is repeated, what follows, and the fault. A long entry is told before a bad weight, and before a fault of a later
+/// line. One has 254 letters and a character of two bytes. The entry 1,000,001 is told at its line, after the other faults of that line.
 const REPEATED: [(&[u8], usize, &[u8], DictFault); 9] = [
     (b"x", 256, b"", DictFault::LongEntry { line: 1 }),
     (b"x", 256, b"\t1", DictFault::LongEntry { line: 1 }),

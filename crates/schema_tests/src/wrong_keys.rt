@@ -1,12 +1,12 @@
-//! Texts that have a wrong key, each behind its first one. What is expected follows from the table of keys: a key of
-//! another type, a required key that is missing, and a further key, each once at each place and kind.
+//! Texts with a wrong key. Each stands after the key that is wrong first. The expected results follow from the table of keys: a key of
+//! another type, a missing required key, and a further key, each once at each place and kind.
 
 use crate::cases::joined;
 use schema_read::{ReadSchemaFault, read_schema};
 use std::alloc::Global;
 use std::process::Abort;
 
-// A whole text whose top has one wrong key.
+// Whole texts with one wrong key at the top.
 const TOP_FAULTS: [&str; 8] = [
     "Seed Whole: seed=1.0\nunits=1\ndelimiter='bar'\ntable=[]",
     "Seed Whole: units=1\ndelimiter='bar'\ntable=[]",
@@ -18,7 +18,7 @@ const TOP_FAULTS: [&str; 8] = [
     "Other NoSuchKey: seed=1\nunits=1\ndelimiter='bar'\ntable=[]\nzz=1",
 ];
 
-// What the first table holds, with one wrong key.
+// The keys of the first table, with one wrong key.
 const TABLE_FAULTS: [&str; 10] = [
     "Name TextValue: name=1,rows=1,insert=1,life=[1,2],update=1,column=[]",
     "Name TextValue: rows=1,insert=1,life=[1,2],update=1,column=[]",
@@ -32,7 +32,7 @@ const TABLE_FAULTS: [&str; 10] = [
     "Other NoSuchKey: name='a',rows=1,insert=1,life=[1,2],update=1,column=[],zz=1",
 ];
 
-// What the first column of the first table holds, with one wrong key.
+// The keys of the first column of the first table, with one wrong key.
 const COLUMN_FAULTS: [&str; 79] = [
     "Name TextValue: name=1,kind='born',changes=true,null=1",
     "Name TextValue: kind='born',changes=true,null=1",
@@ -115,7 +115,7 @@ const COLUMN_FAULTS: [&str; 79] = [
     "Other NoSuchKey: name='c',kind='lookup',via='a',column='a',on_delete='null'",
 ];
 
-// What the first branch of a case holds, with one wrong key.
+// The keys of the first branch of a case, with one wrong key.
 const BRANCH_FAULTS: [&str; 20] = [
     "Kind LeafName: lo=1,hi=2",
     "Kind LeafName: kind='key',base=1",
@@ -139,7 +139,7 @@ const BRANCH_FAULTS: [&str; 20] = [
     "Hi Whole: kind='chars',alphabet='a',lo=1,hi=1.0",
 ];
 
-// A whole text, and where its first wrong key is: the places go depth first, each with its further keys.
+// Whole texts with the place of the first wrong key. Places go depth first, each with its further keys.
 const ORDER: [((u64, u64, u64), &str); 12] = [
     ((0, 0, 0), "Units Whole: seed=1"),
     (
@@ -188,7 +188,7 @@ const ORDER: [((u64, u64, u64), &str); 12] = [
     ),
 ];
 
-// What is no date: none of these days is in the calendar, or the text isn't ten bytes YYYY-MM-DD.
+// Values that are no date: the day isn't in the calendar, or the text isn't ten bytes YYYY-MM-DD.
 const NO_DATES: [&str; 12] = [
     "Lo DateText: '0000-01-01'",
     "Lo DateText: '2023-00-10'",
@@ -204,7 +204,7 @@ const NO_DATES: [&str; 12] = [
     "Lo DateText: 2023-01-01",
 ];
 
-// What is no number of births and no list of pairs, no word for a deletion, no window, and no list of parts.
+// Values that are no number of births and no list of pairs, no name of a deletion, no window, and no list of parts.
 const NO_INSERTS: [&str; 8] = [
     "Insert InsertValue: true",
     "Insert InsertValue: '20'",
@@ -237,8 +237,8 @@ const NO_PARTS: [&str; 4] = [
     "Parts PartList: 'a'",
 ];
 
-/// Tries a row: the first wrong key of its text, between a front and an end, is at a table, a column and a branch. Before the colon are
-/// the key and what it wants.
+/// Asserts where the first wrong key of a row's text is, by table, column and branch. The text stands between a front and an end. Before
+/// the colon of the row are the key and what it wants.
 fn try_row(
     rt: &impl Abort,
     alloc: Global,
@@ -265,7 +265,7 @@ fn try_row(
     }
 }
 
-/// The same for each of some rows.
+/// Asserts of each row where the first wrong key of its text is.
 fn try_rows(
     rt: &impl Abort,
     alloc: Global,
