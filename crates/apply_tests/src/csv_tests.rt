@@ -2,7 +2,7 @@
 
 use csv_face::{CsvFault, from_csv, to_csv};
 
-/// A line with a comma, null, the text \N and the empty text, and one with quotes, line ends and a backslash behind the first byte.
+/// A line with a comma, a null, the text \N and an empty text, and a line with quotes, line ends and a backslash after the first byte.
 #[test]
 fn rows_are_written_and_read_back(rt: HostRuntime) {
     let text = b"1\ta,b\t\\N\t\\\\N\t\n2\t\"q\"\tx\\\\y\tl\\nm\t\\r\n".as_slice();
@@ -14,7 +14,7 @@ fn rows_are_written_and_read_back(rt: HostRuntime) {
     assert!(rt; back.as_slice() == text);
 }
 
-/// A bar is escaped in a line, and a tab isn't then a delimiter.
+/// A bar is escaped in a line. Then a tab is no delimiter.
 #[test]
 fn rows_with_bars_are_written(rt: HostRuntime) {
     let text = b"7|a\\|b|c\\td\n".as_slice();
@@ -22,7 +22,7 @@ fn rows_with_bars_are_written(rt: HostRuntime) {
     assert!(rt; csv.as_slice() == b"7,a|b,c\td\n".as_slice());
 }
 
-/// Line ends of two bytes, quotes where none are wanted, and a last record without a line end.
+/// Line ends of two bytes, unneeded quotes, and a last record without a line end.
 #[test]
 fn other_spellings_are_read(rt: HostRuntime) {
     let text = from_csv(rt.alloc(), b"1,\"a\"\r\n\"2\",b", b'\t', 2).expect(
@@ -32,7 +32,7 @@ fn other_spellings_are_read(rt: HostRuntime) {
     assert!(rt; text.as_slice() == b"1\ta\n2\tb\n".as_slice());
 }
 
-/// The first record that is bad is told, by a field or by their number.
+/// The first bad record is told, for a bad field or a wrong number of fields.
 #[test]
 fn bad_records_are_told(rt: HostRuntime) {
     let field = from_csv(rt.alloc(), b"1,\\x\n2\n", b'\t', 2);

@@ -1,4 +1,4 @@
-//! Tests of lines that are read back, of streams that are applied to a table and of rows in CSV, by public calls.
+//! Tests of lines that are read back, of streams that are applied to a table, and of rows in CSV, by public calls.
 #![tactic(auto)]
 
 #[cfg(test)]

@@ -1,11 +1,11 @@
-//! Line bodies worked out by hand from the list of escapes.
+//! Line bodies that are worked out by hand from the list of escapes.
 
 ghost use Rattle.row_text.specs.Fields.{IsDelimiter};
 
 use row_text::{Fields, LineFault, next_line, split_line};
 use std::alloc::Global;
 
-/// Where a line goes wrong; None where it is a line body, or memory ran out.
+/// Returns where a line goes wrong; None if it is a line body, or memory runs out.
 fn bad_at(alloc: Global, line: &[u8], delimiter: u8) -> Option<usize>
     requires { IsDelimiter delimiter }
 {
@@ -15,7 +15,7 @@ fn bad_at(alloc: Global, line: &[u8], delimiter: u8) -> Option<usize>
     }
 }
 
-/// Whether fields are these.
+/// Tells whether fields are the wanted ones.
 fn are(fields: &Fields, wanted: &[Option<&[u8]>]) -> bool {
     if fields.len() != wanted.len() {
         return false;
@@ -28,7 +28,7 @@ fn are(fields: &Fields, wanted: &[Option<&[u8]>]) -> bool {
     true
 }
 
-/// Whether a line has these fields.
+/// Tells whether a line has the wanted fields.
 fn has_fields(alloc: Global, line: &[u8], delimiter: u8, wanted: &[Option<&[u8]>]) -> bool
     requires { IsDelimiter delimiter }
 {

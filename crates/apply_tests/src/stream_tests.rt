@@ -5,7 +5,7 @@ use stream_apply::{Applier, ApplyFault, KeyFields};
 
 const TABLE: &[u8] = b"1\ta\n2\tb\n3\tc\n";
 
-/// What a chain of calls gives: the text behind it, empty where memory ran out.
+/// Returns the text that a chain of calls makes of a table.
 fn text_behind(
     alloc: Global,
     table: &[u8],
@@ -20,7 +20,7 @@ fn text_behind(
     Ok(applier.text()?)
 }
 
-/// Whether the text is this.
+/// Tells whether a result is a text.
 fn gives(given: Result<Vec<u8>, ApplyFault>, text: &[u8]) -> bool {
     match given {
         Ok(bytes) => bytes.as_slice() == text,
@@ -28,7 +28,7 @@ fn gives(given: Result<Vec<u8>, ApplyFault>, text: &[u8]) -> bool {
     }
 }
 
-/// Whether the fault is this.
+/// Tells whether a result is a fault.
 fn fails(given: Result<Vec<u8>, ApplyFault>, fault: ApplyFault) -> bool {
     match given {
         Ok(_) => false,

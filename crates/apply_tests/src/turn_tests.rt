@@ -5,7 +5,7 @@ use stream_apply::{ApplyFault, KeyFields, TurnFault, apply_in_turn};
 
 const TABLE: &[u8] = b"1\ta\n2\tb\n3\tc\n";
 
-/// The inputs with these bytes.
+/// Returns inputs with the bytes of texts.
 fn inputs_of(alloc: Global, texts: &[&[u8]]) -> Result<Vec<Vec<u8>>, AllocError> {
     let mut inputs = Vec::new(alloc);
     for text in texts {
@@ -14,7 +14,7 @@ fn inputs_of(alloc: Global, texts: &[&[u8]]) -> Result<Vec<Vec<u8>>, AllocError>
     Ok(inputs)
 }
 
-/// Whether the inputs make this text.
+/// Tells whether inputs make a text.
 fn make(alloc: Global, texts: &[&[u8]], text: &[u8]) -> bool {
     let Ok(inputs) = inputs_of(alloc, texts) else {
         return false;
@@ -25,7 +25,7 @@ fn make(alloc: Global, texts: &[&[u8]], text: &[u8]) -> bool {
     }
 }
 
-/// Whether the inputs are refused for this fault at this place.
+/// Tells whether inputs are refused for a fault at a place.
 fn fail(alloc: Global, texts: &[&[u8]], place: usize, fault: ApplyFault) -> bool {
     let Ok(inputs) = inputs_of(alloc, texts) else {
         return false;

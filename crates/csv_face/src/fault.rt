@@ -1,10 +1,10 @@
 //! Why CSV isn't read.
 
-/// Why bytes aren't read as CSV of rows.
+/// Why bytes aren't rows as CSV.
 #[derive(Clone, Copy, Debug, PartialEq, Eq)]
 pub enum CsvFault {
-    /// The record of this number, which counts from 1, is the first that has another number of fields than is asked for, or a field that
-    /// begins with one backslash and isn't `\N`.
+    /// The first bad record: it has a wrong number of fields, or a field that begins with only one backslash and isn't `\N`. `number` is the
+    /// record's number, from 1.
     BadRecord { number: u64 },
     /// Memory ran out.
     Memory,

@@ -1,12 +1,12 @@
-//! The laws of CSV, each the contract of a function that does nothing.
+//! The laws of CSV. Each law is the contract of a function that does nothing.
 
 ghost use Rattle.std.specs.Prelude.{◌≡◌, ℕ, List};
 ghost use Rattle.row_text.specs.Fields.{IsDelimiter};
 ghost use Rattle.csv_face.specs.Csv.{BeginsWithDigit, IsCopyText, IsCsvOf, Row, csv_text};
 ghost use Rattle.csv_face.specs.Reading.{HasBadRecord, IsReadAs};
 
-/// Rows that are written as CSV are read back, where their text begins with a digit, as one does whose first field is a key: as nothing
-/// else, and no record is bad.
+/// Rows that are written as CSV are read back as their text, if it begins with a digit. It does if its first field is a key. The CSV reads as
+/// no other text, and no record is bad.
 pub fn csv_is_read_back()
     ensures read { (delimiter fields : ℕ) (rows : List Row) (text : List ℕ) → IsDelimiter delimiter → IsCopyText delimiter fields rows text →
         BeginsWithDigit text → IsReadAs delimiter fields (csv_text rows) text }

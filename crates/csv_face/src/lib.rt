@@ -1,8 +1,8 @@
-//! Rows as CSV: a text in COPY text form as the records that the crate `csv` writes, and back.
+//! Rows as CSV: turns a text in COPY text form into the records that the crate `csv` writes, and back.
 //!
-//! A null field is `\N`, a text that begins with a backslash has one more before it, and every other text is itself; so no two fields are
-//! written alike. Records are the crate's default ones: a comma between two fields, quotes round a field that wants them, a line feed at
-//! the end, and no header. A delimiter, the byte between two fields of a line in COPY text form, is a tab (9) or a bar (124).
+//! A null field is `\N`. A text that begins with a backslash gets one more before it. Every other text stands as it is. So no two different
+//! fields are written alike. Records are the crate's default ones: a comma between two fields, quotes round a field that needs them, a line
+//! feed at the end, and no header. A delimiter is the byte between two fields of a line in COPY text form, a tab (9) or a bar (124).
 #![tactic(auto)]
 
 mod fault;

@@ -14,7 +14,7 @@ use line_pages::PageBuf;
 use row_text::field_size;
 use std::alloc::Global;
 
-/// Whether a field of a record is one that no field of a row gives.
+/// Tells whether a field of a record stands for no field of a row.
 fn is_bad_field(field: &[u8]) -> bool
     ensures { result ≡ is_bad_field field.now }
 {
@@ -27,7 +27,7 @@ fn is_bad_field(field: &[u8]) -> bool
     }
 }
 
-/// Whether one of a record's fields is.
+/// Tells whether a record has a field that stands for no field of a row.
 fn has_bad_field(fields: &ByteRecord) -> bool
     ensures { result ≡ list_any is_bad_field (fields_of fields.now) }
 {
@@ -41,14 +41,14 @@ fn has_bad_field(fields: &ByteRecord) -> bool
     false
 }
 
-/// Whether a record has another number of fields than it is to have, or one that no field of a row gives.
+/// Tells whether a record has a wrong number of fields, or a field that stands for no field of a row.
 fn is_bad_record(fields: &ByteRecord, count: u32) -> bool
     ensures { result ≡ is_bad_record count (fields_of fields.now) }
 {
     fields.len() != count as usize || has_bad_field(fields)
 }
 
-/// The field of a row that a field of a record stands for.
+/// Returns the field of a row that a field of a record stands for.
 fn row_field(field: &[u8]) -> Option<&[u8]>
     ensures { option_copied result ≡ row_field field.now }
 {
@@ -59,7 +59,7 @@ fn row_field(field: &[u8]) -> Option<&[u8]>
     }
 }
 
-/// The text that is made, and the room in which a field of it is written first.
+/// The text so far, and the room in which its next field is written first.
 struct Lines {
     alloc: Global,
     text: Vec<u8>,
@@ -79,7 +79,7 @@ impl Drop for Lines {
 }
 
 impl Lines {
-    /// No line.
+    /// Returns a text without lines.
     fn new(alloc: Global) -> Result<Lines, Memory>
         ensures { IfOk result (λ lines. lines.text.items ≡ []) }
     {
@@ -93,7 +93,7 @@ impl Lines {
         }
     }
 
-    /// Empties the room for a field, and makes it one of so many bytes at least.
+    /// Empties the room for a field, and makes it at least `size` bytes.
     fn make_room(&mut self, size: usize) -> Result<(), Memory>
         ensures text { OnOk result (self.new.text ≡ self.old.text) }
         ensures empty { OnOk result (self.new.field.text ≡ []) }
@@ -138,7 +138,7 @@ impl Lines {
         Ok(())
     }
 
-    /// The lines so far.
+    /// Returns the lines so far.
     fn into_text(self) -> Vec<u8>
         ensures { result ≡ self.text }
     {
@@ -152,7 +152,7 @@ impl Lines {
     }
 }
 
-/// What an error is after which a reader gives no more records: over bytes it is want of memory.
+/// Returns the fault for an error after which a reader gives no more records. Over bytes, memory ran out.
 fn stopped(_error: csv::Error) -> CsvFault
     requires { stops_reader (error_kind _error) ≡ true }
     ensures { result ≡ CsvFault.Memory }
@@ -160,9 +160,9 @@ fn stopped(_error: csv::Error) -> CsvFault
     CsvFault::Memory
 }
 
-/// The text in COPY text form, with the delimiter between two fields, of rows in CSV, which have so many fields each, one or more. Its
-/// lines end with a line feed each. Refused at the first record that is bad: that has another number of fields, or one that begins with
-/// one backslash and isn't `\N`.
+/// Returns the text in COPY text form of rows in CSV. Each row has `fields` fields, at least one, with the delimiter between two of them.
+/// Each line ends with a line feed. Refuses the first bad record: it has a wrong number of fields, or a field that begins with only one
+/// backslash and isn't `\N`.
 pub fn from_csv(
     alloc: Global,
     bytes: &[u8],

@@ -11,14 +11,14 @@ use crate::Memory;
 use csv::{ByteRecord, Writer, WriterBuilder};
 use std::alloc::Global;
 
-/// What is read of a text, and written of it.
+/// A text that is being read, and the CSV written so far.
 struct Scanner {
     writer: Writer<Vec<u8>>,
-    /// The fields of the record at hand that are read whole.
+    /// The fields of the current record that are complete.
     fields: ByteRecord,
-    /// The bytes of the field at hand.
+    /// The bytes of the current field.
     field: Vec<u8>,
-    /// Whether a backslash is read whose letter isn't.
+    /// Whether a backslash was read, and its letter wasn't yet.
     is_escape: bool,
 }
 
@@ -36,7 +36,7 @@ impl Drop for Scanner {
     }
 }
 
-/// The byte that a backslash and a letter stand for.
+/// Returns the byte that a backslash and a letter stand for.
 fn byte_of(letter: u8) -> u8
     ensures { result ≡ byte_of letter }
 {
@@ -62,7 +62,7 @@ fn put_byte(field: &mut Vec<u8>, byte: u8) -> Result<(), Memory>
     Ok(())
 }
 
-/// Appends what a backslash and a letter stand for.
+/// Appends the bytes that a backslash and a letter stand for.
 fn put_letter(field: &mut Vec<u8>, letter: u8) -> Result<(), Memory>
     ensures { OnOk result (field.new.items ≡ with_letter field.old.items letter) }
 {
@@ -75,7 +75,7 @@ fn put_letter(field: &mut Vec<u8>, letter: u8) -> Result<(), Memory>
 }
 
 impl Scanner {
-    /// Nothing is read yet.
+    /// Starts with nothing read.
     fn new(alloc: Global) -> Scanner
         ensures { (delimiter : ℕ) (text : List ℕ) →
             WillWrite delimiter result (records_text (records_behind delimiter [] [] false text)) text }
@@ -88,7 +88,7 @@ impl Scanner {
         }
     }
 
-    /// Reads one byte more.
+    /// Reads one more byte.
     #[tactic(auto, unfolding(crate::specs::Scan::records_behind))]
     fn read(&mut self, byte: u8, delimiter: u8) -> Result<(), Memory>
         ensures { (whole rest : List ℕ) → WillWrite delimiter self.old whole (byte ∷ rest) →
@@ -112,7 +112,7 @@ impl Scanner {
         Ok(())
     }
 
-    /// The field at hand is read whole.
+    /// Completes the current field.
     fn end_field(&mut self) -> Result<(), Memory>
         ensures same { OnOk result (self.new ≡ record self.old { fields = self.new.fields; field = self.new.field }) }
         ensures fields { OnOk result (fields_of self.new.fields ≡ fields_of self.old.fields ++ (partial_of self.old.fields ++ self.old.field.items) ∷ []) }
@@ -124,7 +124,7 @@ impl Scanner {
         Ok(())
     }
 
-    /// The record at hand is read whole, and written.
+    /// Completes the current record and writes it.
     fn end_record(&mut self) -> Result<(), Memory>
         ensures written { (text : List ℕ) → HasWritten self.old text →
             OnOk result (HasWritten self.new (text ++ record_text (fields_of self.old.fields ++ self.old.field.items ∷ []))) }
@@ -138,7 +138,7 @@ impl Scanner {
         Ok(())
     }
 
-    /// What is written of a text that is read whole.
+    /// Returns the CSV of a text that is read whole.
     #[tactic(auto, unfolding(crate::specs::Scan::records_behind))]
     fn finish(self) -> Result<Vec<u8>, Memory>
         ensures { (delimiter : ℕ) (whole : List ℕ) → WillWrite delimiter self whole [] → IfOk result (λ csv. csv.items ≡ whole) }
@@ -158,7 +158,7 @@ impl Scanner {
     }
 }
 
-/// The records of a text, as CSV.
+/// Returns the records of a text as CSV.
 fn scanned(alloc: Global, text: &[u8], delimiter: u8) -> Result<Vec<u8>, Memory>
     ensures { IfOk result (λ csv. csv.items ≡ records_text (records_behind delimiter [] [] false text.now)) }
 {
@@ -169,7 +169,7 @@ fn scanned(alloc: Global, text: &[u8], delimiter: u8) -> Result<Vec<u8>, Memory>
     scanner.finish()
 }
 
-/// A text in COPY text form as CSV, row by row. The text is lines as they are written with the delimiter, all of as many fields.
+/// Returns a text in COPY text form as CSV, row by row. The text's lines are written with the delimiter and have the same number of fields.
 pub fn to_csv(alloc: Global, text: &[u8], delimiter: u8) -> Result<Vec<u8>, Memory>
     requires delimiter { IsDelimiter delimiter }
     requires rows { HasRows delimiter text.now }

@@ -1,14 +1,14 @@
-//! A store of rows, and of the references between them.
+//! A store of rows and of the references between them.
 
 ghost use Rattle.std.specs.Prelude.{◌≡◌, ◌≤◌, ℕ, Bool, true, false, IsTrue, OnOk, OnErr, Some, None, is_err};
 ghost use Rattle.pd_outside.specs.Faults.{Rose, faults_after};
 ghost use Rattle.keeper_play.specs.Kept.{put_row, drop_row};
 ghost use Rattle.keeper_play.specs.Store.{Store, finish_store, perform, start_store};
 
-/// A reference that isn't null: the place of its column, that of the table to which it leads, and the key of the row there.
+/// A reference that isn't null.
 #[derive(Clone, Copy, Debug, PartialEq, Eq)]
 pub struct RefTo {
-    /// The column's place in its table.
+    /// The place of the reference's column in its table.
     pub column: u32,
     /// The place of the parent's table.
     pub table: u32,
@@ -16,27 +16,26 @@ pub struct RefTo {
     pub key: u64,
 }
 
-/// A call of a `Keeper` failed: its count of faults rose, and what it keeps is as before.
+/// A call of a `Keeper` failed. Its count of faults rose, and what it keeps stays as it was.
 #[derive(Clone, Copy, Debug, PartialEq, Eq)]
 pub struct KeepFailed;
 
-/// A store of rows, by the place of their table and their key. It is open from a `start` to the `finish` after it.
+/// A store of rows, by the place of their table and their key. It is open from a `start` to the next `finish`.
 ///
-/// What a `store` tells of its rows and of its name are optional meanings: an implementation that can't tell them, as one over a database,
-/// has `None`, and the clauses that speak of them then say nothing of them.
+/// What a `store` tells of its rows and of its name is optional. An implementation that can't tell them, such as one over a database, has
+/// `None`. The clauses on them then say nothing.
 pub trait Keeper {
-    /// The rows, and the name that was last started, each where it is told; whether the store is open; and how many statements were made
-    /// since it was started.
+    /// The rows and the name that was last started, each if it is told; whether the store is open; and the number of statements since it was
+    /// started.
     ghost store: { Self → Store };
 
-    /// How often a call failed: a count of 64 bits that rises where a call fails and nowhere else, and stops at the end of
-    /// its type.
+    /// How often a call failed: a count of 64 bits. It rises only if a call fails, and stops at the end of its type.
     ghost faults: { Self → ℕ };
 
-    /// Whether the last call failed. Where none was made, none failed.
+    /// Whether the last call failed. It is false before the first call.
     ghost last_failed: { Self → Bool };
 
-    /// Opens the store of this name, which has no rows then. At `KeepFailed` all is as before.
+    /// Opens the store of a name, which then has no rows. At `KeepFailed` nothing changes.
     fn start(&mut self, name: &str) -> Result<(), KeepFailed>
         requires { (store self.old).is_open ≡ false }
         ensures started { OnOk result (store self.new ≡ start_store name.now (store self.old)) }
@@ -46,8 +45,8 @@ pub trait Keeper {
         ensures counted { faults self.new ≡ faults_after result (faults self.old) }
         ensures last { last_failed self.new ≡ is_err result };
 
-    /// Puts the row of a table with a key: its references, and its line with its line feed. A row with the same key is replaced. At
-    /// `KeepFailed` all is as before.
+    /// Puts the row of a table with a key: its references, and its line with its line feed. Replaces a row with the same key. At `KeepFailed`
+    /// nothing changes.
     fn put(&mut self, table: u32, key: u64, refs: &[RefTo], line: &[u8]) -> Result<(), KeepFailed>
         requires { IsTrue (store self.old).is_open }
         ensures made { OnOk result (store self.new ≡ perform (put_row table key (record { refs = refs.now; line = line.now })) (store self.old)) }
@@ -57,7 +56,7 @@ pub trait Keeper {
         ensures counted { faults self.new ≡ faults_after result (faults self.old) }
         ensures last { last_failed self.new ≡ is_err result };
 
-    /// Drops the row of a table with a key; all stays where there is none. At `KeepFailed` all is as before.
+    /// Drops the row of a table with a key. Does nothing if there is none. At `KeepFailed` nothing changes.
     fn drop_row(&mut self, table: u32, key: u64) -> Result<(), KeepFailed>
         requires { IsTrue (store self.old).is_open }
         ensures made { OnOk result (store self.new ≡ perform (drop_row table key) (store self.old)) }

@@ -12,7 +12,7 @@ use std::alloc::Global;
 use std::collections::HashMap;
 use std::marker::Model;
 
-/// The calls of a `MapKeeper` that fail: numbers of its `put` and `drop_row` calls, counted together from 1 over the keeper's life.
+/// The calls of a `MapKeeper` that fail. A call's number counts `put` and `drop_row` calls together, from 1, over the keeper's life.
 #[derive(Drop)]
 pub struct KeeperFails {
     calls: Vec<u64>,
@@ -27,7 +27,7 @@ impl Model for KeeperFails {
 }
 
 impl KeeperFails {
-    /// No call fails.
+    /// Returns a list by which no call fails.
     pub fn new(alloc: Global) -> Self
         ensures { result ≡ [] }
     {
@@ -36,7 +36,7 @@ impl KeeperFails {
         }
     }
 
-    /// The call of this number fails too. At `Memory` the list is as before.
+    /// Makes a further call fail, by its number. At `Memory` the list stays as it was.
     pub fn push(&mut self, call: u64) -> Result<(), Memory>
         ensures ok { OnOk result (self.new ≡ self.old ++ call ∷ []) }
         ensures err { OnErr result (self.new ≡ self.old) }
@@ -52,7 +52,7 @@ impl KeeperFails {
     }
 }
 
-/// A row as it is kept.
+/// A kept row.
 struct Kept {
     refs: Vec<RefTo>,
     line: Vec<u8>,
@@ -66,10 +66,10 @@ impl Drop for Kept {
     }
 }
 
-/// A store that keeps its rows in memory, with stated failures. It tells all its meanings; before the first `start` its name is empty.
+/// A store that keeps its rows in memory, with stated failures. It tells its rows and its name. The name is empty before the first `start`.
 ///
-/// A `put` and a `drop_row` fail where they are stated to. They and `start` fail too where no memory is left for what they keep, and the
-/// former two where 2^64 - 1 statements were made since the last `start`. Each call that fails is counted as a fault.
+/// A `put` or a `drop_row` fails if it is stated to, or if 2^64 - 1 statements were made since the last `start`. `start` and `put` fail if
+/// memory runs out. Each call that fails is counted as a fault.
 pub struct MapKeeper {
     alloc: Global,
     fails: KeeperFails,
@@ -101,7 +101,7 @@ impl Drop for MapKeeper {
     }
 }
 
-/// A row with copies of its references and its line.
+/// Returns a row with copies of its references and its line.
 fn kept_row(alloc: Global, refs: &[RefTo], line: &[u8]) -> Result<Kept, Memory>
     ensures { IfOk result (λ kept. row_of kept ≡ record { refs = refs.now; line = line.now }) }
 {
@@ -115,7 +115,7 @@ fn kept_row(alloc: Global, refs: &[RefTo], line: &[u8]) -> Result<Kept, Memory>
 }
 
 impl MapKeeper {
-    /// A store with these failures. It isn't open and has no rows, and no call was made.
+    /// Returns a store with stated failures. It isn't open and has no rows, and no call was made.
     pub fn new(alloc: Global, fails: KeeperFails) -> Self
         ensures { keeping_of result ≡ record {
           rows = no_rows;
@@ -141,7 +141,7 @@ impl MapKeeper {
         }
     }
 
-    /// The line of the row of a table with a key; None exactly where no such row is kept.
+    /// Returns the line of the row of a table with a key; None exactly if no such row is kept.
     pub fn line(&self, table: u32, key: u64) -> Option<&[u8]>
         ensures { option_map (λ line. line.now) result ≡ option_map (λ (row : KeptRow). row.line) ((keeping_of self.now).rows table key) }
     {
@@ -151,7 +151,7 @@ impl MapKeeper {
         }
     }
 
-    /// The references of the row of a table with a key; None exactly where no such row is kept.
+    /// Returns the references of the row of a table with a key; None exactly if no such row is kept.
     pub fn refs(&self, table: u32, key: u64) -> Option<&[RefTo]>
         ensures { option_map (λ refs. refs.now) result ≡ option_map (λ (row : KeptRow). row.refs) ((keeping_of self.now).rows table key) }
     {
@@ -161,28 +161,28 @@ impl MapKeeper {
         }
     }
 
-    /// The name of the store that was last started; the empty text before.
+    /// Returns the name that was last started, or the empty text before.
     pub fn name(&self) -> &str
         ensures { result.now ≡ (keeping_of self.now).name }
     {
         self.name.as_str()
     }
 
-    /// Whether the store is open.
+    /// Tells whether the store is open.
     pub fn is_open(&self) -> bool
         ensures { result ≡ (keeping_of self.now).is_open }
     {
         self.is_open
     }
 
-    /// How many statements were made since the last `start`.
+    /// Returns the number of statements since the last `start`.
     pub fn statements(&self) -> u64
         ensures { result ≡ (keeping_of self.now).done }
     {
         self.done
     }
 
-    /// Counts a call, and tells whether it may be made: it isn't stated to fail, and its statement can be counted.
+    /// Counts a call, and tells whether it can be made: it isn't stated to fail, and its statement can be counted.
     fn may_call(&mut self) -> bool
         ensures rest { keeping_of self.new ≡ record (keeping_of self.old) { calls = counted (keeping_of self.old).calls } }
         ensures stated { Contains (keeping_of self.old).fails (counted (keeping_of self.old).calls) → result ≡ false }
@@ -193,7 +193,7 @@ impl MapKeeper {
         !self.fails.states(self.calls) && self.done < u64::MAX
     }
 
-    /// A call failed: it is counted as a fault.
+    /// Counts a failed call as a fault.
     fn fail(&mut self) -> Result<(), KeepFailed>
         ensures failed { IsErr result }
         ensures never_falls { (keeping_of self.old).faults ≤ (keeping_of self.new).faults }
@@ -204,7 +204,7 @@ impl MapKeeper {
         Err(KeepFailed)
     }
 
-    /// A statement is made.
+    /// Counts a statement that is made.
     fn succeed(&mut self) -> Result<(), KeepFailed>
         requires { (keeping_of self.old).done < last_count }
         ensures made { IsOk result }
@@ -215,7 +215,7 @@ impl MapKeeper {
         Ok(())
     }
 
-    /// Puts a row under its key. At `Memory` all is as before.
+    /// Puts a row under its key. At `Memory` nothing changes.
     fn insert(&mut self, table: u32, key: u64, refs: &[RefTo], line: &[u8]) -> Result<(), Memory>
         ensures ok { OnOk result (keeping_of self.new ≡ record (keeping_of self.old) { rows = with_row table key (Some (record { refs = refs.now; line = line.now })) (keeping_of self.old).rows }) }
         ensures err { OnErr result (keeping_of self.new ≡ keeping_of self.old) }
@@ -225,7 +225,7 @@ impl MapKeeper {
         Ok(())
     }
 
-    /// Takes the row with a key away.
+    /// Removes the row with a key.
     fn remove(&mut self, table: u32, key: u64)
         ensures { keeping_of self.new ≡ record (keeping_of self.old) { rows = with_row table key None (keeping_of self.old).rows } }
     {
@@ -249,7 +249,7 @@ impl Keeper for MapKeeper {
         ensures counted { (keeping_of self.new).faults ≡ faults_after result (keeping_of self.old).faults }
         ensures last { (keeping_of self.new).last_failed ≡ is_err result }
 
-        // It fails for want of memory alone.
+        // It fails only if memory runs out.
         ensures counts { IsCounted result (keeping_of self.old) (keeping_of self.new) }
         ensures calls { (keeping_of self.new).calls ≡ (keeping_of self.old).calls }
     {
@@ -275,7 +275,7 @@ impl Keeper for MapKeeper {
         ensures counted { (keeping_of self.new).faults ≡ faults_after result (keeping_of self.old).faults }
         ensures last { (keeping_of self.new).last_failed ≡ is_err result }
 
-        // It fails where it is stated to, and else for want of memory, or of a number for its statement, alone.
+        // It fails if it is stated to. Otherwise it fails only if memory, or a number for its statement, runs out.
         ensures stated { Contains (keeping_of self.old).fails (counted (keeping_of self.old).calls) → IsErr result }
         ensures counts { IsCounted result (keeping_of self.old) (keeping_of self.new) }
         ensures calls { (keeping_of self.new).calls ≡ counted (keeping_of self.old).calls }
@@ -296,7 +296,7 @@ impl Keeper for MapKeeper {
         ensures counted { (keeping_of self.new).faults ≡ faults_after result (keeping_of self.old).faults }
         ensures last { (keeping_of self.new).last_failed ≡ is_err result }
 
-        // It fails where it is stated to, and else for want of a number for its statement alone.
+        // It fails if it is stated to. Otherwise it fails only if no number for its statement is left.
         ensures stated { Contains (keeping_of self.old).fails (counted (keeping_of self.old).calls) → IsErr result }
         ensures unstated { (keeping_of self.old).done < last_count → OnErr result (Contains (keeping_of self.old).fails (counted (keeping_of self.old).calls)) }
         ensures counts { IsCounted result (keeping_of self.old) (keeping_of self.new) }

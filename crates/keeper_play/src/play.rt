@@ -1,4 +1,4 @@
-//! The statements of a unit, made.
+//! Makes the statements of a unit.
 
 ghost use Rattle.std.specs.Prelude.{◌≡◌, ◌<◌, ◌≤◌, ◌∷◌, [], All, IsTrue, flat_map, length, map, reverse, OnErr, OnOk, true};
 ghost use Rattle.std.specs.List.{range_with_len};
@@ -24,11 +24,11 @@ use schema_plan::Plan;
 use std::sync::ledger::Ledger;
 use step_count::Steps;
 
-/// Makes the statements of a unit: puts the rows that it updates, table by table, drops those that it deletes, the tables in the contrary
-/// order, and puts those that it inserts, table by table. Unit 0 inserts its rows alone.
+/// Makes the statements of a unit. Puts the rows that it updates, table by table. Drops the rows that it deletes, from the last table to the
+/// first. Puts the rows that it inserts, table by table. Unit 0 only inserts.
 ///
-/// `source` tells what the unit does, and `buf` is empty and has a room of the greatest line. At `KeepFailed` the statements before the one
-/// that failed were made, and no others. The store stays open, and `buf` is empty again. It takes no memory.
+/// `source` tells what the unit does. `buf` is empty and has room for the longest line. At `KeepFailed` only the statements before the failed
+/// one were made; the store stays open, and `buf` is empty again. Takes no memory.
 pub fn play_unit<K: Keeper, U: UnitSource, L: Ledger>(
     plan: &Plan,
     unit: u64,
@@ -51,7 +51,7 @@ pub fn play_unit<K: Keeper, U: UnitSource, L: Ledger>(
     play_rows(&Rows::of(plan), unit, source, keeper, buf, steps)
 }
 
-/// The same for rows of a plan, by the orders that are kept for it.
+/// Makes the statements of a unit as `play_unit` does, with the orders that `rows` keeps.
 pub fn play_rows<K: Keeper, U: UnitSource, L: Ledger>(
     rows: &Rows<'_>,
     unit: u64,
@@ -103,7 +103,7 @@ fn put_updates<K: Keeper, U: UnitSource, L: Ledger>(
     Ok(())
 }
 
-/// Drops the rows that a unit deletes, the tables in the contrary order, since rows go before those to which they refer.
+/// Drops the rows that a unit deletes, from the last table to the first, since a row must go before the rows to which it refers.
 fn drop_deletions<K: Keeper, U: UnitSource, L: Ledger>(
     rows: &Rows<'_>,
     unit: u64,
@@ -153,7 +153,7 @@ fn put_insertions<K: Keeper, U: UnitSource, L: Ledger>(
     Ok(())
 }
 
-/// Puts rows of a table as they are at a unit, by which they are born and at which they are alive.
+/// Puts rows of a table as they are at a unit. They are born by it and alive at it.
 fn put_listed<K: Keeper, L: Ledger>(
     rows: &Rows<'_>,
     unit: u64,
@@ -245,8 +245,8 @@ fn drop_listed<K: Keeper, L: Ledger>(
     Ok(())
 }
 
-/// Puts a row that is found as it is at a unit, by which it is born and at which it is alive, by the lines of its cohort. `refs` has room for
-/// its references.
+/// Puts a found row as it is at a unit, by the lines of its cohort. The row is born by the unit and alive at it. `refs` has room for its
+/// references.
 fn put_row<K: Keeper, L: Ledger>(
     rows: &Rows<'_>,
     lines: &CohortLines<'_>,

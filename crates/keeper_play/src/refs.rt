@@ -14,7 +14,7 @@ use schema_plan::{ReadyKind, ReadyReference};
 use std::sync::ledger::Ledger;
 use step_count::Steps;
 
-/// The most references that a row has: one for each column of a table.
+/// The most references of a row: one for each column of a table.
 pub(crate) const MOST_REFS: usize = 64;
 
 /// Room for the references of a row.
@@ -24,8 +24,8 @@ pub(crate) const NO_REFS: [RefTo; MOST_REFS] = [RefTo {
     key: 0,
 }; MOST_REFS];
 
-/// Finds where the references lead at unit `t` of a row which is found, and born by then. They are the first of `refs`, in the order of
-/// their columns, and as many as is told; those that are null are left out.
+/// Finds where the references of a found row lead at unit `t`. The row is born by `t`. Puts them at the front of `refs`, in the order of
+/// their columns and without the null ones, and returns how many there are.
 pub(crate) fn find_refs<L: Ledger>(
     rows: &Rows<'_>,
     table: u32,
@@ -55,7 +55,7 @@ pub(crate) fn find_refs<L: Ledger>(
     count
 }
 
-/// Where the reference leads that is ready in the column at a place; None where it is null at unit `t`.
+/// Returns where the reference of the column at a place leads; None if it is null at unit `t`.
 fn find_ref<L: Ledger>(
     rows: &Rows<'_>,
     table: u32,

@@ -7,13 +7,13 @@ ghost use Rattle.line_pages.specs.Digits.{last_digits, AreFours, HasDigits};
 use crate::{Memory, Piece};
 use std::alloc::Global;
 
-/// How many numbers have up to four digits.
+/// The number of numbers with up to four digits.
 const FOURS: u32 = 10_000;
 
-/// The first number of more than eight digits.
+/// The first number with more than eight digits.
 const LONG: u64 = 100_000_000;
 
-/// The texts of the numbers below 10,000, of four digits each, from which longer ones are put together.
+/// The texts of the numbers below 10,000, four digits each. Longer numbers are put together from them.
 #[derive(Debug, Drop)]
 pub struct Digits {
     /// The bytes of each text, the first one lowest.
@@ -22,7 +22,7 @@ pub struct Digits {
 }
 
 impl Digits {
-    /// The texts, in 40,000 bytes. At `Memory` none are made.
+    /// Makes the texts, which take 40,000 bytes. Returns `Memory` if memory runs out.
     pub fn new(alloc: Global) -> Result<Digits, Memory> {
         let mut fours = Vec::with_capacity(alloc, FOURS as usize)?;
         for number in 0..FOURS {
@@ -31,7 +31,7 @@ impl Digits {
         Ok(Digits { fours })
     }
 
-    /// This number in decimal, which has at most 15 digits, and the byte behind it.
+    /// Returns a number of at most 15 digits in decimal, with the byte `behind` after it.
     #[inline(always)]
     pub fn piece(&self, number: u64, behind: u8) -> Piece
         requires { number < 10 ^ 15 }
@@ -40,7 +40,7 @@ impl Digits {
         number_before(&self.fours, number, Piece::of_byte(behind))
     }
 
-    /// This number in decimal, which has at most 15 digits, and then the piece. Both fit.
+    /// Returns a number of at most 15 digits in decimal, with a piece after it. Both fit together.
     #[inline(always)]
     pub fn before(&self, number: u64, rest: Piece) -> Piece
         requires number { number < 10 ^ 15 }
@@ -50,7 +50,7 @@ impl Digits {
         number_before(&self.fours, number, rest)
     }
 
-    /// The last digits of a number, zeros included, as many as `count`, which is from 1 to 9, and then the piece. Both fit.
+    /// Returns the last `count` digits of a number, 1 to 9, zeros included, with a piece after them. Both fit together.
     #[inline(always)]
     pub fn last_before(&self, number: u64, count: u32, rest: Piece) -> Piece
         requires some { 1 ≤ count }
@@ -66,7 +66,7 @@ impl Digits {
             .prepend(b'0' + (number / LONG % 10) as u8)
     }
 
-    /// Makes each piece the text of its number, which has at most 15 digits, with the byte behind it. There are as many pieces as
+    /// Makes each piece the text of its number, with the byte `behind` after it. A number has at most 15 digits. There are as many pieces as
     /// numbers.
     pub fn fill(&self, numbers: &[u64], behind: u8, pieces: &mut [Piece])
         requires numbers { All (λ number. number < 10 ^ 15) numbers.now }
@@ -80,7 +80,7 @@ impl Digits {
     }
 }
 
-/// The text of a number of up to four digits, with as many digits, the first one lowest.
+/// Returns the four digits of a number below 10,000, zeros included, in a word. The first digit is lowest.
 fn four_digits(number: u32) -> u32
     requires { number < 10000 }
     ensures { low_bytes 4 result ≡ last_digits 4 number }
@@ -92,7 +92,7 @@ fn four_digits(number: u32) -> u32
     first + second * 256 + third * 65536 + fourth * 16_777_216
 }
 
-/// The text of a number of up to eight digits, with as many digits, the first one lowest.
+/// Returns the eight digits of a number below 100,000,000, zeros included, in a word. The first digit is lowest.
 #[inline(always)]
 fn eight_digits(fours: &[u32], number: u64) -> u64
     requires fours { AreFours fours.now }
@@ -104,7 +104,7 @@ fn eight_digits(fours: &[u32], number: u64) -> u64
     high + low * (1 << 32)
 }
 
-/// The last digits of a number, zeros included, as many as `count`, which is from 1 to 8.
+/// Returns the last `count` digits of a number, 1 to 8, zeros included.
 #[inline(always)]
 fn last_piece(fours: &[u32], number: u64, count: u32) -> Piece
     requires fours { AreFours fours.now }
@@ -116,7 +116,7 @@ fn last_piece(fours: &[u32], number: u64, count: u32) -> Piece
     Piece::of_last_bytes(eight_digits(fours, number % LONG), count)
 }
 
-/// The number in decimal, which has at most eight digits.
+/// Returns a number of at most eight digits in decimal.
 #[inline(always)]
 fn short_piece(fours: &[u32], number: u64) -> Piece
     requires fours { AreFours fours.now }
@@ -127,7 +127,7 @@ fn short_piece(fours: &[u32], number: u64) -> Piece
     Piece::of_last_bytes(eight_digits(fours, number), digit_count(number))
 }
 
-/// How many digits a number has, which has at most eight: comparisons that are added up are faster than a choice among them.
+/// Returns the number of digits of a number that has at most eight. Comparisons that are added up are faster than a choice among them.
 #[inline(always)]
 fn digit_count(number: u64) -> u32
     requires { number < 10 ^ 8 }
@@ -143,7 +143,7 @@ fn digit_count(number: u64) -> u32
         + at_least(number, 10_000_000)
 }
 
-/// 1 where the number is at least the limit, and else 0.
+/// Returns 1 if the number is at least the limit, and otherwise 0.
 #[inline(always)]
 fn at_least(number: u64, limit: u64) -> u32
     ensures yes { limit ≤ number → result ≡ 1 }
@@ -153,7 +153,7 @@ fn at_least(number: u64, limit: u64) -> u32
     (number >= limit) as u32
 }
 
-/// The number in decimal, which has at most 15 digits, and then the piece. Both fit.
+/// Returns a number of at most 15 digits in decimal, with a piece after it. Both fit together.
 #[inline(always)]
 fn number_before(fours: &[u32], number: u64, rest: Piece) -> Piece
     requires fours { AreFours fours.now }

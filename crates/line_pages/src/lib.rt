@@ -1,5 +1,5 @@
-//! The buffer that lines are put together in: a page of a fixed room, and pieces, short texts that are copied onto it as fast as
-//! numbers. Rows of pieces, column by column, are put together onto a page.
+//! The buffer in which lines are put together: a page with a fixed room. Pieces are short texts that are copied onto a page as fast as
+//! numbers. Rows of pieces, column by column, are put together on a page.
 #![tactic(auto)]
 
 mod digits;

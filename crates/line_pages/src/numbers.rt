@@ -6,11 +6,11 @@ ghost use Rattle.std.specs.Fmt.{signed_decimal};
 use crate::{PageBuf, Piece};
 use itoa::Buffer;
 
-/// The first number that has too many digits for a piece.
+/// The first number with too many digits for a piece.
 const LONG: u64 = 1_000_000_000_000_000;
 
 impl PageBuf {
-    /// Appends a number in decimal. It fits in what is free.
+    /// Appends a number in decimal. It fits in the free room.
     #[inline(always)]
     pub fn put_number(&mut self, number: u64)
         requires { length self.old.text + length (decimal number) ≤ self.old.room }
@@ -23,7 +23,7 @@ impl PageBuf {
         }
     }
 
-    /// Appends a number in decimal, with a minus sign where it is negative. It fits in what is free.
+    /// Appends a number in decimal, with a minus sign if it is negative. It fits in the free room.
     #[inline(always)]
     pub fn put_signed(&mut self, number: i64)
         requires { length self.old.text + length (signed_decimal number) ≤ self.old.room }

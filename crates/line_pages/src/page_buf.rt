@@ -1,4 +1,4 @@
-//! A buffer of a fixed room.
+//! A buffer with a fixed room.
 
 ghost use Rattle.std.specs.Prelude.{◌≡◌, ◌≤◌, ◌+◌, ◌-◌, [], ◌++◌, length, IfOk};
 ghost use Rattle.line_pages.specs.Pieces.{piece_text};
@@ -7,10 +7,10 @@ use crate::{Memory, Piece};
 use std::alloc::Global;
 use std::marker::Model;
 
-/// Bytes that grow up to a room which is set when the buffer is made. No call but `with_room` takes memory.
+/// Bytes that grow up to a room, which is set when the buffer is made. Only `with_room` takes memory.
 #[derive(Drop)]
 pub struct PageBuf {
-    /// The text, and behind it what no call tells.
+    /// The text, followed by bytes that no call shows.
     pub(crate) bytes: Vec<u8>,
     pub(crate) len: usize,
     room: usize,
@@ -28,10 +28,10 @@ impl Model for PageBuf {
 }
 
 impl PageBuf {
-    /// The bytes behind the room, so that a piece of any length is written as `Piece::ROOM` bytes.
+    /// The number of bytes after the room. They let a piece of any length be written as `Piece::ROOM` bytes.
     const SLACK: usize = Piece::ROOM;
 
-    /// An empty buffer of this room, in bytes.
+    /// Returns an empty buffer of `room` bytes. Returns `Memory` if memory runs out.
     pub fn with_room(alloc: Global, room: usize) -> Result<PageBuf, Memory>
         ensures { IfOk result (λ page. page ≡ record { text = []; room = room }) }
     {
@@ -44,7 +44,7 @@ impl PageBuf {
         })
     }
 
-    /// Appends the bytes. They fit in what is free.
+    /// Appends the bytes. They fit in the free room.
     pub fn put(&mut self, bytes: &[u8])
         requires { length self.old.text + length bytes.now ≤ self.old.room }
         ensures { self.new ≡ record self.old { text = self.old.text ++ bytes.now } }
@@ -54,7 +54,7 @@ impl PageBuf {
         self.len = end;
     }
 
-    /// Appends the piece. It fits in what is free.
+    /// Appends the piece. It fits in the free room.
     #[inline(always)]
     pub fn put_piece(&mut self, piece: &Piece)
         requires { length self.old.text + length (piece_text piece.now) ≤ self.old.room }
@@ -63,7 +63,7 @@ impl PageBuf {
         self.len = piece.paste(self.bytes.as_mut_slice(), self.len);
     }
 
-    /// The bytes so far.
+    /// Returns the bytes so far.
     pub fn text(&self) -> &[u8]
         ensures { result.now ≡ self.now.text }
     {
@@ -77,7 +77,7 @@ impl PageBuf {
         self.len = 0;
     }
 
-    /// The number of bytes that fit in all.
+    /// Returns the number of bytes that fit in all.
     #[inline(always)]
     pub fn room(&self) -> usize
         ensures { result ≡ self.now.room }
@@ -85,7 +85,7 @@ impl PageBuf {
         self.room
     }
 
-    /// The number of bytes that still fit.
+    /// Returns the number of bytes that still fit.
     pub fn free(&self) -> usize
         ensures free { length self.now.text + result ≡ self.now.room }
     {

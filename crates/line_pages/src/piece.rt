@@ -3,11 +3,12 @@
 ghost use Rattle.std.specs.Prelude.{◌≡◌, ◌<◌, ◌≤◌, ◌+◌, ◌-◌, ◌^◌, [], ◌∷◌, ◌++◌, length, take, drop, decimal};
 ghost use Rattle.std.specs.Fmt.{signed_decimal};
 
-/// A text of at most `Piece::ROOM` bytes, which is copied as fast as a number.
+/// A text of at most `Piece::ROOM` bytes. It is copied as fast as a number.
 #[derive(Clone, Copy)]
 pub struct Piece {
     /// The bytes, the first one lowest.
     word: u128,
+    /// The number of bytes.
     len: u64,
     ghost short: { len ≤ 16 },
     ghost fits: { word < 256 ^ len },
@@ -16,10 +17,10 @@ pub struct Piece {
 impl Piece {
     ghost use Rattle.line_pages.specs.Pieces.{low_bytes, piece_text};
 
-    /// The most bytes of a piece: a number of 15 digits, say, and a delimiter.
+    /// The most bytes of a piece, such as a number of 15 digits and a delimiter.
     pub const ROOM: usize = 16;
 
-    /// No byte.
+    /// Returns a piece without bytes.
     #[inline(always)]
     pub fn new() -> Piece
         ensures { piece_text result ≡ [] }
@@ -27,7 +28,7 @@ impl Piece {
         Piece { word: 0, len: 0 }
     }
 
-    /// These bytes. They fit.
+    /// Returns a piece of bytes, which fit.
     #[inline]
     pub fn of(bytes: &[u8]) -> Piece
         requires { length bytes.now ≤ Piece.ROOM }
@@ -40,7 +41,7 @@ impl Piece {
         piece
     }
 
-    /// This byte.
+    /// Returns a piece of one byte.
     #[inline(always)]
     pub fn of_byte(byte: u8) -> Piece
         ensures { piece_text result ≡ byte ∷ [] }
@@ -48,7 +49,7 @@ impl Piece {
         Piece::new().prepend(byte)
     }
 
-    /// This number in decimal, which has at most 15 digits.
+    /// Returns a number of at most 15 digits in decimal.
     #[inline(always)]
     pub fn of_number(number: u64) -> Piece
         requires { number < 10 ^ 15 }
@@ -57,7 +58,7 @@ impl Piece {
         Piece::new().prepend_number(number)
     }
 
-    /// This number in decimal, with a minus sign where it is negative. It fits.
+    /// Returns a number in decimal, with a minus sign if it is negative. It fits.
     #[inline(always)]
     pub fn of_signed(number: i64) -> Piece
         requires { length (signed_decimal number) ≤ Piece.ROOM }
@@ -66,7 +67,7 @@ impl Piece {
         Piece::new().prepend_signed(number)
     }
 
-    /// The last bytes of a word of eight, as many as `count`, which is from 1 to 8.
+    /// Returns the last `count` bytes, 1 to 8, of a word of eight.
     #[inline(always)]
     pub(crate) fn of_last_bytes(word: u64, count: u32) -> Piece
         requires some { 1 ≤ count }
@@ -79,7 +80,7 @@ impl Piece {
         }
     }
 
-    /// The number of bytes.
+    /// Returns the number of bytes.
     #[inline(always)]
     pub fn len(&self) -> usize
         ensures len { result ≡ length (piece_text self.now) }
@@ -88,7 +89,7 @@ impl Piece {
         self.len as usize
     }
 
-    /// The byte, and then the piece. Both fit.
+    /// Returns the byte followed by the piece. Both fit together.
     #[inline(always)]
     pub fn prepend(self, byte: u8) -> Piece
         requires { length (piece_text self) < Piece.ROOM }
@@ -100,7 +101,7 @@ impl Piece {
         }
     }
 
-    /// The piece, and then the byte. Both fit.
+    /// Returns the piece followed by the byte. Both fit together.
     #[inline(always)]
     pub fn with(self, byte: u8) -> Piece
         requires { length (piece_text self) < Piece.ROOM }
@@ -109,7 +110,7 @@ impl Piece {
         self.then(Piece::of_byte(byte))
     }
 
-    /// The piece, which has fewer than 16 bytes, and then another. Both fit.
+    /// Returns the piece followed by another. The piece has fewer than 16 bytes, and both fit together.
     #[inline(always)]
     pub fn then(self, rest: Piece) -> Piece
         requires some { length (piece_text self) < Piece.ROOM }
@@ -122,7 +123,7 @@ impl Piece {
         }
     }
 
-    /// The number in decimal, and then the piece. Both fit.
+    /// Returns the number in decimal followed by the piece. Both fit together.
     #[inline(always)]
     pub fn prepend_number(self, number: u64) -> Piece
         requires { length (decimal number) + length (piece_text self) ≤ Piece.ROOM }
@@ -137,7 +138,7 @@ impl Piece {
         piece.prepend(b'0' + rest as u8)
     }
 
-    /// The number in decimal, with a minus sign where it is negative, and then the piece. Both fit.
+    /// Returns the number in decimal, with a minus sign if it is negative, followed by the piece. Both fit together.
     #[inline(always)]
     pub fn prepend_signed(self, number: i64) -> Piece
         requires { length (signed_decimal number) + length (piece_text self) ≤ Piece.ROOM }
@@ -150,7 +151,7 @@ impl Piece {
         }
     }
 
-    /// Writes the piece from a place on, over 16 bytes whatever its length, and tells where it ends.
+    /// Writes the piece from position `at` on and returns where it ends. Always writes 16 bytes, whatever the piece's length.
     #[inline(always)]
     pub(crate) fn paste(&self, bytes: &mut [u8], at: usize) -> usize
         requires { at + 16 ≤ length bytes.old }

@@ -6,8 +6,8 @@ ghost use Rattle.line_pages.specs.Rows.{row_of_pieces, rows_of_pieces};
 use crate::{PageBuf, Piece};
 
 impl PageBuf {
-    /// Appends the first `count` rows of pieces: columns stand one after the other, each over `stride` rows, and of each row its
-    /// pieces are put one after the other. All fit in what is free.
+    /// Appends the first `count` rows of pieces. `pieces` has one column after the other, each over `stride` rows. The pieces of a row are
+    /// appended one after the other. All fit in the free room.
     pub fn put_rows(&mut self, pieces: &[Piece], columns: usize, stride: usize, count: usize)
         requires pieces { columns * stride ≤ length pieces.now }
         requires rows { count ≤ stride }
@@ -19,7 +19,7 @@ impl PageBuf {
     }
 }
 
-/// Writes rows of pieces from a place on, with 16 bytes to spare behind them, and tells where they end.
+/// Writes rows of pieces from position `start` on and returns where they end. At least 16 bytes are spare after them.
 #[inline(always)]
 fn paste_rows(
     bytes: &mut [u8],
@@ -42,7 +42,7 @@ fn paste_rows(
     end
 }
 
-/// Writes a row of pieces from a place on, with 16 bytes to spare behind them, and tells where it ends.
+/// Writes a row of pieces from position `start` on and returns where it ends. At least 16 bytes are spare after it.
 #[inline(always)]
 fn paste_row(
     bytes: &mut [u8],

@@ -1,4 +1,4 @@
-//! Laws of rounds, each the contract of a function that does nothing.
+//! Laws of rounds. Each law is the contract of a function that does nothing.
 
 ghost use Rattle.std.specs.Prelude.{◌≡◌, ℕ, ◌<◌, ◌≤◌, ◌+◌, ◌++◌, ◌∷◌, [], Contains, Err, List, None, Ok, replicate};
 ghost use Rattle.line_pages.specs.Pages.{Page};
@@ -6,24 +6,24 @@ ghost use Rattle.ordered_sink.specs.Calls.{Call, Offer, Next, after, first_offer
 ghost use Rattle.ordered_sink.specs.Ordered.{Round, answer, begun, finished, next, no_round};
 ghost use Rattle.ordered_sink.specs.declared.offers.Refused.TheVariants.{Beyond, Taken};
 
-/// Whatever is offered, in whatever order, and whenever the next page is asked for: the pages that were handed out are those of
-/// the round's first numbers, in the order of the numbers, each the first one that was offered under its number.
+/// The pages that were handed out are those of the round's first numbers, in order. Each is the first one offered under its number. The order
+/// of the offers and the times at which the next page is asked for don't matter.
 pub fn pages_come_in_order()
     ensures { (calls : List Call) (before : Round) (first count : ℕ) →
         handed_out calls (begun before first count)
         ≡ in_order (first_offered calls) first (after calls (begun before first count)).handed }
 {}
 
-/// Where a page is offered under each number of the round, and then the next one is asked for as often as there are numbers, all
-/// pages come in the order of their numbers, whatever the order of the offers.
+/// If a page is offered under each number of the round, and then the next one is asked for once a number, all pages come in order. The order
+/// of the offers doesn't matter.
 pub fn all_pages_come()
     ensures { (calls : List Call) (before : Round) (first count : ℕ) →
         ((n : ℕ) → first ≤ n → n < first + count → (page : Page) × Contains calls (Offer n page)) →
         handed_out (calls ++ replicate count Next) (begun before first count) ≡ in_order (first_offered calls) first count }
 {}
 
-/// In a round of the numbers 5 to 7, page 6 comes and waits for page 5; no second one is taken, and 8 and 4 aren't the round's.
-/// Then 5 and 6 come out in turn, and 7 is missing.
+/// In a round of the numbers 5 to 7, page 6 comes and waits for page 5. No second page 6 is taken, and 8 and 4 aren't in the round. Then 5
+/// and 6 come out in turn, and 7 is missing.
 pub fn worked_round()
     ensures taken { (six : Page) → answer (begun (no_round 3) 5 3) 6 six ≡ Ok tt }
     ensures waits { (six : Page) → next (after (Offer 6 six ∷ []) (begun (no_round 3) 5 3)) ≡ None }

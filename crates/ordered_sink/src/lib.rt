@@ -1,4 +1,4 @@
-//! Pages in order: they are offered under numbers in any order, and handed out in the order of their numbers.
+//! Pages in order: they are offered under numbers in any order, and handed out in the order of the numbers.
 #![tactic(auto)]
 
 pub mod laws;

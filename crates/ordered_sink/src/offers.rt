@@ -9,18 +9,18 @@ pub struct Numbered {
     pub page: PageBuf,
 }
 
-/// Why a page isn't taken. It comes back as it was offered.
+/// Why a page isn't taken. The page comes back as it was offered.
 #[derive(Drop)]
 pub enum Refused {
     /// The number isn't one of the round's.
     Beyond { page: PageBuf },
-    /// A page was offered under this number in this round before.
+    /// A page was already offered under this number in this round.
     Taken { page: PageBuf },
 }
 
-/// Not all pages of a round were handed out.
+/// Some pages of a round weren't handed out.
 #[derive(Clone, Copy, Debug, PartialEq, Eq)]
 pub struct Missing {
-    /// The least number whose page wasn't.
+    /// The least number whose page wasn't handed out.
     pub first: u64,
 }

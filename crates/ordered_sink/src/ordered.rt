@@ -8,14 +8,17 @@ use line_pages::{Memory, PageBuf};
 use std::alloc::Global;
 use std::marker::Model;
 
-/// Pages that are offered in any order and handed out in the order of their numbers, round after round. A round awaits the
-/// pages of consecutive numbers, each once. No call but `new` takes memory.
+/// Pages that are offered in any order and handed out in the order of their numbers, round after round. A round awaits the pages of
+/// consecutive numbers, each once. Only `new` takes memory.
 #[derive(Drop)]
 pub struct Ordered {
-    /// The pages that wait, each at its number less the round's first one.
+    /// The pages that wait, each at its number minus the round's first one.
     slots: Vec<Option<PageBuf>>,
+    /// The first number of the round.
     first: u64,
+    /// The number of pages of the round.
     count: u64,
+    /// The number of pages that were handed out.
     handed: u64,
 }
 
@@ -38,7 +41,7 @@ impl Model for Ordered {
 }
 
 impl Ordered {
-    /// Rounds of at most so many numbers. No number is awaited yet.
+    /// Makes rounds of at most `capacity` numbers, with no number awaited yet. Returns `Memory` if memory runs out.
     pub fn new(alloc: Global, capacity: usize) -> Result<Ordered, Memory>
         ensures { IfOk result (λ round. round ≡ no_round capacity) }
     {
@@ -51,7 +54,7 @@ impl Ordered {
         })
     }
 
-    /// Begins a round, which awaits the pages of `count` numbers from `first` on. All pages of the round before were handed out.
+    /// Begins a round that awaits the pages of `count` numbers from `first` on. All pages of the round before were handed out.
     pub fn restart(&mut self, first: u64, count: u64)
         requires capacity { count ≤ self.old.capacity }
         requires range { first + count < 2 ^ 63 }
@@ -63,8 +66,8 @@ impl Ordered {
         self.handed = 0;
     }
 
-    /// Takes the page of a number of the round, unless one was offered under it before. A page that isn't taken comes back,
-    /// and all is as before.
+    /// Takes the page of a number of the round, unless one was offered under it before. A page that isn't taken comes back, and nothing
+    /// changes.
     pub fn offer(&mut self, n: u64, page: PageBuf) -> Result<(), Refused>
         ensures answer { result ≡ answer self.old n page }
         ensures after { self.new ≡ after_offer self.old n page }
@@ -79,14 +82,14 @@ impl Ordered {
         Ok(())
     }
 
-    /// Whether the round has this number.
+    /// Tells whether the round has a number.
     fn has_number(&self, n: u64) -> bool
         ensures { result ≡ has_number self.now n }
     {
         self.first <= n && n < self.first + self.count
     }
 
-    /// Whether a page was offered under this number of the round.
+    /// Tells whether a page was offered under a number of the round.
     fn was_offered(&self, n: u64) -> bool
         requires { IsTrue (has_number self.now n) }
         ensures { result ≡ was_offered self.now n }
@@ -94,7 +97,7 @@ impl Ordered {
         n < self.first + self.handed || self.slots[(n - self.first) as usize].is_some()
     }
 
-    /// Hands out the page of the least number whose page wasn't, or none where it wasn't offered yet or none is left.
+    /// Hands out the page of the least number that wasn't handed out. Returns None if that page wasn't offered yet, or none is left.
     pub fn next_page(&mut self) -> Option<Numbered>
         ensures page { result ≡ next self.old }
         ensures after { self.new ≡ after_next self.old }
@@ -108,7 +111,7 @@ impl Ordered {
         Some(Numbered { n, page })
     }
 
-    /// Whether all pages of the round were handed out.
+    /// Returns `Ok` if all pages of the round were handed out, and otherwise the least number whose page wasn't.
     pub fn finish(&self) -> Result<(), Missing>
         ensures { result ≡ finished self.now }
     {
@@ -121,7 +124,7 @@ impl Ordered {
     }
 }
 
-/// So many slots, with no page.
+/// Makes slots with no page.
 fn empty_slots(alloc: Global, capacity: usize) -> Result<Vec<Option<PageBuf>>, Memory>
     ensures { IfOk result (λ slots. slots.items ≡ replicate capacity None) }
 {

@@ -1,4 +1,4 @@
-//! The claim table, by which each of several workers takes the next number, and each number is taken once.
+//! The claim table, from which several workers take the next number. Each number is taken once.
 
 ghost use Rattle.std.specs.Prelude.{◌≡◌, ◌≤◌, [], IfOk};
 ghost use Rattle.range_workers.specs.Rule.{AreAllBelow};
@@ -10,16 +10,16 @@ use crate::view::{ClaimRule, Cut, Merge, Read, Take, View};
 use atomic_table::{Seat, Table};
 use std::alloc::Global;
 
-/// Numbers from 0 on that are claimed one by one, each once, by whichever thread comes next. Threads share it by reference, and
-/// each takes a seat of it. No call but `new` takes memory, and none waits for another thread.
+/// Numbers from 0 on, claimed one by one, each once, by the thread that comes next. Threads share the table by reference, and each takes a
+/// seat of it. Only `new` takes memory, and no call waits for another thread.
 #[derive(Drop)]
 pub struct Claims {
-    /// Its one word is how many numbers were claimed, which is the number that is claimed next.
+    /// Its one word is the number of claimed numbers, which is also the next number to claim.
     table: Table<(), View, (), ClaimRule, Global>,
     ghost one_word: { table.shared.table_id.words ≡ 1 },
 }
 
-/// A seat of a claim table: the caller's, or a worker's. It has no bytes.
+/// A seat of a claim table: the caller's, or a worker's. It takes no bytes.
 #[derive(Drop)]
 pub struct ClaimSeat {
     seat: Seat<(), View>,
@@ -29,7 +29,7 @@ pub struct ClaimSeat {
 impl Claims {
     ghost use Rattle.range_workers.specs.Seats.{IsSeatOf, view};
 
-    /// A table of which no number was claimed, and the caller's seat.
+    /// Returns a table with no claimed number, and the caller's seat.
     pub fn new(alloc: Global) -> Result<(Claims, ClaimSeat), Memory>
         ensures seat { IfOk result (λ made. IsSeatOf made.0 made.1) }
         ensures view { IfOk result (λ made. view made.1 ≡ seen.Caller [] 0) }
@@ -38,7 +38,7 @@ impl Claims {
         Ok((Claims { table }, ClaimSeat { seat }))
     }
 
-    /// A worker's seat. The caller has fewer than 64 of them out.
+    /// Splits off a worker's seat. The caller has fewer than 64 of them out.
     pub fn split(&self, seat: &mut ClaimSeat) -> ClaimSeat
         requires seat { IsSeatOf self.now seat.old }
         requires caller { CanSplit (view seat.old) }
@@ -51,7 +51,7 @@ impl Claims {
         ClaimSeat { seat }
     }
 
-    /// Claims the next number, in one atomic step, for a worker that has fewer than eight.
+    /// Claims the next number in one atomic step, for a worker that has fewer than eight.
     pub fn claim(&self, seat: &mut ClaimSeat) -> u64
         requires seat { IsSeatOf self.now seat.old }
         requires worker { CanClaim (view seat.old) }
@@ -74,8 +74,8 @@ impl Claims {
         self.table.shared.join_seat::<Merge>(&mut seat.seat, other);
     }
 
-    /// How many numbers were claimed, where all workers' seats came back: the caller has each of the numbers below it once, and
-    /// no other.
+    /// Returns how many numbers were claimed, after all workers' seats came back. The caller then has each number below it once, and no
+    /// other.
     pub fn claimed(&self, seat: &mut ClaimSeat) -> u64
         requires seat { IsSeatOf self.now seat.old }
         requires alone { IsAlone (view seat.old) }

@@ -14,16 +14,16 @@ use pd_outside::Gate;
 use std::alloc::Global;
 use std::thread::Threads;
 
-/// How many packages a round has for each worker.
+/// The number of packages of a round for each worker.
 const PACKAGES_EACH: usize = 4;
 
-/// Workers who make the packages of a job, round after round. No call but `new` takes memory.
+/// Workers who make the packages of a job, round after round. Only `new` takes memory.
 pub(crate) struct Crew {
     shop: Workshop,
     /// The pages of the round that aren't handed out yet.
     ordered: Ordered,
     round: RoundClaims,
-    /// How many numbers were claimed so far.
+    /// The number of claimed numbers so far.
     claimed: u64,
 }
 
@@ -41,7 +41,7 @@ impl Drop for Crew {
 }
 
 impl Crew {
-    /// So many workers with pages of this room, who made no package yet.
+    /// Makes workers with pages of `room` bytes, who made no package yet. Returns `Memory` if memory runs out.
     pub(crate) fn new(alloc: Global, workers: usize, room: usize) -> Result<Crew, Memory>
         requires some { 0 < workers }
         requires few { workers ≤ 64 }
@@ -61,8 +61,7 @@ impl Crew {
         })
     }
 
-    /// Puts the page of the next package, the one of this number, behind the pages that aren't wanted any longer, where it stays up to
-    /// the next call.
+    /// Puts the page of the next package, number `n`, after the free pages. It stays there up to the next call.
     pub(crate) fn turn<R: Threads + Sync, P: Packer + Sync, G: Gate + Sync>(
         &mut self,
         rt: &R,
@@ -81,7 +80,7 @@ impl Crew {
         self.shop.pages.push_reserved(page);
     }
 
-    /// Lets the workers make the next round where all pages of the last one were handed out.
+    /// Lets the workers make the next round, if all pages of the last one were handed out.
     fn make_ready<R: Threads + Sync, P: Packer + Sync, G: Gate + Sync>(
         &mut self,
         rt: &R,
@@ -99,7 +98,7 @@ impl Crew {
         }
     }
 
-    /// The workers make the packages of the next round: four for each worker, or as many as are left.
+    /// Makes the packages of the next round: four for each worker, or as many as are left.
     fn next_round<R: Threads + Sync, P: Packer + Sync, G: Gate + Sync>(
         &mut self,
         rt: &R,
@@ -125,7 +124,7 @@ impl Crew {
         offer_all(&mut self.shop.made, &mut self.ordered);
     }
 
-    /// The text of the last page.
+    /// Returns the text of the last page.
     pub(crate) fn text(&self) -> &[u8]
         requires { 0 < length self.now.shop.pages.items }
         ensures { result.now ≡ (last_page self.now).text }
@@ -134,7 +133,7 @@ impl Crew {
     }
 }
 
-/// Offers all pages of a round, each under the number by which its package was claimed.
+/// Offers all pages of a round, each under its claimed number.
 fn offer_all(made: &mut Vec<Numbered>, ordered: &mut Ordered)
     ensures offered { (text : ℕ → List ℕ) (room : ℕ) (round : RoundClaims) → IsOffering text room round made.old.items ordered.old → IsOffering text room round made.new.items ordered.new }
     ensures all { made.new.items ≡ [] }

@@ -9,9 +9,9 @@ pub struct Memory;
 /// Why the packages of a job weren't all written.
 #[derive(Clone, Copy, Debug, PartialEq, Eq)]
 pub enum RunFault {
-    /// A call of the shelf failed: its count of faults rose. The shelf holds a prefix of the due files.
+    /// A call of the shelf failed, and its count of faults rose. The shelf holds a prefix of the due files.
     Write,
-    /// Memory ran out, before the first file was begun.
+    /// Memory ran out before the first file was begun.
     Memory,
 }
 

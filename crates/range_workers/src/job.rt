@@ -13,8 +13,8 @@ use pd_outside::{Failed, Gate, Shelf, WriteFailed, write_all};
 use std::alloc::Global;
 use std::thread::Threads;
 
-/// Makes the package of a number, once it has entered the gate, and appends its text to the begun file, by one `write_all` where it
-/// isn't empty.
+/// Makes package `n`, after it has entered the gate, and appends its text to the begun file. Writes by one `write_all` if the text isn't
+/// empty.
 fn write_package<R: Threads + Sync, P: Packer + Sync, S: Shelf, G: Gate + Sync>(
     rt: &R,
     packer: &P,
@@ -42,7 +42,7 @@ fn write_package<R: Threads + Sync, P: Packer + Sync, S: Shelf, G: Gate + Sync>(
     write_all(shelf, makers.text())
 }
 
-/// Makes the packages from one up to another, and appends their texts to the begun file.
+/// Makes the packages from `first` up to `end`, and appends their texts to the begun file.
 fn write_packages<R: Threads + Sync, P: Packer + Sync, S: Shelf, G: Gate + Sync>(
     rt: &R,
     packer: &P,
@@ -76,7 +76,7 @@ fn write_packages<R: Threads + Sync, P: Packer + Sync, S: Shelf, G: Gate + Sync>
     Ok(())
 }
 
-/// Writes the file of this name, with the packages from one up to another.
+/// Writes the file `name`, with the packages from `first` up to `end`.
 fn write_file<R: Threads + Sync, P: Packer + Sync, S: Shelf, G: Gate + Sync>(
     rt: &R,
     packer: &P,
@@ -154,15 +154,15 @@ fn write_files<R: Threads + Sync, P: Packer + Sync, S: Shelf, G: Gate + Sync>(
     Ok(())
 }
 
-/// Makes all packages of a job by this many workers, and writes them: for each mark it begins the file of its name, appends the texts of
-/// its packages in order up to the next mark, and ends the file. Each package enters the gate once, before it is made, and each text
+/// Makes all packages of a job by `workers` workers, and writes them. For each mark it begins the file with the mark's name, appends the
+/// texts of the packages in order up to the next mark, and ends the file. Each package enters the gate once, before it is made. Each text
 /// that isn't empty is written by one `write_all`.
 ///
-/// One worker is the caller itself. More of them claim the packages in threads, in rounds of four packages for each worker, and while a
-/// round is written none of them computes.
+/// One worker is the caller itself. Several workers claim the packages in threads, in rounds of four packages for each worker. None of them
+/// computes while a round is written.
 ///
-/// `Write` comes only where the shelf's count of faults rose, and the shelf holds a prefix of the due files then. `Memory` comes only
-/// before the first file is begun.
+/// Returns `Write` only if the shelf's count of faults rose; the shelf then holds a prefix of the due files. Returns `Memory` only before the
+/// first file is begun.
 pub fn run<R: Threads + Sync, P: Packer + Sync, S: Shelf, G: Gate + Sync>(
     rt: &R,
     alloc: Global,

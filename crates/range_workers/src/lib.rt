@@ -1,4 +1,4 @@
-//! Workers, which claim the packages of a job and make them side by side.
+//! Workers that claim the packages of a job and make them side by side.
 #![tactic(auto)]
 
 mod claims;

@@ -11,7 +11,7 @@ use pd_outside::Gate;
 use std::alloc::Global;
 use std::thread::Threads;
 
-/// The caller alone, on one page, or several workers in threads.
+/// The caller itself on one page, or several workers in threads.
 pub(crate) enum Makers {
     Alone { page: PageBuf },
     Several { crew: Crew },
@@ -27,7 +27,7 @@ impl Drop for Makers {
 }
 
 impl Makers {
-    /// So many makers with pages of this room, who made no package yet.
+    /// Makes makers with pages of `room` bytes, who made no package yet. Returns `Memory` if memory runs out.
     pub(crate) fn new(alloc: Global, workers: u32, room: usize) -> Result<Makers, Memory>
         requires some { 1 ≤ workers }
         requires few { workers ≤ 64 }
@@ -41,7 +41,7 @@ impl Makers {
         Ok(Makers::Several { crew })
     }
 
-    /// Makes the next package, the one of this number, which has entered the gate.
+    /// Makes the next package, number `n`, after it has entered the gate.
     pub(crate) fn turn<R: Threads + Sync, P: Packer + Sync, G: Gate + Sync>(
         &mut self,
         rt: &R,
@@ -61,7 +61,7 @@ impl Makers {
         }
     }
 
-    /// The text of the package that was made last.
+    /// Returns the text of the package that was made last.
     pub(crate) fn text(&self) -> &[u8]
         requires { HasText self.now }
         ensures { result.now ≡ text_made self.now }

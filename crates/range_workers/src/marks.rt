@@ -7,14 +7,14 @@ use crate::Memory;
 use std::alloc::Global;
 use std::marker::Model;
 
-/// Where the packages of a job go: a list of package numbers, each with a name. The packages from that number on are written under
-/// that name, up to the number of the next mark.
+/// Where the packages of a job go: a list of marks, each a package number with a name. Packages from a mark's number on, up to the next
+/// mark's, are written under its name.
 #[derive(Drop)]
 pub struct Marks {
     entries: Vec<Entry>,
 }
 
-/// A mark as it is kept.
+/// A mark: the number of its first package, and its name.
 #[derive(Drop)]
 struct Entry {
     first: u64,
@@ -32,7 +32,7 @@ impl Model for Marks {
 }
 
 impl Marks {
-    /// No mark.
+    /// Returns a list without marks.
     pub fn new(alloc: Global) -> Marks
         ensures { result ≡ [] }
     {
@@ -41,7 +41,7 @@ impl Marks {
         }
     }
 
-    /// Adds a mark at the end: the packages from this number on are written under this name. At `Memory` the list is as before.
+    /// Adds a mark at the end: the packages from number `first` on are written under `name`. At `Memory` the list stays as it was.
     pub fn push(&mut self, first: u64, name: &str) -> Result<(), Memory>
         ensures ok { OnOk result (self.new ≡ self.old ++ record { first = first; name = name.now } ∷ []) }
         ensures err { OnErr result (self.new ≡ self.old) }
@@ -52,14 +52,14 @@ impl Marks {
         Ok(())
     }
 
-    /// The number of marks.
+    /// Returns the number of marks.
     pub(crate) fn len(&self) -> usize
         ensures { result ≡ length self.now }
     {
         self.entries.len()
     }
 
-    /// The name of mark `i`, counted from 0.
+    /// Returns the name of mark `i`, counted from 0.
     pub(crate) fn name(&self, i: usize) -> &str
         requires { i < length self.now }
         ensures { result.now ≡ (mark_at self.now i).name }
@@ -67,7 +67,7 @@ impl Marks {
         self.entries[i].name.as_str()
     }
 
-    /// The number of the first package under mark `i`.
+    /// Returns the number of the first package under mark `i`.
     pub(crate) fn first(&self, i: usize) -> u64
         requires { i < length self.now }
         ensures { result ≡ (mark_at self.now i).first }
@@ -75,7 +75,7 @@ impl Marks {
         self.entries[i].first
     }
 
-    /// The number behind the last package under mark `i`, where there are so many packages in all.
+    /// Returns the number after the last package under mark `i`, of `count` packages in all.
     #[tactic(auto, using(crate::proofs::MarkLemmas::end_before_mark, crate::proofs::MarkLemmas::end_before_none))]
     pub(crate) fn end(&self, i: usize, count: u64) -> u64
         requires { i < length self.now }

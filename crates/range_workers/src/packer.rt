@@ -4,27 +4,27 @@ ghost use Rattle.std.specs.Prelude.{◌≡◌, ◌<◌, ◌≤◌, ◌^◌, [], 
 
 use line_pages::PageBuf;
 
-/// The packages of a job by their numbers, from 0 on. Each has a text, whichever worker makes it and whenever.
+/// The packages of a job, numbered from 0. A package's text depends neither on the worker that makes it nor on the time.
 pub trait Packer {
-    /// The text of the package of this number.
+    /// The text of the package with a number.
     ghost text: { Self → ℕ → List ℕ };
 
-    /// How many packages there are.
+    /// The number of packages.
     ghost count: { Self → ℕ };
 
-    /// The room that a page needs, in bytes, so that each text fits.
+    /// The room, in bytes, that a page needs for each text to fit.
     ghost room: { Self → ℕ };
 
-    /// How many packages there are: at most 2^60.
+    /// Returns the number of packages, at most 2^60.
     fn count(&self) -> u64
         ensures count { result ≡ count self.now }
         ensures most { result ≤ 2 ^ 60 };
 
-    /// The room that `pack` wants of a page, in bytes.
+    /// Returns the room, in bytes, that `pack` needs on a page.
     fn room(&self) -> usize
         ensures { result ≡ room self.now };
 
-    /// Makes the package of this number: its text is put on the page, which is empty. Takes no memory.
+    /// Makes package `n` and puts its text on an empty page. Takes no memory.
     fn pack(&self, n: u64, page: &mut PageBuf)
         requires number { n < count self.now }
         requires empty { page.old.text ≡ [] }

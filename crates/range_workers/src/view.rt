@@ -1,4 +1,4 @@
-//! What a seat of a claim table knows, and how it knows more by each call.
+//! What a seat of a claim table knows, and what each call teaches it.
 
 ghost use Rattle.std.specs.Prelude.{[]};
 ghost use Rattle.range_workers.specs.Rule.{IsKept};
@@ -9,13 +9,13 @@ ghost use Rattle.range_workers.specs.declared.view.View.TheVariants as view;
 use atomic_table::{Join, Play, Split, TableRule};
 use std::collections::LinkedList;
 
-/// What a seat knows. It stands in contracts and proofs; no value of it is made.
+/// What a seat knows. It occurs only in contracts and proofs; no value of it is made.
 pub enum View {
-    /// The caller's seat has the numbers that came back to it, and so many workers' seats are out.
+    /// The caller's seat: the numbers that came back to it, and how many workers' seats are out.
     Caller { numbers: LinkedList<u64>, out: u64 },
-    /// A worker's seat has the numbers that it claimed, none of them below `from`.
+    /// A worker's seat: the numbers that it claimed, none of them below `from`.
     Worker { numbers: LinkedList<u64>, from: u64 },
-    /// A worker's seat that was joined.
+    /// A worker's seat after it was joined.
     Spent,
 }
 
@@ -42,7 +42,7 @@ impl Play<(), View> for Read {
     ghost then = { λ _. TellsAll };
 }
 
-/// A worker's seat is cut off from the caller's.
+/// A worker's seat is split from the caller's.
 pub(crate) struct Cut;
 
 impl Split<View> for Cut {

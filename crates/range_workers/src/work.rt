@@ -1,4 +1,4 @@
-//! Workers, which claim the packages of a round and make them side by side, each on pages of its own.
+//! Workers that claim the packages of a round and make them side by side, each on its own pages.
 
 ghost use Rattle.std.specs.Prelude.{◌≡◌, ◌+◌, ◌-◌, ◌<◌, All, length};
 ghost use Rattle.std.specs.Thread.{IsSync};
@@ -10,10 +10,10 @@ use ordered_sink::Numbered;
 use pd_outside::Gate;
 use std::thread::{Threads, join_mut};
 
-/// How many pages a worker has, and how many numbers it claims in a round at most.
+/// The number of pages of a worker, and the most numbers that it claims in a round.
 pub(crate) const PAGES_EACH: usize = 8;
 
-/// The numbers of a round: it claims those from `base` up to `end`, and `base` stands for package `first`.
+/// The numbers of a round. It claims the numbers from `base` up to `end`, and `base` stands for package `first`.
 #[derive(Clone, Copy)]
 pub(crate) struct RoundClaims {
     pub(crate) first: u64,
@@ -21,9 +21,11 @@ pub(crate) struct RoundClaims {
     pub(crate) end: u64,
 }
 
-/// The pages of a worker: blank ones, and those that it made in the round, each under the number that it claimed.
+/// The pages of a worker.
 pub(crate) struct Bench {
+    /// The blank pages.
     pub(crate) blank: Vec<PageBuf>,
+    /// The pages that it made in the round, each with the number that it claimed.
     pub(crate) made: Vec<Numbered>,
 }
 
@@ -42,7 +44,7 @@ pub(crate) struct RoundWorker {
     pub(crate) bench: Bench,
 }
 
-/// Claims numbers and makes their packages, each on a blank page, up to eight claims or to one past the round.
+/// Claims numbers and makes their packages, each on a blank page. Stops after eight claims, or when a number is past the round.
 fn work<P: Packer, G: Gate>(
     packer: &P,
     gate: &G,
@@ -68,7 +70,7 @@ fn work<P: Packer, G: Gate>(
     }
 }
 
-/// Makes the package of a number on a page, once it has entered the gate.
+/// Makes package `n` on a page, after it has entered the gate.
 pub(crate) fn make_page<P: Packer, G: Gate>(packer: &P, gate: &G, n: u64, page: &mut PageBuf)
     requires number { n < P.count packer.now }
     requires room { page.old.room ≡ P.room packer.now }
@@ -79,7 +81,7 @@ pub(crate) fn make_page<P: Packer, G: Gate>(packer: &P, gate: &G, n: u64, page: 
     packer.pack(n, page);
 }
 
-/// All workers work, side by side in threads.
+/// Lets all workers work side by side in threads.
 pub(crate) fn work_all<R: Threads + Sync, P: Packer + Sync, G: Gate + Sync>(
     rt: &R,
     packer: &P,

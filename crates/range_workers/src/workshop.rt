@@ -1,4 +1,4 @@
-//! The workers of a job in one round after another: they go out with seats and blank pages, and come back with what they made.
+//! The workers of a job, round after round: they go out with seats and blank pages, and come back with what they made.
 
 ghost use Rattle.std.specs.Prelude.{◌≡◌, ◌+◌, ◌<◌, ◌≤◌, ◌*◌, ◌++◌, All, IfOk, [], ℕ, length, vec_capacity};
 ghost use Rattle.range_workers.specs.Round.{HasRoom, IsRoundOf};
@@ -15,17 +15,18 @@ use pd_outside::Gate;
 use std::alloc::Global;
 use std::thread::Threads;
 
-/// Workers with all that they have, between rounds and in one. No call but `new` takes memory.
+/// Workers with all that they have, between rounds and in one. Only `new` takes memory.
 pub(crate) struct Workshop {
     pub(crate) claims: Claims,
     /// The caller's seat.
     pub(crate) seat: ClaimSeat,
-    /// How many workers there are, and the room of each page.
+    /// The number of workers.
     pub(crate) count: usize,
+    /// The room of each page, in bytes.
     pub(crate) room: usize,
-    /// Of the workers that aren't out.
+    /// The benches of the workers that aren't out.
     pub(crate) benches: Vec<Bench>,
-    /// Those that are out.
+    /// The workers that are out.
     pub(crate) workers: Vec<RoundWorker>,
     /// Pages whose text isn't wanted any longer.
     pub(crate) pages: Vec<PageBuf>,
@@ -55,7 +56,7 @@ impl Drop for Workshop {
 }
 
 impl Workshop {
-    /// The workshop of so many workers, with eight pages of this room for each.
+    /// Makes the workshop of `count` workers, with eight pages of `room` bytes for each. Returns `Memory` if memory runs out.
     pub(crate) fn new(alloc: Global, count: usize, room: usize) -> Result<Workshop, Memory>
         requires { count ≤ 64 }
         ensures rest { IfOk result IsAtRest }
@@ -80,7 +81,7 @@ impl Workshop {
         })
     }
 
-    /// All workers go out, each with a seat and eight pages.
+    /// Sends all workers out, each with a seat and eight pages.
     fn set_out(&mut self)
         requires { IsAtRest self.old }
         ensures out { IsGoingOut self.new }
@@ -96,7 +97,7 @@ impl Workshop {
         }
     }
 
-    /// Takes back a worker that came in, with its numbers and its pages.
+    /// Takes back a worker, with its numbers and its pages.
     fn take_back(&mut self, worker: RoundWorker)
         requires seat { IsSeatOf self.old.claims self.old.seat }
         requires worker_seat { IsSeatOf self.old.claims worker.seat }
@@ -127,7 +128,7 @@ impl Workshop {
         self.benches.push_reserved(bench);
     }
 
-    /// The workers make the packages of a round, and all come back: there is one page for each number of the round then. Tells how
+    /// Makes the packages of a round by all workers, who then come back, so that there is one page for each number of the round. Returns how
     /// many numbers were claimed so far.
     pub(crate) fn run_round<R: Threads + Sync, P: Packer + Sync, G: Gate + Sync>(
         &mut self,
@@ -161,7 +162,7 @@ impl Workshop {
     }
 }
 
-/// Moves eight pages from one list to another, which has none.
+/// Moves eight pages from one list to another, which is empty.
 fn deal(from: &mut Vec<PageBuf>, to: &mut Vec<PageBuf>)
     requires enough { 8 ≤ length from.old.items }
     requires none { to.old.items ≡ [] }
@@ -177,7 +178,7 @@ fn deal(from: &mut Vec<PageBuf>, to: &mut Vec<PageBuf>)
     }
 }
 
-/// So many benches with no page.
+/// Makes benches with no pages.
 fn new_benches(alloc: Global, count: usize) -> Result<Vec<Bench>, Memory>
     ensures cleared { IfOk result (λ benches. All IsCleared benches.items) }
     ensures count { IfOk result (λ benches. length benches.items ≡ count) }
@@ -192,7 +193,7 @@ fn new_benches(alloc: Global, count: usize) -> Result<Vec<Bench>, Memory>
     Ok(benches)
 }
 
-/// So many pages of this room.
+/// Makes pages of `room` bytes.
 fn new_pages(alloc: Global, count: usize, room: usize) -> Result<Vec<PageBuf>, Memory>
     ensures rooms { IfOk result (λ pages. All (HasRoom room) pages.items) }
     ensures count { IfOk result (λ pages. length pages.items ≡ count) }

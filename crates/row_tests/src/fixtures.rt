@@ -12,7 +12,7 @@ use schema_read::read_schema;
 use std::alloc::Global;
 use std::process::Abort;
 
-/// The plan of the schema whose text these parts make, one behind the other. It may cite the dictionary `n`, of three words.
+/// Returns the plan of the schema whose text is the parts, one after the other. The schema can cite the dictionary `n`, of three words.
 pub(crate) fn plan_of(rt: &impl Abort, alloc: Global, parts: &[&str]) -> Plan {
     let mut text = String::new(alloc);
     for part in parts {
@@ -36,17 +36,17 @@ fn three_words(rt: &impl Abort, alloc: Global) -> Dictionaries {
     all
 }
 
-/// A case has to hold; the two numbers say which one it is.
+/// Asserts that a case holds. The two numbers say which one it is.
 pub(crate) fn assert_case(rt: &impl Abort, holds: bool, of: u64, number: u64) {
     assert!(rt; holds, "case {number} of {of}");
 }
 
-/// A checksum, and a number behind what it stands for.
+/// Returns a checksum with a further number.
 pub(crate) fn with_number(sum: u64, number: u64) -> u64 {
     sum.wrapping_mul(1_000_003).wrapping_add(number)
 }
 
-/// A checksum, and a text behind what it stands for.
+/// Returns a checksum with a further text.
 pub(crate) fn with_text(sum: u64, text: &[u8]) -> u64 {
     let mut sum = sum;
     for byte in text {
@@ -55,7 +55,7 @@ pub(crate) fn with_text(sum: u64, text: &[u8]) -> u64 {
     sum
 }
 
-/// Whether there is a table at a place, and a row of this ordinal in it.
+/// Tells whether there is a table at a place with a row of an ordinal.
 pub(crate) fn is_row(plan: &Plan, table: u32, row: u64) -> bool
     ensures table { result ≡ true → table < length plan.now.schema.tables }
     ensures row { result ≡ true → row < rows_in_all plan.now table }
@@ -63,7 +63,7 @@ pub(crate) fn is_row(plan: &Plan, table: u32, row: u64) -> bool
     table < plan.tables() && row < born(plan, table, plan.units())
 }
 
-/// Whether the column behind the key is a reference.
+/// Tells whether the column after the key is a reference.
 pub(crate) fn has_parents(plan: &Plan, table: u32) -> bool
     requires { table < length plan.now.schema.tables }
     ensures { result ≡ true → is_some (reference_at (table_of plan.now table) 1) ≡ true }
@@ -72,9 +72,9 @@ pub(crate) fn has_parents(plan: &Plan, table: u32) -> bool
     columns.len() >= 2 && matches!(columns[1].kind, ReadyKind::Reference(_))
 }
 
-/// Customers, one at each unit, who live three units and change every two; orders, each of the oldest customer of the last three
-/// units, with the birth of that, that would live nine; and lines, each of the order of its own unit, with a label that has the
-/// order's key, and with the order's customer.
+/// Customers, orders and lines. One customer is born at each unit, lives three units and changes every two. An order is of the oldest
+/// customer of the last three units, shows when that customer was born, and would live nine units. A line is of the order of its own unit,
+/// and has a label with the order's key and the order's customer.
 pub(crate) const SALES: &str = r#"
 seed = 7
 units = 5

@@ -1,4 +1,4 @@
-//! The tests of the crates that make rows, of `row_text`, `draw_values`, `life_intervals`, `row_lines` and `update_box`.
+//! Tests of the crates that make rows: `row_text`, `draw_values`, `life_intervals`, `row_lines` and `update_box`.
 #![tactic(auto)]
 
 #[cfg(test)]

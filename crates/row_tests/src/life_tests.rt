@@ -1,5 +1,5 @@
-//! Values from outside: cohorts, short lives and deaths with parents worked out by hand, and keys, lives, changes and parents that an
-//! independent program gave, written in Python from the rules, with no shared code (docs/SECOND_PROGRAM.md).
+//! Values from outside: cohorts, short lives and deaths with parents that are worked out by hand, and keys, lives, changes and parents from
+//! an independent program. The program is written in Python from the rules and shares no code (docs/SECOND_PROGRAM.md).
 
 ghost use Rattle.std.specs.Prelude.{◌≡◌, ◌^◌, ◌<◌, ◌≤◌, [], ◌∷◌, Some, length, map, true};
 ghost use Rattle.cohort_sizes.specs.Births.{cohort_size};
@@ -43,7 +43,7 @@ fn is_no_key<L: Ledger>(plan: &Plan, table: u32, number: u64, steps: &mut Steps<
     table < plan.tables() && row_of_key(plan, table, number, steps).is_none()
 }
 
-/// The keys of a table, one after the other, as one number; and those by orders that are kept.
+/// Returns checksums of the keys of a table, one after the other: without kept orders, and with them.
 fn key_checksums<L: Ledger>(plan: &Plan, orders: &JobOrders, steps: &mut Steps<L>) -> (u64, u64)
     requires table { 0 < length plan.now.schema.tables }
     requires orders { AreOrdersOf plan.now orders.now }
@@ -129,7 +129,8 @@ fn survives(plan: &Plan, table: u32, born: u64, ages: &[Survival]) -> bool {
     true
 }
 
-/// Whether the row with an index in the cohort of a table that is born at a unit is alive at another, and when it changed last.
+/// Tells whether a row of the cohort of a unit is alive at another unit, and when it changed last. The row is named by its index in the
+/// cohort.
 fn row_at<L: Ledger>(
     rows: &Rows<'_>,
     table: u32,
@@ -192,7 +193,7 @@ fn is_cohort<L: Ledger>(
         && has_rows(plan, birth, unit, rows, steps)
 }
 
-/// A number, and behind it for each row of a cohort whether it is alive and when it changed last, as one number.
+/// Returns a checksum with a further number for each row of a cohort: whether it is alive, and when it changed last.
 fn with_cohort<L: Ledger>(
     rows: &Rows<'_>,
     birth: u64,
@@ -212,7 +213,7 @@ fn with_cohort<L: Ledger>(
     sum
 }
 
-/// The same of all cohorts at a unit, by orders that are kept.
+/// Returns the checksum of all cohorts at a unit, with kept orders.
 fn row_checksum<L: Ledger>(plan: &Plan, unit: u64, orders: &JobOrders, steps: &mut Steps<L>) -> u64
     requires table { 0 < length plan.now.schema.tables }
     requires unit { unit ≤ last_unit plan.now }
@@ -243,7 +244,7 @@ fn has_all_rows<L: Ledger>(
     }
 }
 
-/// Whether the first row of the table at place 1 is alive at a unit.
+/// Tells whether the first row of the table at place 1 is alive at a unit.
 fn is_first_live<L: Ledger>(rows: &Rows<'_>, unit: u64, steps: &mut Steps<L>) -> bool
     requires table { 1 < length rows.now.schema.tables }
     requires row { 0 < cohort_size (table_of rows.now 1).births 0 }
@@ -253,7 +254,7 @@ fn is_first_live<L: Ledger>(rows: &Rows<'_>, unit: u64, steps: &mut Steps<L>) ->
     live
 }
 
-/// Whether the first row of the table at place 1 is alive at a unit, or not, by orders that are kept and by none.
+/// Tells whether the first row of the table at place 1 is alive at a unit or not, as told, with kept orders and without.
 fn is_first_as_told<L: Ledger>(
     alloc: Global,
     plan: &Plan,
@@ -273,7 +274,7 @@ fn is_first_as_told<L: Ledger>(
     }
 }
 
-/// Whether what is told of births and keys holds.
+/// Tells whether a statement on births and keys holds.
 pub(crate) fn has_keys_as_told<L: Ledger>(
     alloc: Global,
     plan: &Plan,
@@ -292,7 +293,7 @@ pub(crate) fn has_keys_as_told<L: Ledger>(
     }
 }
 
-/// Whether what is told of the lives, changes and parents of rows holds.
+/// Tells whether a statement on the lives, changes and parents of rows holds.
 pub(crate) fn lives_as_told<L: Ledger>(
     plan: &Plan,
     table: u32,
@@ -313,7 +314,7 @@ pub(crate) fn lives_as_told<L: Ledger>(
     }
 }
 
-/// Whether what is told of cohorts holds.
+/// Tells whether a statement on cohorts holds.
 pub(crate) fn has_cohorts_as_told<L: Ledger>(
     alloc: Global,
     plan: &Plan,
@@ -360,7 +361,7 @@ rows = 2
 insert = [[1, 3], [3, 0], [4, 1]]
 "#;
 
-/// As many rows as a table may have, in one cohort.
+/// As many rows as a table can have, in one cohort.
 const ONE_LARGE_COHORT: &str = r#"
 seed = 7
 units = 0
@@ -369,7 +370,7 @@ name = "t"
 rows = 1099511627776
 "#;
 
-/// Cohorts of so many rows, one at each unit but 0. The number stands behind.
+/// Cohorts of equal size, one at each unit except 0. The size follows the text.
 const MANY_COHORTS: &str = r#"
 seed = 7
 units = 10000
@@ -378,14 +379,14 @@ name = "t"
 rows = 0
 insert = "#;
 
-/// Lives of three to five units go one after the other by place.
+/// Lives of three to five units, one after the other by place.
 fn lives_by_place()
     ensures differ { map (life_by (Some (record { least = 3; most = 5 }))) (0 ∷ 1 ∷ 2 ∷ 3 ∷ 2 ^ 40 ∷ [])
         ≡ Some 3 ∷ Some 4 ∷ Some 5 ∷ Some 3 ∷ Some 4 ∷ [] }
     ensures same { life_by (Some (record { least = 7; most = 7 })) 9 ≡ Some 7 }
 {}
 
-/// A row that is born at unit 2 is due at 4, 7, 10 and so on; and one that is born at unit 5 at each unit from 6 on.
+/// A row that is born at unit 2 is due at 4, 7, 10 and so on. A row that is born at unit 5 is due at each unit from 6 on.
 fn last_due_units()
     ensures at_times { map (last_due 2 4 3) (2 ∷ 3 ∷ 4 ∷ 6 ∷ 7 ∷ 9 ∷ 10 ∷ []) ≡ 2 ∷ 2 ∷ 4 ∷ 4 ∷ 7 ∷ 7 ∷ 10 ∷ [] }
     ensures always { map (last_due 5 6 1) (5 ∷ 6 ∷ 9 ∷ []) ≡ 5 ∷ 6 ∷ 9 ∷ [] }
@@ -411,7 +412,7 @@ update = 2
 column = [{ name = "id", kind = "key", base = 1 }]
 "#;
 
-/// One cohort of as many rows as a table may have, of short lives.
+/// One cohort of as many rows as a table can have, with short lives.
 const LARGE_OF_SHORT_LIVES: &str = r#"
 seed = 7
 units = 20
@@ -436,7 +437,7 @@ update = 3
 column = [{ name = "id", kind = "key", base = 1 }]
 "#;
 
-/// What lives say of customers from their births on: they live for three units.
+/// What lives say of customers from their births on. They live for three units.
 const CUSTOMER_AGES: &[Survival] = &[
     Survival::Sure,
     Survival::Sure,
@@ -445,7 +446,8 @@ const CUSTOMER_AGES: &[Survival] = &[
     Survival::Over,
 ];
 
-/// The same of orders and of lines: one unit at least, with a customer of two units before, and three at most.
+/// What lives say of orders and of lines from their births on. They live one unit at least, with a customer of two units before, and three at
+/// most.
 const ORDER_AGES: &[Survival] = &[
     Survival::Sure,
     Survival::Drawn,
@@ -471,7 +473,7 @@ column = [
 ]
 "#;
 
-/// A chain of eight tables of one row, each of which refers to the one before. The row of the first lives for two units.
+/// A chain of eight tables of one row, each of which refers to the table before it. The row of the first table lives for two units.
 const CHAIN: &str = r#"
 seed = 7
 units = 3
@@ -487,8 +489,8 @@ table = [
 ]
 "#;
 
-// By hand; the keys of scrambled rows, and the numbers that all keys make, are from the Python program. Tables pay for the 1,000 rows
-// of unit 0, and not for 10 rows.
+// By hand, except for the keys of scrambled rows and the checksums of all keys, which are from the Python program. Tables pay off for the
+// 1,000 rows of unit 0, and not for 10 rows.
 const BIRTHS_AND_KEYS: &[(&[&str], &[(u32, u64, Told<'static>)])] = &[
     (
         &[THOUSAND, KEYS],
@@ -578,8 +580,8 @@ fn births_and_keys(rt: HostRuntime) {
     assert_all::<Brand>(&rt, rt.alloc(), BIRTHS_AND_KEYS, Blank::new(1));
 }
 
-// Rows that neither die nor change, and rows that live for two units, by hand; all others, and the units of changes, are from the Python
-// program. Tables pay for the 1,000 rows of unit 0 at the units at which some are alive and some aren't.
+// By hand: rows that neither die nor change, and rows that live for two units. All others, and the units of changes, are from the Python
+// program. Tables pay off for the 1,000 rows of unit 0 at the units at which only some of them are alive.
 const LIVES_AND_CHANGES: &[(&[&str], &[(u32, u64, Told<'static>)])] = &[
     (
         &[THOUSAND, KEYS],
@@ -701,8 +703,8 @@ fn lives_and_changes(rt: HostRuntime) {
     assert_all::<Brand>(&rt, rt.alloc(), LIVES_AND_CHANGES, Blank::new(1));
 }
 
-// By hand: customers 0 and 1 die at the units 3 and 4; the orders 0 to 2 are of customer 0, and order 3 of customer 1. The first row of
-// the chain dies at unit 2, and the others with it. The parents by a spread are from the Python program.
+// By hand: customers 0 and 1 die at the units 3 and 4. The orders 0 to 2 are of customer 0, and order 3 of customer 1. The first row of the
+// chain dies at unit 2, and the others with it. The parents by a spread are from the Python program.
 const FAMILIES: &[(&[&str], &[(u32, u64, Told<'static>)])] = &[
     (
         &[SALES],

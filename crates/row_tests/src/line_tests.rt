@@ -1,5 +1,5 @@
-//! Lines, key lines and reports worked out by hand, and texts that an independent program wrote, in Python from the rules of
-//! cohorts, keys and lines, with no shared code (docs/SECOND_PROGRAM.md).
+//! Lines, key lines and reports that are worked out by hand, and texts from an independent program. The program is written in Python from the
+//! rules of cohorts, keys and lines and shares no code (docs/SECOND_PROGRAM.md).
 
 ghost use Rattle.std.specs.Prelude.{◌≡◌, ◌*◌, ◌<◌, ◌≤◌, length, true};
 ghost use Rattle.cohort_sizes.specs.Births.{born_count};
@@ -19,7 +19,7 @@ use std::marker::Brand;
 use std::sync::ledger::{Blank, Ledger};
 use step_count::Steps;
 
-/// Whether the row, which is alive at the unit, has this line then.
+/// Tells whether a row has a line at a unit. The row is alive then.
 fn is_line<L: Ledger>(
     alloc: Global,
     plan: &Plan,
@@ -116,7 +116,7 @@ fn has_report<L: Ledger>(
     }
 }
 
-/// The key of the parent that a row of a table has in that at place 0 by the column behind the key.
+/// Returns the key of the parent of a row by the column after the key. The parent is in the table at place 0. None if there is none.
 fn key_of_parent<L: Ledger>(
     plan: &Plan,
     table: u32,
@@ -149,10 +149,10 @@ fn is_child<L: Ledger>(
     }
 }
 
-/// How many rows go onto a page, which is no divisor of the rows of a run.
+/// The number of rows that go onto a page. It doesn't divide the number of rows of a run.
 const ROWS_AT_ONCE: u64 = 100;
 
-/// The lines of all rows of a table, a page after the other, as one number.
+/// Returns a checksum of the lines of all rows of a table, page by page.
 fn text_checksum<L: Ledger>(
     lines: &RunLines<'_>,
     page: &mut PageBuf,
@@ -175,7 +175,7 @@ fn text_checksum<L: Ledger>(
     sum
 }
 
-/// The text of the first table at its last unit, as one number; None where memory is wanting.
+/// Returns a checksum of the text of the first table at its last unit; None if memory runs out.
 fn text_sum<L: Ledger>(alloc: Global, plan: &Plan, steps: &mut Steps<L>) -> Option<u64>
     requires table { 0 < length plan.now.schema.tables }
     requires short { max_line (layout_of plan.now) 0 ≤ 100 }
@@ -195,7 +195,7 @@ fn has_text<L: Ledger>(alloc: Global, plan: &Plan, sum: u64, steps: &mut Steps<L
     plan.tables() == 1 && plan.max_line(0) <= 100 && text_sum(alloc, plan, steps) == Some(sum)
 }
 
-/// Whether what is told of lines holds.
+/// Tells whether a statement on lines holds.
 pub(crate) fn has_lines_as_told<L: Ledger>(
     alloc: Global,
     plan: &Plan,
@@ -215,7 +215,7 @@ pub(crate) fn has_lines_as_told<L: Ledger>(
     }
 }
 
-/// A row at each unit of three.
+/// One row at each of three units.
 const ONE: &str = r#"
 seed = 7
 units = 2
@@ -225,7 +225,7 @@ rows = 1
 insert = 1
 "#;
 
-/// As many rows as a table may have, all at unit 0.
+/// A table with as many rows as can be, all at unit 0.
 const LARGE: &str = r#"
 seed = 7
 units = 0
@@ -234,7 +234,7 @@ name = "t"
 rows = 1099511627776
 "#;
 
-/// A row at each unit but 0, as many units as there may be.
+/// A table with one row at each unit except 0, over as many units as there can be.
 const LONG: &str = r#"
 seed = 7
 units = 10000
@@ -258,8 +258,8 @@ column = [
 ]
 "#;
 
-/// Scrambled keys, units of birth of which half are null, and labels of these of which 300 of a thousand are: an r, the key, a tab,
-/// the unit of birth, a mark and the key again.
+/// Scrambled keys, units of birth, half of them null, and labels, 300 in 1,000 of them null. A label is an r, the key, a tab, the unit of
+/// birth, a mark and the key again.
 const LABELLED: &str = r#"
 seed = 7
 units = 2
@@ -276,7 +276,7 @@ column = [
 ]
 "#;
 
-/// Four parents with scrambled keys, and four children of any of them.
+/// Four parents with scrambled keys, and four children of any of the parents.
 const SCRAMBLED_PARENTS: &str = r#"
 seed = 7
 units = 0
@@ -303,7 +303,7 @@ rows = 1000
 insert = 10
 "#;
 
-/// A row at each unit that lives three and changes every two.
+/// A row at each unit. It lives for three units and changes every two.
 const CUSTOMERS: &str = r#"
 seed = 7
 units = 5
@@ -324,7 +324,7 @@ const KEYS: &str = r#"
 column = [{ name = "id", kind = "key", base = 1 }]
 "#;
 
-/// A row at each unit of three.
+/// One row at each of three units.
 const ONE_ROWS: &[(u32, u64, Told<'static>)] = &[
     (0, 0, Told::Line(2, "1\t0\n")),
     (0, 1, Told::Line(2, "2\t1\n")),
@@ -334,8 +334,8 @@ const ONE_ROWS: &[(u32, u64, Told<'static>)] = &[
     (0, 2, Told::KeyLine("3\n")),
 ];
 
-// By hand: a cohort of one row has its key in place. From the Python program: the last key of the large table, scrambled; a label, one
-// that cites a null unit, and one that is null itself; and the numbers that texts of 1,050 lines make.
+// By hand: a cohort of one row has its key in place. From the Python program: the last key of the large table, scrambled; a label, a label
+// that cites a null unit, and a null label; and the checksums of texts of 1,050 lines.
 const LINES: &[(&[&str], &[(u32, u64, Told<'static>)])] = &[
     (&[ONE, BIRTHS], ONE_ROWS),
     (&[ONE, SCRAMBLED_BIRTHS], ONE_ROWS),
@@ -388,8 +388,8 @@ fn lines_and_keys(rt: HostRuntime) {
     assert_all::<Brand>(&rt, rt.alloc(), LINES, Blank::new(1));
 }
 
-// By hand: a row that lives for two units is there from its birth on, for as long as it lives. The orders 0 to 2 are of customer 0, and
-// order 3 of customer 1; order 0 dies with its customer at unit 3. The keys of scrambled parents are those of `life_intervals`.
+// By hand: a row that lives for two units is there from its birth on, as long as it lives. The orders 0 to 2 are of customer 0, and order 3
+// of customer 1. Order 0 dies with its customer at unit 3. The keys of scrambled parents are those of `life_intervals`.
 const FAMILIES: &[(&[&str], &[(u32, u64, Told<'static>)])] = &[
     (
         &[ONE, "life = [2, 2]", BIRTHS],
@@ -438,7 +438,7 @@ fn families(rt: HostRuntime) {
     assert_all::<Brand>(&rt, rt.alloc(), FAMILIES, Blank::new(1));
 }
 
-// By hand: a row is there for three units from its birth, and changes one unit behind it and then every two. A table of keys alone
+// By hand: a row is there for three units from its birth. It changes one unit after its birth, and then every two. A table that has only keys
 // holds each row to its end.
 const REPORTS: &[(&[&str], &[(u32, u64, Told<'static>)])] = &[
     (

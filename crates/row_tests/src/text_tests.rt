@@ -8,7 +8,7 @@ use row_text::{WrittenTexts, field_size, put_field, put_null, put_piece};
 use std::alloc::Global;
 use std::process::Abort;
 
-/// Whether the field is written as this text, and as many bytes as it has, into a page that has just that room.
+/// Tells whether a field is written as a text, into a page that has exactly its room.
 fn is_written(alloc: Global, field: Option<&[u8]>, delimiter: u8, text: &[u8]) -> bool
     requires { IsDelimiter delimiter }
 {
@@ -23,7 +23,7 @@ fn is_written(alloc: Global, field: Option<&[u8]>, delimiter: u8, text: &[u8]) -
     }
 }
 
-/// Fields that are written alike with both delimiters.
+/// Fields that both delimiters write alike.
 const ALIKE: &[(Option<&[u8]>, &[u8])] = &[
     (None, b"\\N"),
     (Some(b""), b""),
@@ -69,7 +69,7 @@ fn most_fields_are_written_alike_with_both_delimiters(rt: HostRuntime) {
     assert_alike(&rt, rt.alloc(), ALIKE);
 }
 
-/// Texts with bars, with how they are written between tabs and between bars.
+/// Texts with bars, and how they are written between tabs and between bars.
 const WITH_BARS: &[(&[u8], &[u8], &[u8])] = &[
     (b"|", b"|", b"\\|"),
     (b"|start", b"|start", b"\\|start"),
@@ -92,7 +92,7 @@ fn a_bar_is_escaped_where_it_is_the_delimiter(rt: HostRuntime) {
     assert_bars(&rt, rt.alloc(), WITH_BARS);
 }
 
-/// Puts pieces onto a page between bars, where they have room.
+/// Puts pieces onto a page between bars, if they have room.
 fn put_pieces(page: &mut PageBuf, pieces: &[&[u8]]) -> bool {
     for piece in pieces {
         if field_size(Some(*piece), 124) > page.free() {
@@ -103,7 +103,7 @@ fn put_pieces(page: &mut PageBuf, pieces: &[&[u8]]) -> bool {
     true
 }
 
-/// The same, and a null field behind them.
+/// Puts pieces onto a page between bars, and then a null field.
 fn put_pieces_and_null(page: &mut PageBuf, pieces: &[&[u8]], text: &[u8], free: usize) -> bool {
     if !put_pieces(page, pieces) || page.text() != text || page.free() != free || free < 2 {
         return false;
@@ -121,7 +121,7 @@ fn pieces_and_nulls_are_appended(rt: HostRuntime) {
     assert!(rt; page.text() == b"a\\|\\tb\\\\c\\N".as_slice());
 }
 
-/// Texts with a delimiter each, and how they are written between two of it.
+/// Texts, each with a delimiter, and how they are written with it.
 const KEPT: &[(&[u8], u8, &[u8])] = &[
     (b"plain", 9, b"plain"),
     (b"", 9, b""),
@@ -152,7 +152,7 @@ fn holds_all(texts: &WrittenTexts, kept: &[(&[u8], u8, &[u8])]) -> bool {
     true
 }
 
-// Each text is read back as it was written, each with the escapes of its own delimiter, and the others stay.
+// Each text is read back as it was written, with the escapes of its own delimiter. Other texts stay as they are.
 #[test]
 fn written_texts_are_kept_as_they_are_written(rt: HostRuntime) {
     let mut texts = WrittenTexts::new(rt.alloc());

@@ -1,4 +1,4 @@
-//! What is told of tables, and whether it holds.
+//! Statements on tables, and whether they hold.
 
 ghost use Rattle.std.specs.Prelude.{◌≡◌, ◌<◌};
 
@@ -16,59 +16,59 @@ use step_count::Steps;
 /// Ordinals of rows.
 #[derive(Clone, Copy)]
 pub(crate) enum Ordinals<'a> {
-    /// These.
+    /// The ordinals themselves.
     Are(&'a [u64]),
-    /// So many, and all of them as this number.
+    /// How many there are, and a checksum of all.
     Count(usize, u64),
 }
 
-/// What is told of a row, a key or a unit of a table.
+/// A statement on a row, a key or a unit of a table.
 #[derive(Clone, Copy)]
 pub(crate) enum Told<'a> {
-    /// This is the first row that is born at the unit, so many are, and so many are by then.
+    /// The first row that is born at the unit, how many are born at it, and how many by it.
     Births(u64, u64, u64),
-    /// The row is born at this unit.
+    /// The unit at which the row is born.
     Birth(u64),
-    /// The row has this key.
+    /// The key of the row.
     Key(u64),
     /// No row has the key.
     NoKey,
-    /// The keys of all rows, one after the other, as this number.
+    /// A checksum of the keys of all rows, one after the other.
     Keys(u64),
     /// The row's own life has no end.
     Endless,
-    /// The row's own life ends at this unit, and it dies.
+    /// The unit at which the row's own life ends, and the row dies.
     OwnDeath(u64),
-    /// The row dies at this unit.
+    /// The unit at which the row dies.
     Death(u64),
-    /// By a unit, the row changed last at another.
+    /// A unit, and the unit at which the row changed last by then.
     Change(u64, u64),
-    /// The row's parent by the column behind the key.
+    /// The row's parent by the column after the key.
     Parent(u64),
     /// The table has no life and no update.
     Still,
     /// What lives say of the rows that are born at the unit, at each unit from it on.
     Ages(&'a [Survival]),
-    /// What lives say at a unit of the rows that are born at the unit, and of the first of them whether they are alive and when they
-    /// changed last.
+    /// A later unit, and what lives say at it of the rows that are born at the unit. For the first of them: whether they are alive then, and
+    /// when they changed last.
     Cohort(u64, Survival, &'a [(bool, u64)]),
-    /// Of all rows that are born by the unit whether they are alive at it and when they changed last, as this number.
+    /// A checksum of all rows that are born by the unit: whether they are alive at it, and when they changed last.
     Rows(u64),
-    /// Whether the first row of unit 0 is alive at the unit, by orders that are kept and by none.
+    /// Whether the first row of unit 0 is alive at the unit, with kept orders and without.
     FirstLive(bool),
-    /// The row's line at a unit.
+    /// A unit, and the row's line at it.
     Line(u64, &'a str),
     /// The row's key line.
     KeyLine(&'a str),
-    /// Whether the table holds the row at a unit.
+    /// A unit, and whether the table holds the row at it.
     Live(u64, bool),
-    /// The report on the row with the key at a unit; empty where no row has it.
+    /// A unit, and the report at it on the row with the key. It is empty if no row has the key.
     Report(u64, &'a str),
-    /// At unit 0 the row's line is this key, and that of its parent in the table at place 0.
+    /// The row's line at unit 0 is this key and the key of its parent in the table at place 0.
     Child(&'a str),
-    /// The text of the table at its last unit, to which all rows live, as this number.
+    /// A checksum of the table's text at its last unit, up to which all rows live.
     Text(u64),
-    /// What the unit deletes, what it updates, and the first of so many rows that it inserts.
+    /// What the unit deletes, what it updates, and the first and the number of the rows that it inserts.
     Changes(Ordinals<'a>, Ordinals<'a>, u64, u64),
 }
 
@@ -95,7 +95,8 @@ fn is_as_told<L: Ledger>(
     }
 }
 
-/// For schemas by the parts of their texts: what is told of a row, a key or a unit, as it says, of the table at a place.
+/// Asserts that statements hold. Each schema comes as the parts of its text. Each statement comes with the place of its table and the number
+/// of a row, a key or a unit.
 pub(crate) fn assert_all<L: Ledger>(
     rt: &impl Abort,
     alloc: Global,

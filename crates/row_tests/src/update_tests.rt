@@ -1,5 +1,5 @@
-//! Values from outside: the lists of small tables worked out by hand, and those of a larger one that an independent program gave,
-//! written in Python from the rules of the simulation, with no shared code (docs/SECOND_PROGRAM.md).
+//! Values from outside: lists of small tables that are worked out by hand, and lists of a larger one from an independent program. The program
+//! is written in Python from the rules of the simulation and shares no code (docs/SECOND_PROGRAM.md).
 
 ghost use Rattle.std.specs.Prelude.{◌≡◌, ◌<◌, ◌≤◌, length};
 ghost use Rattle.life_intervals.specs.Generator.{last_unit};
@@ -40,7 +40,7 @@ fn has_changes(
     are(rows.dels(table), deleted) && are(rows.upds(table), updated) && rows.ins(table) == inserted
 }
 
-/// Whether a unit changes this in a table.
+/// Tells whether a unit changes what a statement says in a table.
 pub(crate) fn changes_as_told<L: Ledger>(
     alloc: Global,
     plan: &Plan,
@@ -64,7 +64,7 @@ pub(crate) fn changes_as_told<L: Ledger>(
     }
 }
 
-/// A row at each unit, that lives for two.
+/// A row at each unit. It lives for two units.
 const MORTAL: &str = r#"
 seed = 7
 units = 4
@@ -76,7 +76,7 @@ life = [2, 2]
 column = [{ name = "id", kind = "key", base = 1 }]
 "#;
 
-/// A row at each unit, that lives for four.
+/// A row at each unit. It lives for four units.
 const CHANGING: &str = r#"
 seed = 7
 units = 6
@@ -89,7 +89,7 @@ update = 2
 column = [{ name = "id", kind = "key", base = 1 }]
 "#;
 
-/// A table in whose 300 rows of unit 0 lives and changes differ.
+/// A table whose 300 rows of unit 0 have different lives and changes.
 const LARGER: &str = r#"
 seed = 7
 units = 6
@@ -102,7 +102,7 @@ update = 3
 column = [{ name = "id", kind = "key", base = 1, scramble = true }]
 "#;
 
-/// A table of 2^40 rows in all that nothing ends or changes, and a small one that refers to it.
+/// A table of 2^40 rows in all that nothing ends or changes, and a small table that refers to it.
 const HUGE: &str = r#"
 seed = 1
 units = 1
@@ -121,7 +121,7 @@ column = [
 ]
 "#;
 
-/// Customers and orders as in a shop of fewer rows, where an order goes with its customer, and remarks on orders that outlive these.
+/// Customers and orders as in a small shop. An order goes with its customer. Remarks on orders outlive the orders.
 const SHOP: &str = r#"
 seed = 2024
 units = 24
@@ -152,9 +152,9 @@ column = [
 ]
 "#;
 
-// By hand: rows live for two units; or for four, and change at the ages 1 and 3. An order is of the oldest customer that is born in its
-// window, so orders 0 to 2 are of customer 0, who dies at unit 3, and order 3 is of customer 1. A line is of the order of its unit. The
-// numbers of the larger table are from the Python program.
+// By hand: rows live for two units, or live for four and change at the ages 1 and 3. An order is of the oldest customer of its window, so
+// orders 0 to 2 are of customer 0, who dies at unit 3. Order 3 is of customer 1. A line is of the order of its unit. The numbers of the
+// larger table are from the Python program.
 const TABLES: &[(&[&str], &[(u32, u64, Told<'static>)])] = &[
     (
         &[MORTAL],
@@ -323,7 +323,7 @@ fn units_change_tables(rt: HostRuntime) {
     assert_all::<Brand>(&rt, rt.alloc(), TABLES, Blank::new(1));
 }
 
-/// Whether a unit's lists of a table are those that one finds who asks each row that is born before the unit.
+/// Tells whether a unit's lists of a table are those found by asking each row that is born before the unit.
 fn are_as_asked<L: Ledger>(
     alloc: Global,
     plan: &Plan,
@@ -355,7 +355,7 @@ fn are_as_asked<L: Ledger>(
     Ok(rows.dels(table) == deleted.as_slice() && rows.upds(table) == updated.as_slice())
 }
 
-/// Whether unit 12 changes in each table what one finds who asks each row, and deletes so many rows of the first one.
+/// Tells whether unit 12 changes in each table what asking each row finds, and deletes `deleted` rows of the first table.
 fn changes_as_asked<L: Ledger>(
     alloc: Global,
     plan: &Plan,
@@ -379,7 +379,7 @@ fn changes_as_asked<L: Ledger>(
     Ok(plan.tables() > 0 && rows.dels(0).len() == deleted)
 }
 
-// By hand: of the customers of unit 0 one in ten lives for 12 units, of those of unit 1 one in ten for 11, and of those of unit 2 for 10.
+// By hand: one in ten customers of unit 0 lives for 12 units, one in ten of unit 1 for 11, and one in ten of unit 2 for 10.
 #[test]
 fn lists_are_those_that_are_asked_for(rt: HostRuntime) -> Result<(), Fail> {
     let plan = plan_of(&rt, rt.alloc(), &[SHOP]);

@@ -1,5 +1,5 @@
-//! Values worked out by hand, and values that an independent program drew, in Python from the rules of seeds and values, with
-//! no shared code (docs/SECOND_PROGRAM.md).
+//! Values that are worked out by hand, and values from an independent program. The program is written in Python from the rules of seeds and
+//! values and shares no code (docs/SECOND_PROGRAM.md).
 
 ghost use Rattle.std.specs.Prelude.{◌≡◌, ◌<◌, ◌≤◌, ℕ, ◌-◌, ◌^◌, pos, neg_ℤ, [], ◌∷◌, Some, codes, length, map, true};
 ghost use Rattle.std.specs.Bool.{OnTrue};
@@ -14,7 +14,7 @@ use schema_plan::{Plan, ReadyKind, ReadyLeaf};
 use std::alloc::Global;
 use std::process::Abort;
 
-/// Whether the first table has a column of this place, of units or of drawn values.
+/// Tells whether the first table has a column of units or of drawn values at a place.
 fn is_own_column(plan: &Plan, column: usize) -> bool
     requires { 0 < length plan.now.schema.tables }
     ensures within { OnTrue result (column < length (table_at (layout_of plan.now).tables 0).columns) }
@@ -31,7 +31,7 @@ fn is_own_column(plan: &Plan, column: usize) -> bool
     }
 }
 
-/// Whether the column of this place in the first table is a case.
+/// Tells whether the column at a place in the first table is a case.
 fn is_case(plan: &Plan, column: usize) -> bool
     requires { 0 < length plan.now.schema.tables }
 {
@@ -47,8 +47,8 @@ fn push_field(put: Put, field: &[u8], text: &mut Vec<u8>) -> bool {
     text.extend_from_slice(field).is_ok() && text.push(b';').is_ok()
 }
 
-/// Appends what a row of the first table holds in a column, as the values of its cohort put it. Where the field is null, and no case,
-/// the draw says so.
+/// Appends what a row of the first table holds in a column, as the values of its cohort put it. If the field is null and no case, its draw
+/// says so.
 fn put_in_cohort(
     alloc: Global,
     plan: &Plan,
@@ -75,7 +75,7 @@ fn put_in_cohort(
     }
 }
 
-/// The same as it is put alone.
+/// Appends what a row of the first table holds in a column, as `put_value` puts it.
 fn put_alone(alloc: Global, plan: &Plan, column: usize, at: RowAt, text: &mut Vec<u8>) -> bool
     requires table { 0 < length plan.now.schema.tables }
     requires column { column < length (table_at (layout_of plan.now).tables 0).columns }
@@ -95,7 +95,7 @@ fn put_alone(alloc: Global, plan: &Plan, column: usize, at: RowAt, text: &mut Ve
     }
 }
 
-/// Appends what a row of the first table holds in the columns behind its key, as both calls put it, each with a semicolon behind.
+/// Appends what a row of the first table holds in the columns after its key, as both calls put it, with a semicolon after each.
 fn put_row(
     alloc: Global,
     plan: &Plan,
@@ -117,7 +117,7 @@ fn put_row(
     is_put
 }
 
-/// Whether a row of the first table holds this in the columns behind its key.
+/// Tells whether a row of the first table holds a text in the columns after its key.
 fn holds(alloc: Global, plan: &Plan, at: RowAt, expected: &str) -> bool {
     let mut in_cohort = Vec::new(alloc);
     let mut alone = Vec::new(alloc);
@@ -126,7 +126,7 @@ fn holds(alloc: Global, plan: &Plan, at: RowAt, expected: &str) -> bool {
         && alone.as_slice() == expected.as_bytes()
 }
 
-/// What rows of the first table hold, by their ordinals and the units of their births and last changes.
+/// Asserts what rows of the first table hold, given by their ordinals and the units of their births and last changes.
 fn assert_rows(rt: &impl Abort, alloc: Global, parts: &[&str], rows: &[(u64, u64, u64, &str)]) {
     let plan = plan_of(rt, alloc, parts);
     for (ordinal, born, changed, expected) in rows {
@@ -139,7 +139,7 @@ fn assert_rows(rt: &impl Abort, alloc: Global, parts: &[&str], rows: &[(u64, u64
     }
 }
 
-/// A table with the seed 7: how many rows at unit 0 and at each of five more.
+/// A table with the seed 7, with four rows at unit 0 and two at each of five more.
 const FEW: &str = r#"
 seed = 7
 units = 5
@@ -149,7 +149,7 @@ rows = 4
 insert = 2
 "#;
 
-/// The same with bars between the fields.
+/// The same table with bars between the fields.
 const FEW_WITH_BARS: &str = r#"
 seed = 7
 units = 5
@@ -160,9 +160,8 @@ rows = 4
 insert = 2
 "#;
 
-/// Columns of keys, of units of birth and of each kind of drawn value, none of them null; and three that are null at times, of a
-/// number, of a pick, and of a case by that pick. Of the entries two hold what is escaped, and an alphabet has a letter of two
-/// bytes, and one that is escaped between bars.
+/// Columns of keys, of units of birth and of each kind of drawn value, none of them null. Three more are null at times: a number, a pick, and
+/// a case by that pick. Two entries hold what is escaped. An alphabet has a letter of two bytes, and a letter that is escaped between bars.
 const ALL_KINDS: &str = r#"
 column = [
     { name = "id", kind = "key", base = 1 },
@@ -191,7 +190,7 @@ column = [
 ]
 "#;
 
-/// Units, numbers, and cases by a pick that stays as it is and by one that changes: some change, and others don't.
+/// Units, numbers and cases: some columns change, and others don't. The cases are by a pick that stays as it is, and by one that changes.
 const COLUMNS_THAT_CHANGE: &str = r#"
 column = [
     { name = "id", kind = "key", base = 1 },
@@ -226,7 +225,7 @@ column = [
 ]
 "#;
 
-/// Words of a dictionary: one, up to four, and two or none.
+/// Words of a dictionary: one word, up to four words, and two words or null.
 const WORDS: &str = r#"
 column = [
     { name = "id", kind = "key", base = 1 },
@@ -304,8 +303,7 @@ const CHANGED_ROWS: &[(u64, u64, u64, &str)] = &[
     (4, 3, 3, "3;3;96738;319022;351648;\\N;\\N;\\N;last;bb|;"),
 ];
 
-// The texts are those of the Python program, with the unit of the last change in place of that of the birth in a column that
-// changes.
+// The texts are those of the Python program. In a column that changes, the unit of the last change takes the place of the unit of birth.
 #[test]
 fn values_of_changed_rows(rt: HostRuntime) {
     assert_rows(&rt, rt.alloc(), &[FEW, COLUMNS_THAT_CHANGE], CHANGED_ROWS);
@@ -325,7 +323,7 @@ fn words_of_some_rows(rt: HostRuntime) {
     assert_rows(&rt, rt.alloc(), &[FEW_WITH_BARS, WORDS], WORD_ROWS);
 }
 
-/// Of the numbers of a range in steps, each draw chooses the one with this text.
+/// Of the numbers of a range in steps, each draw chooses the one with its text.
 fn draws_choose_whole_numbers()
     ensures below_0 { map (λ (draw : ℕ). leaf_value (int_leaf (neg_ℤ (pos (2 ^ 63))) (neg_ℤ (pos 1)) 1) (λ _. draw))
         (0 ∷ (2 ^ 64 - 1) ∷ (2 ^ 63) ∷ [])
@@ -342,7 +340,7 @@ fn draws_choose_whole_numbers()
     ensures to_0 { leaf_value (int_leaf (neg_ℤ (pos 1)) (pos 0) 1) (λ _. 7) ≡ Some (codes "0") }
 {}
 
-/// Columns of keys and of one value: what stands before the keys of the value's column, and behind them.
+/// Columns of keys and of one value: the text before the keys of the value's column. The text after them is `END`.
 const KEY_AND: &str = r#"
 column = [
     { name = "id", kind = "key", base = 1 },
@@ -426,7 +424,7 @@ const NUMBERS: &[(&str, Option<i32>, &str)] = &[
     ),
 ];
 
-/// Columns of one date: their keys, its day, counted from 1970-01-01, which is day 0, and how it is written. The day numbers are those of
+/// Columns of one date: their keys, the day, counted from day 0, 1970-01-01, and how the date is written. The day numbers are those of
 /// Python's `datetime`.
 const DATES: &[(&str, Option<i32>, &str)] = &[
     (
@@ -516,7 +514,7 @@ const DATES: &[(&str, Option<i32>, &str)] = &[
     ),
 ];
 
-/// Whether the column behind the key holds dates from this day on; or none, where no day is given.
+/// Tells whether the column after the key holds dates from a day on. If no day is given, any column will do.
 fn begins_with(plan: &Plan, day: Option<i32>) -> bool
     requires { 0 < length plan.now.schema.tables }
 {
@@ -562,7 +560,7 @@ fn dates_keep_leap_days_apart(rt: HostRuntime) {
     assert_values(&rt, rt.alloc(), DATES);
 }
 
-/// Units with the first row that is born at each and the one past its last.
+/// Units, each with the first row that is born at it and the row after its last.
 const UNITS: &[(u64, u64, u64)] = &[
     (0, 0, 1000),
     (1, 1000, 1010),
@@ -572,7 +570,7 @@ const UNITS: &[(u64, u64, u64)] = &[
     (5, 1040, 1050),
 ];
 
-/// Whether what all rows of these units hold has this checksum.
+/// Tells whether all rows of the units have a checksum.
 fn has_checksum(alloc: Global, plan: &Plan, sum: u64) -> bool {
     let mut in_cohort = Vec::new(alloc);
     let mut alone = Vec::new(alloc);
@@ -614,7 +612,7 @@ fn assert_checksum(rt: &impl Abort, alloc: Global, parts: &[&str], sum: u64) {
     assert!(rt; has_checksum(alloc, &plan, sum));
 }
 
-// The checksums are those of the Python program, of what 1,050 rows hold.
+// The checksums are those of the Python program, over 1,050 rows.
 #[test]
 fn values_of_many_rows(rt: HostRuntime) {
     assert_checksum(

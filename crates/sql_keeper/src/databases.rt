@@ -6,11 +6,11 @@ use keeper_play::RefTo;
 use sqlite::{Connection, MemStore};
 use std::alloc::Global;
 
-/// An open database, in a transaction, with tables that keep rows and the references between them.
+/// An open database in a transaction, with tables that keep rows and the references between them.
 ///
-/// A row that is put may wait, so that one statement puts many. Then what refuses it is told by a later call, by `commit` at the latest.
+/// A row that is put can wait, so that one statement puts many. If it is refused, a later call tells so, `commit` at the latest.
 pub trait RowTables {
-    /// Puts a row with its references, in place of one with the same key.
+    /// Puts a row with its references. Replaces a row with the same key.
     fn put(&mut self, table: u32, key: u64, refs: &[RefTo], line: &[u8]) -> Result<(), Refused>;
 
     /// Drops a row with its references.
@@ -25,21 +25,21 @@ pub trait RowTables {
 
 /// Databases that are opened by a name.
 pub trait Databases {
-    /// What an open database is.
+    /// The type of an open database.
     type Tables: RowTables + Drop;
 
-    /// Opens the database of a name, or makes it, and makes the tables in it. It is refused where it has any table.
+    /// Opens the database of a name, or makes it, and makes the tables in it. Refused if it has any table.
     fn open(&self, name: &str) -> Result<Self::Tables, Refused>;
 }
 
-/// Databases in memory, each of them new.
+/// Databases in memory. Each is a new one.
 #[derive(Drop)]
 pub struct MemoryDatabases {
     alloc: Global,
 }
 
 impl MemoryDatabases {
-    /// Databases in this memory.
+    /// Returns databases in this memory.
     pub fn new(alloc: Global) -> Self {
         MemoryDatabases { alloc }
     }
@@ -57,7 +57,7 @@ impl MemoryTables {
         self.tables.put_waiting()
     }
 
-    /// The database, in its transaction, without the rows that wait.
+    /// Returns the database, in its transaction, without the rows that wait.
     pub fn into_database(self) -> Connection<MemStore> {
         self.tables.into_database()
     }

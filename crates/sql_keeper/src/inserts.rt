@@ -5,16 +5,16 @@ use sqlite::types::ValueRef;
 use sqlite::{Alter, Connection, Error};
 use std::alloc::{AllocError, Global};
 
-/// How many rows one statement puts at most.
+/// The most rows that one statement puts.
 pub(crate) const MANY: usize = 32;
 
-/// How many rows one statement puts where fewer are left.
+/// The number of rows that one statement puts if fewer than `MANY` are left.
 const SOME: usize = 8;
 
-/// The values of a row.
+/// The number of values of a row.
 const WIDTH: usize = 2;
 
-/// Statements that put rows into one table. What a statement costs by itself, one that puts many rows takes but once.
+/// Statements that put rows into one table. A statement costs something by itself, so one statement puts many rows.
 pub(crate) struct Inserts {
     of_many: Prepared,
     of_some: Prepared,
@@ -35,7 +35,7 @@ impl Drop for Inserts {
 }
 
 impl Inserts {
-    /// The statements that begin with a text, which names the table and its two columns.
+    /// Prepares the statements that begin with a text, which names the table and its two columns.
     pub(crate) fn prepare<S: Alter>(
         database: &mut Connection<S>,
         alloc: Global,
@@ -48,7 +48,7 @@ impl Inserts {
         })
     }
 
-    /// Puts rows, of which the values stand one after another.
+    /// Puts rows, whose values stand one after another.
     pub(crate) fn make<S: Alter>(
         &self,
         database: &mut Connection<S>,
@@ -64,7 +64,7 @@ impl Inserts {
         Ok(())
     }
 
-    /// Puts fewer than many rows.
+    /// Puts fewer than `MANY` rows.
     fn make_few<S: Alter>(
         &self,
         database: &mut Connection<S>,
@@ -80,7 +80,7 @@ impl Inserts {
         Ok(())
     }
 
-    /// Puts each row alone.
+    /// Puts rows one by one.
     fn make_one_by_one<S: Alter>(
         &self,
         database: &mut Connection<S>,
@@ -93,7 +93,7 @@ impl Inserts {
     }
 }
 
-/// Prepares the statement that puts so many rows.
+/// Prepares the statement that puts `rows` rows.
 fn prepare<S: Alter>(
     database: &mut Connection<S>,
     alloc: Global,
@@ -104,7 +104,7 @@ fn prepare<S: Alter>(
     Prepared::new(database, text.as_str())
 }
 
-/// The text of the statement that puts so many rows.
+/// Returns the text of the statement that puts `rows` rows.
 fn insert_text(alloc: Global, begin: &str, rows: usize) -> Result<String, AllocError> {
     let mut text = String::from_str(alloc, begin)?;
     for row in 0..rows {

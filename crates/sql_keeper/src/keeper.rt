@@ -8,17 +8,22 @@ use keeper_play::{KeepFailed, Keeper, RefTo};
 
 /// A store in a database of SQLite. It tells neither its rows nor its name.
 ///
-/// `start` opens the database of the name, which must have no table, and begins a transaction; `finish` commits it. Each call that is
-/// refused is counted as a fault. Once a statement was refused, so are all others, and the transaction can't be committed.
+/// `start` opens the database of a name, which must have no table, and begins a transaction. `finish` commits it. Each refused call is
+/// counted as a fault. After a refused statement all others are refused, and the transaction can't be committed.
 ///
-/// A row that is put may wait for others that one statement puts with it. Then what refuses it is told by a later call, by `finish` at
-/// the latest.
+/// A row that is put can wait, so that one statement puts many. If it is refused, a later call tells so, `finish` at the latest.
 pub struct SqlKeeper<D: Databases + Drop> {
+    /// Where the store's database is opened.
     databases: D,
+    /// The open database; None if the store isn't open.
     tables: Option<D::Tables>,
+    /// Whether all statements since the last `start` were made.
     is_sound: bool,
+    /// The number of statements since the last `start`.
     done: u64,
+    /// How often a call failed.
     faults: u64,
+    /// Whether the last call failed.
     last_failed: bool,
 }
 
@@ -38,7 +43,7 @@ impl<D: Databases + Drop> Drop for SqlKeeper<D> {
 }
 
 impl<D: Databases + Drop> SqlKeeper<D> {
-    /// A store in one of these databases. It isn't open, and no call was made.
+    /// Returns a store in one of the databases. It isn't open, and no call was made.
     pub fn new(databases: D) -> Self
         ensures closed { is_some result.tables ≡ false }
         ensures done { result.done ≡ 0 }
@@ -55,7 +60,7 @@ impl<D: Databases + Drop> SqlKeeper<D> {
         }
     }
 
-    /// The open database, with what was put so far, in its transaction; None where the store isn't open.
+    /// Returns the open database, with what was put so far, in its transaction; None if the store isn't open.
     pub fn into_tables(self) -> Option<D::Tables>
         ensures { result ≡ self.tables }
     {
@@ -71,7 +76,7 @@ impl<D: Databases + Drop> SqlKeeper<D> {
         open
     }
 
-    /// Tells how a statement ended, which is counted where it was made and can be counted.
+    /// Returns how a statement ended, and counts it if it was made and can be counted.
     fn told(&mut self, made: Result<(), Refused>) -> Result<(), KeepFailed>
         ensures tables { self.new.tables ≡ self.old.tables }
         ensures made { OnOk result (self.new.done ≡ self.old.done + 1) }
@@ -94,7 +99,7 @@ impl<D: Databases + Drop> SqlKeeper<D> {
         }
     }
 
-    /// A call failed: it is counted as a fault.
+    /// Counts a failed call as a fault.
     fn fail(&mut self) -> Result<(), KeepFailed>
         ensures failed { IsErr result }
         ensures never_falls { self.old.faults ≤ self.new.faults }
@@ -105,7 +110,7 @@ impl<D: Databases + Drop> SqlKeeper<D> {
         Err(KeepFailed)
     }
 
-    /// Puts a row, where the store is open and no statement was refused.
+    /// Puts a row, if the store is open and no statement was refused.
     fn put_in(&mut self, table: u32, key: u64, refs: &[RefTo], line: &[u8]) -> Result<(), Refused>
         ensures tables { is_some self.new.tables ≡ is_some self.old.tables }
         ensures rest { self.new ≡ record self.old { tables = self.new.tables } }
@@ -116,7 +121,7 @@ impl<D: Databases + Drop> SqlKeeper<D> {
         }
     }
 
-    /// Drops a row, where the store is open and no statement was refused.
+    /// Drops a row, if the store is open and no statement was refused.
     fn drop_in(&mut self, table: u32, key: u64) -> Result<(), Refused>
         ensures tables { is_some self.new.tables ≡ is_some self.old.tables }
         ensures rest { self.new ≡ record self.old { tables = self.new.tables } }
@@ -127,7 +132,7 @@ impl<D: Databases + Drop> SqlKeeper<D> {
         }
     }
 
-    /// Commits what was put and dropped, where no statement was refused.
+    /// Commits what was put and dropped, if no statement was refused.
     fn commit(&mut self) -> Result<(), Refused>
         ensures tables { is_some self.new.tables ≡ is_some self.old.tables }
         ensures rest { self.new ≡ record self.old { tables = self.new.tables } }

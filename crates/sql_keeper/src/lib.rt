@@ -1,9 +1,9 @@
-//! A store of SQLite that units are played into: two tables, of rows and of the references between them.
+//! A store of SQLite into which units are played: two tables, of rows and of the references between them.
 //!
-//! Each put and each drop keeps every foreign key at once, so a row goes after those that refer to it and comes after those to which it
-//! refers. All statements between a `start` and the `finish` after it are one transaction: a run that is broken off leaves no row.
+//! Every foreign key holds after each put and each drop. So a row is put after the rows to which it refers, and dropped after the rows that
+//! refer to it. All statements from a `start` to the next `finish` are one transaction: a run that breaks off leaves no row.
 //!
-//! What a database holds, no clause says: the store tells neither its rows nor its name.
+//! No clause says what a database holds: the store tells neither its rows nor its name.
 #![tactic(auto)]
 
 mod databases;

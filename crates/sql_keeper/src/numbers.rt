@@ -3,34 +3,34 @@
 use crate::Refused;
 use sqlite::types::ValueRef;
 
-/// How many tables the rows may be of.
+/// The most tables of rows.
 const TABLES: usize = 64;
 
-/// How many columns a table may have.
+/// The most columns of a table.
 const COLUMNS: u32 = 64;
 
-/// The keys of a table lie less than this apart: it has no more rows.
+/// The keys of a table lie less than this apart, since it has no more rows.
 const KEYS: u64 = 1 << 40;
 
-/// The number of a row. It is made of the place of the table and the remainder of the key, so that the rows of a table stand together, and no two
-/// have one number where their keys lie near enough to one another.
+/// The number of a row. It is made of the place of the table and the remainder of the key, so that the rows of a table stand together. No two
+/// rows have the same number if their keys lie near enough.
 #[derive(Clone, Copy, PartialEq, Eq, PartialOrd, Ord)]
 pub(crate) struct RowNumber(i64);
 
 impl RowNumber {
-    /// The number of the row that has a key in the table at a place.
+    /// Returns the number of the row with a key in the table at a place.
     fn new(table: u32, key: u64) -> Result<RowNumber, Refused> {
         let first = i64::from(table).checked_mul(KEYS as i64).ok_or(Refused)?;
         let number = first.checked_add((key % KEYS) as i64).ok_or(Refused)?;
         Ok(RowNumber(number))
     }
 
-    /// The number as a database has it.
+    /// Returns the number as a database has it.
     pub(crate) fn value(self) -> ValueRef<'static> {
         ValueRef::Int(self.0)
     }
 
-    /// The number of the row's reference in the column at a place.
+    /// Returns the number of the row's reference in the column at a place.
     pub(crate) fn reference(self, column: u32) -> Result<ReferenceNumber, Refused> {
         if column >= COLUMNS {
             return Err(Refused);
@@ -40,24 +40,25 @@ impl RowNumber {
         Ok(ReferenceNumber(number))
     }
 
-    /// The least and the greatest number that references of the row may have.
+    /// Returns the least and the greatest number that references of the row can have.
     pub(crate) fn references(self) -> Result<(ReferenceNumber, ReferenceNumber), Refused> {
         Ok((self.reference(0)?, self.reference(COLUMNS - 1)?))
     }
 }
 
-/// The number of a reference. It is made of the number of its row and the place of its column, so that the references of a row stand together.
+/// The number of a reference. It is made of the number of its row and the place of its column, so that the references of a row stand
+/// together.
 #[derive(Clone, Copy)]
 pub(crate) struct ReferenceNumber(i64);
 
 impl ReferenceNumber {
-    /// The number as a database has it.
+    /// Returns the number as a database has it.
     pub(crate) fn value(self) -> ValueRef<'static> {
         ValueRef::Int(self.0)
     }
 }
 
-/// From the least to the greatest of the keys that were put in a table; `NO_KEYS` where none was.
+/// The range of the keys that were put in a table; `NO_KEYS` if there are none.
 #[derive(Clone, Copy)]
 struct KeyRange {
     least: u64,
@@ -70,7 +71,7 @@ const NO_KEYS: KeyRange = KeyRange {
 };
 
 impl KeyRange {
-    /// The range with a key. Refused where that is so far from another that their rows could have one number.
+    /// Returns the range with a further key. Refused if the keys are so far apart that two rows could have the same number.
     fn with(self, key: u64) -> Result<KeyRange, Refused> {
         let least = self.least.min(key);
         let greatest = self.greatest.max(key);
@@ -81,33 +82,34 @@ impl KeyRange {
         }
     }
 
+    /// Tells whether a key is in the range.
     fn has(self, key: u64) -> bool {
         self.least <= key && key <= self.greatest
     }
 }
 
-/// The keys of each table, as far as the numbers of their rows follow from them.
+/// The range of the keys of each table. Within it no two rows of a table have the same number.
 #[derive(Drop)]
 pub(crate) struct Keys {
     ranges: [KeyRange; TABLES],
 }
 
 impl Keys {
-    /// No key of any table.
+    /// Returns empty ranges for all tables.
     pub(crate) fn new() -> Keys {
         Keys {
             ranges: [NO_KEYS; TABLES],
         }
     }
 
-    /// The number of the row that is put in a table with a key.
+    /// Adds a key of a table, and returns the number of its row.
     pub(crate) fn add(&mut self, table: u32, key: u64) -> Result<RowNumber, Refused> {
         let range = self.ranges.get_mut(table as usize).ok_or(Refused)?;
         *range = range.with(key)?;
         RowNumber::new(table, key)
     }
 
-    /// The number of the row of a table with a key; None where there can be none.
+    /// Returns the number of the row of a table with a key; None if there can be no such row.
     pub(crate) fn row(&self, table: u32, key: u64) -> Result<Option<RowNumber>, Refused> {
         match self.ranges.get(table as usize) {
             Some(range) if range.has(key) => Ok(Some(RowNumber::new(table, key)?)),

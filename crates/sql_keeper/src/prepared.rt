@@ -1,4 +1,4 @@
-//! Statements that are prepared.
+//! Prepared statements.
 
 use sqlite::types::ValueRef;
 use sqlite::{Alter, Connection, Error, Statement};
@@ -25,7 +25,7 @@ impl Prepared {
         Ok(Prepared { statement })
     }
 
-    /// Makes the statement with these values, and tells how many rows it changed.
+    /// Makes the statement with the values, and returns how many rows it changed.
     pub(crate) fn execute<S: Alter>(
         &self,
         database: &mut Connection<S>,

@@ -1,10 +1,10 @@
-//! Why a database did not do what was asked.
+//! Why a database didn't do what was asked.
 
 use sqlite::Error;
 use std::alloc::{AllocError, AllocFailed};
 use std::io;
 
-/// The database refused a statement, wasn't opened, or isn't empty.
+/// The database refused a statement, wasn't opened or isn't empty, the system refused a call, or memory ran out.
 #[derive(Clone, Copy, Debug, PartialEq, Eq)]
 pub struct Refused;
 

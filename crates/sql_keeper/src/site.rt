@@ -1,4 +1,4 @@
-//! The files of a store: which of them were there before it was opened, and whether they hold anything.
+//! The files of a store: which of them existed before it was opened, and whether they hold anything.
 
 ghost use Rattle.std.specs.Prelude.{IfOk, IsTrue};
 ghost use Rattle.sqlite_disk.specs.Memory.{memory_is_usable};
@@ -12,27 +12,28 @@ use std::io::{ErrorKind, Read};
 use std::os::unix::fs::OpenOptionsExt;
 use std::{fs, io};
 
-/// How a file of SQLite begins.
+/// The first bytes of a file of SQLite.
 const MAGIC: &[u8] = b"SQLite format 3\0";
 
-/// How many bytes of the first page are looked at: the header of the file, and that of the tree in which the schema stands.
+/// The number of bytes of the first page that are read: the header of the file, and that of the tree with the schema.
 const HEAD: usize = 108;
 
-/// Where the kind of the tree's first page stands, and which kind a page is that lists everything by itself.
+/// The position of the kind of the tree's first page.
 const KIND_AT: usize = 100;
 
+/// The kind of a page that lists everything by itself.
 const LEAF: u8 = 13;
 
-/// Where the number of its entries stands, in two bytes.
+/// The position of the number of its entries, which takes two bytes.
 const COUNT_AT: usize = 103;
 
-/// How long a log may be that is looked at.
+/// The greatest length of a log that is read, in bytes.
 const MOST_LOG: u64 = 67_108_864;
 
-/// The bytes before the first frame of a log.
+/// The number of bytes before the first frame of a log.
 const LOG_HEADER: usize = 32;
 
-/// The bytes of a frame before its page.
+/// The number of bytes of a frame before its page.
 const FRAME_HEADER: usize = 24;
 
 /// The beginning of a first page.
@@ -41,9 +42,13 @@ type Head = [u8; HEAD];
 /// The files of a store, and which of them were made for it.
 pub(crate) struct Site {
     alloc: Global,
+    /// The path of the file.
     path: String,
+    /// The path of the log.
     log: String,
+    /// Whether the file was made for the store.
     made_store: bool,
+    /// Whether no log stood there before.
     made_log: bool,
 }
 
@@ -62,7 +67,7 @@ impl Drop for Site {
 }
 
 impl Site {
-    /// The files of the store of a name. A file that isn't there is made, so that nobody else makes it; a log isn't.
+    /// Finds the files of the store of a name. Makes the file if there is none, so that nobody else makes it. Doesn't make a log.
     pub(crate) fn find(rt: &HostRuntime, name: &str) -> Result<Site, Refused> {
         let made_store = makes(rt, name)?;
         match Site::at(rt, name, made_store) {
@@ -76,7 +81,7 @@ impl Site {
         }
     }
 
-    /// The files of the store of a name, of which the file is there. As in SQLite, they lie where a link leads.
+    /// Returns the files of the store of a name, whose file exists. As in SQLite, they lie where a link leads.
     fn at(rt: &HostRuntime, name: &str, made_store: bool) -> io::Result<Site> {
         let alloc = rt.alloc();
         let path = fs::canonicalize(rt, name)?.into_string();
@@ -92,12 +97,12 @@ impl Site {
         })
     }
 
-    /// The path of the file.
+    /// Returns the path of the file.
     pub(crate) fn path(&self) -> &str {
         self.path.as_str()
     }
 
-    /// Whether the store has a table, an index or a view. Of what is no database it has none.
+    /// Tells whether the store has a table, an index or a view. A file that is no database has none. Refused if it is no file.
     pub(crate) fn has_objects(&self, rt: &HostRuntime) -> Result<bool, Refused> {
         if !fs::metadata(rt, self.path.as_str())?.is_file() {
             return Err(Refused);
@@ -109,7 +114,7 @@ impl Site {
         }
     }
 
-    /// The beginning of the first page as the log has it, if it has, beside a file that begins so.
+    /// Returns the beginning of the first page as the log has it; None if the log has none. `head` is the beginning of the file.
     fn head_in_log(&self, rt: &HostRuntime, head: &Head) -> Result<Option<Head>, Refused> {
         if self.made_log {
             return Ok(None);
@@ -122,7 +127,7 @@ impl Site {
         last_head(self.alloc, bytes.as_slice(), head)
     }
 
-    /// Removes the files that were made for the store, and tells whether no file of it stands then.
+    /// Removes the files that were made for the store, and tells whether it removed the file itself.
     pub(crate) fn clear(&mut self, rt: &HostRuntime) -> bool {
         let is_gone = self.made_store && fs::remove_file(rt, self.path.as_str()).is_ok();
         if self.made_log {
@@ -132,14 +137,14 @@ impl Site {
         is_gone
     }
 
-    /// Keeps the files: they hold something, or are another one's by now.
+    /// Keeps the files, since they hold something or belong to somebody else by now.
     pub(crate) fn keep(&mut self) {
         self.made_store = false;
         self.made_log = false;
     }
 }
 
-/// Makes an empty file of a name at which nothing stands, and tells whether it did.
+/// Makes an empty file if nothing stands at its name, and tells whether it did.
 fn makes(rt: &HostRuntime, name: &str) -> io::Result<bool> {
     if stands(rt, name)? {
         return Ok(false);
@@ -157,7 +162,7 @@ fn makes(rt: &HostRuntime, name: &str) -> io::Result<bool> {
     }
 }
 
-/// Whether anything stands at a name.
+/// Tells whether anything stands at a name.
 fn stands(rt: &HostRuntime, name: &str) -> io::Result<bool> {
     match fs::symlink_metadata(rt, name) {
         Ok(_) => Ok(true),
@@ -166,7 +171,7 @@ fn stands(rt: &HostRuntime, name: &str) -> io::Result<bool> {
     }
 }
 
-/// The beginning of a file, with zeros after its end.
+/// Returns the beginning of a file, with zeros after its end.
 fn head_of(rt: &HostRuntime, path: &str) -> io::Result<Head> {
     let mut file = File::open(rt, path)?;
     let mut head = [0; HEAD];
@@ -176,20 +181,20 @@ fn head_of(rt: &HostRuntime, path: &str) -> io::Result<Head> {
     Ok(head)
 }
 
-/// Puts the first bytes of a text at the beginning of a head.
+/// Copies the first bytes of a text to the beginning of a head.
 fn copy_head(head: &mut Head, bytes: &[u8]) {
     for (into, byte) in head.iter_mut().zip(bytes) {
         *into = *byte;
     }
 }
 
-/// Whether a database with this first page has a table, an index or a view.
+/// Tells whether a database with a first page has a table, an index or a view.
 fn lists_objects(head: &Head) -> bool {
     head.starts_with(MAGIC)
         && (head[KIND_AT] != LEAF || head[COUNT_AT] != 0 || head[COUNT_AT + 1] != 0)
 }
 
-/// The beginning of the last first page that is committed in a log.
+/// Returns the beginning of the last first page that a log commits; None if it commits none.
 fn last_head(alloc: Global, log: &[u8], head: &Head) -> Result<Option<Head>, Refused> {
     let mut files = Files {
         log: disk_of(alloc, log)?,
@@ -212,7 +217,7 @@ fn last_head(alloc: Global, log: &[u8], head: &Head) -> Result<Option<Head>, Ref
     Ok(Some(last))
 }
 
-/// The number of the last frame that has page 1.
+/// Returns the number of the last frame that has page 1.
 fn last_of_first_page(pages: &[u32]) -> Option<usize> {
     let mut last = None;
     for (frame, page) in pages.iter().enumerate() {
@@ -223,7 +228,7 @@ fn last_of_first_page(pages: &[u32]) -> Option<usize> {
     last
 }
 
-/// A disk in memory that has these bytes.
+/// Returns a disk in memory that has the bytes.
 fn disk_of(alloc: Global, bytes: &[u8]) -> io::Result<Memory>
     ensures { IfOk result (λ disk. IsTrue (memory_is_usable disk)) }
 {

@@ -13,24 +13,23 @@ use std::hash::{BuildHasher, RandomState};
 /// The name of a database in memory, as SQLite has it.
 const IN_MEMORY: &str = ":memory:";
 
-/// How many pages of 4,096 bytes are kept in memory of those that were read: 32 MiB.
+/// The number of pages of 4,096 bytes that are kept in memory after reading: 32 MiB.
 const READ_PAGES: usize = 8_192;
 
-/// How many pages are kept in memory of those that were written: 128 MiB, since keys that come in no order go to
-/// any page.
+/// The number of pages that are kept in memory after writing: 128 MiB. Keys that come in no order go to any page.
 const WRITTEN_PAGES: usize = 32_768;
 
-/// Databases in files of the system. A name is a path, but for `:memory:`, a new database in memory, which is gone once it is closed.
+/// Databases in files of the system. A name is a path, or `:memory:` for a new database in memory, which is gone when it is closed.
 ///
-/// A database that has a table, an index or a view is refused before anything is written, beside it or in it. Where one is refused or closed
-/// before its commit, the files that were made for it are removed.
+/// A database that has a table, an index or a view is refused before anything is written in it or beside it. If a database is refused or
+/// closed before its commit, the files that were made for it are removed, unless somebody else has it open.
 #[derive(Drop)]
 pub struct SystemDatabases<'a> {
     rt: &'a HostRuntime,
 }
 
 impl<'a> SystemDatabases<'a> {
-    /// The system's files, and its memory.
+    /// Returns the databases in the system's files and memory.
     pub fn new(rt: &'a HostRuntime) -> Self {
         SystemDatabases { rt }
     }
@@ -76,7 +75,7 @@ impl Drop for SystemTables<'_> {
 enum Place {
     File(Tables<FileStore<File>>),
     Memory(Tables<MemStore>),
-    /// It was closed where its commit failed.
+    /// It was closed after its commit failed.
     Nowhere,
 }
 
@@ -91,7 +90,7 @@ impl Drop for Place {
 }
 
 impl Place {
-    /// Makes a change. It is the one function that is proved over each store, since that is dear.
+    /// Makes a change. Only this function is proved over each store, since such a proof is costly.
     fn make(&mut self, change: Change<'_>) -> Result<(), Refused> {
         match self {
             Place::File(tables) => tables.make(change),
@@ -111,7 +110,8 @@ impl Place {
 }
 
 impl SystemTables<'_> {
-    /// Drops the tables again that a commit may have left in a file which failed at its end, or the file, as far as the disk lets.
+    /// After a failed commit, removes the file that was made for the database. If the file still stands, drops the tables that the commit may
+    /// have left in it, as far as the disk allows.
     fn take_back(&mut self) -> Result<(), Refused> {
         let is_gone = self.clear();
         // The file is locked until it is closed.
@@ -122,7 +122,7 @@ impl SystemTables<'_> {
         }
     }
 
-    /// Removes the files that were made for the database, and tells whether no file of it stands then.
+    /// Removes the files that were made for the database, and tells whether it removed the file itself.
     fn clear(&mut self) -> bool {
         match &mut self.site {
             Some(site) => site.clear(self.rt),
@@ -156,7 +156,7 @@ impl RowTables for SystemTables<'_> {
         let committed = self.place.make(Change::Commit);
         match committed {
             Ok(()) => self.keep(),
-            // Where that is refused too, nobody knows what a disk holds that failed at a commit.
+            // If that is refused too, the contents of the disk are unknown.
             Err(Refused) => {
                 let _ = self.take_back();
             }
@@ -172,7 +172,7 @@ impl RowTables for SystemTables<'_> {
     }
 }
 
-/// Closes a database. Where its log isn't copied into the file, it stands beside it, with all that is committed.
+/// Closes a database. If its log isn't copied into the file, the log stays beside the file, with all that is committed.
 fn close_file<D: Disk + Drop>(database: Connection<FileStore<D>>) {
     let _ = database.close();
 }
@@ -184,7 +184,8 @@ fn take_back_file<D: Disk + Drop>(mut database: Connection<FileStore<D>>) -> Res
     dropped
 }
 
-/// Makes the tables in the database of a file that has none. Where that is refused, the files that were made for it are removed.
+/// Makes the tables in the database of a file that has none. If that is refused, removes the files that were made for it, unless somebody
+/// else has the database open.
 fn create_at(rt: &HostRuntime, site: &mut Site) -> Result<Tables<FileStore<File>>, Refused> {
     let created = create_in_file(rt, site);
     if created.is_err() {

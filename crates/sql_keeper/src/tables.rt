@@ -1,4 +1,4 @@
-//! The two tables of a store, and what is done to them.
+//! The two tables of a store, and the changes to them.
 
 use crate::Refused;
 use crate::numbers::Keys;
@@ -8,10 +8,10 @@ use keeper_play::RefTo;
 use sqlite::{Alter, Connection};
 use std::alloc::Global;
 
-/// What is done to the rows of a store.
+/// A change to the rows of a store.
 #[derive(Clone, Copy)]
 pub(crate) enum Change<'a> {
-    /// A row is put with its references, in place of one with the same key.
+    /// A row is put with its references. It replaces a row with the same key.
     Put {
         table: u32,
         key: u64,
@@ -29,8 +29,8 @@ pub(crate) enum Change<'a> {
 
 /// An open database with the two tables, in a transaction.
 ///
-/// Rows that are put wait until there are many, until one is dropped, or until the end: then few statements put them in the order of their
-/// numbers, so that pages are written one after another, and then the references between them.
+/// Rows that are put wait until there are many, until one is dropped, or until the end. Then a few statements put them in the order of their
+/// numbers, so that pages are written one after another. The references between the rows follow.
 pub(crate) struct Tables<S: Alter + Drop> {
     writer: Writer<S>,
     keys: Keys,
@@ -50,7 +50,7 @@ impl<S: Alter + Drop> Drop for Tables<S> {
 }
 
 impl<S: Alter + Drop> Tables<S> {
-    /// The tables, made in a database that has none.
+    /// Makes the tables in a database that has none.
     pub(crate) fn create(alloc: Global, database: Connection<S>) -> Result<Tables<S>, Refused> {
         let writer = Writer::create(alloc, database)?;
         Ok(Tables {
@@ -74,7 +74,7 @@ impl<S: Alter + Drop> Tables<S> {
         }
     }
 
-    /// Puts a row with its references, in place of one with the same key.
+    /// Puts a row with its references. Replaces a row with the same key.
     pub(crate) fn put(
         &mut self,
         table: u32,
@@ -98,13 +98,14 @@ impl<S: Alter + Drop> Tables<S> {
         }
     }
 
-    /// Puts the rows that wait. Where one is refused, none waits any more.
+    /// Puts the rows that wait. If one is refused, none waits any more.
     pub(crate) fn put_waiting(&mut self) -> Result<(), Refused> {
         let put = self.put_sorted();
         self.waiting.clear();
         put
     }
 
+    /// Sorts the waiting rows and puts them.
     fn put_sorted(&mut self) -> Result<(), Refused> {
         self.waiting.sort()?;
         self.writer.put_all(&self.waiting)
@@ -116,7 +117,7 @@ impl<S: Alter + Drop> Tables<S> {
         self.writer.commit()
     }
 
-    /// The database, in its transaction, without the rows that wait.
+    /// Returns the database, in its transaction, without the rows that wait.
     pub(crate) fn into_database(self) -> Connection<S> {
         let Tables {
             writer,

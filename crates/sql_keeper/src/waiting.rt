@@ -6,23 +6,23 @@ use keeper_play::RefTo;
 use sqlite::types::ValueRef;
 use std::alloc::Global;
 
-/// How many rows wait at most.
+/// The most rows that wait.
 const MOST_ROWS: usize = 65_536;
 
-/// How many references the rows have at most, where there is more than one row.
+/// The most references of the rows that wait, if there is more than one row.
 const MOST_REFERENCES: usize = 131_072;
 
-/// How many bytes their lines have at most, where there is more than one row.
+/// The most bytes of their lines, if there is more than one row.
 const MOST_BYTES: usize = 4_194_304;
 
-/// From one place to before another one.
+/// Positions from `start` up to `end`.
 #[derive(Clone, Copy)]
 struct Span {
     start: usize,
     end: usize,
 }
 
-/// A row that waits: its number, and where its line and its references stand among those that wait.
+/// A waiting row: its number, and where its line and its references stand in the lists of all waiting rows.
 #[derive(Clone, Copy)]
 pub(crate) struct WaitingRow {
     pub(crate) number: RowNumber,
@@ -30,7 +30,7 @@ pub(crate) struct WaitingRow {
     references: Span,
 }
 
-/// A reference: its number, and that of the row to which it leads.
+/// A reference: its number, and the number of the row to which it leads.
 #[derive(Clone, Copy)]
 struct Reference {
     number: ReferenceNumber,
@@ -60,7 +60,7 @@ impl Drop for Waiting {
 }
 
 impl Waiting {
-    /// No row.
+    /// Returns an empty list of rows.
     pub(crate) fn new(alloc: Global) -> Waiting {
         Waiting {
             alloc,
@@ -70,7 +70,7 @@ impl Waiting {
         }
     }
 
-    /// Whether there is room for another row, or no row.
+    /// Tells whether there is room for another row. If no row waits, there is.
     pub(crate) fn has_room(&self, refs: &[RefTo], line: &[u8]) -> bool {
         self.rows.is_empty()
             || self.rows.len() < MOST_ROWS
@@ -78,7 +78,7 @@ impl Waiting {
                 && line.len() <= MOST_BYTES.saturating_sub(self.text.len())
     }
 
-    /// Adds a row with its references to rows whose keys are known. Where that is refused, it doesn't wait.
+    /// Adds a row with its references. They refer to rows whose keys are known. If it is refused, it doesn't wait.
     pub(crate) fn add(
         &mut self,
         keys: &Keys,
@@ -96,7 +96,7 @@ impl Waiting {
         added
     }
 
-    /// Adds a row with its references, or as much of them as there is memory for and as may be.
+    /// Adds a row with its references. If it is refused, a part of it may stay.
     fn add_parts(
         &mut self,
         keys: &Keys,
@@ -133,7 +133,7 @@ impl Waiting {
         self.references.clear();
     }
 
-    /// Puts the rows in the order of their numbers. Of rows with one number the last keeps its references, and the others lose theirs.
+    /// Sorts the rows by number. Of rows with the same number, only the last keeps its references.
     pub(crate) fn sort(&mut self) -> Result<(), Refused> {
         self.rows.sort_by_key(|row| row.number)?;
         for at in 1..self.rows.len() {
@@ -147,23 +147,23 @@ impl Waiting {
         Ok(())
     }
 
-    /// The rows.
+    /// Returns the rows.
     pub(crate) fn rows(&self) -> &[WaitingRow] {
         self.rows.as_slice()
     }
 
-    /// How many references the rows have.
+    /// Returns the number of references of the rows.
     pub(crate) fn references(&self) -> usize {
         self.references.len()
     }
 
-    /// The line of a row.
+    /// Returns the line of a row.
     pub(crate) fn line(&self, row: &WaitingRow) -> Result<&[u8], Refused> {
         let Span { start, end } = row.line;
         self.text.as_slice().get(start..end).ok_or(Refused)
     }
 
-    /// Number and line of each of these rows.
+    /// Returns the number and the line of each row.
     pub(crate) fn row_values(&self, rows: &[WaitingRow]) -> Result<Vec<ValueRef<'_>>, Refused> {
         let mut values = Vec::new(self.alloc);
         for row in rows {
@@ -173,7 +173,7 @@ impl Waiting {
         Ok(values)
     }
 
-    /// Number and parent's number of each reference of these rows.
+    /// Returns the number and the parent's number of each reference of the rows.
     pub(crate) fn reference_values(
         &self,
         rows: &[WaitingRow],

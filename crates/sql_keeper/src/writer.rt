@@ -9,10 +9,10 @@ use sqlite::types::ValueRef;
 use sqlite::{Alter, Connection, Constraint, Error, ErrorCode};
 use std::alloc::Global;
 
-/// Whether a database has any table, index or view.
+/// Counts the objects of a database: tables, indexes, views and so on.
 const COUNT_OBJECTS: &str = "SELECT count(*) FROM sqlite_schema";
 
-/// The tables. A row has its number and its line; a reference has its number and that of the row to which it leads.
+/// Makes the tables. A row has its number and its line. A reference has its number and that of the row to which it leads.
 const CREATE_TABLES: &str = "BEGIN;
 CREATE TABLE kept_row (
   row_id INTEGER PRIMARY KEY,
@@ -23,7 +23,7 @@ CREATE TABLE kept_reference (
   parent_id INTEGER NOT NULL REFERENCES kept_row (row_id)
 );";
 
-/// The index that finds the references to a row.
+/// Makes the index that finds the references to a row.
 const CREATE_INDEX: &str = "CREATE INDEX kept_reference_by_parent ON kept_reference (parent_id)";
 
 const ADD_ROWS: &str = "INSERT INTO kept_row (row_id, line) VALUES";
@@ -43,10 +43,10 @@ DROP TABLE kept_reference;
 DROP TABLE kept_row;
 COMMIT";
 
-/// How many references are put at most without the index. To make it takes some 120 bytes of memory for each of them.
+/// The most references that are put without the index. To make the index takes some 120 bytes of memory for each of them.
 const UNINDEXED: usize = 1 << 19;
 
-/// The statements, prepared.
+/// The prepared statements.
 struct Statements {
     add_rows: Inserts,
     add_references: Inserts,
@@ -73,7 +73,7 @@ impl Drop for Statements {
 }
 
 impl Statements {
-    /// The statements, prepared for a database with the tables.
+    /// Prepares the statements for a database with the tables.
     fn prepare<S: Alter>(
         database: &mut Connection<S>,
         alloc: Global,
@@ -90,13 +90,13 @@ impl Statements {
 
 /// Makes the statements on the tables of an open database, in a transaction.
 ///
-/// The index is made once a row is dropped or replaced, once there are many references, or at the end: kept up to date from the first
-/// reference on, it makes the whole longer.
+/// The index is made when a row is dropped or replaced, when there are many references, or at the end. To keep it up to date from the first
+/// reference on would take longer.
 pub(crate) struct Writer<S: Alter + Drop> {
     database: Connection<S>,
     statements: Statements,
     is_indexed: bool,
-    /// How many references were put without the index.
+    /// The number of references that were put without the index.
     unindexed: usize,
 }
 
@@ -152,7 +152,7 @@ impl<S: Alter + Drop> Writer<S> {
         }
     }
 
-    /// Puts rows without their references one by one, since there is one with a number of theirs.
+    /// Puts rows without their references one by one, since a row has one of their numbers already.
     fn set_lines(&mut self, waiting: &Waiting, rows: &[WaitingRow]) -> Result<(), Refused> {
         self.index()?;
         for row in rows {
@@ -161,7 +161,7 @@ impl<S: Alter + Drop> Writer<S> {
         Ok(())
     }
 
-    /// Sets the line of the row with a number and drops its references, or puts a row where there is none.
+    /// Sets the line of the row with a number and drops its references. Puts the row if there is none.
     fn set_line(&mut self, row: RowNumber, line: &[u8]) -> Result<(), Refused> {
         self.drop_references(row)?;
         let values = [row.value(), ValueRef::Blob(line)];
@@ -201,7 +201,7 @@ impl<S: Alter + Drop> Writer<S> {
         Ok(())
     }
 
-    /// Makes the index, where it isn't made.
+    /// Makes the index if it isn't made yet.
     fn index(&mut self) -> Result<(), Refused> {
         if self.is_indexed {
             return Ok(());
@@ -216,7 +216,7 @@ impl<S: Alter + Drop> Writer<S> {
         batch(&mut self.database, COMMIT)
     }
 
-    /// The database, in its transaction.
+    /// Returns the database, in its transaction.
     pub(crate) fn into_database(self) -> Connection<S> {
         let Writer {
             database,
@@ -229,7 +229,7 @@ impl<S: Alter + Drop> Writer<S> {
     }
 }
 
-/// Whether a row was refused since there is one with its number.
+/// Tells whether a row was refused because another has its number.
 fn is_taken(error: Error) -> bool {
     matches!(
         error,
@@ -237,7 +237,7 @@ fn is_taken(error: Error) -> bool {
     )
 }
 
-/// Begins a transaction in a database that is empty, makes the tables, and prepares the statements on them.
+/// Begins a transaction in an empty database, makes the tables, and prepares the statements on them.
 fn make_tables<S: Alter>(
     database: &mut Connection<S>,
     alloc: Global,
@@ -249,12 +249,12 @@ fn make_tables<S: Alter>(
     Statements::prepare(database, alloc)
 }
 
-/// Drops the tables of a database and commits that; it is refused where it has none.
+/// Drops the tables of a database and commits that. Refused if it has none.
 pub(crate) fn drop_tables<S: Alter>(database: &mut Connection<S>) -> Result<(), Refused> {
     batch(database, DROP_TABLES)
 }
 
-/// How many objects a database has.
+/// Returns the number of objects of a database.
 fn count_objects<S: Alter>(database: &mut Connection<S>) -> Result<i64, Refused> {
     Ok(database.query_row(COUNT_OBJECTS, &[])?.get(0)?)
 }

@@ -1,4 +1,4 @@
-//! The tests of a store of SQLite, over databases in memory.
+//! Tests of a store of SQLite, over databases in memory.
 #![tactic(auto)]
 
 #[cfg(test)]

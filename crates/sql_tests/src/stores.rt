@@ -5,7 +5,7 @@ use keeper_play::Keeper;
 use sql_keeper::{MemoryDatabases, SqlKeeper};
 use std::test::Fail;
 
-// A store is finished, and isn't open then. In the one that is begun next a statement is refused, so no other is made, and nothing is committed.
+// A store is finished and then isn't open. In the next one a statement is refused, so no other is made, and nothing is committed.
 #[test]
 fn a_store_is_finished_where_no_statement_was_refused(rt: HostRuntime) -> Result<(), Fail> {
     let mut keeper = SqlKeeper::new(MemoryDatabases::new(rt.alloc()));

@@ -5,7 +5,7 @@ use sql_keeper::{Databases, MemoryDatabases, MemoryTables, RowTables};
 use sqlite::{Connection, MemStore};
 use std::test::Fail;
 
-// The reference of an order to the customer with a key.
+// Returns the reference of an order to the customer with a key.
 pub(crate) fn to_customer(key: u64) -> RefTo {
     RefTo {
         column: 1,
@@ -26,13 +26,14 @@ fn number(database: &mut Connection<MemStore>, sql: &str) -> Option<i64> {
     database.query_row(sql, &[]).ok()?.get(0).ok()
 }
 
-// Keys of a table that lie 2^40 apart: their rows would have one number.
+// Two keys of a table that lie 2^40 apart: their rows would have the same number.
 const NEAR: u64 = 1;
 
 const FAR: u64 = 1_099_511_627_777;
 
-// Whether none of these is put: an order to a customer of a key that is too far away, a customer of such a key, a row of a table that can't be there,
-// one with a reference in a column that can't be there, and an order whose customer is gone. That is told once it doesn't wait any more.
+// Tells whether all of these are refused: an order of a customer whose key is too far away; a customer with such a key; a row of a table that
+// can't exist; a row with a reference in a column that can't exist; and an order whose customer is gone. The last is told only when its rows
+// are put.
 fn are_refused(tables: &mut MemoryTables) -> bool {
     let no_column = RefTo {
         column: 64,
@@ -48,7 +49,8 @@ fn are_refused(tables: &mut MemoryTables) -> bool {
         && tables.put_waiting().is_err()
 }
 
-// Whether 150 customers are put, each before an order of its own: more than one statement takes. One order leads to another customer in between.
+// Tells whether 150 customers are put, each before its own order. That is more than one statement takes. In between, one order leads to
+// another customer.
 fn are_put(tables: &mut MemoryTables) -> bool {
     let mut are_all = true;
     for key in 100..250u64 {
@@ -61,8 +63,8 @@ fn are_put(tables: &mut MemoryTables) -> bool {
         && tables.put_waiting().is_ok()
 }
 
-// A row takes the place of the one with its key, an order is led from one customer to another, and a customer isn't dropped before its orders. Keys are
-// told apart where they lie within 2^40 of one another, and no row is put or dropped in place of another one with its number. There are 64 tables, of 64
+// A row takes the place of the row with its key, an order moves from one customer to another, and a customer isn't dropped before its orders.
+// Keys within 2^40 of one another are told apart. No row is put or dropped in place of another with its number. There are 64 tables, of 64
 // columns.
 #[test]
 fn rows_and_references_come_and_go(rt: HostRuntime) -> Result<(), Fail> {

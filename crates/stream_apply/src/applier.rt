@@ -15,7 +15,7 @@ use row_text::Memory;
 use std::alloc::Global;
 use std::marker::Model;
 
-/// A table, to which streams are applied one after the other. Its lines stay where they were read, and in the table's order.
+/// A table to which streams are applied one after the other. Its lines stay where they were read, and in the table's order.
 #[derive(Drop)]
 pub struct Applier<'a> {
     alloc: Global,
@@ -36,9 +36,8 @@ impl<'a> Model for Applier<'a> {
 }
 
 impl<'a> Applier<'a> {
-    /// A table as its text holds it, with what of a line is its key and the delimiter, a tab (9) or a bar (124), that stands
-    /// between two fields, both of it and of the streams. Refused at the first line of the text that is at fault: a `BadLine` or a
-    /// `DoubleKey`.
+    /// Reads a table from its text. `keys` tells which fields of a line are its key. The delimiter between two fields, of the table and the
+    /// streams, is a tab (9) or a bar (124). Refuses the first line of the text at fault: a `BadLine` or a `DoubleKey`.
     pub fn load(
         alloc: Global,
         snapshot: &'a [u8],
@@ -58,8 +57,7 @@ impl<'a> Applier<'a> {
         })
     }
 
-    /// The table without the lines of which the bytes hold the keys, each alone in a line. Refused at the first line of the
-    /// bytes that is at fault.
+    /// Drops the lines whose keys the bytes hold, one key a line. Refuses the first line of the bytes at fault.
     pub fn delete(self, bytes: &[u8]) -> Result<Applier<'a>, ApplyFault>
         ensures applied { IfOk result (IsApplied Deletes bytes.now self.entry) }
         ensures fault { IfErr result (IsFaultOf self.entry.keys self.entry.delimiter Deletes self.entry.lines bytes.now) }
@@ -80,8 +78,7 @@ impl<'a> Applier<'a> {
         })
     }
 
-    /// The table with the lines of the bytes in the places of those with their keys. Refused at the first line of the bytes
-    /// that is at fault.
+    /// Replaces the lines that have the keys of the bytes' lines, in place. Refuses the first line of the bytes at fault.
     pub fn update(self, bytes: &'a [u8]) -> Result<Applier<'a>, ApplyFault>
         ensures applied { IfOk result (IsApplied Updates bytes.now self.entry) }
         ensures fault { IfErr result (IsFaultOf self.entry.keys self.entry.delimiter Updates self.entry.lines bytes.now) }
@@ -102,7 +99,7 @@ impl<'a> Applier<'a> {
         })
     }
 
-    /// The table with the lines of the bytes behind its own. Refused at the first line of the bytes that is at fault.
+    /// Appends the lines of the bytes to the table's. Refuses the first line of the bytes at fault.
     pub fn insert(self, bytes: &'a [u8]) -> Result<Applier<'a>, ApplyFault>
         ensures applied { IfOk result (IsApplied Inserts bytes.now self.entry) }
         ensures fault { IfErr result (IsFaultOf self.entry.keys self.entry.delimiter Inserts self.entry.lines bytes.now) }
@@ -123,7 +120,7 @@ impl<'a> Applier<'a> {
         })
     }
 
-    /// The text of the table: its lines in order, each with its line feed.
+    /// Returns the text of the table: its lines in order, each with its line feed.
     pub fn text(&self) -> Result<Vec<u8>, Memory>
         ensures { IfOk result (λ text. text.items ≡ lines_text self.now.lines) }
     {
@@ -131,7 +128,7 @@ impl<'a> Applier<'a> {
     }
 }
 
-/// Puts each line of others into a table, in the place of the one with its key or behind the others.
+/// Puts each line of `lines` into a table, in place of the line with its key or after the others.
 pub(crate) fn put_all<'a>(table: &mut KeyTable<'a>, lines: &KeyTable<'a>) -> Result<(), Memory>
     ensures { OnOk result (table.new ≡ fold put table.old lines.now) }
 {

@@ -4,18 +4,18 @@ ghost use Rattle.std.specs.Prelude.{◌≡◌};
 
 use row_text::Memory;
 
-/// Why bytes aren't read as lines of a table, or not applied to one: what is wrong with the first line that is at fault, by
-/// its number, which counts from 1.
+/// Why bytes aren't a table's text, or not a stream for a table: what is wrong with the first line at fault. `line` is the number of that
+/// line, from 1.
 #[derive(Clone, Copy, Debug, PartialEq, Eq)]
 pub enum ApplyFault {
-    /// The line has no line feed or is no line body, it has fewer fields than a key, one of these is null, or it has more where it
-    /// is to be a key alone.
+    /// The line has no line feed, is no line body, or has no key: too few fields or a null one. Or it has more fields than a key where it
+    /// must be a key only.
     BadLine { line: u64 },
-    /// An earlier line of the same bytes has this key.
+    /// An earlier line of the same bytes has the key of this line.
     DoubleKey { line: u64 },
-    /// The table holds no line with this key.
+    /// The table holds no line with the key of this line.
     NoSuchKey { line: u64 },
-    /// The table holds a line with this key.
+    /// The table already holds a line with the key of this line.
     KeyExists { line: u64 },
     /// Memory ran out.
     Memory,

@@ -16,18 +16,18 @@ use crate::kind::Kind;
 use crate::stream::read_stream;
 use std::alloc::{AllocError, Global};
 
-/// What is wrong first when inputs are applied in turn: the place of the input, counted from 0, and the fault of its first line
-/// that is at fault. For want of memory the place says nothing.
+/// The first thing that is wrong when inputs are applied in turn. If memory runs out, `place` means nothing.
 #[derive(Clone, Copy, Debug, PartialEq, Eq)]
 pub struct TurnFault {
+    /// The place of the input, from 0.
     pub place: usize,
+    /// The fault of the input's first line at fault.
     pub fault: ApplyFault,
 }
 
-/// The text that a table's text and the streams of units make, with what of a line is its key and the delimiter, a tab (9) or a
-/// bar (124), that stands between two fields. The first input is the table's text, and behind it stand, unit by unit, what the unit
-/// deletes, updates and inserts; without inputs the table is empty. Refused at the first line that is at fault of the first input that
-/// has one, or for want of memory.
+/// Returns the text that a table's text and the streams of units make. The first input is the table's text. Then come, unit by unit, what the
+/// unit deletes, updates and inserts. Without inputs the table is empty. `keys` tells which fields of a line are its key, and the delimiter
+/// between two fields is a tab (9) or a bar (124). Refuses the first line at fault of the first input that has one. Fails if memory runs out.
 pub fn apply_in_turn(
     alloc: Global,
     inputs: &[Vec<u8>],
@@ -50,7 +50,7 @@ pub fn apply_in_turn(
     }
 }
 
-/// The same where the inputs are parts of other bytes.
+/// Returns what `apply_in_turn` returns, for inputs that are parts of other bytes.
 pub fn apply_slices(
     alloc: Global,
     inputs: &[&[u8]],
@@ -82,7 +82,7 @@ pub fn apply_slices(
     }
 }
 
-/// Inputs as parts of their bytes.
+/// Returns the inputs as parts of their bytes.
 fn slices_of(alloc: Global, inputs: &[Vec<u8>]) -> Result<Vec<&[u8]>, AllocError>
     ensures { IfOk result (λ slices. map (λ slice. slice.now) slices.items ≡ map (λ input. input.items) inputs.now) }
 {
@@ -93,7 +93,7 @@ fn slices_of(alloc: Global, inputs: &[Vec<u8>]) -> Result<Vec<&[u8]>, AllocError
     Ok(slices)
 }
 
-/// What the bytes make of a table. Refused at the first line of the bytes that is at fault.
+/// Returns the table that the bytes make of a table. Refuses the first line of the bytes at fault.
 fn apply_input<'a>(
     alloc: Global,
     kind: Kind,

@@ -1,19 +1,19 @@
-//! What of a line is its key.
+//! Which fields of a line are its key.
 
 ghost use Rattle.std.specs.Prelude.{◌≡◌};
 ghost use Rattle.stream_apply.specs.Streams.{key_count};
 
-/// How many fields at the front of a line are its key.
+/// The number of fields at the front of a line that are its key.
 #[derive(Clone, Copy, Debug, PartialEq, Eq)]
 pub enum KeyFields {
-    /// The first.
+    /// The first field.
     One,
-    /// The first and the second.
+    /// The first two fields.
     Two,
 }
 
 impl KeyFields {
-    /// How many they are.
+    /// Returns the number of fields.
     pub(crate) fn count(self) -> usize
         ensures { result ≡ key_count self }
     {

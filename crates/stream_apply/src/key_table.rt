@@ -33,7 +33,7 @@ impl<'a> Model for KeyTable<'a> {
 }
 
 impl<'a> KeyTable<'a> {
-    /// No lines.
+    /// Returns a table without lines.
     pub fn new(alloc: Global) -> KeyTable<'a>
         ensures { result ≡ [] }
     {
@@ -42,7 +42,7 @@ impl<'a> KeyTable<'a> {
         }
     }
 
-    /// The number of lines, of which no two have one key.
+    /// Returns the number of lines. No two lines have the same key.
     pub fn len(&self) -> usize
         ensures number { result ≡ length self.now }
         ensures small { result < 2 ^ 63 }
@@ -51,14 +51,14 @@ impl<'a> KeyTable<'a> {
         self.lines.len()
     }
 
-    /// Whether a line has this key.
+    /// Tells whether a line has the key.
     pub fn has(&self, key: &[u8]) -> bool
         ensures { result ≡ has_key self.now key.now }
     {
         self.lines.contains_key(key)
     }
 
-    /// Puts a line in the place of the one with its key, or behind the others where none has it.
+    /// Puts a line in the place of the one with its key, or after the others if no line has the key.
     pub fn put(&mut self, key: &'a [u8], text: &'a [u8]) -> Result<(), Memory>
         ensures { OnOk result (self.new ≡ put self.old (keyed key.now text.now)) }
     {
@@ -66,7 +66,7 @@ impl<'a> KeyTable<'a> {
         Ok(())
     }
 
-    /// Drops the lines whose keys are among those of others.
+    /// Drops the lines whose keys `others` holds.
     pub fn drop_all(&mut self, others: &KeyTable)
         ensures { self.new ≡ filter (λ line. not (has_key others.now line.key)) self.old }
     {
@@ -80,7 +80,7 @@ impl<'a> KeyTable<'a> {
         );
     }
 
-    /// The key of the line at an index, which counts from 0.
+    /// Returns the key of the line at an index, from 0.
     pub fn key_at(&self, index: usize) -> &'a [u8]
         requires { index < length self.now }
         ensures { IfSome (slice_get self.now index) (λ line. line.key ≡ result.now) }
@@ -91,7 +91,7 @@ impl<'a> KeyTable<'a> {
         }
     }
 
-    /// The text of the line at an index, which counts from 0.
+    /// Returns the text of the line at an index, from 0.
     pub fn text_at(&self, index: usize) -> &'a [u8]
         requires { index < length self.now }
         ensures { IfSome (slice_get self.now index) (λ line. line.text ≡ result.now) }
@@ -99,7 +99,7 @@ impl<'a> KeyTable<'a> {
         self.lines[index]
     }
 
-    /// The text of all lines in their order, each with its line feed.
+    /// Returns the text of all lines in order, each with its line feed.
     pub fn text(&self, alloc: Global) -> Result<Vec<u8>, AllocError>
         ensures { IfOk result (λ text. text.items ≡ lines_text self.now) }
     {

@@ -4,35 +4,35 @@ ghost use Rattle.std.specs.Prelude.{◌≡◌};
 ghost use Rattle.stream_apply.specs.InTurn.{next_kind};
 ghost use Rattle.stream_apply.specs.Streams as streams;
 
-/// What bytes hold: a table's own lines, or those of a stream for it.
+/// What bytes hold: a table's own lines, or the lines of a stream for the table.
 #[derive(Clone, Copy, Debug, PartialEq, Eq)]
 pub enum Kind {
     /// The lines of a table.
     Snapshot,
-    /// Keys, each alone in a line, of lines that are dropped.
+    /// The keys of lines that are dropped, one key a line.
     Deletes,
-    /// Lines that take the places of those with their keys.
+    /// Lines that replace the lines with their keys.
     Updates,
-    /// Lines that go behind those of the table.
+    /// Lines that are appended to the table.
     Inserts,
 }
 
 impl Kind {
-    /// Whether each line is a key alone.
+    /// Tells whether each line is only a key.
     pub(crate) fn holds_keys_alone(self) -> bool
         ensures { result ≡ streams.holds_keys_alone self }
     {
         matches!(self, Kind::Deletes)
     }
 
-    /// Whether the table has to hold the key of each line; else it may hold none.
+    /// Tells whether the table must hold the key of each line. If not, it must hold none of them.
     pub fn wants_held(self) -> bool
         ensures { result ≡ streams.wants_held self }
     {
         matches!(self, Kind::Deletes | Kind::Updates)
     }
 
-    /// What bytes hold that are applied behind those of this kind.
+    /// Returns the kind of the bytes that are applied next.
     pub(crate) fn next(self) -> Kind
         ensures { result ≡ next_kind self }
     {

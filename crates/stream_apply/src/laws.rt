@@ -1,4 +1,4 @@
-//! The laws of streams, each the contract of a function that does nothing.
+//! The laws of streams. Each law is the contract of a function that does nothing.
 
 ghost use Rattle.std.specs.Prelude.{◌≡◌, ◌≢◌, ℕ, ◌↔◌, List, [], ◌∷◌};
 ghost use Rattle.row_text.specs.Fields.{IsDelimiter};
@@ -11,7 +11,7 @@ ghost use Rattle.stream_apply.specs.declared.key_fields.KeyFields.{KeyFields};
 ghost use Rattle.stream_apply.specs.declared.kind.Kind.{Kind};
 ghost use Rattle.stream_apply.specs.declared.kind.Kind.TheVariants.{Deletes, Inserts, Snapshot, Updates};
 
-/// A table that is loaded, and to which the streams of one unit are applied in turn, holds what they make of its text.
+/// If a table is loaded and the streams of one unit are applied to it in turn, it holds what they make of its text.
 pub fn calls_in_turn_apply_a_unit()
     ensures { (keys : KeyFields) (delimiter : ℕ) (text deletes updates inserts : List ℕ) (loaded deleted updated inserted : Table) →
         IsLoaded text keys delimiter loaded → IsApplied Deletes deletes loaded deleted →
@@ -25,7 +25,7 @@ pub fn stream_is_read_in_one_way()
         IsStream keys delimiter kind table bytes lines → IsStream keys delimiter kind table bytes others → lines ≡ others }
 {}
 
-/// A stream that is read has no fault, and one that isn't has one first fault.
+/// A stream that is read has no fault. One that isn't read has one first fault.
 pub fn stream_has_one_outcome()
     ensures read { (keys : KeyFields) (delimiter : ℕ) (kind : Kind) (table : List KeyedLine) (bytes : List ℕ) (lines : List KeyedLine) (fault : ApplyFault) → IsDelimiter delimiter →
         IsStream keys delimiter kind table bytes lines → fault ≢ Memory → ¬ IsFaultOf keys delimiter kind table bytes fault }
@@ -33,7 +33,7 @@ pub fn stream_has_one_outcome()
         IsFaultOf keys delimiter kind table bytes fault → IsFaultOf keys delimiter kind table bytes other → fault ≢ Memory → other ≢ Memory → fault ≡ other }
 {}
 
-/// Inputs that are applied in turn make one table and have no fault, or have one first fault at one place.
+/// Inputs that are applied in turn either make one table and have no fault, or have one first fault at one place.
 pub fn inputs_have_one_outcome()
     ensures made { (keys : KeyFields) (delimiter : ℕ) (inputs : List Input) (before after other : List KeyedLine) → IsDelimiter delimiter →
         IsMadeInTurn keys delimiter inputs before after → IsMadeInTurn keys delimiter inputs before other → after ≡ other }
@@ -45,7 +45,7 @@ pub fn inputs_have_one_outcome()
         fault ≢ Memory → other ≢ Memory → (place ≡ other_place) × (fault ≡ other) }
 {}
 
-/// A table's text and the streams of one unit, applied in turn, make the lines behind them.
+/// The inputs of one unit, applied in turn, make the lines that `IsBehind` defines.
 pub fn one_unit_in_turn()
     ensures { (keys : KeyFields) (delimiter : ℕ) (text deletes updates inserts : List ℕ) (lines : List KeyedLine) →
         IsMadeInTurn keys delimiter (inputs_from Snapshot (text ∷ deletes ∷ updates ∷ inserts ∷ [])) [] lines

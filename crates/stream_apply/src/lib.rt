@@ -1,7 +1,7 @@
-//! A table's text, and what streams make of it: lines dropped, replaced in place and appended, each known by its key.
+//! A table's text, and what streams make of it: lines that are dropped, replaced in place and appended. Each line is known by its key.
 //!
-//! A line is a line body of fields with a line feed behind, and its key is its first field, or its first two. Lines are kept as
-//! parts of the bytes that they were read from.
+//! A line is a line body of fields with a line feed after it. Its key is its first field, or its first two. Lines stay where they stand in
+//! the bytes.
 #![tactic(auto)]
 
 mod applier;

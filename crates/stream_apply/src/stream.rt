@@ -14,7 +14,7 @@ use crate::kind::Kind;
 use row_text::{Fields, LineFault, Memory, field_size, next_line, split_line};
 use std::alloc::Global;
 
-/// A line at the start of bytes, and what is behind its line feed.
+/// A line at the start of bytes, and the bytes after its line feed.
 #[derive(Clone, Copy)]
 struct ReadLine<'a> {
     key: &'a [u8],
@@ -22,7 +22,7 @@ struct ReadLine<'a> {
     rest: &'a [u8],
 }
 
-/// The lines of a table's text, by their keys. Refused at the first line that is at fault: a `BadLine` or a `DoubleKey`.
+/// Reads the lines of a table's text, by their keys. Refuses the first line at fault: a `BadLine` or a `DoubleKey`.
 pub fn read_table<'a>(
     alloc: Global,
     snapshot: &'a [u8],
@@ -37,7 +37,7 @@ pub fn read_table<'a>(
     read_stream(alloc, Kind::Snapshot, &none, snapshot, keys, delimiter)
 }
 
-/// The lines of a stream for a table, by their keys.
+/// Reads the lines of a stream for a table, by their keys. Refuses the first line at fault.
 pub(crate) fn read_stream<'a>(
     alloc: Global,
     kind: Kind,
@@ -88,7 +88,7 @@ fn check_key(
     }
 }
 
-/// The line that bytes start with; None where they start with none of this kind.
+/// Reads the line at the start of bytes; None if they start with no line of the kind.
 fn read_line<'a>(
     alloc: Global,
     kind: Kind,
@@ -114,7 +114,7 @@ fn read_line<'a>(
     }
 }
 
-/// What stands before the first line feed, and what behind it; None where there is none.
+/// Returns what stands before and after the first line feed; None if there is none.
 fn cut_line(bytes: &[u8]) -> Option<(&[u8], &[u8])>
     ensures { MatchOption result
         (¬ Contains bytes.now 10)
@@ -124,7 +124,7 @@ fn cut_line(bytes: &[u8]) -> Option<(&[u8], &[u8])>
     Some((&bytes[..line.end], &bytes[line.end + 1..]))
 }
 
-/// How many bytes of a line, which is given without its line feed, are its key; None where it is no line of this kind.
+/// Returns how many bytes of a line are its key; None if it is no line of the kind. The line comes without its line feed.
 pub fn key_size(
     alloc: Global,
     kind: Kind,
@@ -144,7 +144,7 @@ pub fn key_size(
     }
 }
 
-/// How many bytes the fields of the key are written as; None where the fields are those of no line of this kind.
+/// Returns how many bytes the fields of the key take when written; None if the fields are no line of the kind.
 fn front_size(kind: Kind, fields: &Fields, keys: KeyFields, delimiter: u8) -> Option<usize>
     requires { length (line_text delimiter fields.now) < 2 ^ 63 }
     ensures { MatchOption result
@@ -166,7 +166,7 @@ fn front_size(kind: Kind, fields: &Fields, keys: KeyFields, delimiter: u8) -> Op
     }
 }
 
-/// How many bytes the field at a place, which counts from 0, is written as; None where it is null.
+/// Returns how many bytes the field at a place, from 0, takes when written; None if it is null.
 fn text_size(fields: &Fields, place: usize, delimiter: u8) -> Option<usize>
     requires { place < length fields.now }
     ensures { MatchOption result

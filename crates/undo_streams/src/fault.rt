@@ -1,23 +1,23 @@
-//! Why a table isn't taken back.
+//! Why a table isn't reverted.
 
 ghost use Rattle.std.specs.Prelude.{◌≡◌};
 
 use row_text::Memory;
 use stream_apply::ApplyFault;
 
-/// Why bytes aren't read as lines of a table, or not taken as an undo text of one: what is wrong with the first line that is at fault,
-/// by its number, which counts from 1.
+/// Why bytes aren't a table's text, or an undo text that applies to it: what is wrong with the first line at fault. `line` is the number of
+/// that line, from 1.
 #[derive(Clone, Copy, Debug, PartialEq, Eq)]
 pub enum RevertFault {
-    /// The line has no line feed or is no line of a table or of an undo text, or it stands behind one of a later part.
+    /// The line has no line feed, is no line of a table or of an undo text, or comes after a line of a later part.
     BadLine { line: u64 },
-    /// An earlier line of the same bytes has this key.
+    /// An earlier line of the same bytes has the key of this line.
     DoubleKey { line: u64 },
-    /// The table holds no line with this key, which is to be dropped or set.
+    /// The line drops or sets a key that the table doesn't hold.
     NoSuchKey { line: u64 },
-    /// The table holds a line with this key, which is to be added.
+    /// The line adds a key that the table already holds.
     KeyExists { line: u64 },
-    /// The place where a line is to be added isn't greater than that of the one added before, or is greater than the list's length.
+    /// The place at which the line is added isn't greater than that of the line added before, or is greater than the length of the list.
     BadPlace { line: u64 },
     /// Memory ran out.
     Memory,

@@ -1,4 +1,4 @@
-//! A table's text and undo texts, undone one after the other.
+//! A table's text and undo texts, applied one after the other.
 
 ghost use Rattle.std.specs.Prelude.{◌≡◌, ◌≢◌, ◌<◌, ◌≤◌, length, map, IfErr, IfOk};
 ghost use Rattle.row_text.specs.Fields.{IsDelimiter};
@@ -11,17 +11,18 @@ use crate::weaver::undo_table;
 use std::alloc::Global;
 use stream_apply::KeyTable;
 
-/// What is wrong first when undo texts are taken in turn: the place of the input, counted from 0, and the fault of its first line that
-/// is at fault. For want of memory the place says nothing.
+/// The first thing that is wrong when undo texts are applied in turn. If memory runs out, `place` means nothing.
 #[derive(Clone, Copy, Debug, PartialEq, Eq)]
 pub struct RevertedAt {
+    /// The place of the input, from 0.
     pub place: usize,
+    /// The fault of the input's first line at fault.
     pub fault: RevertFault,
 }
 
-/// The text that a table's text and undo texts make, with the delimiter, a tab (9) or a bar (124), that stands between two fields. The
-/// first input is the table's text, and behind it stand the undo texts, in the order in which they are taken. Refused at the first line
-/// that is at fault of the first input that has one, or for want of memory.
+/// Returns the text that a table's text and undo texts make. The first input is the table's text, and the others are undo texts in the order
+/// in which they are applied. The delimiter between two fields is a tab (9) or a bar (124). Refuses the first line at fault of the first
+/// input that has one. Fails if memory runs out.
 pub fn revert_in_turn(
     alloc: Global,
     inputs: &[Vec<u8>],
@@ -56,7 +57,7 @@ pub fn revert_in_turn(
     }
 }
 
-/// What undo texts make of a table, one after the other. Places count from 0 at the first of them.
+/// Returns the table that undo texts make of a table, one after the other. In a fault, places count from 0 at the first undo text.
 fn undo_in_turn<'a>(
     alloc: Global,
     table: KeyTable<'a>,

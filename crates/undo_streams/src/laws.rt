@@ -1,4 +1,4 @@
-//! The laws of undo texts, each the contract of a function that does nothing.
+//! The laws of undo texts. Each law is the contract of a function that does nothing.
 
 ghost use Rattle.std.specs.Prelude.{◌≡◌, ◌≢◌, ℕ, List};
 ghost use Rattle.row_text.specs.Fields.{IsDelimiter};
@@ -8,7 +8,7 @@ ghost use Rattle.undo_streams.specs.Reverting.{IsUndoFault, IsUndoneBy};
 ghost use Rattle.undo_streams.specs.declared.fault.RevertFault.{RevertFault};
 ghost use Rattle.undo_streams.specs.declared.fault.RevertFault.TheVariants.{Memory};
 
-/// An undo text that is taken makes one table and has no fault, and one that isn't has one first fault.
+/// An undo text that applies makes one table and has no fault. One that doesn't apply has one first fault.
 pub fn undo_text_has_one_outcome()
     ensures made { (delimiter : ℕ) (before : List KeyedLine) (bytes : List ℕ) (after other : List KeyedLine) → IsDelimiter delimiter →
         IsUndoneBy delimiter before bytes after → IsUndoneBy delimiter before bytes other → after ≡ other }
@@ -18,7 +18,7 @@ pub fn undo_text_has_one_outcome()
         IsUndoFault delimiter before bytes fault → IsUndoFault delimiter before bytes other → fault ≢ Memory → other ≢ Memory → fault ≡ other }
 {}
 
-/// A table's text and undo texts that are taken in turn make one text and have no fault, or have one first fault at one place.
+/// A table's text and undo texts, applied in turn, either make one text and have no fault, or have one first fault at one place.
 pub fn inputs_have_one_outcome()
     ensures made { (delimiter : ℕ) (inputs : List (List ℕ)) (text other : List ℕ) → IsDelimiter delimiter →
         IsRevertedText delimiter inputs text → IsRevertedText delimiter inputs other → text ≡ other }

@@ -1,10 +1,11 @@
-//! Going back: the text that undoes what a unit did to a table, a line for each row that it changed, and tables from which such texts are
-//! taken.
+//! Undo texts, which undo what a unit did to a table, and tables to which they are applied.
 //!
-//! An undo text drops the lines that a unit inserted, sets those that it updated to what they were, and adds those that it deleted at the
-//! places where they stood. A line is a line body of fields with a line feed behind: a word, the place where it adds a line, and the
-//! fields of that line, of which the first is its key. A table is named by its place in the schema, and a row by its ordinal, its place in
-//! the order of birth in its table; both count from 0. Lines that are read are kept as parts of the bytes that they were read from.
+//! An undo text has a line for each row that the unit changed. It drops the inserted lines, sets the updated lines to what they were, and
+//! adds the deleted lines at their old places.
+//!
+//! A line is a line body of fields with a line feed after it. A line of an undo text has a word, the place if it adds a line, and the fields
+//! of the line that it drops, sets or adds. The first of these fields is the key. A table is named by its place in the schema. A row is named
+//! by its ordinal, its place in the order of birth in its table. Both count from 0. Lines that are read stay where they stand in the bytes.
 #![tactic(auto)]
 
 mod changes;

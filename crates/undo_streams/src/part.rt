@@ -6,7 +6,7 @@ ghost use Rattle.undo_streams.specs.declared.part.Part.{Part};
 
 use stream_apply::Kind;
 
-/// The parts of an undo text, in their order: lines that are dropped, set and added.
+/// The parts of an undo text, in order: lines that are dropped, set and added.
 #[derive(Clone, Copy)]
 pub(crate) enum Part {
     Drops,
@@ -15,7 +15,7 @@ pub(crate) enum Part {
 }
 
 impl Part {
-    /// The part whose lines begin with a word; None where those of none do.
+    /// Returns the part whose lines begin with a word, or None if no part's lines do.
     pub(crate) fn of_word(word: &[u8]) -> Option<Part>
         ensures { MatchOption result ((part : Part) → word.now ≢ word_of part) (λ part. word.now ≡ word_of part) }
     {
@@ -30,7 +30,7 @@ impl Part {
         }
     }
 
-    /// Where it stands among the three.
+    /// Returns the place of the part among the three, from 0.
     pub(crate) fn rank(self) -> u8
         ensures { result ≡ rank_of self }
     {
@@ -41,7 +41,7 @@ impl Part {
         }
     }
 
-    /// What its lines hold behind the word and the place.
+    /// Returns the kind of the part's lines after the word and the place.
     pub(crate) fn kind(self) -> Kind
         ensures { result ≡ kind_of self }
     {

@@ -1,4 +1,4 @@
-//! A table that is taken back.
+//! A table that is reverted.
 
 ghost use Rattle.std.specs.Prelude.{◌≡◌, IfErr, IfOk};
 ghost use Rattle.row_text.specs.Fields.{IsDelimiter};
@@ -15,7 +15,7 @@ use std::alloc::Global;
 use std::marker::Model;
 use stream_apply::{KeyFields, KeyTable, read_table};
 
-/// A table, from which undo texts are taken back one after the other. Its lines stay where they were read, and in the table's order.
+/// A table to which undo texts are applied one after the other. Its lines stay where they were read, and in the table's order.
 #[derive(Drop)]
 pub struct Reverter<'a> {
     alloc: Global,
@@ -36,8 +36,8 @@ impl<'a> Model for Reverter<'a> {
 }
 
 impl<'a> Reverter<'a> {
-    /// A table as its text holds it, with the delimiter, a tab (9) or a bar (124), that stands between two fields of it and of the undo
-    /// texts. Refused at the first line of the text that is at fault: a `BadLine` or a `DoubleKey`.
+    /// Reads a table from its text. The delimiter between two fields, of the table and the undo texts, is a tab (9) or a bar (124). Refuses
+    /// the first line of the text at fault: a `BadLine` or a `DoubleKey`.
     pub fn load(
         alloc: Global,
         snapshot: &'a [u8],
@@ -55,8 +55,8 @@ impl<'a> Reverter<'a> {
         })
     }
 
-    /// The table with an undo text taken back, in time that is linear in the two. Refused at the first line of the bytes that is at
-    /// fault; the table is gone then.
+    /// Applies an undo text to the table, in time that is linear in the two. Refuses the first line of the bytes at fault; the table is then
+    /// gone.
     pub fn undo(self, bytes: &'a [u8]) -> Result<Reverter<'a>, RevertFault>
         ensures undone { IfOk result (IsUndone bytes.now self.entry) }
         ensures fault { IfErr result (IsUndoFault self.entry.delimiter self.entry.lines bytes.now) }
@@ -74,7 +74,7 @@ impl<'a> Reverter<'a> {
         })
     }
 
-    /// The text of the table: its lines in order, each with its line feed.
+    /// Returns the text of the table: its lines in order, each with its line feed.
     pub fn text(&self) -> Result<Vec<u8>, Memory>
         ensures { IfOk result (λ text. text.items ≡ lines_text self.now.lines) }
     {
@@ -82,7 +82,7 @@ impl<'a> Reverter<'a> {
     }
 }
 
-/// The lines of a table's text, by their keys.
+/// Reads the lines of a table's text, by their keys.
 pub(crate) fn load_table<'a>(
     alloc: Global,
     snapshot: &'a [u8],

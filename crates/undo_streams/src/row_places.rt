@@ -1,4 +1,4 @@
-//! The places of rows in the lists of their tables, counted by life.
+//! The places of rows in the lists of their tables, found by counting lives.
 
 ghost use Rattle.std.specs.Prelude.{◌≡◌, ◌+◌, ◌-◌, ◌*◌, ◌<◌, ◌≤◌, ◌^◌, ℕ, All, IfOk, count_by, get_or, length, true};
 ghost use Rattle.std.specs.List.{range_with_len};
@@ -17,8 +17,8 @@ use std::alloc::Global;
 use std::sync::ledger::Ledger;
 use step_count::Steps;
 
-/// Rows beside one another that are born at one unit: their ordinals, whether each is alive, and what this is told by. It is made once for
-/// many of them, and holds nothing from one to the next.
+/// Buffers for a run of rows that are born at one unit: their ordinals, whether each is alive, and what tells so. One is made for many runs,
+/// and carries nothing from one run to the next.
 #[derive(Drop)]
 struct LivesBuf {
     ordinals: [u64; MOST_ROWS],
@@ -40,7 +40,7 @@ impl LivesBuf {
     }
 }
 
-/// Puts numbers beside one another, from a first one on.
+/// Fills a list with consecutive numbers, from `first` on.
 fn put_range(list: &mut [u64], first: u64)
     requires { first + length list.old ≤ 2 ^ 40 }
     ensures { list.new ≡ range_with_len first (length list.old) }
@@ -50,7 +50,7 @@ fn put_range(list: &mut [u64], first: u64)
     }
 }
 
-/// Puts a unit for each row.
+/// Fills a list with a unit.
 fn put_unit(list: &mut [u64], unit: u64)
     ensures { (i : ℕ) → i < length list.old → get_or list.new i 0 ≡ unit }
 {
@@ -59,7 +59,7 @@ fn put_unit(list: &mut [u64], unit: u64)
     }
 }
 
-/// How many of some flags are true.
+/// Counts the flags that are true.
 fn count_true(flags: &[bool]) -> u64
     ensures count { result ≡ count_by (λ flag. flag) flags.now }
     ensures most { result ≤ length flags.now }
@@ -73,7 +73,8 @@ fn count_true(flags: &[bool]) -> u64
     count
 }
 
-/// How many of no more rows than a run has, from the one of ordinal `first` on, which are born at unit `born`, are alive at unit `t`.
+/// Counts the rows that are alive at unit `t`, among `count` rows from ordinal `first` on. They are born at unit `born`, and are no more than
+/// a run has.
 fn living_in_run<L: Ledger>(
     rows: &Rows<'_>,
     table: u32,
@@ -119,7 +120,7 @@ fn living_in_run<L: Ledger>(
     count_true(live)
 }
 
-/// The same of any number of rows.
+/// Counts the rows that are alive at unit `t`, among any number of rows from ordinal `first` on that are born at unit `born`.
 fn living_in_runs<L: Ledger>(
     rows: &Rows<'_>,
     table: u32,
@@ -158,7 +159,8 @@ fn living_in_runs<L: Ledger>(
     living
 }
 
-/// The same where lives may say it of all of them.
+/// Counts the rows that are alive at unit `t`, among rows from ordinal `first` on that are born at unit `born`. Asks no single row if the
+/// cohort's survival decides for all.
 fn living_in_part<L: Ledger>(
     rows: &Rows<'_>,
     table: u32,
@@ -186,7 +188,7 @@ fn living_in_part<L: Ledger>(
     }
 }
 
-/// How many rows of a table are alive at unit `t` of those from an ordinal up to another, which are born by it.
+/// Counts the rows of a table that are alive at unit `t`, among the rows from ordinal `first` up to `end`. They are born by `t`.
 fn living_between<L: Ledger>(
     rows: &Rows<'_>,
     table: u32,
@@ -217,8 +219,8 @@ fn living_between<L: Ledger>(
     living
 }
 
-/// How many rows a table holds at unit `t`. They are counted by life, and no row is made: it takes at most as many steps as a row's death
-/// costs for each row that is born by the unit.
+/// Counts the rows that a table holds at unit `t`. It counts them by life and makes no row. Takes at most as many steps as a row's death
+/// costs, for each row that is born by the unit.
 pub fn count_living<L: Ledger>(rows: &Rows<'_>, table: u32, t: u64, steps: &mut Steps<L>) -> u64
     requires table { table < length rows.now.schema.tables }
     requires unit { t ≤ last_unit rows.now }
@@ -230,9 +232,9 @@ pub fn count_living<L: Ledger>(rows: &Rows<'_>, table: u32, t: u64, steps: &mut 
     living_between(rows, table, t, 0, end, &mut LivesBuf::new(), steps)
 }
 
-/// The places, from 0, of these rows of a table in the list of those that it holds at unit `t`. The ordinals rise, and the table holds each
-/// of the rows then. The rows before are counted by life, and no row is made: it takes at most as many steps as a row's death costs for
-/// each row that is born by the unit. At `Memory` no place is told.
+/// Returns the places, from 0, of rows in the list of those that a table holds at unit `t`. The ordinals rise strictly, and the table holds
+/// each of the rows at `t`. It counts earlier rows by life and makes no row. Takes at most as many steps as a row's death costs, for each row
+/// that is born by the unit. Returns `Memory` if memory runs out.
 pub fn places<L: Ledger>(
     alloc: Global,
     rows: &Rows<'_>,

@@ -1,4 +1,4 @@
-//! The laws of undo texts, each the contract of a function that does nothing.
+//! The laws of undo texts. Each law is the contract of a function that does nothing.
 
 ghost use Rattle.std.specs.Prelude.{◌≡◌, ◌+◌, ◌*◌, ◌<◌, ◌≤◌, ◌^◌, [], codes, flat_map, length};
 ghost use Rattle.std.specs.List.{range_with_len};
@@ -11,9 +11,9 @@ ghost use Rattle.undo_streams.specs.Packages.{Packages, count_of, room_of, text_
 ghost use Rattle.undo_streams.specs.UndoText.{undo_text};
 ghost use Rattle.undo_streams.specs.Worked.{last_undo_text, lodgers, plain_sales};
 
-/// Undo texts worked out by hand: of customers, their orders and the lines of these, of whom one customer goes with his orders and their
-/// lines, and another changes; of owners and notes, one of which loses its owner; of lodgers, who go from the middle of their list; and
-/// of a unit with nothing before it, and of none.
+/// Undo texts that are worked out by hand, for five cases. Of customers, orders and their lines, one customer goes with his orders and their
+/// lines, and another changes. Of owners and notes, one note loses its owner. Lodgers go from the middle of their list. A unit undoes a table
+/// that was empty before. Unit 0 has an empty undo text.
 pub fn worked_undo_texts()
     ensures customers { last_undo_text plain_sales 3 0 ≡ codes "drop\t4\nset\t3\t2\t2\nadd\t0\t1\t0\t1\n" }
     ensures orders { last_undo_text plain_sales 3 1 ≡ codes "drop\t4\nadd\t0\t1\t1\nadd\t1\t2\t1\nadd\t2\t3\t1\n" }
@@ -25,14 +25,14 @@ pub fn worked_undo_texts()
     ensures unit_0 { last_undo_text lodgers 0 0 ≡ [] }
 {}
 
-/// The packages of an undo text, one after the other, are the text, however many lines a package has.
+/// The packages of an undo text, one after the other, are the text. The number of lines of a package doesn't matter.
 pub fn packages_are_the_text()
     ensures { (packages : Packages) → 1 ≤ packages.size →
         flat_map (text_numbered packages) (range_with_len 0 (count_of packages)) ≡ undo_text packages.plan packages.unit packages.table }
 {}
 
-/// They want no more room than so many of the greatest lines as a package has, each with a word and a place before it, and there are few of
-/// them.
+/// A package of an undo text needs no more room than the number of its lines times the longest line with its word and place. There are at
+/// most 2^42 packages.
 pub fn packages_want_little()
     ensures room { (packages : Packages) → room_of packages ≤ packages.size * (26 + reach (layout_of packages.plan)) }
     ensures count { (packages : Packages) → IsInLimits packages.plan → packages.table < length packages.plan.schema.tables →

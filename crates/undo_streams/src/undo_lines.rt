@@ -1,4 +1,4 @@
-//! The lines of an undo text at the start of bytes.
+//! Lines of an undo text, read at the start of bytes.
 
 ghost use Rattle.std.specs.Prelude.{◌≡◌, ◌≢◌, ◌≤◌, ◌<◌, ◌^◌, ℕ, List, [], ◌∷◌, ◌++◌, true, decimal, length, Contains, IfOk, MatchOption};
 ghost use Rattle.std.specs.Char.{is_ascii_digit};
@@ -14,21 +14,22 @@ use row_text::Memory;
 use std::alloc::Global;
 use stream_apply::{KeyFields, key_size};
 
-/// A place has this many digits at most.
+/// The most digits of a place.
 const PLACE_DIGITS: usize = 13;
 
-/// A line of an undo text, and what is behind its line feed: its part, the place from 0 at which it adds a line (0 where it adds none),
-/// and the key and the text of the line that it drops, sets or adds.
+/// A line of an undo text, and the bytes after its line feed. `key` and `text` are those of the line that it drops, sets or adds.
 #[derive(Clone, Copy)]
 pub(crate) struct ReadUndo<'a> {
     pub(crate) part: Part,
+    /// The place, from 0, at which it adds a line. It is 0 if it adds none.
     pub(crate) place: u64,
     pub(crate) key: &'a [u8],
     pub(crate) text: &'a [u8],
+    /// The bytes after the line feed.
     pub(crate) rest: &'a [u8],
 }
 
-/// What a line begins with, and what is behind it.
+/// The beginning of a line, and the rest of it.
 #[derive(Clone, Copy)]
 struct Lead<'a> {
     part: Part,
@@ -36,7 +37,7 @@ struct Lead<'a> {
     body: &'a [u8],
 }
 
-/// The line that bytes start with; None where they start with none that may stand behind one of this part.
+/// Reads the line at the start of bytes. None if they start with no undo line of `part` or of a later part.
 pub(crate) fn read_undo<'a>(
     alloc: Global,
     part: Part,
@@ -75,7 +76,7 @@ pub(crate) fn read_undo<'a>(
     }
 }
 
-/// What stands before the first byte of a kind, and what behind it; None where there is none.
+/// Returns what stands before and after the first byte of a value; None if there is no such byte.
 fn cut(bytes: &[u8], byte: u8) -> Option<(&[u8], &[u8])>
     ensures { MatchOption result
         (¬ Contains bytes.now byte)
@@ -89,7 +90,7 @@ fn cut(bytes: &[u8], byte: u8) -> Option<(&[u8], &[u8])>
     None
 }
 
-/// What a line begins with; None where it is that of no undo line.
+/// Reads the beginning of a line; None if it begins no undo line.
 fn read_lead(text: &[u8], delimiter: u8) -> Option<Lead<'_>>
     requires { IsDelimiter delimiter }
     ensures { MatchOption result (LeadsNone delimiter text.now) (IsLead delimiter text.now) }
@@ -106,7 +107,7 @@ fn read_lead(text: &[u8], delimiter: u8) -> Option<Lead<'_>>
     }
 }
 
-/// What a line that is added begins with, by what is behind its word; None where that isn't a place and a delimiter.
+/// Reads the place and the line body after the word of a line that is added; None if no place and delimiter stand there.
 fn read_placed(behind: &[u8], delimiter: u8) -> Option<Lead<'_>>
     requires { IsDelimiter delimiter }
     ensures { MatchOption result
@@ -122,7 +123,7 @@ fn read_placed(behind: &[u8], delimiter: u8) -> Option<Lead<'_>>
     })
 }
 
-/// The place that one to thirteen digits stand for, of which the first is 0 in 0 alone; None where the bytes are no such digits.
+/// Reads a place of one to thirteen digits, of which the first is 0 only in the number 0; None if the bytes are no such digits.
 fn read_place(digits: &[u8]) -> Option<u64>
     ensures { MatchOption result
         ((place : ℕ) → place < 10 ^ 13 → digits.now ≢ decimal place)
@@ -137,13 +138,14 @@ fn read_place(digits: &[u8]) -> Option<u64>
     Some(value_of(digits))
 }
 
+/// Tells whether all bytes are digits.
 fn are_digits(bytes: &[u8]) -> bool
     ensures { result ≡ list_all is_ascii_digit bytes.now }
 {
     bytes.iter().all(|byte| byte.is_ascii_digit())
 }
 
-/// The number that digits stand for.
+/// Returns the number that digits stand for.
 fn value_of(digits: &[u8]) -> u64
     requires digits { list_all is_ascii_digit digits.now ≡ true }
     requires few { length digits.now ≤ 13 }

@@ -25,13 +25,12 @@ use std::marker::{Brand, Model};
 use std::sync::ledger::{Blank, Ledger};
 use step_count::Steps;
 
-/// The most bytes of a line of an undo text before those of the row: a word, a place, and the delimiters behind these.
+/// The most bytes of a line of an undo text before the row's own: a word, a place and the delimiters after both.
 pub const WORD_AND_PLACE: u64 = 26;
 
-/// The packages of the undo text of a table at a unit: so many lines each, of those that drop the rows which the unit inserts, then of
-/// those that set back what it updates, then of those that add again what it deletes. Each is made from what the unit changes and from
-/// what is prepared of the table's lines at the unit before. A contract sees the plan, the table, the unit and the number of lines of a
-/// package.
+/// The packages of the undo text of a table at a unit, each of at most `size` lines. First come the lines that drop the inserted rows. Then
+/// come the lines that set back the updated rows, and last the lines that add the deleted rows again. A package is made from what the unit
+/// changes and from the table's lines at the unit before. A contract sees the plan, the table, the unit and the number of lines of a package.
 pub struct UndoPacker<'a> {
     rows: &'a Rows<'a>,
     before: RunLines<'a>,
@@ -72,14 +71,15 @@ impl<'a> Model for UndoPacker<'a> {
     ghost invariant = { λ p. AreKept (record { plan = p.rows.now; table = p.table; unit = p.unit; size = p.size }) p.before p.changes p.count p.room };
 }
 
-/// Lines from a position up to another.
+/// The lines from position `first` up to position `end`.
 #[derive(Clone, Copy)]
 struct Entries {
     first: u64,
     end: u64,
 }
 
-/// Of lines of all parts those of one part of so many, behind so many others, counted from its first.
+/// Returns the lines of one part among lines of all parts, counted from the part's first. The part has `count` lines, and `others` lines
+/// stand before it.
 fn taken(lines: Entries, others: u64, count: u64) -> Entries
     requires { lines.first ≤ lines.end }
     ensures first { result.first ≡ taken_by lines.first others count }
@@ -93,7 +93,7 @@ fn taken(lines: Entries, others: u64, count: u64) -> Entries
     }
 }
 
-/// A word of four bytes at most, with the delimiter behind it.
+/// Returns a word of at most four bytes with the delimiter after it.
 fn word_of(plan: &Plan, word: &[u8]) -> Piece
     requires { length word.now ≤ 4 }
     ensures { piece_text result ≡ word.now ++ (layout_of plan.now).delimiter ∷ [] }
@@ -101,7 +101,7 @@ fn word_of(plan: &Plan, word: &[u8]) -> Piece
     Piece::of(word).with(plan.delimiter())
 }
 
-/// Appends the line that drops a row, behind its word.
+/// Appends the line that drops a row. `word` is its word.
 fn put_drop<L: Ledger>(
     rows: &Rows<'_>,
     table: u32,
@@ -122,7 +122,7 @@ fn put_drop<L: Ledger>(
     page.put_piece(&Piece::of_byte(b'\n'));
 }
 
-/// Appends the lines that drop the rows of so many ordinals, from a first one on.
+/// Appends the lines that drop `count` rows, from ordinal `first` on.
 fn put_drops<L: Ledger>(
     rows: &Rows<'_>,
     table: u32,
@@ -144,7 +144,7 @@ fn put_drops<L: Ledger>(
     }
 }
 
-/// Appends the line at the unit before of the row at a place of a list, behind what stands before it.
+/// Appends the line at the unit before of row number `i` of a list.
 fn put_row<L: Ledger>(
     before: &RunLines<'_>,
     ordinals: &[u64],
@@ -163,7 +163,7 @@ fn put_row<L: Ledger>(
     before.put_listed(&ordinals[i..i + 1], work, page, steps);
 }
 
-/// Appends the lines that set some rows back.
+/// Appends the lines that set rows back.
 fn put_sets<L: Ledger>(
     plan: &Plan,
     before: &RunLines<'_>,
@@ -186,7 +186,7 @@ fn put_sets<L: Ledger>(
     }
 }
 
-/// Appends the line that adds the row at a place of a list again, at its place in the table, behind its word.
+/// Appends the line that adds row number `i` of a list again, at its place in the table. `word` is its word.
 fn put_add<L: Ledger>(
     before: &RunLines<'_>,
     ordinals: &[u64],
@@ -213,7 +213,7 @@ fn put_add<L: Ledger>(
     put_row(before, ordinals, i, work, page, steps);
 }
 
-/// Appends the lines that add some rows again, each at its place.
+/// Appends the lines that add rows again, each at its place.
 fn put_adds<L: Ledger>(
     plan: &Plan,
     before: &RunLines<'_>,
@@ -241,7 +241,7 @@ fn put_adds<L: Ledger>(
     }
 }
 
-/// Appends lines of an undo text to a page, which is empty.
+/// Appends lines of an undo text to an empty page.
 fn put_undo<B: Ledger>(
     rows: &Rows<'_>,
     before: &RunLines<'_>,
@@ -292,7 +292,7 @@ fn put_undo<B: Ledger>(
     put_adds(plan, before, listed, places, work, page, steps);
 }
 
-/// How many lines the undo text has that tells such changes.
+/// Counts the lines of the undo text of the changes.
 fn line_count(plan: &Plan, table: u32, unit: u64, changes: &Changes<'_>) -> u64
     requires table { table < length plan.now.schema.tables }
     requires later { 1 ≤ unit }
@@ -306,8 +306,8 @@ fn line_count(plan: &Plan, table: u32, unit: u64, changes: &Changes<'_>) -> u64
 }
 
 impl<'a> UndoPacker<'a> {
-    /// The packages, of so many lines each, of the undo text of a table at unit `t`, for the lines of the table at the unit before and what
-    /// the unit changes. At `Memory` nothing is made.
+    /// Returns the packages of the undo text of a table at unit `t`, each of at most `size` lines. `before` gives the table's lines at the
+    /// unit before. Returns `Memory` if memory runs out.
     pub fn new(
         alloc: Global,
         rows: &'a Rows<'a>,
@@ -343,7 +343,7 @@ impl<'a> UndoPacker<'a> {
         })
     }
 
-    /// Makes a package, whose loops work on lists of its own.
+    /// Makes a package with working lists of its own.
     #[inline(never)]
     fn pack_anew(&self, n: u64, page: &mut PageBuf)
         requires number { n < count_of self.now }
@@ -354,7 +354,7 @@ impl<'a> UndoPacker<'a> {
         self.pack_with(n, &mut RunBuf::new(), page);
     }
 
-    /// Makes a package, whose loops work on these lists.
+    /// Makes a package with the working lists `work`.
     fn pack_with(&self, n: u64, work: &mut RunBuf, page: &mut PageBuf)
         requires number { n < count_of self.now }
         requires empty { page.old.text ≡ [] }

@@ -1,4 +1,4 @@
-//! A table while an undo text is taken.
+//! A table while an undo text is applied to it.
 
 ghost use Rattle.std.specs.Prelude.{◌≡◌, ◌≤◌, ◌<◌, ◌+◌, [], ◌∷◌, ◌++◌, false, drop, length, take, IfErr, IfOk, OnOk};
 ghost use Rattle.std.specs.Bool.{OnFalse, OnTrue};
@@ -17,13 +17,15 @@ use row_text::Memory;
 use std::alloc::Global;
 use stream_apply::KeyTable;
 
-/// A table while an undo text is taken: its lines, without those that are dropped once a line of a later part is told; the lines that the
-/// text told; those of the new list that stand already, up to the last line that is added; and how many of the table's these are. So
-/// the lines move once, however many are added.
+/// A table while an undo text is applied to it. Each line moves once, however many are added.
 struct Weaver<'a> {
+    /// The table's lines. Dropped lines leave it when the part that drops them ends.
     table: KeyTable<'a>,
+    /// The lines of the text so far.
     told: KeyTable<'a>,
+    /// The lines of the new list, up to the last one that is added.
     woven: KeyTable<'a>,
+    /// How many of the table's lines `woven` has taken.
     next: usize,
     part: Part,
 }
@@ -43,7 +45,7 @@ impl Drop for Weaver<'_> {
     }
 }
 
-/// What an undo text makes of a table. Refused at the first line of the text that is at fault.
+/// Returns the table that an undo text makes of a table. Refuses the first line of the text at fault.
 pub(crate) fn undo_table<'a>(
     alloc: Global,
     table: KeyTable<'a>,
@@ -70,7 +72,7 @@ pub(crate) fn undo_table<'a>(
 }
 
 impl<'a> Weaver<'a> {
-    /// Before the first line.
+    /// Starts before the first line.
     fn new(alloc: Global, table: KeyTable<'a>) -> Weaver<'a>
         ensures sound { IsWoven result }
         ensures begun { undoing_of result ≡ begun table.entry }
@@ -84,7 +86,7 @@ impl<'a> Weaver<'a> {
         }
     }
 
-    /// Takes a line that may stand next, by its number. Refused where it has a fault.
+    /// Takes the next line, by its number. Refuses a line with a fault.
     fn take(&mut self, line: ReadUndo<'a>, number: u64) -> Result<(), RevertFault>
         requires sound { IsWoven self.old }
         requires order { rank_of self.old.part ≤ rank_of line.part }
@@ -101,7 +103,7 @@ impl<'a> Weaver<'a> {
         Ok(())
     }
 
-    /// Goes on to a part, which is none before its own.
+    /// Goes on to a part, which is the same one or a later one.
     fn begin(&mut self, part: Part)
         requires sound { IsWoven self.old }
         requires order { rank_of self.old.part ≤ rank_of part }
@@ -114,7 +116,7 @@ impl<'a> Weaver<'a> {
         self.part = part;
     }
 
-    /// Checks a line of its part, by its number.
+    /// Checks a line of the part that is reached, by its number.
     fn check(&self, line: ReadUndo<'_>, number: u64) -> Result<(), RevertFault>
         requires sound { IsWoven self.now }
         requires part { self.now.part ≡ line.part }
@@ -138,7 +140,7 @@ impl<'a> Weaver<'a> {
         }
     }
 
-    /// Whether a line has a key that isn't told.
+    /// Tells whether the list has a line with a key that the text hasn't told yet.
     fn holds(&self, key: &[u8]) -> bool
         requires sound { IsWoven self.now }
         requires free { has_key self.now.told key.now ≡ false }
@@ -147,7 +149,7 @@ impl<'a> Weaver<'a> {
         self.table.has(key) || self.woven.has(key)
     }
 
-    /// Whether the place of a line of its part is right.
+    /// Tells whether the place of a line of the part that is reached is right.
     fn is_place(&self, line: ReadUndo<'_>) -> bool
         requires sound { IsWoven self.now }
         requires part { self.now.part ≡ line.part }
@@ -164,7 +166,7 @@ impl<'a> Weaver<'a> {
         }
     }
 
-    /// Puts a line of its part that has no fault.
+    /// Puts a line of the part that is reached. The line has no fault.
     fn put(&mut self, line: ReadUndo<'a>) -> Result<(), Memory>
         requires sound { IsWoven self.old }
         requires part { self.old.part ≡ line.part }
@@ -181,7 +183,7 @@ impl<'a> Weaver<'a> {
         }
     }
 
-    /// Puts a line behind those that are told.
+    /// Appends a line to the told lines.
     fn tell(&mut self, line: ReadUndo<'a>) -> Result<(), Memory>
         requires { has_key self.old.told line.key.now ≡ false }
         ensures { OnOk result (self.new ≡ record self.old { told = self.old.told ++ keyed line.entry.key.now line.entry.text.now ∷ [] }) }
@@ -227,7 +229,7 @@ impl<'a> Weaver<'a> {
         Ok(())
     }
 
-    /// Moves so many lines of the table.
+    /// Moves the next `count` lines of the table to the new list.
     fn weave(&mut self, count: usize) -> Result<(), Memory>
         requires sound { IsWoven self.old }
         requires part { self.old.part ≡ Adds }
@@ -241,7 +243,7 @@ impl<'a> Weaver<'a> {
         Ok(())
     }
 
-    /// Moves the next line of the table.
+    /// Moves the next line of the table to the new list.
     fn weave_one(&mut self) -> Result<(), Memory>
         requires sound { IsWoven self.old }
         requires part { self.old.part ≡ Adds }
@@ -257,7 +259,7 @@ impl<'a> Weaver<'a> {
         Ok(())
     }
 
-    /// The lines, behind the last line of the text.
+    /// Returns the lines of the table, after the last line of the text.
     fn finish(self) -> Result<KeyTable<'a>, Memory>
         requires { IsWoven self }
         ensures { IfOk result (λ lines. lines ≡ (undoing_of self.entry).lines) }
@@ -269,7 +271,7 @@ impl<'a> Weaver<'a> {
         }
     }
 
-    /// The lines, where some were dropped.
+    /// Returns the lines if the text only drops lines.
     fn drop_told(self) -> KeyTable<'a>
         requires sound { IsWoven self }
         requires part { self.part ≡ Drops }
@@ -287,7 +289,7 @@ impl<'a> Weaver<'a> {
         table
     }
 
-    /// The table, with what was set.
+    /// Returns the table's lines if the text ends with lines that are set.
     fn into_table(self) -> KeyTable<'a>
         ensures { result ≡ self.entry.table }
     {
@@ -303,7 +305,7 @@ impl<'a> Weaver<'a> {
         table
     }
 
-    /// The lines, where some were added.
+    /// Returns the lines if the text ends with lines that are added.
     fn weave_rest(mut self) -> Result<KeyTable<'a>, Memory>
         requires sound { IsWoven self }
         requires part { self.part ≡ Adds }

@@ -1,4 +1,4 @@
-//! Tests of undo texts, and of tables that are taken back by them, by public calls.
+//! Tests of undo texts, and of tables to which they are applied, by public calls.
 #![tactic(auto)]
 
 #[cfg(test)]

@@ -1,4 +1,4 @@
-//! Undo texts worked out by hand, in packages of several sizes.
+//! Undo texts that are worked out by hand, in packages of several sizes.
 
 ghost use Rattle.std.specs.Prelude.{◌≡◌, ◌<◌, ◌≤◌, ◌-◌, length};
 ghost use Rattle.life_intervals.specs.Generator.{last_unit};
@@ -21,7 +21,8 @@ use step_count::Steps;
 use undo_streams::{Changes, Memory, UndoPacker, places};
 use update_box::{UnitRows, unit_rows};
 
-/// Customers, one at each unit, who live three units and change every two, and orders, each of the oldest customer of the last three units.
+/// Customers and orders. One customer is born at each unit, lives three units and changes every two. An order is of the oldest customer of
+/// the last three units.
 const SALES: &str = r#"
 seed = 7
 units = 5
@@ -57,7 +58,7 @@ fn plan_of(rt: &impl Abort, alloc: Global, text: &str) -> Plan {
     plan
 }
 
-/// All packages of a packer, one behind the other; None where memory ran out.
+/// Returns all packages of a packer, one after the other; None if memory runs out.
 fn packed(alloc: Global, packer: &UndoPacker<'_>) -> Option<Vec<u8>> {
     let mut text = Vec::new(alloc);
     let Ok(mut page) = PageBuf::with_room(alloc, packer.room()) else {
@@ -73,7 +74,7 @@ fn packed(alloc: Global, packer: &UndoPacker<'_>) -> Option<Vec<u8>> {
     Some(text)
 }
 
-/// The packer of the undo text of a table for the lists of a unit.
+/// Returns the packer of the undo text of a table for the lists of a unit.
 fn packer_of<'a>(
     alloc: Global,
     rows: &'a Rows<'a>,
@@ -102,7 +103,7 @@ fn packer_of<'a>(
     UndoPacker::new(alloc, rows, before, table, lists.unit(), changes, size)
 }
 
-/// The undo text of a table at a unit, in packages of so many lines; None where memory ran out.
+/// Returns the undo text of a table at a unit, in packages of at most `size` lines; None if memory runs out.
 fn undo_text<L: Ledger>(
     alloc: Global,
     plan: &Plan,
@@ -138,7 +139,7 @@ fn undo_text<L: Ledger>(
     }
 }
 
-/// Whether the undo text of a table at a unit is this, in packages of so many lines.
+/// Tells whether the undo text of a table at a unit is a given text, in packages of at most `size` lines.
 fn is_undone<L: Ledger>(
     alloc: Global,
     plan: &Plan,

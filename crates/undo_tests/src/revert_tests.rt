@@ -7,14 +7,14 @@ const CUSTOMERS: &[u8] = b"2\t1\t2\n3\t2\t3\n4\t3\t3\n";
 
 const TABLE: &[u8] = b"1\ta\n2\tb\n3\tc\n";
 
-/// What an undo text makes of a table; empty where memory ran out behind it.
+/// Returns the text of a table after an undo text is applied to it.
 fn text_before(alloc: Global, table: &[u8], undo: &[u8]) -> Result<Vec<u8>, RevertFault> {
     let reverter = Reverter::load(alloc, table, 9)?;
     let reverter = reverter.undo(undo)?;
     Ok(reverter.text()?)
 }
 
-/// Whether the text is this.
+/// Tells whether a result is a text.
 fn gives(given: Result<Vec<u8>, RevertFault>, text: &[u8]) -> bool {
     match given {
         Ok(bytes) => bytes.as_slice() == text,
@@ -22,7 +22,7 @@ fn gives(given: Result<Vec<u8>, RevertFault>, text: &[u8]) -> bool {
     }
 }
 
-/// Whether the fault is this.
+/// Tells whether a result is a fault.
 fn fails(given: Result<Vec<u8>, RevertFault>, fault: RevertFault) -> bool {
     match given {
         Ok(_) => false,
@@ -102,7 +102,7 @@ fn keys_and_places_at_fault_are_told(rt: HostRuntime) {
     );
 }
 
-/// The inputs with these bytes.
+/// Returns inputs with the bytes of texts.
 fn inputs_of(alloc: Global, texts: &[&[u8]]) -> Result<Vec<Vec<u8>>, AllocError> {
     let mut inputs = Vec::new(alloc);
     for text in texts {

@@ -1,4 +1,4 @@
-//! The rows that a unit may delete or update since a parent of theirs dies, and the order of all that are found.
+//! The candidates of a unit that lose a parent, and the sorting of all candidates.
 
 ghost use Rattle.std.specs.Prelude.{◌≡◌, ℕ, ◌+◌, ◌<◌, ◌≤◌, All, OnOk, false, filter, length, nat_lt, true};
 ghost use Rattle.std.specs.List.Sorted.{IsNonDecreasing, IsPartitionPoint, IsStrictlyIncreasing};
@@ -20,7 +20,7 @@ use schema_plan::{Plan, ReadyKind, ReadyReference};
 use std::sync::ledger::Ledger;
 use step_count::Steps;
 
-/// The first ordinal of the rows of a reference's parent table that are born in the window of the cohort of unit `unit`.
+/// Returns the first ordinal of the parent rows that are born in the window of the cohort of unit `unit`.
 fn first_in_window(plan: &Plan, reference: &ReadyReference, unit: u64) -> u64
     requires parent { reference.now.parent < length plan.now.schema.tables }
     requires unit { unit ≤ last_unit plan.now }
@@ -33,7 +33,7 @@ fn first_in_window(plan: &Plan, reference: &ReadyReference, unit: u64) -> u64
     cohort(plan, reference.parent, start).first
 }
 
-/// How many of some ordinals, which don't fall, are below a limit.
+/// Counts the ordinals below a limit. The ordinals don't fall.
 fn count_below(ordinals: &[u64], limit: u64) -> usize
     requires { IsNonDecreasing ordinals.now }
     ensures bound { result ≤ length ordinals.now }
@@ -42,7 +42,7 @@ fn count_below(ordinals: &[u64], limit: u64) -> usize
     ordinals.partition_point(|ordinal| *ordinal < limit)
 }
 
-/// Those of some ordinals, which don't fall, that lie from `first` up to `end`.
+/// Returns the ordinals from `first` up to `end`. The ordinals don't fall.
 fn within(ordinals: &[u64], first: u64, end: u64) -> &[u64]
     requires { IsNonDecreasing ordinals.now }
     ensures { result.now ≡ filter (lies_within first end) ordinals.now }
@@ -51,7 +51,7 @@ fn within(ordinals: &[u64], first: u64, end: u64) -> &[u64]
     &rest[..count_below(rest, end)]
 }
 
-/// Those of some rows of a reference's parent table, which don't fall, that are born in the window of the cohort of unit `unit`.
+/// Returns the parent rows that are born in the window of the cohort of unit `unit`. `parents` holds ordinals that don't fall.
 fn near<'a>(plan: &Plan, reference: &ReadyReference, unit: u64, parents: &'a [u64]) -> &'a [u64]
     requires parent { reference.now.parent < length plan.now.schema.tables }
     requires unit { unit ≤ last_unit plan.now }
@@ -62,8 +62,8 @@ fn near<'a>(plan: &Plan, reference: &ReadyReference, unit: u64, parents: &'a [u6
     within(parents, first, born(plan, reference.parent, unit))
 }
 
-/// Puts the rows of a table that are born before unit `t` and whose parent by a reference, which is ready in the column at a place, dies
-/// at it behind a list. `parents` are the rows of the parent's table that die then. It takes at most one step for each row.
+/// Appends to a list the rows of a table whose parent by a reference dies at unit `t`. The rows are born before `t`. `column` is the place of
+/// the reference's column, and `parents` holds the parent rows that die at `t`. Takes at most one step for each row.
 fn push_losing<L: Ledger>(
     rows: &Rows<'_>,
     table: u32,
@@ -95,7 +95,7 @@ fn push_losing<L: Ledger>(
     Ok(())
 }
 
-/// Whether a reference does this to a row whose parent is deleted.
+/// Tells whether a reference does `on_delete` to a row when its parent is deleted.
 fn is_on(on_delete: OnDelete, reference: &ReadyReference) -> bool
     ensures { result ≡ is_on_ready on_delete reference.now }
 {
@@ -105,8 +105,8 @@ fn is_on(on_delete: OnDelete, reference: &ReadyReference) -> bool
     }
 }
 
-/// Puts the rows of a table that are born before unit `t` behind a list, for each reference that does this to a row whose parent is
-/// deleted those whose parent by it dies at `t`. What dies in the tables before is found. It takes at most one step for each row.
+/// Appends to a list the rows of a table that lose a parent at unit `t`, for each reference of the kind `on_delete`. The rows are born before
+/// `t`. `before` holds the deleted rows of the earlier tables. Takes at most one step for each row.
 pub(crate) fn push_losing_by<L: Ledger>(
     rows: &Rows<'_>,
     table: u32,
@@ -142,7 +142,7 @@ pub(crate) fn push_losing_by<L: Ledger>(
     Ok(())
 }
 
-/// Puts ordinals in rising order, each once.
+/// Sorts ordinals in rising order and removes duplicates.
 pub(crate) fn put_in_order(list: &mut Vec<u64>)
     ensures rising { IsStrictlyIncreasing list.new.items }
     ensures same { (ordinal : ℕ) → is_one_of list.new.items ordinal ≡ is_one_of list.old.items ordinal }

@@ -21,7 +21,7 @@ use std::alloc::Global;
 use std::sync::ledger::Ledger;
 use step_count::Steps;
 
-/// Puts the rows of a table that are born before unit `t` and whose own lives end at it behind a list. It takes at most one step for each.
+/// Appends to a list the rows of a table whose own lives end at unit `t`. The rows are born before `t`. Takes at most one step for each row.
 fn push_all_ending<L: Ledger>(
     rows: &Rows<'_>,
     table: u32,
@@ -40,7 +40,7 @@ fn push_all_ending<L: Ledger>(
     Ok(())
 }
 
-/// Whether a column is a reference whose parents take their rows along.
+/// Tells whether a column is a cascading reference.
 fn is_cascade(column: &ReadyColumn) -> bool
     ensures { result ≡ is_cascade column.now }
 {
@@ -50,7 +50,7 @@ fn is_cascade(column: &ReadyColumn) -> bool
     }
 }
 
-/// How many columns are such references.
+/// Counts the cascading references among columns.
 fn count_cascades(columns: &[ReadyColumn]) -> usize
     ensures { result ≡ count_by is_cascade columns.now }
 {
@@ -63,7 +63,7 @@ fn count_cascades(columns: &[ReadyColumn]) -> usize
     count
 }
 
-/// Whether more than one thing may end a row of a table: its own life, and a parent's by each reference that takes its rows along.
+/// Tells whether more than one thing can end a row of a table: its own life, or the death of a parent by a cascading reference.
 fn has_many_endings(plan: &Plan, table: u32) -> bool
     requires { table < length plan.now.schema.tables }
     ensures { result ≡ nat_lt 1 (endings (table_of plan.now table)) }
@@ -75,7 +75,8 @@ fn has_many_endings(plan: &Plan, table: u32) -> bool
     }
 }
 
-/// The rows of a table that unit `t` deletes, in rising order. What dies in the tables before is found. At `Memory` none are told.
+/// Returns the rows of a table that unit `t` deletes, in rising order. `before` holds the deleted rows of the earlier tables. Returns
+/// `Memory` if memory runs out.
 pub(crate) fn deletions<L: Ledger>(
     alloc: Global,
     rows: &Rows<'_>,

@@ -1,4 +1,4 @@
-//! Which of the rows that are looked at a unit deletes, and which live on.
+//! Which candidates a unit deletes, and which live on.
 
 ghost use Rattle.std.specs.Prelude.{◌≡◌, ◌+◌, ◌*◌, ◌<◌, ◌≤◌, All, filter, length};
 ghost use Rattle.cohort_sizes.specs.Births.{first_ordinal};
@@ -12,16 +12,16 @@ use life_intervals::{Rows, Survival, find, survival_at};
 use std::sync::ledger::Ledger;
 use step_count::Steps;
 
-/// What may become of a row at a unit.
+/// What can happen to a row at a unit.
 #[derive(Clone, Copy)]
 pub(crate) enum Fate {
-    /// It dies at the unit.
+    /// The row dies at the unit.
     Dies,
-    /// It is alive at it.
+    /// The row is alive at the unit.
     Lives,
 }
 
-/// Whether a row that is born before unit `t` dies at it. It takes at most as many steps as the cost of a death says.
+/// Tells whether a row dies at unit `t`. The row is born before `t`. Takes at most as many steps as the cost of a death.
 fn dies<L: Ledger>(rows: &Rows<'_>, table: u32, ordinal: u64, t: u64, steps: &mut Steps<L>) -> bool
     requires table { table < length rows.now.schema.tables }
     requires unit { t ≤ last_unit rows.now }
@@ -35,8 +35,8 @@ fn dies<L: Ledger>(rows: &Rows<'_>, table: u32, ordinal: u64, t: u64, steps: &mu
     }
 }
 
-/// Whether a row that is born before unit `t` is alive at it. It takes no step where its whole cohort is sure to be, and at most as many as
-/// the cost of a death says.
+/// Tells whether a row is alive at unit `t`. The row is born before `t`. Takes no step if its whole cohort surely lives, and otherwise at
+/// most as many as the cost of a death.
 fn lives<L: Ledger>(rows: &Rows<'_>, table: u32, ordinal: u64, t: u64, steps: &mut Steps<L>) -> bool
     requires table { table < length rows.now.schema.tables }
     requires unit { t ≤ last_unit rows.now }
@@ -53,7 +53,7 @@ fn lives<L: Ledger>(rows: &Rows<'_>, table: u32, ordinal: u64, t: u64, steps: &m
     rows.is_live(table, row, t, steps)
 }
 
-/// Whether this becomes of a row that is born before unit `t` at it.
+/// Tells whether a row has a fate at unit `t`. The row is born before `t`.
 fn has_fate<L: Ledger>(
     rows: &Rows<'_>,
     table: u32,
@@ -74,8 +74,8 @@ fn has_fate<L: Ledger>(
     }
 }
 
-/// Keeps those of some rows, which are born before unit `t`, of which this becomes at it, in their order. It takes at most as many steps for
-/// each as the cost of a death says.
+/// Keeps the rows in a list that have a fate at unit `t`, in their order. The rows are born before `t`. Takes for each row at most as many
+/// steps as the cost of a death.
 pub(crate) fn keep<L: Ledger>(
     rows: &Rows<'_>,
     table: u32,

@@ -1,7 +1,7 @@
-//! The laws of what a unit changes and of what the tables' texts hold, each the contract of a function that does nothing, for accepted
-//! schemas.
+//! The laws of what a unit changes and of what the tables' texts hold, for accepted schemas. Each law is the contract of a function that does
+//! nothing.
 //!
-//! A table is named by its place in the schema, and a row by its ordinal; both count from 0.
+//! A table is named by its place in the schema, and a row by its ordinal. Both count from 0.
 
 ghost use Rattle.std.specs.Prelude.{◌≡◌, ℕ, ℤ, ◌+◌, ◌-◌, ◌*◌, ◌<◌, ◌≤◌, ◌==◌, ◌&&◌, [], ◌∷◌, All, IfSome, IsSome, MatchOption, Some, codes, false, filter, flat_map, length, not, slice_index_or, true};
 ghost use Rattle.std.specs.List.{range_with_len};
@@ -25,7 +25,7 @@ ghost use Rattle.update_box.specs.declared.parts.Job.{Job};
 ghost use Rattle.update_box.specs.TextLaws.{field_of_line, lines_with_key, unit_streams, with_last_unit};
 ghost use Rattle.update_box.specs.UnitLists.{ordinals, table_lists};
 
-/// The step to a unit updates the rows that are born before it, are alive at it and have it as their change unit.
+/// The step to a unit updates the rows that are born before the unit, are alive at it and have it as their change unit.
 pub fn updates_are_the_living_whose_change_unit_it_is()
     ensures { (plan : Project) → IsInLimits plan →
         (place : ℕ) → place < length plan.schema.tables → (t : ℕ) → 1 ≤ t → t ≤ last_unit plan →
@@ -34,7 +34,7 @@ pub fn updates_are_the_living_whose_change_unit_it_is()
         (range_with_len 0 (first_ordinal (table_of plan place).births t)) }
 {}
 
-/// It deletes the rows that the table holds at the unit before and doesn't hold at it, in their order.
+/// The step to a unit deletes the rows that the table holds at the unit before and not at the unit, in their order.
 pub fn deletions_are_the_rows_that_are_gone()
     ensures { (plan : Project) → IsInLimits plan →
         (place : ℕ) → place < length plan.schema.tables → (t : ℕ) → 1 ≤ t → t ≤ last_unit plan →
@@ -43,8 +43,8 @@ pub fn deletions_are_the_rows_that_are_gone()
         (rows_at (generator_of plan) place (t - 1))) }
 {}
 
-/// Each row that a table holds at a unit has the parents that it still has in their tables at the unit, and all of those with whom it
-/// is deleted. In the tables' texts the field of a reference is the key field of exactly one line of the parent's text, or null where the
+/// A row that a table holds at a unit refers only to parents that their tables hold at the unit. It keeps the parents of its cascading
+/// references. In the tables' texts, the field of a reference is the key field of exactly one line of the parent's text. It is null if the
 /// row has lost the parent.
 pub fn references_name_one_line_each()
     ensures held { (plan : Project) → IsInLimits plan →
@@ -74,8 +74,8 @@ pub fn references_name_one_line_each()
         IsSome (parent_of_row (table_of plan place) (slice_index_or (rows_at (generator_of plan) place unit) i d) column) }
 {}
 
-/// What comes later is no part of a unit: two accepted schemas that differ in their last unit alone have the same states, texts and
-/// changes at each unit that both reach.
+/// A unit doesn't depend on later units. If two accepted schemas differ only in their last unit, they have the same states, texts and changes
+/// at each unit that both reach.
 pub fn a_longer_run_changes_nothing_earlier()
     ensures states { (plan : Project) (last : ℤ) (unit : ℕ) →
         simulation (generator_of (with_last_unit plan last)) unit ≡ simulation (generator_of plan) unit }
@@ -99,8 +99,9 @@ pub fn a_longer_run_changes_nothing_earlier()
         (deleted (generator_of plan) place unit) }
 {}
 
-/// A table's text is the lines of a table. The streams of the next unit, applied to them, make the text at that unit, and so do those of
-/// further units, each in its turn. None is at fault: each row that a unit deletes or updates is in the table, and none that it inserts.
+/// A table's text is the lines of a table. The streams of the next unit, applied to the text, make the text at that unit. So do the streams
+/// of further units, applied in turn. No stream has a fault: the table holds each row that a unit deletes or updates, and no row that it
+/// inserts.
 pub fn streams_give_the_next_text()
     ensures text { (plan : Project) → IsInLimits plan → (place : ℕ) → place < length plan.schema.tables → (t : ℕ) → t ≤ last_unit plan →
         IsAppliedText One (layout_of plan).delimiter (table_text (generator_of plan) t place ∷ []) (table_text (generator_of plan) t place) }
@@ -114,7 +115,7 @@ pub fn streams_give_the_next_text()
         (table_text (generator_of plan) (from + count) place) }
 {}
 
-/// The shares of a part for all nodes, one after the other, are what is told of the table, whole. So is the share of a node that is alone.
+/// The shares of a part for all nodes, one after the other, are the whole content of the table. So is the share of a single node.
 pub fn shares_are_the_whole()
     ensures joined { (plan : Project) → IsInLimits plan → (job : Job) → job.unit ≤ last_unit plan → 1 ≤ job.nodes →
         (part : Part) → part.place < length plan.schema.tables →
@@ -125,7 +126,7 @@ pub fn shares_are_the_whole()
         share_text plan job.unit (share_of plan job part) ≡ content_text plan job.unit part.place part.content }
 {}
 
-/// The packages of a share, one after the other, are the share, however many entries a package has.
+/// The packages of a share, one after the other, are the share. The number of entries of a package doesn't matter.
 pub fn packages_are_the_share()
     ensures { (plan : Project) → IsInLimits plan → (job : Job) → IsJobOf plan job →
         (part : Part) → part.place < length plan.schema.tables → (size : ℕ) → 1 ≤ size →
@@ -133,7 +134,7 @@ pub fn packages_are_the_share()
         flat_map (package_text plan job.unit size share) (range_with_len 0 (packages_in size share)) ≡ share_text plan job.unit share }
 {}
 
-/// The packages of a job want no more room than so many of the greatest lines as a package has entries.
+/// A package of a job needs no more room than the longest line times the number of entries of a package.
 pub fn packages_want_little_room()
     ensures snapshot { (plan : Project) (job : Job) →
         room_of (packages_of snapshot_contents plan job) ≤ job.package * reach (layout_of plan) }

@@ -1,10 +1,11 @@
-//! What a unit changes in each table: the rows that it deletes, those that it updates and the cohort that it inserts.
+//! What a unit changes in each table: the rows that it deletes, the rows that it updates and the cohort that it inserts.
 //!
-//! A table is named by its place in the schema, and a row by its ordinal, its place in the order of birth in its table; both count
-//! from 0. The rules stand in `life_intervals`: the simulation, and what its step to a unit does to the rows.
+//! A table is named by its place in the schema. A row is named by its ordinal, its place in the order of birth in its table. Both count
+//! from 0. `life_intervals` has the rules: the simulation, and what its step to a unit does to the rows.
 //!
-//! A `Job` tells the rows of tables at a unit, or what the unit changes in them. Its parts are cut into shares, one for each node, and
-//! these into packages, which the two packers make: each alone, from what is prepared once for the job (`PreparedTables`).
+//! A `Job` asks for the rows of tables at a unit, or for what the unit changes in them. Each part of a job is cut into shares, one for each
+//! node. Each share is cut into packages. The two packers make each package by itself, from what is prepared once for the job
+//! (`PreparedTables`).
 #![tactic(auto)]
 
 mod candidates;

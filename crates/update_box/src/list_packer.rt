@@ -31,10 +31,9 @@ use std::marker::{Brand, Model};
 use std::sync::ledger::{Blank, Ledger};
 use step_count::Steps;
 
-/// The packages of a job that tells what a unit changes in tables: of each table the shares of the job's node of the rows that the unit
-/// deletes, of those that it updates and of those that it inserts, each cut into packages. Each is made from the plan, from what is
-/// prepared of its tables and from the lists of the unit alone. A contract sees the plan, the unit, the shares and the number of entries
-/// of a package.
+/// The packages of a job for what a unit changes in tables. Each table has three parts: the rows that the unit deletes, updates and inserts.
+/// The job's node has a share of each part, cut into packages. A package is made only from the plan, the prepared tables and the unit's
+/// lists. A contract sees the plan, the unit, the shares and the number of entries of a package.
 pub struct ListPacker<'a> {
     plan: &'a Plan,
     tables: &'a PreparedTables,
@@ -71,7 +70,7 @@ impl<'a> Model for ListPacker<'a> {
     ghost invariant = { λ p. AreKeptShares p.plan.now p.tables.now p.unit p.shares × All (HasItsLists p.plan.now p.unit p.lists.now) p.shares.kept.items };
 }
 
-/// The share of a content of a table for a job's node.
+/// Returns the share of a content of a table for a job's node.
 fn list_share(
     plan: &Plan,
     tables: &PreparedTables,
@@ -93,7 +92,7 @@ fn list_share(
     cut(job, place, content, entries, 0)
 }
 
-/// Puts the shares of what a unit changes in a table behind others.
+/// Appends the three shares of what a unit changes in a table to other shares.
 fn push_changes(
     plan: &Plan,
     tables: &PreparedTables,
@@ -123,6 +122,7 @@ fn push_changes(
     Ok(())
 }
 
+/// Appends three shares to a list.
 fn push_three(
     first: KeptShare,
     second: KeptShare,
@@ -137,7 +137,7 @@ fn push_three(
     Ok(())
 }
 
-/// The shares of what a unit changes in the tables for a job's node.
+/// Returns the shares of what a unit changes in the tables, for a job's node.
 fn list_shares(
     alloc: Global,
     plan: &Plan,
@@ -163,7 +163,7 @@ fn list_shares(
     Ok(shares)
 }
 
-/// Puts the key lines of some of the rows that a unit deletes from a table on a page, which is empty.
+/// Puts the key lines of some of the rows that a unit deletes from a table on an empty page.
 fn put_deleted<B: Ledger>(
     rows: &Rows<'_>,
     digits: &Digits,
@@ -189,7 +189,7 @@ fn put_deleted<B: Ledger>(
     put_keys(rows, digits, place, listed, work, page, steps);
 }
 
-/// Puts the lines of some of the rows that a unit updates in a table on a page, which is empty.
+/// Puts the lines of some of the rows that a unit updates in a table on an empty page.
 fn put_updated<B: Ledger>(
     lines: &RunLines<'_>,
     plan: &Plan,
@@ -214,7 +214,7 @@ fn put_updated<B: Ledger>(
     lines.put_listed(listed, work, page, steps);
 }
 
-/// Puts the lines of some of the rows that a unit inserts in a table on a page, which is empty.
+/// Puts the lines of some of the rows that a unit inserts in a table on an empty page.
 fn put_inserted<B: Ledger>(
     lines: &RunLines<'_>,
     plan: &Plan,
@@ -240,7 +240,7 @@ fn put_inserted<B: Ledger>(
     lines.put_run(begin + entries.first, count, work, page, steps);
 }
 
-/// Puts the lines of the living among some of the rows of a table on a page, which is empty.
+/// Puts the lines of the living among some of the rows of a table on an empty page.
 fn put_held<B: Ledger>(
     lines: &RunLines<'_>,
     plan: &Plan,
@@ -264,7 +264,7 @@ fn put_held<B: Ledger>(
     lines.put_run(entries.first, count, work, page, steps);
 }
 
-/// Puts what is told of a share's entries on a page, which is empty.
+/// Puts the lines of a share's entries on an empty page.
 fn put_entries<B: Ledger>(
     plan: &Plan,
     tables: &PreparedTables,
@@ -317,8 +317,8 @@ fn put_entries<B: Ledger>(
 }
 
 impl<'a> ListPacker<'a> {
-    /// The packages of a job over a plan, for which these tables are prepared, and whose unit's lists these are. At `Memory` nothing is
-    /// made.
+    /// Returns the packages of a job over a plan. The tables are prepared for the job, and the lists are its unit's. Returns `Memory` if
+    /// memory runs out.
     pub fn new(
         alloc: Global,
         plan: &'a Plan,
@@ -344,8 +344,8 @@ impl<'a> ListPacker<'a> {
         })
     }
 
-    /// The names of the files that are due, each with the number of its first package: three for each table in a directory, or the
-    /// standard output, `-`, for all. At `Memory` none are told.
+    /// Returns the names of the due files, each with the number of its first package. In a directory each table has three files. Without one
+    /// there is only the standard output, `-`. Returns `Memory` if memory runs out.
     pub fn marks(&self, alloc: Global, dir: Option<&str>) -> Result<Marks, Memory>
         ensures marks { IfOk result (AreMarksOf (count_of self.now)) }
         ensures files { IfOk result (λ marks. due_files (text_numbered self.now) (count_of self.now) marks ≡ share_files self.now (option_copied dir.entry)) }
@@ -354,7 +354,7 @@ impl<'a> ListPacker<'a> {
         marks_of(alloc, self.plan, self.unit, &self.shares, dir)
     }
 
-    /// Makes a package, whose loops work on lists of its own.
+    /// Makes a package with working lists of its own.
     #[inline(never)]
     fn pack_anew(&self, n: u64, page: &mut PageBuf)
         requires number { n < count_of self.now }
@@ -365,7 +365,7 @@ impl<'a> ListPacker<'a> {
         self.pack_with(n, &mut RunBuf::new(), page);
     }
 
-    /// Makes a package, whose loops work on these lists.
+    /// Makes a package with the working lists `work`.
     fn pack_with(&self, n: u64, work: &mut RunBuf, page: &mut PageBuf)
         requires number { n < count_of self.now }
         requires empty { page.old.text ≡ [] }

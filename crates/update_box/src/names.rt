@@ -24,7 +24,7 @@ fn push(path: &mut Text, piece: &str) -> Result<(), Memory>
     }
 }
 
-/// The name of a table.
+/// Returns the name of a table.
 fn name_of(plan: &Plan, table: u32) -> &str
     requires { table < length plan.now.schema.tables }
     ensures { result.now ≡ name_at plan.now.schema table }
@@ -32,7 +32,7 @@ fn name_of(plan: &Plan, table: u32) -> &str
     plan.table(table).name.as_str()
 }
 
-/// How the name of a file ends that holds nothing but this content of a table at a unit.
+/// Appends the ending of the name of a file that holds only a content of a table at a unit.
 pub fn push_ending(path: &mut Text, unit: u64, content: Content) -> Result<(), Memory>
     ensures { OnOk result (path.new ≡ path.old ++ ending_of unit content) }
 {
@@ -48,7 +48,7 @@ pub fn push_ending(path: &mut Text, unit: u64, content: Content) -> Result<(), M
     push(path, ending)
 }
 
-/// Appends the name of the file that holds nothing but this content of a table at a unit, without a directory.
+/// Appends the name of the file that holds only a content of a table at a unit, without a directory.
 pub fn push_file_name(
     path: &mut Text,
     plan: &Plan,
@@ -63,7 +63,7 @@ pub fn push_file_name(
     push_ending(path, unit, content)
 }
 
-/// The name of the file of a share in a directory.
+/// Returns the name of the file of a share in a directory.
 fn share_path(
     alloc: Global,
     plan: &Plan,
@@ -90,7 +90,7 @@ fn push_mark(marks: &mut Marks, first: u64, name: &str) -> Result<(), Memory>
     }
 }
 
-/// The names of the files of some shares in a directory, each with the number of its share's first package.
+/// Returns the names of the files of some shares in a directory, each with the number of its share's first package.
 fn marks_in(
     alloc: Global,
     plan: &Plan,
@@ -114,7 +114,7 @@ fn marks_in(
     Ok(marks)
 }
 
-/// The one name of the files of all shares: the standard output.
+/// Returns the one name of the files of all shares: the standard output.
 fn mark_of_all(alloc: Global) -> Result<Marks, Memory>
     ensures { IfOk result (λ marks. marks ≡ record { first = 0; name = standard_output } ∷ []) }
 {
@@ -123,7 +123,7 @@ fn mark_of_all(alloc: Global) -> Result<Marks, Memory>
     Ok(marks)
 }
 
-/// The names of the files of some shares: each has its own in a directory, or all go to the standard output.
+/// Returns the names of the files of some shares. Each share has its own file in a directory, or all go to the standard output.
 pub(crate) fn marks_of(
     alloc: Global,
     plan: &Plan,

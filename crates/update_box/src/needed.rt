@@ -1,4 +1,4 @@
-//! The tables whose deletions are looked for.
+//! The tables in which a unit's deletions are searched for.
 
 ghost use Rattle.std.specs.Prelude.{◌≡◌, ℕ, ◌<◌, ◌≤◌, ◌⊎◌, All, IfOk, Some, length, true};
 ghost use Rattle.schema_plan.specs.References.{references_of};
@@ -9,7 +9,7 @@ use crate::Memory;
 use schema_plan::{Plan, ReadyKind};
 use std::alloc::Global;
 
-/// Marks the tables to which the table at a place refers, where it is marked itself.
+/// Marks the tables to which the table at a place refers, if that table is marked itself.
 fn mark_parents(plan: &Plan, place: u32, marks: &mut Vec<bool>)
     requires place { place < length plan.now.schema.tables }
     requires marks { length marks.old.items ≡ length plan.now.schema.tables }
@@ -30,7 +30,7 @@ fn mark_parents(plan: &Plan, place: u32, marks: &mut Vec<bool>)
     }
 }
 
-/// Marks the table at a place, and with each that is marked all to which it refers.
+/// Returns a mark for each table: the table at a place is marked, and each table to which a marked table refers.
 fn tables_behind(alloc: Global, plan: &Plan, place: u32) -> Result<Vec<bool>, Memory>
     ensures { IfOk result (λ needed. AreNeeded plan.now (Some place) needed.items) }
 {
@@ -45,7 +45,8 @@ fn tables_behind(alloc: Global, plan: &Plan, place: u32) -> Result<Vec<bool>, Me
     Ok(marks)
 }
 
-/// Which tables are needed for what a unit changes in those that are chosen: these, and with each all to which it refers.
+/// Tells for each table whether it is needed to find what a unit changes in the chosen tables. The chosen tables are needed, and each table
+/// to which a needed table refers.
 pub(crate) fn needed_tables(
     alloc: Global,
     plan: &Plan,

@@ -1,4 +1,4 @@
-//! Jobs, and what is told of their tables.
+//! Jobs, and the contents of their tables.
 
 ghost use Rattle.std.specs.Prelude.{◌≡◌, ◌<◌, ◌≤◌, ◌+◌, length};
 ghost use Rattle.std.specs.List.{range_with_len};
@@ -6,27 +6,27 @@ ghost use Rattle.update_box.specs.Packages.{IsChoice, chosen_places};
 
 use schema_plan::Plan;
 
-/// What is told of a table: its rows at a unit, or those that the unit deletes, updates or inserts.
+/// What a file holds of a table: its rows at a unit, or the rows that the unit deletes, updates or inserts.
 #[derive(Clone, Copy, Debug, PartialEq, Eq)]
 pub enum Content {
-    /// The lines of the rows that it holds at the unit.
+    /// The lines of the rows that the table holds at the unit.
     Snapshot,
-    /// The key lines of those that the unit deletes.
+    /// The key lines of the rows that the unit deletes.
     Deleted,
-    /// The lines of those that it updates.
+    /// The lines of the rows that the unit updates.
     Updated,
-    /// The lines of those that it inserts.
+    /// The lines of the rows that the unit inserts.
     Inserted,
 }
 
-/// What is told of tables at a unit, and for which node.
+/// Which tables are written at a unit, and for which node.
 #[derive(Clone, Copy, Debug, PartialEq, Eq)]
 pub struct Job {
     /// The unit.
     pub unit: u64,
-    /// The one table that is chosen, by its place, or None for all.
+    /// The place of the chosen table, or None for all tables.
     pub table: Option<u32>,
-    /// The number of entries of a package, 1 to 1,000,000.
+    /// The greatest number of entries of a package, 1 to 1,000,000.
     pub package: u64,
     /// The node, counted from 0.
     pub node: u64,
@@ -34,16 +34,16 @@ pub struct Job {
     pub nodes: u64,
 }
 
-/// The places of `count` tables from the one at place `from` on.
+/// The places of `count` tables, from place `from` on.
 #[derive(Clone, Copy, Debug, PartialEq, Eq)]
 pub struct Places {
-    /// The place of the first.
+    /// The place of the first table.
     pub from: u32,
-    /// How many they are.
+    /// The number of tables.
     pub count: u32,
 }
 
-/// The places of the tables that are chosen: the one, or all where none is named.
+/// Returns the places of the chosen tables: one place, or all if no table is named.
 pub fn places_of(plan: &Plan, table: Option<u32>) -> Places
     requires table { IsChoice plan.now table }
     ensures places { range_with_len result.from result.count ≡ chosen_places plan.now table }

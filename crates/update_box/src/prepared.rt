@@ -1,4 +1,4 @@
-//! What is made ready for the lines of a job's tables, once for all of its packages.
+//! What the lines of a job's tables need, prepared once for all packages.
 
 ghost use Rattle.std.specs.Prelude.{◌≡◌, ◌≤◌, IfOk, length};
 ghost use Rattle.life_intervals.specs.Generator.{last_unit};
@@ -15,9 +15,9 @@ use schema_plan::Plan;
 use std::alloc::Global;
 use std::marker::Model;
 
-/// What the lines at a unit of the rows of a job's tables are made from: the orders of these tables and of those that they refer to,
-/// and of each table the columns prepared for runs. It is made once for a job, to find what a unit changes and for all packages. A
-/// contract sees the place of the first table, the orders and the lines.
+/// What the lines of a job's tables at a unit are made from: the orders of the tables and of the tables to which they refer, and the columns
+/// of each table, prepared for runs. It is made once for a job, to find what a unit changes and to make all packages. A contract sees the
+/// place of the first table, the orders and the lines.
 pub struct PreparedTables {
     from: u32,
     orders: JobOrders,
@@ -51,7 +51,7 @@ impl Model for PreparedTables {
 }
 
 impl PreparedTables {
-    /// For the lines at a unit of the rows of all tables, or of the one at a place. At `Memory` nothing is made.
+    /// Prepares the lines at a unit for all tables, or for the table at a place. Returns `Memory` if memory runs out.
     pub fn new(
         alloc: Global,
         plan: &Plan,
@@ -81,7 +81,7 @@ impl PreparedTables {
         })
     }
 
-    /// The rows of the plan that the tables are of, found with their orders.
+    /// Returns the rows of the plan with the prepared orders.
     pub fn rows<'a>(&'a self, plan: &'a Plan) -> Rows<'a>
         requires { AreOrdersOf plan.now self.now.orders }
         ensures { result ≡ plan.now }
@@ -89,7 +89,7 @@ impl PreparedTables {
         Rows::with(plan, &self.orders)
     }
 
-    /// The places of the tables.
+    /// Returns the places of the tables.
     pub(crate) fn places(&self) -> Places
         ensures from { result.from ≡ self.now.from }
         ensures count { result.count ≡ length self.now.lines }
@@ -100,12 +100,12 @@ impl PreparedTables {
         }
     }
 
-    /// The texts of four digits.
+    /// Returns the texts of four digits.
     pub(crate) fn digits(&self) -> &Digits {
         &self.digits
     }
 
-    /// The lines at a unit of the rows of the table at a place, which is one of them.
+    /// Returns the lines at a unit of the rows of the table at a place. The table is a prepared one.
     pub fn lines_of<'a>(&'a self, rows: &'a Rows<'a>, unit: u64, place: u32) -> RunLines<'a>
         requires tables { ArePrepared rows.now self.now }
         requires among { IsAmong self.now place }

@@ -1,4 +1,4 @@
-//! The shares of a job's parts for a node, and the packages that they are cut into.
+//! The shares of a job's parts for a node, and their packages.
 
 ghost use Rattle.std.specs.Prelude.{◌≡◌, ◌<◌, ◌≤◌, ◌+◌, ◌-◌, ◌*◌, ◌^◌, All, length, map, min, take};
 ghost use Rattle.update_box.specs.Cuts.{cut_at, greatest, package_count};
@@ -9,41 +9,49 @@ use crate::parts::{Content, Job};
 use row_lines::KEY_LINE;
 use schema_plan::Plan;
 
-/// The share of a part, with the number of its packages, and of a snapshot with the ordinal before which no row is alive.
+/// A node's share of a part: the entries from `first` up to `end` of a table's content.
 #[derive(Clone, Copy)]
 pub(crate) struct KeptShare {
+    /// The place of the table.
     pub(crate) place: u32,
+    /// The content of the table.
     pub(crate) content: Content,
     pub(crate) first: u64,
     pub(crate) end: u64,
+    /// The number of packages of the share.
     pub(crate) packages: u64,
+    /// Of a snapshot: an ordinal before which no row is alive.
     pub(crate) living: u64,
 }
 
-/// The shares of a job, with the most entries of a package, the number of all packages, and the room that these want.
+/// The shares of a job for a node.
 #[derive(Drop)]
 pub(crate) struct Shares {
+    /// The shares, in order.
     pub(crate) kept: Vec<KeptShare>,
+    /// The most entries of a package.
     pub(crate) size: u64,
+    /// The number of packages of all shares.
     pub(crate) count: u64,
+    /// The room that a package needs on a page, in bytes.
     pub(crate) room: usize,
 }
 
-/// Entries from a position up to another.
+/// The entries from position `first` up to position `end`.
 #[derive(Clone, Copy)]
 pub(crate) struct Entries {
     pub(crate) first: u64,
     pub(crate) end: u64,
 }
 
-/// A package: number `number` of a share.
+/// Package number `number` of a share.
 #[derive(Clone, Copy)]
 struct Package {
     share: usize,
     number: u64,
 }
 
-/// The share of a part of so many entries for a job's node.
+/// Returns the share of a part for a job's node. `entries` is the number of entries of the whole part.
 pub(crate) fn cut(job: &Job, place: u32, content: Content, entries: u64, living: u64) -> KeptShare
     requires entries { entries ≤ 2 ^ 40 }
     requires some_entry { 1 ≤ job.now.package }
@@ -72,7 +80,7 @@ pub(crate) fn cut(job: &Job, place: u32, content: Content, entries: u64, living:
     }
 }
 
-/// How many packages some shares have.
+/// Counts the packages of some shares.
 fn count_packages(shares: &[KeptShare]) -> u64
     requires few { length shares.now ≤ 192 }
     requires each { All (λ kept. kept.packages ≤ 2 ^ 40) shares.now }
@@ -86,7 +94,7 @@ fn count_packages(shares: &[KeptShare]) -> u64
     count
 }
 
-/// The most bytes that an entry of a share gives.
+/// Returns the most bytes that an entry of a share gives.
 fn most_bytes(plan: &Plan, share: &KeptShare) -> u64
     requires { share.now.place < length plan.now.schema.tables }
     ensures most { result ≡ most_bytes plan.now share.now.place share.now.content }
@@ -99,7 +107,7 @@ fn most_bytes(plan: &Plan, share: &KeptShare) -> u64
     }
 }
 
-/// The room that the packages of a share want of a page.
+/// Returns the room, in bytes, that a package of a share needs on a page.
 fn share_room(plan: &Plan, size: u64, share: &KeptShare) -> u64
     requires size { size ≤ 1000000 }
     requires place { share.now.place < length plan.now.schema.tables }
@@ -110,7 +118,7 @@ fn share_room(plan: &Plan, size: u64, share: &KeptShare) -> u64
     size.min(share.end - share.first) * most_bytes(plan, share)
 }
 
-/// The greatest room that the packages of some shares want of a page.
+/// Returns the greatest room, in bytes, that a package of some shares needs on a page.
 fn room_for(plan: &Plan, size: u64, shares: &[KeptShare]) -> usize
     requires size { size ≤ 1000000 }
     requires places { All (λ kept. kept.place < length plan.now.schema.tables) shares.now }
@@ -127,7 +135,7 @@ fn room_for(plan: &Plan, size: u64, shares: &[KeptShare]) -> usize
     room as usize
 }
 
-/// The package of this number, of those that the shares have one after the other.
+/// Finds package `n`. Packages count from 0, through all shares one after the other.
 fn find(shares: &[KeptShare], n: u64) -> Package
     requires { n < packages_kept shares.now }
     ensures share { result.share < length shares.now }
@@ -147,7 +155,7 @@ fn find(shares: &[KeptShare], n: u64) -> Package
     }
 }
 
-/// The entries of a share's package of a number: of each so many, but of the last one those that are left.
+/// Returns the entries of a share's package by its number. Each package has `size` entries. The last one has those that are left.
 fn entries_of(share: &KeptShare, size: u64, number: u64) -> Entries
     requires some_entry { 1 ≤ size }
     requires limit { size ≤ 2 ^ 40 }
@@ -163,7 +171,7 @@ fn entries_of(share: &KeptShare, size: u64, number: u64) -> Entries
 }
 
 impl Shares {
-    /// These shares of a plan's tables, in packages of so many entries at most.
+    /// Returns shares of a plan's tables, cut into packages of at most `size` entries.
     pub(crate) fn of(plan: &Plan, size: u64, kept: Vec<KeptShare>) -> Shares
         requires size { size ≤ 1000000 }
         requires few { length kept.items ≤ 192 }
@@ -186,7 +194,7 @@ impl Shares {
         }
     }
 
-    /// The share of the package of a number, and its entries.
+    /// Returns the share of package `n`, and the package's entries.
     pub(crate) fn package(&self, n: u64) -> (&KeptShare, Entries)
         requires number { n < packages_kept self.now.kept.items }
         requires some_entry { 1 ≤ self.now.size }

@@ -27,9 +27,8 @@ use std::marker::{Brand, Model};
 use std::sync::ledger::{Blank, Ledger};
 use step_count::Steps;
 
-/// The packages of a job that tells the rows of tables at a unit: of each table the share of the job's node, cut into packages. Each is
-/// made from the plan and from what is prepared of its tables alone. A contract sees the plan, the unit, the shares and the number of
-/// entries of a package.
+/// The packages of a job for the rows of tables at a unit. The job's node has a share of each table, cut into packages. A package is made
+/// only from the plan and the prepared tables. A contract sees the plan, the unit, the shares and the number of entries of a package.
 pub struct SnapshotPacker<'a> {
     plan: &'a Plan,
     tables: &'a PreparedTables,
@@ -64,7 +63,7 @@ impl<'a> Model for SnapshotPacker<'a> {
     ghost invariant = { λ p. AreKeptShares p.plan.now p.tables.now p.unit p.shares × All (IsSnapshot p.plan.now p.unit) p.shares.kept.items };
 }
 
-/// The share of a table's rows at a unit for a job's node.
+/// Returns the share of a table's rows at a unit for a job's node.
 fn snapshot_share(rows: &Rows<'_>, tables: &PreparedTables, job: &Job, place: u32) -> KeptShare
     requires job { IsJobOf rows.now job.now }
     requires tables { ArePrepared rows.now tables.now }
@@ -78,7 +77,7 @@ fn snapshot_share(rows: &Rows<'_>, tables: &PreparedTables, job: &Job, place: u3
     cut(job, place, Content::Snapshot, entries, living)
 }
 
-/// The shares of the tables' rows at a unit for a job's node.
+/// Returns the shares of the tables' rows at a unit for a job's node.
 fn snapshot_shares(
     alloc: Global,
     rows: &Rows<'_>,
@@ -103,7 +102,7 @@ fn snapshot_shares(
 }
 
 impl<'a> SnapshotPacker<'a> {
-    /// The packages of a job over a plan, for which these tables are prepared. At `Memory` nothing is made.
+    /// Returns the packages of a job over a plan. The tables are prepared for the job. Returns `Memory` if memory runs out.
     pub fn new(
         alloc: Global,
         plan: &'a Plan,
@@ -127,8 +126,8 @@ impl<'a> SnapshotPacker<'a> {
         })
     }
 
-    /// The names of the files that are due, each with the number of its first package: one for each table in a directory, or the
-    /// standard output, `-`, for all. At `Memory` none are told.
+    /// Returns the names of the due files, each with the number of its first package. In a directory each table has one file. Without one
+    /// there is only the standard output, `-`. Returns `Memory` if memory runs out.
     pub fn marks(&self, alloc: Global, dir: Option<&str>) -> Result<Marks, Memory>
         ensures marks { IfOk result (AreMarksOf (count_of self.now)) }
         ensures files { IfOk result (λ marks. due_files (text_numbered self.now) (count_of self.now) marks ≡ share_files self.now (option_copied dir.entry)) }
@@ -137,7 +136,7 @@ impl<'a> SnapshotPacker<'a> {
         marks_of(alloc, self.plan, self.unit, &self.shares, dir)
     }
 
-    /// Makes a package, whose loops work on lists of its own.
+    /// Makes a package with working lists of its own.
     #[inline(never)]
     fn pack_anew(&self, n: u64, page: &mut PageBuf)
         requires number { n < count_of self.now }
@@ -148,7 +147,7 @@ impl<'a> SnapshotPacker<'a> {
         self.pack_with(n, &mut RunBuf::new(), page);
     }
 
-    /// Makes a package, whose loops work on these lists.
+    /// Makes a package with the working lists `work`.
     fn pack_with(&self, n: u64, work: &mut RunBuf, page: &mut PageBuf)
         requires number { n < count_of self.now }
         requires empty { page.old.text ≡ [] }
@@ -170,7 +169,7 @@ impl<'a> SnapshotPacker<'a> {
     }
 }
 
-/// Where the rows that may be alive begin, of those from a first one up to another, where none before `living` is.
+/// Returns the ordinal at which rows that may be alive begin, among the rows from `first` up to `end`. No row before `living` is alive.
 fn begin_at(first: u64, end: u64, living: u64) -> u64
     requires { first ≤ end }
     ensures begun { first ≤ result }
@@ -184,8 +183,8 @@ fn begin_at(first: u64, end: u64, living: u64) -> u64
     }
 }
 
-/// Puts the lines of the living among the rows of a table whose ordinals lie from one up to another on a page, which is empty. It begins
-/// at the first row that may be alive.
+/// Puts the lines of the living on an empty page, among the rows of a table with ordinals from `first` up to `end`. Skips the rows before the
+/// first one that may be alive.
 fn put_living<B: Ledger>(
     plan: &Plan,
     tables: &PreparedTables,

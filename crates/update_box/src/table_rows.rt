@@ -18,13 +18,13 @@ use std::alloc::Global;
 use std::sync::ledger::Ledger;
 use step_count::Steps;
 
-/// The ordinals of the rows of a table that a unit deletes and updates, in rising order, and the cohort that it inserts.
+/// What a unit changes in a table: the rows that it deletes and updates, and the cohort that it inserts.
 pub(crate) struct TableRows {
-    /// The ordinals of those that it deletes.
+    /// The ordinals of the rows that the unit deletes, in rising order.
     pub(crate) deleted: Vec<u64>,
-    /// The ordinals of those that it updates.
+    /// The ordinals of the rows that the unit updates, in rising order.
     pub(crate) updated: Vec<u64>,
-    /// The cohort that it inserts.
+    /// The cohort that the unit inserts.
     pub(crate) inserted: Cohort,
 }
 
@@ -41,7 +41,7 @@ impl Drop for TableRows {
 }
 
 impl TableRows {
-    /// No rows.
+    /// Returns empty lists and an empty cohort.
     pub(crate) fn none(alloc: Global) -> TableRows
         ensures { lists_of result ≡ no_lists }
     {
@@ -52,7 +52,8 @@ impl TableRows {
         }
     }
 
-    /// The rows of a table that unit `t` deletes, and no others. What dies in the tables before is found. At `Memory` none are told.
+    /// Returns only the rows of a table that unit `t` deletes. `before` holds the deleted rows of the earlier tables. Returns `Memory` if
+    /// memory runs out.
     pub(crate) fn deleted_at<L: Ledger>(
         alloc: Global,
         rows: &Rows<'_>,
@@ -76,8 +77,8 @@ impl TableRows {
         })
     }
 
-    /// The rows of a table that the step to unit `t` deletes, updates and inserts. What dies in the tables before is found. At `Memory` none
-    /// are told.
+    /// Returns the rows of a table that the step to unit `t` deletes, updates and inserts. `before` holds the deleted rows of the earlier
+    /// tables. Returns `Memory` if memory runs out.
     pub(crate) fn changed_at<L: Ledger>(
         alloc: Global,
         rows: &Rows<'_>,

@@ -22,8 +22,8 @@ use std::marker::Model;
 use std::sync::ledger::Ledger;
 use step_count::Steps;
 
-/// The rows that a unit deletes and updates, and the cohort that it inserts, table by table, those of a table that isn't chosen being
-/// none. A contract sees the unit and the lists.
+/// The rows that a unit deletes and updates, and the cohort that it inserts, table by table. A table that isn't chosen has no rows here. A
+/// contract sees the unit and the lists.
 pub struct UnitRows {
     unit: u64,
     tables: Vec<TableRows>,
@@ -47,14 +47,14 @@ impl Model for UnitRows {
 }
 
 impl UnitRows {
-    /// The unit.
+    /// Returns the unit.
     pub fn unit(&self) -> u64
         ensures { result ≡ self.now.unit }
     {
         self.unit
     }
 
-    /// The ordinals of the rows of a table that the unit deletes, in rising order.
+    /// Returns the ordinals of the rows of a table that the unit deletes, in rising order.
     pub fn dels(&self, table: u32) -> &[u64]
         requires { table < length self.now.tables }
         ensures { result.now ≡ (table_lists_at self.now table).deleted }
@@ -62,7 +62,7 @@ impl UnitRows {
         self.tables[table as usize].deleted.as_slice()
     }
 
-    /// The ordinals of the rows of a table that the unit updates, in rising order.
+    /// Returns the ordinals of the rows of a table that the unit updates, in rising order.
     pub fn upds(&self, table: u32) -> &[u64]
         requires { table < length self.now.tables }
         ensures { result.now ≡ (table_lists_at self.now table).updated }
@@ -70,7 +70,7 @@ impl UnitRows {
         self.tables[table as usize].updated.as_slice()
     }
 
-    /// The cohort of a table that the unit inserts.
+    /// Returns the cohort of a table that the unit inserts.
     pub fn ins(&self, table: u32) -> Cohort
         requires { table < length self.now.tables }
         ensures { result ≡ (table_lists_at self.now table).inserted }
@@ -79,8 +79,8 @@ impl UnitRows {
     }
 }
 
-/// The rows that the step to unit `t` deletes, updates and inserts, table by table. At `Memory` none are told. It takes at most as many steps as
-/// the cost of the unit says: for each candidate of each table as many as a row of it costs.
+/// Returns the rows that the step to unit `t` deletes, updates and inserts, table by table. Returns `Memory` if memory runs out. Takes at
+/// most as many steps as the cost of the unit: for each candidate of each table, the cost of a row of that table.
 pub fn unit_rows<L: Ledger>(
     alloc: Global,
     plan: &Plan,
@@ -99,8 +99,8 @@ pub fn unit_rows<L: Ledger>(
     rows_of_unit(alloc, &rows, None, t, steps)
 }
 
-/// The same with the orders that are kept for the plan, or with none, and of the one table at a place alone, where one is chosen: of the
-/// others no more is looked for than what deletions it needs, and their lists stay empty.
+/// Returns the rows that the step to unit `t` changes, with the orders of `rows`. If a table is chosen, it searches other tables only for
+/// deletions that the chosen one needs, and leaves their lists empty. Returns `Memory` if memory runs out.
 pub fn rows_of_unit<L: Ledger>(
     alloc: Global,
     rows: &Rows<'_>,
@@ -121,7 +121,7 @@ pub fn rows_of_unit<L: Ledger>(
     Ok(UnitRows { unit: t, tables })
 }
 
-/// Whether the table at a place is chosen: each is, or the one.
+/// Tells whether the table at a place is chosen. If none is named, each is.
 fn is_chosen(table: Option<u32>, place: u32) -> bool
     ensures { result ≡ is_chosen table place }
 {
@@ -131,18 +131,18 @@ fn is_chosen(table: Option<u32>, place: u32) -> bool
     }
 }
 
-/// What is looked for of a table.
+/// What is searched for in a table.
 #[derive(Clone, Copy)]
 enum Sought {
-    /// All that a unit changes.
+    /// All that the unit changes.
     Changes,
-    /// What it deletes, since this is needed for tables that refer to it.
+    /// Only what the unit deletes, for tables that refer to this table.
     Deletions,
     /// Nothing.
     Nothing,
 }
 
-/// What is looked for of the table at a place, which is needed or isn't.
+/// Returns what is searched for in the table at a place.
 fn what_is_sought(table: Option<u32>, needed: bool, place: u32) -> Sought
     ensures { result ≡ sought_of table needed place }
 {
@@ -155,7 +155,8 @@ fn what_is_sought(table: Option<u32>, needed: bool, place: u32) -> Sought
     }
 }
 
-/// What is looked for of the table at a place. What dies in the tables to which it refers is found, where anything is looked for.
+/// Returns the rows that are searched for in the table at a place. If any are, `before` holds the deleted rows of the tables to which it
+/// refers.
 fn rows_sought<L: Ledger>(
     alloc: Global,
     rows: &Rows<'_>,
@@ -179,7 +180,7 @@ fn rows_sought<L: Ledger>(
     }
 }
 
-/// What is looked for of each table, in order, where these are needed.
+/// Returns the rows that are searched for in each table, in order. `needed` tells for each table whether it is needed.
 fn all_sought<L: Ledger>(
     alloc: Global,
     rows: &Rows<'_>,
@@ -203,7 +204,7 @@ fn all_sought<L: Ledger>(
     Ok(tables)
 }
 
-/// Leaves the tables that aren't chosen no rows.
+/// Empties the lists of the tables that aren't chosen.
 fn leave_chosen(alloc: Global, table: Option<u32>, tables: &mut Vec<TableRows>)
     requires { length tables.old.items ≤ 64 }
     ensures all { length tables.new.items ≡ length tables.old.items }

@@ -21,7 +21,7 @@ use std::alloc::Global;
 use std::sync::ledger::Ledger;
 use step_count::Steps;
 
-/// Whether the longest life of a table, of a row that is born at unit `born`, ends after unit `t`, at or after its birth.
+/// Tells whether the longest life of a row that is born at unit `born` ends after unit `t`. The row is born by `t`.
 fn is_young(plan: &Plan, table: u32, born: u64, t: u64) -> bool
     requires table { table < length plan.now.schema.tables }
     requires born { born ≤ t }
@@ -33,8 +33,8 @@ fn is_young(plan: &Plan, table: u32, born: u64, t: u64) -> bool
     }
 }
 
-/// Puts the rows of a table that are born before unit `t`, but not so long before that the longest life has ended, and are due at it behind
-/// a list. It takes at most one step for each.
+/// Appends to a list the rows of a table that are due at unit `t`. The rows are born before `t`, in cohorts whose longest life ends after
+/// `t`. Takes at most one step for each row.
 fn push_all_due<L: Ledger>(
     rows: &Rows<'_>,
     table: u32,
@@ -55,7 +55,7 @@ fn push_all_due<L: Ledger>(
     Ok(())
 }
 
-/// Whether no row of a table ever dies.
+/// Tells whether no row of a table ever dies.
 fn is_endless(plan: &Plan, table: u32) -> bool
     requires { table < length plan.now.schema.tables }
     ensures { result ≡ is_none (sure_life (layout_of plan.now).tables table) }
@@ -63,7 +63,8 @@ fn is_endless(plan: &Plan, table: u32) -> bool
     plan.sure_life(table).is_none()
 }
 
-/// The rows of a table that unit `t` updates, in rising order. What dies in the tables before is found. At `Memory` none are told.
+/// Returns the rows of a table that unit `t` updates, in rising order. `before` holds the deleted rows of the earlier tables. Returns
+/// `Memory` if memory runs out.
 pub(crate) fn updates<L: Ledger>(
     alloc: Global,
     rows: &Rows<'_>,
