@@ -7,8 +7,8 @@ use crate::Memory;
 use std::alloc::Global;
 use std::marker::Model;
 
-/// The calls of a `MemLibrary` that fail: pairs of a file's name and a number. The call of that number on a file of that
-/// name fails, where its `start` is call 1 and the first `read` after it is call 2.
+/// The calls of a `MemLibrary` that fail, as pairs of a file's name and a call's number. On a file, `start` is call 1, and the
+/// first `read` after it is call 2.
 #[derive(Drop)]
 pub struct LibraryFails {
     fails: Vec<NamedCall>,
@@ -67,7 +67,7 @@ impl NamedCall {
 }
 
 impl LibraryFails {
-    /// No call fails.
+    /// Returns a list of no failures.
     pub fn new(alloc: Global) -> Self
         ensures { result ≡ [] }
     {
@@ -76,7 +76,7 @@ impl LibraryFails {
         }
     }
 
-    /// The call of this number on a file of this name fails too. At `Memory` the list is as before.
+    /// Makes a call on a file of a name fail too. At `Memory` the list is as before.
     pub fn push(&mut self, name: &str, call: u64) -> Result<(), Memory>
         ensures ok { OnOk result (self.new ≡ self.old ++ record { name = name.now; call = call } ∷ []) }
         ensures err { OnErr result (self.new ≡ self.old) }
@@ -100,7 +100,7 @@ impl LibraryFails {
 }
 
 impl ShelfFails {
-    /// No call fails.
+    /// Returns a list of no failures.
     pub fn new(alloc: Global) -> Self
         ensures { result ≡ [] }
     {
@@ -109,7 +109,7 @@ impl ShelfFails {
         }
     }
 
-    /// This call fails too. At `Memory` the list is as before.
+    /// Makes a call fail too. At `Memory` the list is as before.
     pub fn push(&mut self, fail: ShelfFail) -> Result<(), Memory>
         ensures ok { OnOk result (self.new ≡ self.old ++ fail ∷ []) }
         ensures err { OnErr result (self.new ≡ self.old) }

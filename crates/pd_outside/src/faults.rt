@@ -1,4 +1,4 @@
-//! The faults of the outside. Want of memory is a cause of its own everywhere.
+//! The faults of the outside. Want of memory is always a cause of its own.
 
 ghost use Rattle.std.specs.Prelude.{◌≡◌};
 ghost use Rattle.pd_outside.specs.declared.faults.ReadFault.TheVariants as fault;
@@ -18,10 +18,10 @@ pub struct WriteFailed;
 #[derive(Clone, Copy, Debug, PartialEq, Eq)]
 pub struct Memory;
 
-/// Why a whole file was not read.
+/// Why a whole file wasn't read.
 #[derive(Clone, Copy, Debug, PartialEq, Eq, Error)]
 pub enum ReadFault {
-    /// The library's count of faults rose.
+    /// A call of the library failed: its count of faults rose.
     #[error("read failed")]
     Failed,
     /// The file is longer than the limit.

@@ -7,7 +7,7 @@ use crate::Memory;
 use std::alloc::Global;
 use std::marker::Model;
 
-/// A list of files, each a name and bytes, in the order in which they were pushed. A name may stand twice.
+/// A list of files, each with a name and bytes, in the order of pushing them. A name can stand twice.
 #[derive(Drop)]
 pub struct Files {
     entries: Vec<Entry>,
@@ -32,7 +32,7 @@ impl Model for Files {
 impl Files {
     ghost use Rattle.pd_outside.specs.Entry.{file_of};
 
-    /// No file.
+    /// Returns a list of no files.
     pub fn new(alloc: Global) -> Self
         ensures { result ≡ [] }
     {
@@ -41,7 +41,7 @@ impl Files {
         }
     }
 
-    /// Adds a file at the end. At `Memory` the list is as before.
+    /// Appends a file. At `Memory` the list is as before.
     pub fn push(&mut self, name: &str, bytes: &[u8]) -> Result<(), Memory>
         ensures ok { OnOk result (self.new ≡ self.old ++ record { name = name.now; bytes = bytes.now } ∷ []) }
         ensures err { OnErr result (self.new ≡ self.old) }
@@ -55,7 +55,7 @@ impl Files {
         Ok(())
     }
 
-    /// Adds a file that is kept already. Where memory runs out it is given back, and the list is as before.
+    /// Appends a file that is already in memory. If memory runs out, gives the file back, and the list is as before.
     pub(crate) fn push_entry(&mut self, entry: Entry) -> Result<(), Entry>
         ensures ok { OnOk result (self.new ≡ self.old ++ file_of entry ∷ []) }
         ensures err { OnErr result (self.new ≡ self.old) }
@@ -67,7 +67,7 @@ impl Files {
         }
     }
 
-    /// The number of files.
+    /// Returns the number of files.
     pub fn len(&self) -> usize
         ensures { result ≡ length self.now }
     {
@@ -81,7 +81,7 @@ impl Files {
         self.entries.is_empty()
     }
 
-    /// The name of file number `i`, counted from 0.
+    /// Returns the name of file number `i`, counted from 0.
     pub fn name(&self, i: usize) -> &str
         requires { i < length self.now }
         ensures { result.now ≡ (file_at self.now i).name }
@@ -89,7 +89,7 @@ impl Files {
         self.entries[i].name.as_str()
     }
 
-    /// The bytes of file number `i`, counted from 0.
+    /// Returns the bytes of file number `i`, counted from 0.
     pub fn bytes(&self, i: usize) -> &[u8]
         requires { i < length self.now }
         ensures { result.now ≡ (file_at self.now i).bytes }

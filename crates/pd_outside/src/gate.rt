@@ -1,9 +1,9 @@
 //! The gate that packages pass.
 
-/// A gate that each package of a job enters before it is made. It says nothing and changes nothing that a clause sees.
-/// Tests hold workers with it.
+/// A gate that each package of a job enters before it is made. It returns nothing, and changes nothing that a clause sees. Tests
+/// hold workers with it.
 pub trait Gate {
-    /// The package of this number, counted from 0, is about to be made.
+    /// Lets a package through that is about to be made. Packages are counted from 0.
     fn enter(&self, package: u64);
 }
 

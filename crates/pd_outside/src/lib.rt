@@ -1,5 +1,5 @@
-//! The outside as the program sees it: files that are read, outputs that are written, and a gate that packages
-//! pass. Each has a trait, whose clauses hold for every implementation, and a form in memory.
+//! The outside as the program sees it: files that are read, outputs that are written, and a gate that packages pass. Each has a
+//! trait, whose clauses hold for every implementation, and a form in memory.
 #![tactic(auto)]
 
 mod fails;

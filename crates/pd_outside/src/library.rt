@@ -8,29 +8,28 @@ ghost use Rattle.pd_outside.specs.Library.{Content, left, start_file, take_bytes
 
 use crate::Failed;
 
-/// The files that a program reads, one at a time and each from its start.
+/// The files that a program reads, one at a time, each from its start.
 ///
-/// `content` and `asked` are optional meanings: an implementation that can't tell them, as one over a real disk, has
-/// `None`, and the clauses that speak of them then say nothing of it.
+/// `content` and `asked` are optional meanings. An implementation that can't tell them, such as one over a real disk, has `None`.
+/// The clauses about them then say nothing of it.
 pub trait Library {
-    /// The files, and the started one with the bytes that are left of it. No call changes the files.
+    /// The files, and the started file with the bytes that are left of it. No call changes the files.
     ghost content: { Self → Option Content };
 
-    /// The names that `start` was given so far, in order.
+    /// The names that were given to `start` so far, in order.
     ghost asked: { Self → Option (List (List ℕ)) };
 
     /// Whether a file is started.
     ghost is_started: { Self → Bool };
 
-    /// The number of bytes that were taken since the last `start`.
+    /// How many bytes were taken since the last `start`.
     ghost taken: { Self → ℕ };
 
-    /// How often a call failed: a count of 64 bits that rises where a call fails and nowhere else, and stops at the end of
-    /// its type.
+    /// How often a call failed: a count of 64 bits. It rises only when a call fails, and stops at the greatest number of its type.
     ghost faults: { Self → ℕ };
 
-    /// Starts the first file of this name, at its first byte. Of a name that no file has, it starts an empty file, or
-    /// fails. At `Failed` no file is started.
+    /// Starts the first file of a name, at its first byte. If no file has the name, starts an empty file, or fails. At `Failed` no
+    /// file is started.
     fn start(&mut self, name: &str) -> Result<(), Failed>
         ensures started { is_started self.new ≡ is_ok result }
         ensures content { OnOk result (content self.new ≡ option_map (start_file name.now) (content self.old)) }
@@ -43,7 +42,7 @@ pub trait Library {
         ensures no_fault { OnOk result (faults self.new ≡ faults self.old) }
         ensures counted { faults self.new ≡ faults_after result (faults self.old) };
 
-    /// Takes bytes of the started file into the beginning of `into`, and tells how many: at least one, but at the end of the
+    /// Takes bytes of the started file into the beginning of `into`, and returns how many: at least one, except at the end of the
     /// file. At `Failed` no file is started.
     fn read(&mut self, into: &mut [u8]) -> Result<usize, Failed>
         requires started { IsTrue (is_started self.old) }
@@ -62,6 +61,6 @@ pub trait Library {
         ensures no_fault { OnOk result (faults self.new ≡ faults self.old) }
         ensures counted { faults self.new ≡ faults_after result (faults self.old) };
 
-    /// A file is told as started exactly where one is started.
+    /// `content` has a started file exactly if one is started.
     ghost told_alike: { (library : Self) → IfSome (content library) (λ c. is_some c.started ≡ is_started library) };
 }

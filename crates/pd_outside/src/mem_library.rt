@@ -16,8 +16,8 @@ use std::marker::Model;
 
 /// A library over files in memory, with stated failures. It tells all its meanings.
 ///
-/// A call fails where it is stated to, a `start` also where no file has the name or where no memory is left to keep the
-/// name. Each call that fails is counted as a fault.
+/// A call fails if a stated failure says so. A `start` also fails if no file has the name, or if no memory is left to keep the
+/// name. Each failed call counts as a fault.
 pub struct MemLibrary {
     files: Files,
     fails: LibraryFails,
@@ -43,11 +43,14 @@ impl Drop for MemLibrary {
     }
 }
 
-/// The started file by its number, the place of the first byte that is left, and the calls on it since its start.
+/// A started file.
 #[derive(Clone, Copy)]
 struct Started {
+    /// The number of the file.
     file: usize,
+    /// The place of the first byte that is left.
     place: usize,
+    /// How many calls were made on the file since its start, the start included.
     calls: u64,
 }
 
@@ -63,7 +66,7 @@ impl Model for MemLibrary {
 }
 
 impl MemLibrary {
-    /// A library that holds these files and has these failures. Nothing was asked, started or taken, and no call was made.
+    /// Returns a library that holds the files and has the failures. Nothing was asked, started or taken, and no call was made.
     pub fn new(alloc: Global, files: Files, fails: LibraryFails) -> Self
         ensures files { result.content ≡ record { files = files; started = None } }
         ensures fails { result.fails ≡ fails }
@@ -82,14 +85,14 @@ impl MemLibrary {
         }
     }
 
-    /// How many names were asked so far.
+    /// Returns how many names were asked so far.
     pub fn asked_len(&self) -> usize
         ensures { result ≡ length self.now.asked }
     {
         self.asked.len()
     }
 
-    /// The name that was asked as number `i`, counted from 0.
+    /// Returns the name that was asked as number `i`, counted from 0.
     pub fn asked_name(&self, i: usize) -> &str
         requires { i < length self.now.asked }
         ensures { slice_get self.now.asked i ≡ Some result.now }
@@ -98,7 +101,7 @@ impl MemLibrary {
     }
 }
 
-/// Adds the name at the end. At `Memory` the list is as before.
+/// Appends a copy of the name. At `Memory` the list is as before.
 fn keep_name(asked: &mut Vec<String>, name: &str) -> Result<(), Memory>
     ensures ok { OnOk result (map string_bytes asked.new.items ≡ map string_bytes asked.old.items ++ name.now ∷ []) }
     ensures err { OnErr result (asked.new.items ≡ asked.old.items) }
@@ -109,7 +112,7 @@ fn keep_name(asked: &mut Vec<String>, name: &str) -> Result<(), Memory>
     Ok(())
 }
 
-/// The number of the first file of this name.
+/// Returns the number of the first file of a name; None if no file has it.
 pub(crate) fn number_of(files: &Files, name: &str) -> Option<usize>
     ensures absent { IfNone result (file_named files.now name.now ≡ None) }
     ensures within { IfSome result (λ i. i < length files.now) }
@@ -149,7 +152,7 @@ impl Library for MemLibrary {
         ensures no_fault { OnOk result (self.new.faults ≡ self.old.faults) }
         ensures counted { self.new.faults ≡ faults_after result self.old.faults }
 
-        // It fails where it is stated to and where the name is absent, and else for want of memory alone.
+        // It fails if a stated failure says so or the name is absent, and else only for want of memory.
         ensures stated { OnOk result (start_fails self.old name.now ≡ false) }
         ensures no_other { OnErr result ((start_fails self.old name.now ≡ true) ⊎ (self.new.asked ≡ self.old.asked)) }
         ensures call { OnOk result (self.new.calls ≡ 1) }
@@ -189,7 +192,7 @@ impl Library for MemLibrary {
         ensures no_fault { OnOk result (self.new.faults ≡ self.old.faults) }
         ensures counted { self.new.faults ≡ faults_after result self.old.faults }
 
-        // It fails where it is stated to and nowhere else, and it gives all that fits.
+        // It fails exactly if a stated failure says so, and takes all that fits.
         ensures stated { is_err result ≡ read_fails self.old }
         ensures most { IfOk result (λ n. n ≡ min (length into.old) (length (left self.old.content))) }
         ensures call { OnOk result (self.new.calls ≡ counted self.old.calls) }
@@ -216,7 +219,7 @@ impl Library for MemLibrary {
     }
 }
 
-/// The bytes that are left from this place on.
+/// Returns the bytes that are left of the started file.
 fn bytes_from(files: &Files, started: Started) -> &[u8]
     requires { IsIn files.now started }
     ensures rest { result.now ≡ rest_of files.now started }
@@ -225,7 +228,7 @@ fn bytes_from(files: &Files, started: Started) -> &[u8]
     &files.bytes(started.file)[started.place..]
 }
 
-/// Copies what fits to the beginning of `into`, and tells how many bytes.
+/// Copies what fits to the beginning of `into`, and returns how many bytes.
 pub(crate) fn copy_prefix(from: &[u8], into: &mut [u8]) -> usize
     ensures count { result ≡ min (length into.old) (length from.now) }
     ensures prefix { take result into.new ≡ take result from.now }

@@ -17,8 +17,8 @@ use std::marker::Model;
 
 /// A shelf that keeps its files in memory, with stated failures. It tells all its meanings.
 ///
-/// A call fails where it is stated to, and where no memory is left for what it keeps. Each call that fails is counted as
-/// a fault, and stays counted as a call of its kind.
+/// A call fails if a stated failure says so, or if no memory is left for what it keeps. Each failed call counts as a fault, and
+/// still counts as a call of its kind.
 pub struct MemShelf {
     alloc: Global,
     fails: ShelfFails,
@@ -64,7 +64,7 @@ impl Model for MemShelf {
 }
 
 impl MemShelf {
-    /// A shelf with these failures, of which a write takes at most `step` bytes. It holds nothing, and no call was made.
+    /// Returns an empty shelf with the failures, on which no call was made. A write takes at most `step` bytes.
     pub fn new(alloc: Global, fails: ShelfFails, step: usize) -> Self
         requires { 0 < step }
         ensures { result ≡ record {
@@ -92,14 +92,14 @@ impl MemShelf {
         }
     }
 
-    /// The finished files, in order.
+    /// Returns the finished files, in order.
     pub fn finished(&self) -> &Files
         ensures { result.now ≡ self.now.held.finished }
     {
         &self.finished
     }
 
-    /// The name of the begun file; None exactly where no file is begun.
+    /// Returns the name of the begun file; None exactly if no file is begun.
     pub fn begun(&self) -> Option<&str>
         ensures { option_map (λ name. name.now) result ≡ option_map (λ (file : File). file.name) self.now.held.begun }
     {
@@ -109,7 +109,7 @@ impl MemShelf {
         }
     }
 
-    /// The bytes of the begun file so far; none where no file is begun.
+    /// Returns the bytes of the begun file so far; no bytes if no file is begun.
     pub fn begun_bytes(&self) -> &[u8]
         ensures { result.now ≡ bytes_begun self.now.held }
     {
@@ -120,7 +120,7 @@ impl MemShelf {
     }
 }
 
-/// An empty file of this name.
+/// Returns an empty file of a name.
 fn empty_file(alloc: Global, name: &str) -> Result<Entry, Memory>
     ensures { IfOk result (λ entry. file_of entry ≡ record { name = name.now; bytes = [] }) }
 {
@@ -142,7 +142,7 @@ fn append(begun: &mut Option<Entry>, piece: &[u8]) -> Result<(), Memory>
     Ok(())
 }
 
-/// Adds the begun file to the finished ones. At `Memory` all is as before.
+/// Appends the begun file to the finished files. At `Memory` all is as before.
 fn finish(begun: &mut Option<Entry>, finished: &mut Files) -> Result<(), Memory>
     ensures ok { OnOk result (finished.new ≡ finished.old ++ option_to_list (option_map file_of begun.old)) }
     ensures none { OnOk result (option_map file_of begun.new ≡ None) }
@@ -180,7 +180,7 @@ impl Shelf for MemShelf {
         ensures counted { self.new.faults ≡ faults_after result self.old.faults }
         ensures last { self.new.last_failed ≡ is_err result }
 
-        // It fails where it is stated to, and else for want of memory alone.
+        // It fails if a stated failure says so, and else only for want of memory.
         ensures stated { Contains self.old.fails (fail.Begin (counted self.old.begins)) → IsErr result }
         ensures counts { IsCounted result self.old self.new }
         ensures call { self.new.begins ≡ counted self.old.begins }
@@ -214,7 +214,7 @@ impl Shelf for MemShelf {
         ensures counted { self.new.faults ≡ faults_after result self.old.faults }
         ensures last { self.new.last_failed ≡ is_err result }
 
-        // It takes all that its step lets through. It fails where it is stated to, and else for want of memory alone.
+        // It takes as much as its step allows. It fails if a stated failure says so, and else only for want of memory.
         ensures most { IfOk result (λ n. n ≡ min self.old.step (length piece.now)) }
         ensures stated { Contains self.old.fails (fail.Write (counted self.old.writes)) → IsErr result }
         ensures counts { IsCounted result self.old self.new }
@@ -245,7 +245,7 @@ impl Shelf for MemShelf {
         ensures counted { self.new.faults ≡ faults_after result self.old.faults }
         ensures last { self.new.last_failed ≡ is_err result }
 
-        // It fails where it is stated to, and else for want of memory alone.
+        // It fails if a stated failure says so, and else only for want of memory.
         ensures stated { Contains self.old.fails (fail.End (counted self.old.ends)) → IsErr result }
         ensures counts { IsCounted result self.old self.new }
         ensures call { self.new.ends ≡ counted self.old.ends }

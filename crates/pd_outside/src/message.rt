@@ -4,7 +4,7 @@ ghost use Rattle.std.specs.Prelude.{◌≡◌, ◌≤◌, ◌+◌, [], ◌++◌,
 
 use std::marker::Model;
 
-/// Up to 512 bytes that take no memory.
+/// A text of up to 512 bytes that takes no memory.
 #[derive(Drop)]
 pub struct Message {
     bytes: [u8; Message::ROOM],
@@ -22,10 +22,10 @@ impl Model for Message {
 }
 
 impl Message {
-    /// The most bytes that a message holds.
+    /// The most bytes that a message can hold.
     pub const ROOM: usize = 512;
 
-    /// No byte.
+    /// Returns an empty message.
     pub fn new() -> Message
         ensures { result ≡ [] }
     {
@@ -35,7 +35,7 @@ impl Message {
         }
     }
 
-    /// Appends the bytes. They fit.
+    /// Appends the bytes, which must fit.
     pub fn put(&mut self, bytes: &[u8])
         requires { length self.old + length bytes.now ≤ Message.ROOM }
         ensures { self.new ≡ self.old ++ bytes.now }
@@ -45,7 +45,7 @@ impl Message {
         self.len = end;
     }
 
-    /// The bytes so far.
+    /// Returns the bytes so far.
     pub fn text(&self) -> &[u8]
         ensures text { result.now ≡ self.now }
         ensures within { length result.now ≤ Message.ROOM }

@@ -9,23 +9,22 @@ use crate::Failed;
 
 /// The files that a program writes, one after the other. The name `-` is the standard output.
 ///
-/// `held` is an optional meaning: an implementation that can't tell it, as one over a real disk, has `None`, and the
-/// clauses that speak of it then say nothing of it.
+/// `held` is an optional meaning. An implementation that can't tell it, such as one over a real disk, has `None`. The clauses about
+/// it then say nothing of it.
 pub trait Shelf {
-    /// The finished files in order, and the begun one with its bytes so far.
+    /// The finished files in order, and the begun file with its bytes so far.
     ghost held: { Self → Option Held };
 
     /// Whether a file is begun.
     ghost is_begun: { Self → Bool };
 
-    /// How often a call failed: a count of 64 bits that rises where a call fails and nowhere else, and stops at the end of
-    /// its type.
+    /// How often a call failed: a count of 64 bits. It rises only when a call fails, and stops at the greatest number of its type.
     ghost faults: { Self → ℕ };
 
-    /// Whether the last call failed. Where none was made, none failed.
+    /// Whether the last call failed; false if none was made.
     ghost last_failed: { Self → Bool };
 
-    /// Begins an empty file of this name. At `Failed` no file is begun.
+    /// Begins an empty file of a name. At `Failed` no file is begun.
     fn begin(&mut self, name: &str) -> Result<(), Failed>
         requires { is_begun self.old ≡ false }
         ensures begun { is_begun self.new ≡ is_ok result }
@@ -37,8 +36,8 @@ pub trait Shelf {
         ensures counted { faults self.new ≡ faults_after result (faults self.old) }
         ensures last { last_failed self.new ≡ is_err result };
 
-    /// Appends the first bytes of the piece to the begun file, and tells how many: at least one. At `Failed` the file is
-    /// as before. It stays begun.
+    /// Appends the first bytes of the piece to the begun file, and returns how many: at least one. At `Failed` the file is as
+    /// before. The file stays begun in both cases.
     fn write(&mut self, piece: &[u8]) -> Result<usize, Failed>
         requires begun { IsTrue (is_begun self.old) }
         requires not_empty { 0 < length piece.now }
@@ -66,6 +65,6 @@ pub trait Shelf {
         ensures counted { faults self.new ≡ faults_after result (faults self.old) }
         ensures last { last_failed self.new ≡ is_err result };
 
-    /// A file is told as begun exactly where one is begun.
+    /// `held` has a begun file exactly if one is begun.
     ghost told_alike: { (shelf : Self) → IfSome (held shelf) (λ h. is_some h.begun ≡ is_begun shelf) };
 }

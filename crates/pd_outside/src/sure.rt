@@ -8,8 +8,8 @@ use crate::mem_library::{copy_prefix, number_of};
 use crate::{Failed, Files, Library, Shelf};
 use std::marker::Model;
 
-/// A library over files in memory that never fails. Of a name that no file has it starts an empty file. It tells its files, and not what
-/// was asked, so that it takes no memory.
+/// A library over files in memory that never fails. If no file has a name, it starts an empty file. It tells its files, but not the
+/// names asked, so it takes no memory.
 #[derive(Drop)]
 pub struct SureLibrary {
     files: Files,
@@ -17,10 +17,12 @@ pub struct SureLibrary {
     taken: u64,
 }
 
-/// The started file by its number, where a file has the name, and the place of the first byte that is left.
+/// A started file.
 #[derive(Clone, Copy)]
 struct Opened {
+    /// The number of the file; None if no file has the name.
     file: Option<usize>,
+    /// The place of the first byte that is left.
     place: usize,
 }
 
@@ -35,7 +37,7 @@ impl Model for SureLibrary {
 }
 
 impl SureLibrary {
-    /// A library that holds these files. Nothing was started or taken.
+    /// Returns a library that holds the files. Nothing was started or taken.
     pub fn new(files: Files) -> Self
         ensures files { result.content ≡ record { files = files; started = None } }
         ensures taken { result.taken ≡ 0 }
@@ -48,7 +50,7 @@ impl SureLibrary {
     }
 }
 
-/// The bytes that are left of a file.
+/// Returns the bytes that are left of a started file.
 fn bytes_left(files: &Files, opened: Opened) -> &[u8]
     requires { IsOpened files.now opened }
     ensures rest { result.now ≡ left_of files.now opened }
@@ -103,7 +105,7 @@ pub struct SureShelf {
 }
 
 impl SureShelf {
-    /// No file is begun.
+    /// Returns a shelf on which no file is begun.
     pub fn new() -> Self
         ensures { result.is_begun ≡ false }
     {

@@ -1,4 +1,4 @@
-//! Whole files in, whole texts out.
+//! Whole files that are read, and whole texts that are written.
 
 ghost use Rattle.std.specs.Prelude.{◌≡◌, ◌<◌, ◌≤◌, ◌⊎◌, ◌+◌, ◌^◌, ◌↔◌, false, length, take, IsTrue, IfOk, IfSome, IsErrOf, IsOk, OnOk, OnErr, vec_len};
 ghost use Rattle.std.specs.Option.{option_map};
@@ -10,14 +10,14 @@ ghost use Rattle.pd_outside.specs.Shelf.{append_bytes, AppendedPrefixOf};
 use crate::{Failed, Library, ReadFault, Shelf, WriteFailed};
 use std::alloc::{AllocError, Global};
 
-/// The most bytes that one call of `read` is asked for.
+/// The most bytes that one call of `read` asks for.
 const CHUNK: usize = 65536;
 
-/// Reads the whole file of this name, to its end, where it has at most `limit` bytes.
+/// Reads the whole file of a name, if it has at most `limit` bytes.
 ///
-/// `Failed` comes only where the library's count of faults rose, by one, and no file is started then; any other answer leaves
-/// the count as it was. `TooLong` comes exactly where `limit` + 1 bytes of the file were taken, and no more are ever taken.
-/// Nothing is taken of a file whose name isn't asked.
+/// Returns `Failed` only if the library's count of faults rose, by one. Then no file is started. Any other result leaves the count
+/// as it was. Returns `TooLong` exactly if `limit` + 1 bytes of the file were taken; no more are ever taken. If the name isn't
+/// asked, no byte is taken.
 pub fn read_whole<L: Library>(
     alloc: Global,
     library: &mut L,
@@ -69,15 +69,15 @@ pub fn read_whole<L: Library>(
     }
 }
 
-/// A buffer of n bytes. It is apart from its caller so that no proof there unfolds all its zeros.
+/// Returns a buffer of `n` zeros. It is a function of its own so that no proof of its caller unfolds all the zeros.
 fn zeros(alloc: Global, n: usize) -> Result<Vec<u8>, AllocError>
     ensures { IfOk result (λ bytes. vec_len bytes ≡ n) }
 {
     Vec::from_elem(alloc, 0, n)
 }
 
-/// Appends all the bytes to the begun file, which stays begun. `WriteFailed` comes only where the shelf's count of faults
-/// rose; a prefix of the bytes was appended then, and nothing was called after the write that failed.
+/// Appends all the bytes to the begun file, which stays begun. Returns `WriteFailed` only if the shelf's count of faults rose. Then
+/// a prefix of the bytes was appended, and no call came after the failed write.
 pub fn write_all<S: Shelf>(shelf: &mut S, bytes: &[u8]) -> Result<(), WriteFailed>
     requires { IsTrue (S.is_begun shelf.old) }
     ensures all { OnOk result (S.held shelf.new ≡ option_map (append_bytes bytes.now) (S.held shelf.old)) }

@@ -1,5 +1,4 @@
-//! The program `pdgf`: the files of the system, the standard output, databases and the words of the command line, handed to one
-//! call.
+//! The program `pdgf`. It hands the system's files, the standard output, databases and the words of the command line to one call.
 #![tactic(auto)]
 
 use pdgf_run::run_program;
@@ -13,7 +12,7 @@ use system_files::{FileLibrary, FileShelf, ProgressShelf, Syncing};
 fn main(rt: HostRuntime) -> ExitCode {
     let mut library = FileLibrary::new(&rt);
     let files = FileShelf::with_syncing(&rt, rt.alloc(), rt.stdout(), syncing(&rt));
-    // How far a file has come is told to somebody who looks on, and to no log.
+    // Progress is shown only if the standard error is a terminal, so no log has it.
     let watched = if rt.stderr().is_terminal() {
         Some(rt.stderr())
     } else {
@@ -29,21 +28,21 @@ fn main(rt: HostRuntime) -> ExitCode {
         &mut shelf,
         &mut keeper,
     );
-    // A store that was broken off is left without what was made in it.
+    // A store that was broken off loses what was made in it.
     if let Some(tables) = keeper.into_tables() {
         tables.close();
     }
-    // Where the message can't be written, the status still tells.
+    // If the message can't be written, the status still tells the end.
     let _ = report.tell(&mut rt.stderr());
     report.exit_code()
 }
 
-/// The words of the command line, the program's name first.
+/// Returns the words of the command line, the program's name first.
 fn words_of<R: Env + AllocGlobal>(rt: &R) -> io::Result<Vec<String>> {
     Ok(env::args(rt)?.collect(rt.alloc())?)
 }
 
-/// When files are synced: at their end, but for who measures without, with `PDGF_SYNC=0` in the environment.
+/// Returns when files are synced: at their end, unless `PDGF_SYNC=0` is in the environment, for measuring without the syncs.
 fn syncing<R: Env + AllocGlobal>(rt: &R) -> Syncing {
     match env::var(rt, "PDGF_SYNC") {
         Ok(value) if value.as_str() == "0" => Syncing::Never,

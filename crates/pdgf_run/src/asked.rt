@@ -16,17 +16,18 @@ use schema_model::Text;
 use schema_plan::Plan;
 use update_box::Job;
 
-/// The most bytes that the pages of all workers may have together.
+/// The most bytes that the pages of all workers can have together.
 pub(crate) const MOST_PAGE_BYTES: u64 = 67_108_864;
 
-/// How many pages a worker has.
+/// How many pages each worker has.
 pub(crate) const PAGES: u64 = 8;
 
-/// The most lines of a package where none is given.
+/// The most lines of a package if the request gives no number.
 const MOST_LINES: u64 = 1000;
 
-/// How many lines a package has where none is given: 1,000, or as many as the pages of so many workers, 1 to 64, take, where a line has at
-/// most so many bytes, 1 to 131,072. Each worker has eight pages, of a package each, and all together have at most 67,108,864 bytes.
+/// Returns the number of lines of a package if a request gives none: 1,000, or fewer so that the pages fit. `workers` (1 to 64)
+/// have eight pages each. A page has room for a package of lines of at most `bytes` bytes (1 to 131,072). All pages together have at
+/// most 67,108,864 bytes.
 pub fn default_package(workers: u32, bytes: u64) -> u64
     requires some_worker { 1 ≤ workers }
     requires worker_limit { workers ≤ 64 }
@@ -39,14 +40,14 @@ pub fn default_package(workers: u32, bytes: u64) -> u64
     MOST_LINES.min(MOST_PAGE_BYTES / (PAGES * u64::from(workers) * bytes))
 }
 
-/// Whether a unit is past the last one of a plan.
+/// Whether a unit is past the last unit of a plan.
 pub(crate) fn is_past_last(plan: &Plan, unit: u64) -> bool
     ensures { result ≡ nat_lt (last_unit plan.now) unit }
 {
     plan.units() < unit
 }
 
-/// The table that is named; None where no table has the name, or none is given.
+/// Returns the place of the named table; None if no table has the name, or no name is given.
 pub(crate) fn named_table(plan: &Plan, table: &Option<Text>) -> Option<u32>
     ensures { result ≡ option_and_then (table_named plan.now.schema) table.now }
 {
@@ -56,7 +57,7 @@ pub(crate) fn named_table(plan: &Plan, table: &Option<Text>) -> Option<u32>
     }
 }
 
-/// The table that is chosen by its name, or none, for all, where no name is given; None where no table has the name.
+/// Returns the place of the chosen table, or no place, for all tables, if no name is given. Returns None if no table has the name.
 pub(crate) fn chosen_table(plan: &Plan, table: &Option<Text>) -> Option<Option<u32>>
     ensures table { result ≡ chosen_table plan.now.schema table.now }
     ensures within { IfSome result (IsChoice plan.now) }
@@ -70,7 +71,7 @@ pub(crate) fn chosen_table(plan: &Plan, table: &Option<Text>) -> Option<Option<u
     }
 }
 
-/// How many lines a package of a request has.
+/// Returns how many lines a package of a request has.
 pub(crate) fn package_of(plan: &Plan, request: &Request) -> u64
     requires { CanPackBy request.now }
     ensures lines { result ≡ package_of plan.now request.now }
@@ -83,7 +84,7 @@ pub(crate) fn package_of(plan: &Plan, request: &Request) -> u64
     }
 }
 
-/// The same where the request doesn't say.
+/// Returns how many lines a package has if the request doesn't say.
 fn preset_package(plan: &Plan, workers: u32) -> u64
     requires some_worker { 1 ≤ workers }
     requires worker_limit { workers ≤ 64 }
@@ -95,7 +96,7 @@ fn preset_package(plan: &Plan, workers: u32) -> u64
     default_package(workers, plan.reach())
 }
 
-/// Whether the pages of so many workers have more bytes together than they may, with packages of so many lines of at most so many bytes.
+/// Whether the pages of the workers have more bytes together than is allowed. A package has `lines` lines of at most `bytes` bytes.
 pub(crate) fn is_past_pages(workers: u32, lines: u64, bytes: u64) -> bool
     requires worker_limit { workers ≤ 64 }
     requires line_limit { lines ≤ 1000000 }
@@ -105,7 +106,7 @@ pub(crate) fn is_past_pages(workers: u32, lines: u64, bytes: u64) -> bool
     MOST_PAGE_BYTES < PAGES * u64::from(workers) * lines * bytes
 }
 
-/// Whether the pages of a request's workers have more bytes together than they may, with packages of as many lines as it asks for.
+/// Whether the pages of a request's workers have more bytes together than is allowed, with the request's packages.
 pub(crate) fn is_past_room(plan: &Plan, request: &Request) -> bool
     requires { CanPackBy request.now }
     ensures { result ≡ nat_lt most_page_bytes (page_bytes request.now.workers (package_of plan.now request.now) (reach (layout_of plan.now))) }
@@ -114,8 +115,8 @@ pub(crate) fn is_past_room(plan: &Plan, request: &Request) -> bool
     is_past_pages(request.workers, package_of(plan, request), plan.reach())
 }
 
-/// What a request asks of a plan's tables at one of its units; or the first of these options that is out of its range: the table, the
-/// node and the package.
+/// Returns what a request asks of a plan's tables at the request's unit. Refuses the first option out of range: table, node,
+/// package.
 pub(crate) fn asked(plan: &Plan, request: &Request) -> Result<Job, JobFault>
     requires unit { request.now.unit ≤ last_unit plan.now }
     requires ranges { CanAsk request.now }

@@ -1,4 +1,4 @@
-//! A task, carried out.
+//! Carrying out a task.
 
 ghost use Rattle.std.specs.Prelude.{◌≡◌, ◌≢◌, ◌≤◌, ◌⊎◌, false, true, IfSome, IsTrue, Ok};
 ghost use Rattle.pd_outside.specs.Faults.{Rose, counted};
@@ -20,7 +20,7 @@ use range_workers::RunFault;
 use std::alloc::Global;
 use std::thread::Threads;
 
-/// Carries a task out: plays its units, where it has any, and writes its files. The status is 0 (all is done), 6 (a write failed), 7
+/// Carries out a task: plays its units, if it has any, and writes its files. The status is 0 (all is done), 6 (a write failed), 7
 /// (memory ran out) or 12 (the store failed).
 pub(crate) fn carry_out<R: Threads + Sync, S: Shelf, G: Gate + Sync, K: Keeper>(
     rt: &R,
@@ -34,18 +34,18 @@ pub(crate) fn carry_out<R: Threads + Sync, S: Shelf, G: Gate + Sync, K: Keeper>(
     requires none_begun { S.is_begun shelf.old ≡ false }
     requires closed { (K.store keeper.old).is_open ≡ false }
 
-    // What is due is finished.
+    // The due files are finished.
     ensures carries { result.status ≢ 6 → result.status ≢ 7 → result.status ≢ 12 → Carries (Ok (task_due task)) result (S.held shelf.old) (S.held shelf.new) }
     ensures known { IsTrue (is_status result.status) }
     ensures message { IfSome (fixed_text result.status) (λ text. result.message ≡ text) }
 
-    // It is no refusal of the request.
+    // The report is no refusal of the words or of what was read.
     ensures usable { result.status ≢ 2 }
     ensures parsed { result.status ≢ 3 }
     ensures read { result.status ≢ 5 }
     ensures short { result.status ≢ 10 }
 
-    // At 6 one write failed, the last, and a prefix of the due files stands. At 7 and 12 the shelf is as it was.
+    // At 6 one write failed, the last one, and a prefix of the due files stands. At 7 and 12 the shelf is as it was.
     ensures prefix { result.status ≡ 6 → HoldsPrefixOf (task_due task) (S.held shelf.old) (S.held shelf.new) }
     ensures write_failed { result.status ≡ 6 → Rose (S.faults shelf.old) (S.faults shelf.new) }
     ensures write_failed_once { result.status ≡ 6 → S.faults shelf.new ≡ counted (S.faults shelf.old) }
@@ -59,7 +59,8 @@ pub(crate) fn carry_out<R: Threads + Sync, S: Shelf, G: Gate + Sync, K: Keeper>(
     ensures unplayed { is_playing task ≡ false → keeper.new ≡ keeper.old }
     ensures unfailed { is_playing task ≡ false → result.status ≢ 12 }
 
-    // Its units are played before its files are written, or the keeper stays open after some statements, or as it was.
+    // The units are played before the files are written. If playing fails, the keeper stays open after some statements, or is as
+    // it was.
     ensures played { (result.status ≡ 0) ⊎ (result.status ≡ 6) → HasPlayed task (K.store keeper.old) (K.store keeper.new) }
     ensures broken_off { (K.store keeper.new).is_open ≡ true → HasBrokenOff task (K.store keeper.old) (K.store keeper.new) }
     ensures left_open { (K.store keeper.new).is_open ≡ true → (result.status ≡ 7) ⊎ (result.status ≡ 12) }

@@ -1,4 +1,4 @@
-//! The program's run, from what the system tells of its words to the report.
+//! The program's run: from the words as the system gives them to the report.
 
 ghost use Rattle.std.specs.Prelude.{◌≡◌, ◌≢◌, ◌≤◌, ◌+◌, ◌⊎◌, ◌↔◌, [], false, true, map, string_bytes, IfErr, IfOk, IfSome, IsErr, IsOk, IsOkAnd, IsTrue, OnErr};
 ghost use Rattle.std.specs.IoError.{error_kind};
@@ -30,8 +30,8 @@ use std::io;
 use std::io::ErrorKind;
 use std::thread::Threads;
 
-/// What the program does with its words, the program's name first, as the system gives them: all that `pdgf` does, where they are
-/// text. Words of which one isn't UTF-8 are told as bad words, and where there was no memory for them, that is told.
+/// Runs the program with its words as the system gives them, the program's name first. If all words are text, does what `pdgf`
+/// does. Reports bad words if one isn't UTF-8, and want of memory if the words found no memory.
 pub fn run_program<R: Threads + Sync, L: Library, S: Shelf, K: Keeper>(
     rt: &R,
     alloc: Global,
@@ -52,18 +52,19 @@ pub fn run_program<R: Threads + Sync, L: Library, S: Shelf, K: Keeper>(
     ensures nothing_written { OnErr words (shelf.new ≡ shelf.old) }
     ensures nothing_kept { OnErr words (keeper.new ≡ keeper.old) }
 
-    // For words that are read, all that `pdgf` promises. The headline: unless a read, a write or an allocation failed, the report and
-    // the finished files are the verdict's.
+    // For words that are read, all that `pdgf` promises. The headline: unless a read, a write, an allocation or the store failed,
+    // the report and the finished files are the verdict's.
     ensures verdict { IfOk words (λ words. result.status ≢ 5 → result.status ≢ 6 → result.status ≢ 7 → result.status ≢ 12 →
         WhereTold (map string_bytes words.items) (L.content library.old)
         (λ verdict. Carries verdict result (S.held shelf.old) (S.held shelf.new))) }
 
-    // Its third part: where the files that mode apply reads hold what that simulation gives, what it holds later is finished.
+    // If the files that mode apply reads hold what the simulation gives, the finished files hold what it gives at the later unit.
     ensures applied { IfOk words (λ words. result.status ≢ 5 → result.status ≢ 6 → result.status ≢ 7 →
         IfOk (request (map string_bytes words.items)) (λ asked. asked.mode ≡ Apply →
         IfSome (told_files (L.content library.old)) (λ files. GivesLater asked files result (S.held shelf.old) (S.held shelf.new)))) }
 
-    // And where those that mode revert reads hold it and the undo texts back to an earlier unit, what it held then is finished.
+    // If the files that mode revert reads hold what the simulation gives and the undo texts back to an earlier unit, the finished
+    // files hold what it gives at that unit.
     ensures reverted { IfOk words (λ words. result.status ≢ 5 → result.status ≢ 6 → result.status ≢ 7 →
         IfOk (request (map string_bytes words.items)) (λ asked. asked.mode ≡ Revert →
         IfSome (told_files (L.content library.old)) (λ files. GivesEarlier asked files result (S.held shelf.old) (S.held shelf.new)))) }
@@ -85,25 +86,25 @@ pub fn run_program<R: Threads + Sync, L: Library, S: Shelf, K: Keeper>(
     ensures stopped { result.status ≡ 5 → L.is_started library.new ≡ false }
     ensures write_failed { result.status ≡ 6 → Rose (S.faults shelf.old) (S.faults shelf.new) }
 
-    // One call failed then, and it was the last: nothing was called after it.
+    // At 5 and at 6 exactly one call failed. It was the last: no call came after it.
     ensures read_failed_once { result.status ≡ 5 → L.faults library.new ≡ counted (L.faults library.old) }
     ensures write_failed_once { result.status ≡ 6 → S.faults shelf.new ≡ counted (S.faults shelf.old) }
     ensures write_failed_last { result.status ≡ 6 → IsTrue (S.last_failed shelf.new) }
     ensures library_faults { result.status ≢ 5 → L.faults library.new ≡ L.faults library.old }
     ensures shelf_faults { result.status ≢ 6 → S.faults shelf.new ≡ S.faults shelf.old }
 
-    // After a failed write a prefix of the due files stands, and they were due.
+    // After a failed write a prefix of the due files stands, and the verdict is these due files.
     ensures prefix { IfOk words (λ words. result.status ≡ 6 → WhereTold (map string_bytes words.items) (L.content library.old)
         (λ verdict. IsOkAnd verdict (λ due. HoldsPrefixOf due (S.held shelf.old) (S.held shelf.new)))) }
 
-    // Any other status but 0 leaves the shelf as it was.
+    // Any status but 0 and 6 leaves the shelf as it was.
     ensures held { result.status ≢ 0 → result.status ≢ 6 → S.held shelf.new ≡ S.held shelf.old }
     ensures none_begun { result.status ≢ 6 → S.is_begun shelf.new ≡ false }
 
-    // Words that give no request, and those of a sample, which has a schema of its own, leave the library as it was.
+    // The library stays as it was if the words give no request, or ask for a sample, which has a schema of its own.
     ensures unread { IfOk words (λ words. reads_for (request (map string_bytes words.items)) ≡ false → library.new ≡ library.old) }
 
-    // No other name is started than those of the reading list, in its order, and at a clean end the last is read to its end.
+    // Only names of the reading list are started, in its order. At status 0 the last file is read to its end.
     ensures asked { IfOk words (λ words. AsksInTurn (request (map string_bytes words.items)) (told_files (L.content library.old)) (L.asked library.old) (L.asked library.new)) }
     ensures read_out { IfOk words (λ words. IfOk (request (map string_bytes words.items)) (λ asked. reads_schema asked.mode ≡ true → result.status ≡ 0 →
         option_map left (L.content library.new) ≡ option_map (λ (c : Content). []) (L.content library.old))) }
@@ -111,16 +112,16 @@ pub fn run_program<R: Threads + Sync, L: Library, S: Shelf, K: Keeper>(
     ensures library_never_falls { L.faults library.old ≤ L.faults library.new }
     ensures shelf_never_falls { S.faults shelf.old ≤ S.faults shelf.new }
 
-    // A keeper is touched by mode play alone, and not where the request is refused.
+    // Only mode play touches the keeper, and only if the request isn't refused.
     ensures unplayed { IfOk words (λ words. plays_for (request (map string_bytes words.items)) ≡ false → keeper.new ≡ keeper.old) }
     ensures keeper_kept { result.status ≢ 0 → result.status ≢ 6 → result.status ≢ 7 → result.status ≢ 12 → keeper.new ≡ keeper.old }
 
-    // Once its files are due it is finished: it has exactly the rows that the tables hold at the request's unit.
+    // Once the files are due, the keeper is finished: it has exactly the rows that the tables hold at the request's unit.
     ensures played { (result.status ≡ 0) ⊎ (result.status ≡ 6) → IfOk words (λ words. IfOk (request (map string_bytes words.items)) (λ asked. is_play asked.mode ≡ true →
         IfSome (told_files (L.content library.old)) (λ files. IfOk (plan_in files asked.schema) (λ plan.
         K.store keeper.new ≡ played_store plan asked.to asked.store (K.store keeper.old))))) }
 
-    // Where a call of it failed, or memory ran out, it stays open after some statements, or as it was.
+    // If a call of the keeper failed, or memory ran out, the keeper stays open after some statements, or is as it was.
     ensures broken_off { (K.store keeper.new).is_open ≡ true → IfOk words (λ words. IfOk (request (map string_bytes words.items)) (λ asked.
         IfSome (told_files (L.content library.old)) (λ files. IfOk (plan_in files asked.schema) (λ plan.
         IsBrokenOff plan asked.to asked.store (K.store keeper.old) (K.store keeper.new))))) }

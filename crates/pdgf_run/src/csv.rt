@@ -30,7 +30,7 @@ use schema_model::Text;
 use std::alloc::Global;
 use update_box::{Content, Memory, places_of};
 
-/// Puts a text in COPY text form behind others as CSV.
+/// Appends a text in COPY text form to others, as CSV.
 pub(crate) fn push_csv(
     alloc: Global,
     csvs: &mut Inputs,
@@ -51,7 +51,7 @@ pub(crate) fn push_csv(
     }
 }
 
-/// Files in COPY text form as CSV.
+/// Returns files in COPY text form as CSV.
 fn csv_of_files(alloc: Global, files: &Files, delimiter: u8) -> Result<Inputs, Memory>
     requires delimiter { IsDelimiter delimiter }
     requires rows { All (λ (file : File). HasRows delimiter file.bytes) files.now }
@@ -64,7 +64,7 @@ fn csv_of_files(alloc: Global, files: &Files, delimiter: u8) -> Result<Inputs, M
     Ok(csvs)
 }
 
-/// The texts one after the other.
+/// Returns the texts joined, in order.
 pub(crate) fn joined(alloc: Global, texts: &Inputs) -> Result<Vec<u8>, Memory>
     ensures { IfOk result (λ bytes. bytes.items ≡ flat_map (λ text. text) texts.now) }
 {
@@ -75,7 +75,8 @@ pub(crate) fn joined(alloc: Global, texts: &Inputs) -> Result<Vec<u8>, Memory>
     Ok(bytes)
 }
 
-/// The job of files in COPY text form, one for each of such contents of a job's tables, as CSV: in a directory, or on the standard output.
+/// Returns the job that writes files in COPY text form as CSV, one for each of the contents of each of the job's tables. They go to
+/// a directory, or to the standard output if `out` is None.
 fn made_job(
     alloc: Global,
     job: &TablesJob,
@@ -104,8 +105,9 @@ fn made_job(
     Ok(Job::Files(FilesJob { names, texts: csvs }))
 }
 
-/// The job of such contents of a job's tables as CSV. They were written in COPY text form onto a shelf in memory, each with a file of its
-/// own, as far as its limit and the memory let them.
+/// Returns the job that writes the contents of a job's tables as CSV. The contents were written in COPY text form onto a shelf in
+/// memory, each to a file of its own. Refuses the format if they passed the shelf's limit, and fails with `Memory` if memory ran
+/// out.
 pub(crate) fn csv_job(
     alloc: Global,
     job: &TablesJob,

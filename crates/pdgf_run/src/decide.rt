@@ -1,4 +1,4 @@
-//! From the words to a job: all that is read and all memory that is taken, stage by stage.
+//! From the words to a task, stage by stage. Nothing is read later, and no output is touched here.
 
 ghost use Rattle.std.specs.Prelude.{◌≡◌, ◌≢◌, ◌≤◌, ◌+◌, ◌⊎◌, false, true, map, string_bytes, Err, IfErr, IfOk, IfSome, Ok, OnOk};
 ghost use Rattle.plan_stages.specs.Limits.{dictionary_limit, schema_limit};
@@ -29,7 +29,7 @@ use std::marker::Brand;
 use std::sync::ledger::Blank;
 use std::thread::Threads;
 
-/// Decides what the words come to: a job, or why there is none. Nothing but the names of the reading list is started.
+/// Decides what the words come to: a task, or why there is none. Only names of the reading list are started.
 pub(crate) fn decide<R: Threads + Sync, L: Library, G: Gate + Sync>(
     rt: &R,
     alloc: Global,
@@ -62,7 +62,7 @@ pub(crate) fn decide<R: Threads + Sync, L: Library, G: Gate + Sync>(
     Ok(job_of_request(rt, alloc, library, gate, &request)?)
 }
 
-/// The job of a request. A sample has a schema of its own, and reads nothing.
+/// Returns the task of a request. A sample has a schema of its own, and reads nothing.
 fn job_of_request<R: Threads + Sync, L: Library, G: Gate + Sync>(
     rt: &R,
     alloc: Global,
@@ -94,7 +94,7 @@ fn job_of_request<R: Threads + Sync, L: Library, G: Gate + Sync>(
     }
 }
 
-/// The job of a request that names a schema.
+/// Returns the task of a request that names a schema.
 fn planned_job<R: Threads + Sync, L: Library, G: Gate + Sync>(
     rt: &R,
     alloc: Global,
@@ -124,7 +124,7 @@ fn planned_job<R: Threads + Sync, L: Library, G: Gate + Sync>(
     task_of(rt, alloc, library, gate, plan, request)
 }
 
-/// What a request comes to over a plan of the schema that it names: units to play, or files to write.
+/// Returns the task of a request over a plan of its schema: units to play, or files to write.
 fn task_of<R: Threads + Sync, L: Library, G: Gate + Sync>(
     rt: &R,
     alloc: Global,

@@ -1,4 +1,4 @@
-//! From the name of a file to the detail table that it declares over a plan.
+//! From a file's name to the detail table that the file declares over a plan.
 
 ghost use Rattle.std.specs.Prelude.{◌≡◌, ◌≢◌, ◌≤◌, ◌⊎◌, ℕ, List, Ok, IfOk, IfSome, OnOk};
 ghost use Rattle.pd_outside.specs.Library.{AskedAtMost, ask};
@@ -14,10 +14,11 @@ use refusals::DetailsCause;
 use schema_plan::Plan;
 use std::alloc::Global;
 
-/// The most bytes of a declaration: as many as a schema may have.
+/// The most bytes of a declaration: as many as a schema can have.
 const DETAILS_LIMIT: u64 = 1_048_576;
 
-/// The detail table that the file of a name declares over a plan; or why it declares none.
+/// Reads a file by its name and returns the detail table that it declares over a plan. Refuses with the first cause if it declares
+/// none.
 pub(crate) fn read_details<L: Library>(
     alloc: Global,
     library: &mut L,
@@ -40,7 +41,7 @@ pub(crate) fn read_details<L: Library>(
     }
 }
 
-/// The detail table that bytes declare over a plan, which were read to their end.
+/// Returns the detail table that a declaration's bytes declare over a plan. The bytes are the whole file.
 fn detail_of_text(alloc: Global, plan: &Plan, bytes: &[u8]) -> Result<DetailPlan, DetailsCause>
     ensures detail { Decides details_status (λ detail. detail) result (detail_of_text plan.now bytes.now) }
     ensures keeps { IfOk result (KeepsRules plan.now) }

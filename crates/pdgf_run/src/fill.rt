@@ -1,4 +1,4 @@
-//! The files of a job, onto a shelf.
+//! Writing the files of a job onto a shelf.
 
 ghost use Rattle.std.specs.Prelude.{◌≡◌, ◌≤◌, ◌⊎◌, [], ◌∷◌, false, true, length, IsErrOf, OnErr, OnOk};
 ghost use Rattle.std.specs.Option.{option_copied, option_map};
@@ -18,7 +18,7 @@ use std::thread::Threads;
 /// The name of the standard output.
 pub(crate) const STANDARD_OUTPUT: &str = "-";
 
-/// The name of a directory, where there is one.
+/// Returns the name of a directory, if there is one.
 pub(crate) fn name_of(name: &Option<Name>) -> Option<&str>
     ensures { option_copied result ≡ name.now }
 {
@@ -28,7 +28,7 @@ pub(crate) fn name_of(name: &Option<Name>) -> Option<&str>
     }
 }
 
-/// Writes bytes to the file of a name.
+/// Writes bytes to a file with a name.
 fn write_file<S: Shelf>(shelf: &mut S, name: &str, bytes: &[u8]) -> Result<(), RunFault>
     requires none_begun { S.is_begun shelf.old ≡ false }
     ensures files { OnOk result (S.held shelf.new ≡ option_map (finish_files (record { name = name.now; bytes = bytes.now } ∷ [])) (S.held shelf.old)) }
@@ -54,7 +54,7 @@ fn write_file<S: Shelf>(shelf: &mut S, name: &str, bytes: &[u8]) -> Result<(), R
     }
 }
 
-/// Writes texts, each to the file of its name, in turn. At a failure a prefix of them stands.
+/// Writes texts in turn, each to the file of its name. At a failure a prefix of the files stands.
 fn write_files<S: Shelf>(shelf: &mut S, job: &FilesJob) -> Result<(), RunFault>
     requires alike { length job.now.names ≡ length job.now.texts }
     requires none_begun { S.is_begun shelf.old ≡ false }
@@ -73,8 +73,8 @@ fn write_files<S: Shelf>(shelf: &mut S, job: &FilesJob) -> Result<(), RunFault>
     Ok(())
 }
 
-/// Writes the files that a job is due. At `Write` a prefix of them stands, and nothing further was begun; `Memory` comes only before the
-/// first is begun.
+/// Writes the files that are due for a job. At `Write` a prefix of them stands, and nothing more is begun. `Memory` comes only
+/// before the first file is begun.
 pub(crate) fn fill<R: Threads + Sync, S: Shelf, G: Gate + Sync>(
     rt: &R,
     alloc: Global,

@@ -19,19 +19,19 @@ use update_box::{Memory, PreparedTables, UnitRows};
 
 /// All that is to be written.
 pub(crate) enum Job {
-    /// These bytes, on the standard output.
+    /// Bytes for the standard output.
     Text(Vec<u8>),
-    /// The text of this page, on the standard output.
+    /// A page whose text goes to the standard output.
     Page(PageBuf),
     /// The rows of tables at a unit.
     Snapshot(TablesJob),
     /// What a unit changes in tables.
     Unit(UnitJob),
-    /// What takes tables' texts back from a unit to the one before.
+    /// The undo texts of tables: they take the texts from a unit back to the unit before.
     Undo(UndoJob),
-    /// Texts, each in a file of its own.
+    /// Texts, each for a file of its own.
     Files(FilesJob),
-    /// The lines of a detail table.
+    /// The lines of a detail table, or what a unit changes in them.
     Details(DetailsJob),
 }
 
@@ -58,13 +58,17 @@ pub(crate) enum Task {
     Play(PlayJob),
 }
 
-/// The units of a plan that are played, up to one, with the orders that are kept for its rows, the name of the store, and the summary: for each
-/// table how many rows it holds at the last of the units.
+/// Units to play into a store, from 0 up to a last one.
 pub(crate) struct PlayJob {
+    /// The plan whose units are played.
     pub(crate) plan: Plan,
+    /// The orders that are kept for the plan's rows.
     pub(crate) orders: JobOrders,
+    /// The last unit that is played.
     pub(crate) to: u64,
+    /// The name of the store.
     pub(crate) store: Name,
+    /// The summary's text: a line for each table, with how many rows it holds at the last unit.
     pub(crate) summary: Vec<u8>,
 }
 
@@ -85,7 +89,7 @@ impl Drop for PlayJob {
 }
 
 impl PlayJob {
-    /// The summary.
+    /// Returns the summary.
     pub(crate) fn into_summary(self) -> Vec<u8>
         ensures { result ≡ self.summary }
     {
@@ -103,9 +107,11 @@ impl PlayJob {
     }
 }
 
-/// Texts, and the names of their files.
+/// Texts, with the names of their files.
 pub(crate) struct FilesJob {
+    /// The names of the files, one for each text.
     pub(crate) names: Texts,
+    /// The texts, in order.
     pub(crate) texts: Inputs,
 }
 
@@ -117,13 +123,17 @@ impl Drop for FilesJob {
     }
 }
 
-/// What is asked of a plan's tables, with what is prepared of these, the number of workers, and the directory of the files, where they
-/// don't go to the standard output.
+/// A job over a plan's tables.
 pub(crate) struct TablesJob {
+    /// The plan.
     pub(crate) plan: Plan,
+    /// What is prepared of the plan's tables.
     pub(crate) tables: PreparedTables,
+    /// What is asked of the tables.
     pub(crate) asked: update_box::Job,
+    /// The number of workers.
     pub(crate) workers: u32,
+    /// The directory of the files; None for the standard output.
     pub(crate) out: Option<Name>,
 }
 
@@ -143,7 +153,7 @@ impl Drop for TablesJob {
 }
 
 impl TablesJob {
-    /// The plan.
+    /// Returns the plan.
     pub(crate) fn into_plan(self) -> Plan
         ensures { result ≡ self.plan }
     {
@@ -160,9 +170,11 @@ impl TablesJob {
     }
 }
 
-/// The same of what a unit changes, as it was found.
+/// A job of what a unit changes in a plan's tables.
 pub(crate) struct UnitJob {
+    /// The tables, and what is asked of them.
     pub(crate) of: TablesJob,
+    /// The rows that the unit changes, as they were found.
     pub(crate) rows: UnitRows,
 }
 
@@ -175,7 +187,7 @@ impl Drop for UnitJob {
 }
 
 impl UnitJob {
-    /// The plan.
+    /// Returns the plan.
     pub(crate) fn into_plan(self) -> Plan
         ensures { result ≡ self.of.plan }
     {
@@ -185,9 +197,11 @@ impl UnitJob {
     }
 }
 
-/// The same, with the places of the rows that the unit deletes, table by table.
+/// A job of the undo texts of a plan's tables.
 pub(crate) struct UndoJob {
+    /// What the unit changes in the tables.
     pub(crate) of: UnitJob,
+    /// The places that the deleted rows had at the unit before, table by table.
     pub(crate) places: Vec<Vec<u64>>,
 }
 
@@ -199,23 +213,30 @@ impl Drop for UndoJob {
     }
 }
 
-/// What is told of a detail table: its text at a unit, or what a unit changes in it.
+/// Which text of a detail table is made: its own at a unit, or what a unit changes in it.
 #[derive(Clone, Copy)]
 pub(crate) enum Told {
     Text,
     Changes,
 }
 
-/// A detail table at a unit, of whose parent `size` rows make a package, with the orders that are kept for its parent's rows. Without changes its text
-/// is told, and with them these: they are what the unit changes in the parent. The files have these names, where they don't go to the standard output.
+/// A job of the lines of a detail table at a unit.
 pub(crate) struct DetailsJob {
+    /// The plan.
     pub(crate) plan: Plan,
+    /// The detail table.
     pub(crate) detail: DetailPlan,
+    /// The orders that are kept for the parent's rows.
     pub(crate) orders: JobOrders,
+    /// The unit.
     pub(crate) unit: u64,
+    /// How many rows of the parent make a package.
     pub(crate) size: u64,
+    /// The number of workers.
     pub(crate) workers: u32,
+    /// The names of the files; None for the standard output.
     pub(crate) names: Option<Texts>,
+    /// What the unit changes in the parent, for the changes of the detail table; None for its text at the unit.
     pub(crate) changes: Option<UnitRows>,
 }
 
@@ -239,7 +260,8 @@ impl Drop for DetailsJob {
     }
 }
 
-/// The job of what a request asks of a plan's tables, with its files in a directory or on the standard output. At `Memory` there is none.
+/// Returns the job of what is asked of a plan's tables. The files go to a directory, or to the standard output if `out` is None.
+/// Fails with `Memory` if memory runs out.
 pub(crate) fn tables_job(
     alloc: Global,
     plan: Plan,
@@ -266,7 +288,7 @@ pub(crate) fn tables_job(
     })
 }
 
-/// A text of its own.
+/// Returns a copy of a text.
 pub(crate) fn copied_text(alloc: Global, text: &Name) -> Result<Name, Memory>
     ensures { IfOk result (λ made. made ≡ text.now) }
 {
@@ -276,7 +298,7 @@ pub(crate) fn copied_text(alloc: Global, text: &Name) -> Result<Name, Memory>
     }
 }
 
-/// A name of its own, where there is one.
+/// Returns a copy of an optional name.
 pub(crate) fn copied(alloc: Global, name: &Option<Name>) -> Result<Option<Name>, Memory>
     ensures { IfOk result (λ made. made ≡ name.now) }
 {

@@ -11,7 +11,7 @@ use range_workers::{Marks, Memory, Packer};
 use schema_model::Texts;
 use std::alloc::Global;
 
-/// Packers of one type, whose packages are those of the first, then those of the next, and so on.
+/// Packers of one type, joined. The packages are those of the first packer, then those of the next, and so on.
 #[derive(Drop)]
 pub(crate) struct Joined<P: Packer + Drop> {
     parts: Vec<P>,
@@ -23,7 +23,7 @@ pub(crate) struct Joined<P: Packer + Drop> {
 }
 
 impl<P: Packer + Drop> Joined<P> {
-    /// No packer.
+    /// Returns a list of no packers.
     pub(crate) fn new(alloc: Global) -> Joined<P>
         ensures { result.parts.items ≡ [] }
     {
@@ -34,7 +34,7 @@ impl<P: Packer + Drop> Joined<P> {
         }
     }
 
-    /// Puts a packer behind the others. At `Memory` they are as before.
+    /// Appends a packer. At `Memory` the packers are as before.
     pub(crate) fn push(&mut self, packer: P) -> Result<(), Memory>
         requires { sum_by P.count self.old.parts.items + P.count packer ≤ 2 ^ 60 }
         ensures ok { OnOk result (self.new.parts.items ≡ self.old.parts.items ++ packer ∷ []) }
@@ -48,7 +48,7 @@ impl<P: Packer + Drop> Joined<P> {
         Ok(())
     }
 
-    /// The marks under which each packer has a file of its own. At `Memory` there are none.
+    /// Returns the marks that give each packer a file of its own. Fails with `Memory` if memory runs out.
     pub(crate) fn marks(&self, alloc: Global, names: &Texts) -> Result<Marks, Memory>
         requires alike { length names.now ≡ length self.now.parts.items }
         requires some { 0 < length names.now }
@@ -64,7 +64,7 @@ impl<P: Packer + Drop> Joined<P> {
         }
         Ok(marks)
     }
-    /// The one mark under which all have a file. At `Memory` there is none.
+    /// Returns the one mark that gives all packers one file. Fails with `Memory` if memory runs out.
     pub(crate) fn mark_of_all(&self, alloc: Global, name: &str) -> Result<Marks, Memory>
         ensures marks { IfOk result (AreMarksOf (sum_by P.count self.now.parts.items)) }
         ensures files { IfOk result (λ marks. due_files (text_in P.count P.text self.now.parts.items) (sum_by P.count self.now.parts.items) marks
@@ -76,7 +76,7 @@ impl<P: Packer + Drop> Joined<P> {
     }
 }
 
-/// The packer that has the package of a number, of those of packers in turn, and the number that the package has there.
+/// Returns the packer that makes package `n` of all packers in turn, and the package's number in that packer.
 fn found<P: Packer>(parts: &[P], n: u64) -> (&P, u64)
     requires { n < sum_by P.count parts.now }
     ensures number { result.1 < P.count result.0.now }

@@ -1,4 +1,4 @@
-//! The laws of what words and files come to, each the contract of a function that does nothing.
+//! The laws of what words and files come to. Each is the contract of a function that does nothing.
 
 ghost use Rattle.std.specs.Prelude.{◌≡◌, ◌+◌, ◌<◌, ◌≤◌, ◌∷◌, ℕ, List, Result, length};
 ghost use Rattle.pd_outside.specs.Files.{File};
@@ -12,14 +12,14 @@ ghost use Rattle.undo_streams.specs.InTurn.{IsRevertedText};
 ghost use Rattle.pdgf_run.specs.UndoLaws.{undo_texts};
 ghost use Rattle.pdgf_run.specs.Verdict.{IsVerdict};
 
-/// Words and files come to one verdict.
+/// Words and files come to only one verdict.
 pub fn words_and_files_have_one_verdict()
     ensures { (words : List (List ℕ)) (files : List File) (verdict other : Result (List File) Refusal) →
         IsVerdict words files verdict → IsVerdict words files other → verdict ≡ other }
 {}
 
-/// The undo text of a unit, taken from a table's text at it, makes the text at the unit before, and so do those of further units, each in
-/// its turn, back to any unit.
+/// The undo text of a unit takes a table's text at that unit back to its text at the unit before. The undo texts of the units
+/// before, each in its turn, take it back to any earlier unit.
 pub fn undo_texts_give_the_earlier_text()
     ensures { (plan : Project) → IsInLimits plan → (place : ℕ) → place < length plan.schema.tables →
         (to count : ℕ) → to + count ≤ last_unit plan →

@@ -1,4 +1,4 @@
-//! From the words of a command line to the files that they are due.
+//! From the words of a command line to the files that the words ask for.
 #![tactic(auto)]
 
 mod asked;

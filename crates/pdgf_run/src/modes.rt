@@ -35,8 +35,9 @@ use std::marker::Brand;
 use std::sync::ledger::Blank;
 use std::thread::Threads;
 
-/// The job of a request over a plan of the schema that it names. Modes that read on read their inputs; every other leaves the library as it is. What is due in CSV is made here,
-/// by the workers where it is of rows, and each package of lines enters the gate then.
+/// Returns the job of a request over a plan of its schema. Some modes read inputs or a declaration; the other modes leave the
+/// library as it is. Files that are due in CSV are made here. If they hold rows, the workers make them, and each package of lines
+/// enters the gate.
 pub(crate) fn job_of<R: Threads + Sync, L: Library, G: Gate + Sync>(
     rt: &R,
     alloc: Global,

@@ -13,11 +13,14 @@ use schema_plan::Plan;
 use std::alloc::Global;
 use update_box::{Content, Memory, Places, push_file_name};
 
-/// The files in a directory that hold parts of a plan's tables in a format.
+/// A directory whose files hold parts of a plan's tables in a format.
 #[derive(Clone, Copy)]
 pub(crate) struct Directory<'a> {
+    /// The plan.
     pub(crate) plan: &'a Plan,
+    /// The directory's name.
     pub(crate) name: &'a str,
+    /// The format of the files.
     pub(crate) format: Format,
 }
 
@@ -31,7 +34,7 @@ pub(crate) fn push(path: &mut Text, piece: &str) -> Result<(), Memory>
     }
 }
 
-/// Puts a path behind others.
+/// Appends a path to others.
 pub(crate) fn put(paths: &mut Texts, path: Text) -> Result<(), Memory>
     ensures { OnOk result (paths.new ≡ paths.old ++ path ∷ []) }
 {
@@ -41,7 +44,7 @@ pub(crate) fn put(paths: &mut Texts, path: Text) -> Result<(), Memory>
     }
 }
 
-/// The name of a table.
+/// Returns the name of a table.
 pub(crate) fn name_of(plan: &Plan, table: u32) -> &str
     requires { table < length plan.now.schema.tables }
     ensures { result.now ≡ name_at plan.now.schema table }
@@ -49,7 +52,7 @@ pub(crate) fn name_of(plan: &Plan, table: u32) -> &str
     plan.table(table).name.as_str()
 }
 
-/// Appends the name of the file that holds this content of a table at a unit as CSV.
+/// Appends the name of the CSV file that holds a content of a table at a unit.
 fn push_csv_name(
     path: &mut Text,
     plan: &Plan,
@@ -70,7 +73,7 @@ fn push_csv_name(
 }
 
 impl Directory<'_> {
-    /// The path of the file that holds this content of a table at a unit.
+    /// Returns the path of the file that holds a content of a table at a unit.
     pub(crate) fn path(
         &self,
         alloc: Global,
@@ -92,7 +95,7 @@ impl Directory<'_> {
         Ok(path)
     }
 
-    /// The path of the file that holds the undo text of a table at a unit.
+    /// Returns the path of the file that holds the undo text of a table at a unit.
     pub(crate) fn undo_path(&self, alloc: Global, table: u32, unit: u64) -> Result<Text, Memory>
         requires { table < length self.now.plan.now.schema.tables }
         ensures { IfOk result (λ path. path ≡ undo_path self.now.plan.now unit self.now.name.now table) }
@@ -108,7 +111,7 @@ impl Directory<'_> {
         Ok(path)
     }
 
-    /// Those of tables.
+    /// Returns the paths of the files that hold the undo texts of tables at a unit.
     pub(crate) fn undo_paths(
         &self,
         alloc: Global,
@@ -127,7 +130,7 @@ impl Directory<'_> {
         Ok(paths)
     }
 
-    /// Puts the paths of such contents of a table at a unit behind others.
+    /// Appends the paths of the files that hold some contents of a table at a unit.
     pub(crate) fn push_paths(
         &self,
         alloc: Global,
@@ -150,7 +153,7 @@ impl Directory<'_> {
         }
     }
 
-    /// The paths of such contents of tables at a unit.
+    /// Returns the paths of the files that hold some contents of tables at a unit, table by table.
     pub(crate) fn paths(
         &self,
         alloc: Global,

@@ -5,7 +5,7 @@ ghost use Rattle.std.specs.Prelude.{◌≡◌, ◌∷◌, ◌++◌, [], OnOk, de
 use itoa::Buffer;
 use line_pages::Memory;
 
-/// Appends a number in decimal, and a byte behind it.
+/// Appends a number in decimal, and then a byte.
 pub(crate) fn push_number(text: &mut Vec<u8>, number: u128, behind: u8) -> Result<(), Memory>
     ensures { OnOk result (text.new.items ≡ (text.old.items ++ decimal number) ++ behind ∷ []) }
 {

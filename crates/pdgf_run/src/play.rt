@@ -1,4 +1,4 @@
-//! Units, played into a store.
+//! Units played into a store.
 
 ghost use Rattle.std.specs.Prelude.{◌≡◌, ◌<◌, ◌≤◌, [], false, true, IfOk, IsErrOf, IsTrue, OnErr, OnOk};
 ghost use Rattle.pd_outside.specs.Faults.{FailsAtLast};
@@ -22,7 +22,7 @@ use std::sync::ledger::{Blank, Ledger};
 use step_count::Steps;
 use update_box::unit_rows;
 
-/// Why units weren't played whole.
+/// Why units weren't all played.
 #[derive(Clone, Copy, Debug, PartialEq, Eq)]
 pub(crate) enum PlayFault {
     /// A call of the keeper failed.
@@ -55,8 +55,8 @@ impl From<line_pages::Memory> for PlayFault {
     }
 }
 
-/// Plays units into the store of a name, and finishes it. The memory of a unit is taken before its first statement, and none behind the
-/// last.
+/// Plays a job's units into the store that it names, and finishes the store. The memory of a unit is taken before its first
+/// statement, and none after the last statement.
 pub(crate) fn play<K: Keeper>(alloc: Global, job: &PlayJob, keeper: &mut K) -> Result<(), PlayFault>
     requires can { CanPlay job.now }
     requires closed { (K.store keeper.old).is_open ≡ false }
@@ -75,7 +75,7 @@ pub(crate) fn play<K: Keeper>(alloc: Global, job: &PlayJob, keeper: &mut K) -> R
     Ok(())
 }
 
-/// Plays the units up to one.
+/// Plays the units from 0 up to a last one.
 fn play_units<K: Keeper, B: Ledger>(
     alloc: Global,
     rows: &Rows<'_>,
@@ -106,7 +106,7 @@ fn play_units<K: Keeper, B: Ledger>(
     Ok(())
 }
 
-/// Plays a later unit. Its memory is taken before its first statement.
+/// Plays a unit after 0. Its memory is taken before its first statement.
 fn play_changes<K: Keeper, L: Ledger>(
     alloc: Global,
     rows: &Rows<'_>,
@@ -132,7 +132,7 @@ fn play_changes<K: Keeper, L: Ledger>(
     Ok(())
 }
 
-/// The job that is left of a task: what is to be written, once the units are played.
+/// Plays the units of a task, if it has any, and returns the job that is left to write.
 pub(crate) fn played<K: Keeper>(alloc: Global, task: Task, keeper: &mut K) -> Result<Job, PlayFault>
     requires can { CanDo task }
     requires closed { (K.store keeper.old).is_open ≡ false }

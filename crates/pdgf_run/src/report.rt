@@ -12,24 +12,24 @@ use std::io;
 use std::io::Write;
 use std::process::ExitCode;
 
-/// What a call came to: an exit status and a message for the standard error, empty or ended by a line feed.
+/// The result of a call: an exit status and a message for the standard error.
 #[derive(Drop)]
 pub struct Report {
     /// The exit status.
     pub status: u8,
-    /// The message.
+    /// The message: empty, or ended by a line feed.
     pub message: Message,
 }
 
 impl Report {
-    /// Writes the message, as it is.
+    /// Writes the message unchanged.
     pub fn tell<W: Write>(&self, output: &mut W) -> io::Result<()>
         ensures { OnOk result (Appends (W.contents output.old) (W.contents output.new) self.now.message) }
     {
         output.write_all(self.message.text())
     }
 
-    /// The exit code, which is the status.
+    /// Returns the exit code of the status.
     pub fn exit_code(&self) -> ExitCode
         ensures { exit_status result ≡ self.now.status }
     {
@@ -37,7 +37,7 @@ impl Report {
     }
 }
 
-/// All is done.
+/// Returns the report that all is done.
 pub(crate) fn done() -> Report
     ensures { result ≡ record { status = status.done_status; message = [] } }
 {
@@ -47,7 +47,7 @@ pub(crate) fn done() -> Report
     }
 }
 
-/// A write failed.
+/// Returns the report that a write failed.
 pub(crate) fn write_failed() -> Report
     ensures { result ≡ record { status = status.write_failed_status; message = text.write_failed_text } }
 {
@@ -57,7 +57,7 @@ pub(crate) fn write_failed() -> Report
     }
 }
 
-/// A call of the keeper failed.
+/// Returns the report that a call of the keeper failed.
 pub(crate) fn keeper_failed() -> Report
     ensures { result ≡ record { status = status.keeper_failed_status; message = text.keeper_failed_text } }
 {
@@ -67,7 +67,7 @@ pub(crate) fn keeper_failed() -> Report
     }
 }
 
-/// The request is refused.
+/// Returns the report of a refusal.
 pub(crate) fn refused(refusal: Refusal) -> Report
     ensures { result ≡ record { status = status.status_of refusal; message = text.message_of refusal } }
 {

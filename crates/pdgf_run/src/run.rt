@@ -28,15 +28,25 @@ use pd_outside::{Gate, Library, Shelf};
 use std::alloc::Global;
 use std::thread::Threads;
 
-/// Does all that the program does: reads the words, the program's name first, reads the files that they ask for, and
-/// writes the files that they are due, by as many workers as they ask for. Each package of lines enters the gate once, before it is
+/// Does all that the program does: reads the words, reads the files that they name, and writes the due files. The first word is the
+/// program's name. As many workers make the lines as the words ask for. Each package of lines enters the gate once, before it is
 /// made.
 ///
-/// What words and files come to is the definition `IsVerdict`: due files by a plain simulation that steps from unit to unit, or by
-/// applying what units change to what tables hold, or undoing it; or a refusal. The statuses are 0 (all is done), 2 (the words give no request), 3 (the schema's text isn't a schema), 4
-/// (the schema breaks a rule, or what it cites is no dictionary), 5 (a read failed), 6 (a write failed), 7 (memory ran out), 8
-/// (an option's value is out of the schema's range), 9 (what is read in mode apply or revert can't be applied or undone), 10 (the schema's text, a
-/// dictionary or an input is too long) and 12 (the store failed into which units are played). Where a library, a shelf or a keeper doesn't tell what it holds, the clauses say only what can be said.
+/// The definition `IsVerdict` says what words and files come to: due files, or a refusal. The due files come from a plain
+/// simulation that steps from unit to unit, or from texts to which streams or undo texts are applied. The statuses are:
+/// - 0: all is done.
+/// - 2: the words give no request.
+/// - 3: the text of the schema or of the declaration has the wrong form.
+/// - 4: the schema or the declaration breaks a rule, or a cited file is no dictionary.
+/// - 5: a read failed.
+/// - 6: a write failed.
+/// - 7: memory ran out.
+/// - 8: an option's value is out of range.
+/// - 9: an input can't be applied or undone.
+/// - 10: a schema, a dictionary, a declaration or an input is too long.
+/// - 12: the store into which units are played failed.
+///
+/// If a library, a shelf or a keeper doesn't tell what it holds, the clauses say nothing of what depends on its contents.
 pub fn pdgf<R: Threads + Sync, L: Library, S: Shelf, G: Gate + Sync, K: Keeper>(
     rt: &R,
     alloc: Global,
@@ -49,16 +59,17 @@ pub fn pdgf<R: Threads + Sync, L: Library, S: Shelf, G: Gate + Sync, K: Keeper>(
     requires none_begun { S.is_begun shelf.old ≡ false }
     requires closed { (K.store keeper.old).is_open ≡ false }
 
-    // The headline: unless a read, a write or an allocation failed, the report and the finished files are the verdict's.
+    // The headline: unless a read, a write, an allocation or the store failed, the report and the finished files are the verdict's.
     ensures verdict { result.status ≢ 5 → result.status ≢ 6 → result.status ≢ 7 → result.status ≢ 12 →
         WhereTold (map string_bytes words.now) (L.content library.old)
         (λ verdict. Carries verdict result (S.held shelf.old) (S.held shelf.new)) }
 
-    // Its third part: where the files that mode apply reads hold what that simulation gives, what it holds later is finished.
+    // If the files that mode apply reads hold what the simulation gives, the finished files hold what it gives at the later unit.
     ensures applied { result.status ≢ 5 → result.status ≢ 6 → result.status ≢ 7 → IfOk (request (map string_bytes words.now)) (λ asked. asked.mode ≡ Apply →
         IfSome (told_files (L.content library.old)) (λ files. GivesLater asked files result (S.held shelf.old) (S.held shelf.new))) }
 
-    // And where those that mode revert reads hold it and the undo texts back to an earlier unit, what it held then is finished.
+    // If the files that mode revert reads hold what the simulation gives and the undo texts back to an earlier unit, the finished
+    // files hold what it gives at that unit.
     ensures reverted { result.status ≢ 5 → result.status ≢ 6 → result.status ≢ 7 → IfOk (request (map string_bytes words.now)) (λ asked. asked.mode ≡ Revert →
         IfSome (told_files (L.content library.old)) (λ files. GivesEarlier asked files result (S.held shelf.old) (S.held shelf.new))) }
 
@@ -79,25 +90,25 @@ pub fn pdgf<R: Threads + Sync, L: Library, S: Shelf, G: Gate + Sync, K: Keeper>(
     ensures stopped { result.status ≡ 5 → L.is_started library.new ≡ false }
     ensures write_failed { result.status ≡ 6 → Rose (S.faults shelf.old) (S.faults shelf.new) }
 
-    // One call failed then, and it was the last: nothing was called after it.
+    // At 5 and at 6 exactly one call failed. It was the last: no call came after it.
     ensures read_failed_once { result.status ≡ 5 → L.faults library.new ≡ counted (L.faults library.old) }
     ensures write_failed_once { result.status ≡ 6 → S.faults shelf.new ≡ counted (S.faults shelf.old) }
     ensures write_failed_last { result.status ≡ 6 → IsTrue (S.last_failed shelf.new) }
     ensures library_faults { result.status ≢ 5 → L.faults library.new ≡ L.faults library.old }
     ensures shelf_faults { result.status ≢ 6 → S.faults shelf.new ≡ S.faults shelf.old }
 
-    // After a failed write a prefix of the due files stands, and they were due.
+    // After a failed write a prefix of the due files stands, and the verdict is these due files.
     ensures prefix { result.status ≡ 6 → WhereTold (map string_bytes words.now) (L.content library.old)
         (λ verdict. IsOkAnd verdict (λ due. HoldsPrefixOf due (S.held shelf.old) (S.held shelf.new))) }
 
-    // Any other status but 0 leaves the shelf as it was.
+    // Any status but 0 and 6 leaves the shelf as it was.
     ensures held { result.status ≢ 0 → result.status ≢ 6 → S.held shelf.new ≡ S.held shelf.old }
     ensures none_begun { result.status ≢ 6 → S.is_begun shelf.new ≡ false }
 
-    // Words that give no request, and those of a sample, which has a schema of its own, leave the library as it was.
+    // The library stays as it was if the words give no request, or ask for a sample, which has a schema of its own.
     ensures unread { reads_for (request (map string_bytes words.now)) ≡ false → library.new ≡ library.old }
 
-    // No other name is started than those of the reading list, in its order, and at a clean end the last is read to its end.
+    // Only names of the reading list are started, in its order. At status 0 the last file is read to its end.
     ensures asked { AsksInTurn (request (map string_bytes words.now)) (told_files (L.content library.old)) (L.asked library.old) (L.asked library.new) }
     ensures read_out { IfOk (request (map string_bytes words.now)) (λ asked. reads_schema asked.mode ≡ true → result.status ≡ 0 →
         option_map left (L.content library.new) ≡ option_map (λ (c : Content). []) (L.content library.old)) }
@@ -105,16 +116,16 @@ pub fn pdgf<R: Threads + Sync, L: Library, S: Shelf, G: Gate + Sync, K: Keeper>(
     ensures library_never_falls { L.faults library.old ≤ L.faults library.new }
     ensures shelf_never_falls { S.faults shelf.old ≤ S.faults shelf.new }
 
-    // A keeper is touched by mode play alone, and not where the request is refused.
+    // Only mode play touches the keeper, and only if the request isn't refused.
     ensures unplayed { plays_for (request (map string_bytes words.now)) ≡ false → keeper.new ≡ keeper.old }
     ensures keeper_kept { result.status ≢ 0 → result.status ≢ 6 → result.status ≢ 7 → result.status ≢ 12 → keeper.new ≡ keeper.old }
 
-    // Once its files are due it is finished: it has exactly the rows that the tables hold at the request's unit.
+    // Once the files are due, the keeper is finished: it has exactly the rows that the tables hold at the request's unit.
     ensures played { (result.status ≡ 0) ⊎ (result.status ≡ 6) → IfOk (request (map string_bytes words.now)) (λ asked. is_play asked.mode ≡ true →
         IfSome (told_files (L.content library.old)) (λ files. IfOk (plan_in files asked.schema) (λ plan.
         K.store keeper.new ≡ played_store plan asked.to asked.store (K.store keeper.old)))) }
 
-    // Where a call of it failed, or memory ran out, it stays open after some statements, or as it was.
+    // If a call of the keeper failed, or memory ran out, the keeper stays open after some statements, or is as it was.
     ensures broken_off { (K.store keeper.new).is_open ≡ true → IfOk (request (map string_bytes words.now)) (λ asked.
         IfSome (told_files (L.content library.old)) (λ files. IfOk (plan_in files asked.schema) (λ plan.
         IsBrokenOff plan asked.to asked.store (K.store keeper.old) (K.store keeper.new)))) }

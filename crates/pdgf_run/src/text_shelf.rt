@@ -7,14 +7,14 @@ ghost use Rattle.pdgf_run.specs.InMemory.{bytes_held, no_files};
 use pd_outside::{Failed, Files, MemShelf, Shelf, ShelfFails};
 use std::alloc::Global;
 
-/// The most bytes that the files have together that are taken whole.
+/// The most bytes that all files can have together.
 pub(crate) const TEXT_LIMIT: usize = 268_435_456;
 
-/// A shelf in memory that takes a byte more than the limit of all its files, and then fails. So files that are longer are told from want of
-/// memory, and of how many bytes more they are none is kept.
+/// A shelf in memory that takes one byte more than the limit of all its files, and then fails. So files that are too long are told
+/// from want of memory, and no byte after that one is kept.
 pub(crate) struct TextShelf {
     shelf: MemShelf,
-    /// How many bytes are still taken.
+    /// How many more bytes the shelf takes.
     room: usize,
     faults: u64,
     last_failed: bool,
@@ -37,7 +37,7 @@ impl TextShelf {
     ghost use Rattle.std.specs.Prelude.{◌↔◌, ◌<◌, IsTrue, false};
     ghost use Rattle.pd_outside.specs.Shelf.{Held};
 
-    /// No file is written yet.
+    /// Returns a shelf without a file.
     pub(crate) fn new(alloc: Global) -> TextShelf
         ensures held { result.shelf.held ≡ no_files }
         ensures left { result.room ≡ 268435457 }
@@ -50,21 +50,21 @@ impl TextShelf {
         }
     }
 
-    /// The finished files, in order.
+    /// Returns the finished files, in order.
     pub(crate) fn finished(&self) -> &Files
         ensures { result.now ≡ self.now.shelf.held.finished }
     {
         self.shelf.finished()
     }
 
-    /// Whether more bytes were to be written than the limit.
+    /// Whether more bytes than the limit were written.
     pub(crate) fn is_past_limit(&self) -> bool
         ensures past { IsTrue result ↔ (268435456 < bytes_held self.now.shelf.held) }
     {
         self.room == 0
     }
 
-    /// A call failed.
+    /// Counts a failed call and returns its error.
     fn failed(&mut self) -> Failed
         ensures shelf { self.new.shelf ≡ self.old.shelf }
         ensures room { self.new.room ≡ self.old.room }

@@ -11,7 +11,7 @@ use life_intervals::{Cohort, cohort};
 use schema_plan::Plan;
 use update_box::UnitRows;
 
-/// What a later unit does, as it was found.
+/// What a unit after 0 does, as it was found.
 #[derive(Drop)]
 pub(crate) struct Changed<'a> {
     pub(crate) rows: &'a UnitRows,

@@ -13,7 +13,7 @@ use clap::error::ErrorKind;
 use clap::{Arg, ArgMatches, Command, Error};
 use std::alloc::{AllocError, Global};
 
-/// The matches of words, the program's name first, that have the form: for want of memory alone refused.
+/// Returns the matches of words that have the form, the program's name first. Fails only if memory runs out.
 pub(crate) fn matches_of<'a>(alloc: Global, words: &'a [String]) -> Result<ArgMatches<'a>, Error>
     requires { has_form (drop 1 (map string_bytes words.now)) ≡ true }
     ensures read { IfOk result (λ matches. given_by matches ≡ given_in (drop 1 (map string_bytes words.entry.now))) }
@@ -22,14 +22,14 @@ pub(crate) fn matches_of<'a>(alloc: Global, words: &'a [String]) -> Result<ArgMa
     command(alloc)?.try_get_matches_from(words)
 }
 
-/// The word that is given for an option.
+/// Returns the word that is given for an option, if there is one.
 pub(crate) fn given_by<'a>(matches: &ArgMatches<'a>, name: OptionName) -> Option<&'a str>
     ensures { option_copied result ≡ given_by matches.now name }
 {
     matches.get_str(name.word())
 }
 
-/// The one simple command, without help and version.
+/// Returns the one simple command, without help and version.
 fn command<'a>(alloc: Global) -> Result<Command<'a>, AllocError>
     ensures { IfOk result (λ made. app_of made ≡ command) }
 {
@@ -42,7 +42,7 @@ fn command<'a>(alloc: Global) -> Result<Command<'a>, AllocError>
     with_options(alloc, command, OPTIONS.as_slice())
 }
 
-/// A command with these options behind what it has.
+/// Adds options to a command, after those that it has.
 fn with_options<'a>(
     alloc: Global,
     command: Command<'a>,
@@ -58,7 +58,7 @@ fn with_options<'a>(
     }
 }
 
-/// The option of a name, with one value of text.
+/// Returns the option of a name, with one text as its value.
 fn option<'a>(alloc: Global, word: &'a str) -> Arg<'a>
     ensures rule { rule_of result ≡ option_rule word.entry.now }
     ensures local { result.global ≡ false }
@@ -66,7 +66,7 @@ fn option<'a>(alloc: Global, word: &'a str) -> Arg<'a>
     Arg::new(alloc, word).long(word)
 }
 
-/// An option's name, for as long as a command wants it.
+/// Returns an option's name, for as long as a command needs it.
 fn word_of<'a>(name: OptionName) -> &'a str
     ensures { result.now ≡ word_of name }
 {

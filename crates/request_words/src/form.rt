@@ -1,4 +1,4 @@
-//! The form of the words behind the program's name, and what each of them stands for. No memory is taken here.
+//! The form of the words after the program's name, and what each word stands for. No memory is taken here.
 
 ghost use Rattle.std.specs.Prelude.{◌<◌, ◌+◌, ◌≡◌, ◌^◌, length, map, option_map, string_bytes, None};
 ghost use Rattle.std.specs.List.{list_any};
@@ -10,29 +10,29 @@ ghost use Rattle.request_words.specs.Options.{word_of};
 use crate::options::OPTIONS;
 use crate::usage::OptionName;
 
-/// Whether the words behind the program's name have the form.
+/// Whether the words after the program's name have the form.
 pub(crate) fn has_form(words: &[String]) -> bool
     ensures { result ≡ has_form (map string_bytes words.now) }
 {
     goes_on(words, false, 0)
 }
 
-/// The word for the mode.
+/// Returns the word for the mode, if there is one.
 pub(crate) fn mode_in(words: &[String]) -> Option<&str>
     ensures { option_copied result ≡ mode_in (map string_bytes words.now) }
 {
     word_for("mode", words, None, 0)
 }
 
-/// The word that is given for an option.
+/// Returns the word that is given for an option, if there is one.
 pub(crate) fn given_in(words: &[String], name: OptionName) -> Option<&str>
     ensures { option_copied result ≡ given_in (map string_bytes words.now) name }
 {
     word_for(name.word(), words, None, 0)
 }
 
-/// Whether words go on in the form, where `due` says that the word before is an option whose value follows, and
-/// `count` is how many words before are no option's.
+/// Whether words continue the form. `due` tells that the word before is an option whose value follows. `count` is how many of the
+/// words before belong to no option.
 #[tactic(auto, unfolding(crate::specs::Form::goes_on))]
 fn goes_on(words: &[String], due: bool, count: u8) -> bool
     requires { count < 3 }
@@ -60,8 +60,8 @@ fn goes_on(words: &[String], due: bool, count: u8) -> bool
     }
 }
 
-/// The first word that stands for what has this name, where `due` is the option whose value is the next word, and
-/// `count` is how many words before are no option's.
+/// Returns the first word that stands for `wanted`, if there is one. `due` is the option whose value is the next word. `count` is
+/// how many of the words before belong to no option.
 #[tactic(auto, unfolding(crate::specs::Form::entries))]
 fn word_for<'a>(
     wanted: &str,
@@ -99,7 +99,7 @@ fn word_for<'a>(
     }
 }
 
-/// What a word stands for that is no option's.
+/// Returns what a word stands for that belongs to no option: the mode first, then the schema.
 fn place_word(count: usize) -> &'static str
     ensures { result.now ≡ place_word count }
 {
@@ -119,14 +119,14 @@ fn has_hyphen(word: &str) -> bool
     }
 }
 
-/// Whether a value may stand behind `=`.
+/// Whether a value can follow `=`.
 fn can_follow(value: &str) -> bool
     ensures { result ≡ can_follow value.now }
 {
     !value.is_empty() && !has_hyphen(value)
 }
 
-/// Whether one of these options has this name.
+/// Whether one of the options has the name.
 fn is_option_word(name: &str, options: &[OptionName]) -> bool
     ensures { result ≡ is_one_of (map word_of options.now) name.now }
 {
@@ -136,7 +136,7 @@ fn is_option_word(name: &str, options: &[OptionName]) -> bool
     }
 }
 
-/// Whether an option of this name stands among words.
+/// Whether an option of the name stands among words.
 fn stands_in(name: &str, words: &[String]) -> bool
     ensures { result ≡ list_any (stands_for name.now) (map string_bytes words.now) }
 {
@@ -155,7 +155,7 @@ fn stands_for(name: &str, word: &str) -> bool
     }
 }
 
-/// An option's name, and what stands behind `=`.
+/// Splits an option's word into the name and the value after `=`, if there is one. Returns None if the word is no option.
 fn option_parts(word: &str) -> Option<(&str, Option<&str>)>
     ensures { option_map option_parts result ≡ long_of word.now }
 {
@@ -166,14 +166,14 @@ fn option_parts(word: &str) -> Option<(&str, Option<&str>)>
     Some(name_and_value(rest))
 }
 
-/// What stands behind a first hyphen.
+/// Returns what follows a leading hyphen; None if no hyphen leads.
 fn behind_hyphen(word: &str) -> Option<&str>
     ensures { option_map (λ rest. rest.now) result ≡ strip_byte 45 word.now }
 {
     word.strip_prefix('-')
 }
 
-/// What stands before the first `=`, and what stands behind it, where there is one.
+/// Splits a text into what stands before the first `=` and what follows it. Without `=`, the whole text stands before.
 fn name_and_value(text: &str) -> (&str, Option<&str>)
     ensures { option_parts result ≡ name_and_value text.now }
 {

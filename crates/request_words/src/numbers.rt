@@ -9,8 +9,8 @@ ghost use Rattle.request_words.specs.Options.{is_number, number_given, number_in
 
 use crate::options::{Form, Take};
 
-/// The number that a mode has of an option, by what it does with it: the one that is given, or the one that stands where
-/// none is.
+/// Returns the number that an option has in a mode: the given number, or the preset if none is given. `take` is what the mode does
+/// with the option. Returns None if there is no number.
 pub(crate) fn number_given(take: Take, value: Option<&str>) -> Option<u64>
     ensures { result ≡ number_given take (option_copied value.entry) }
 {
@@ -23,7 +23,7 @@ pub(crate) fn number_given(take: Take, value: Option<&str>) -> Option<u64>
     }
 }
 
-/// The number of a form that a word stands for.
+/// Returns the number that a word stands for in a form; None if it stands for none.
 pub(crate) fn number_in(form: Form, word: &str) -> Option<u64>
     ensures { result ≡ number_in form word.now }
 {
@@ -34,7 +34,8 @@ pub(crate) fn number_in(form: Form, word: &str) -> Option<u64>
     }
 }
 
-/// The number that one to twenty decimal digits stand for, where it has 64 bits.
+/// Returns the number that one to twenty decimal digits stand for; None if it needs more than 64 bits, or the word has another
+/// form.
 fn read_number(word: &str) -> Option<u64>
     ensures { result ≡ (if is_number word.now then Some (digits_value 10 word.now) else None) }
 {

@@ -5,14 +5,14 @@ ghost use Rattle.request_words.specs.Options.{format_named, may_take, mode_named
 
 use crate::usage::{Format, Mode, OptionName};
 
-/// What a value has to be.
+/// What an option's value must be.
 #[derive(Clone, Copy, Debug, PartialEq, Eq)]
 pub(crate) enum Form {
     /// Any text.
     Text,
-    /// A number of one to twenty digits below 2^64.
+    /// A number of one to twenty digits, below 2^64.
     Number,
-    /// Such a number from 1 to this one.
+    /// A number from 1 to the stated one.
     FromOneTo(u64),
     /// A text that isn't empty.
     Directory,
@@ -23,17 +23,17 @@ pub(crate) enum Form {
 /// What a mode does with an option.
 #[derive(Clone, Copy, Debug, PartialEq, Eq)]
 pub(crate) enum Take {
-    /// It doesn't take it.
+    /// The mode doesn't take the option.
     Unwanted,
-    /// It may be given it.
+    /// The mode can take the option.
     Optional(Form),
-    /// It may be given it, and has this number where it isn't.
+    /// The mode can take the option, and uses the stated number if the option isn't given.
     Preset(Form, u64),
-    /// It needs it.
+    /// The mode needs the option.
     Needed(Form),
 }
 
-/// The options that are written with two hyphens, in the order in which they are tried.
+/// The options that are written with two hyphens, in the order of trying them.
 pub(crate) const OPTIONS: [OptionName; 15] = [
     OptionName::Unit,
     OptionName::From,
@@ -52,7 +52,7 @@ pub(crate) const OPTIONS: [OptionName; 15] = [
     OptionName::Spec,
 ];
 
-/// The mode of this name.
+/// Returns the mode of a name; None if no mode has it.
 pub(crate) fn mode_named(word: &str) -> Option<Mode>
     ensures { result ≡ mode_named word.now }
 {
@@ -73,7 +73,7 @@ pub(crate) fn mode_named(word: &str) -> Option<Mode>
     }
 }
 
-/// The format of this name.
+/// Returns the format of a name; None if no format has it.
 pub(crate) fn format_named(word: &str) -> Option<Format>
     ensures { result ≡ format_named word.now }
 {
@@ -84,7 +84,7 @@ pub(crate) fn format_named(word: &str) -> Option<Format>
     }
 }
 
-/// What a mode does with an option.
+/// Returns what a mode does with an option.
 pub(crate) fn takes(mode: Mode, name: OptionName) -> Take
     ensures { result ≡ takes mode name }
 {
@@ -105,7 +105,7 @@ impl OptionName {
     ghost use Rattle.std.specs.Prelude.{◌≡◌, ◌≤◌, length};
     ghost use Rattle.request_words.specs.Options.{word_of};
 
-    /// The option's name, in ASCII, as it stands behind two hyphens.
+    /// Returns the option's name, in ASCII, as it is written after two hyphens.
     pub fn word(self) -> &'static str
         ensures word { result.now ≡ word_of self }
         ensures short { length result.now ≤ 8 }
@@ -115,7 +115,7 @@ impl OptionName {
     }
 }
 
-/// An option's name, as it stands behind two hyphens, what its value has to be, and the number that stands where it isn't given.
+/// Returns an option's name as written after two hyphens, the form of its value, and the preset, if it has one.
 fn option_line(name: OptionName) -> (&'static str, Form, Option<u64>)
     ensures { (result.0.now, result.1, result.2) ≡ option_line name }
 {
@@ -156,7 +156,7 @@ fn needs(mode: Mode, name: OptionName) -> bool
     }
 }
 
-/// Whether a mode may be given an option that it doesn't need.
+/// Whether a mode can take an option that it doesn't need.
 fn may_take(mode: Mode, name: OptionName) -> bool
     ensures { result ≡ may_take mode name }
 {

@@ -1,4 +1,4 @@
-//! The request that is given, and what is wrong with what is given.
+//! The request that words give, and what is wrong with the words.
 
 ghost use Rattle.std.specs.Prelude.{◌≡◌, map, string_bytes, unwrap_or, IfErr, IfOk, []};
 ghost use Rattle.std.specs.Option.{option_and_then, option_copied};
@@ -16,7 +16,7 @@ use clap::ArgMatches;
 use schema_model::Text;
 use std::alloc::Global;
 
-/// The mode that the words give.
+/// Returns the mode that the words give; None if they name no mode.
 pub(crate) fn mode_of(words: &[String]) -> Option<Mode>
     ensures { result ≡ option_and_then mode_named (mode_in (map string_bytes words.now)) }
 {
@@ -26,14 +26,15 @@ pub(crate) fn mode_of(words: &[String]) -> Option<Mode>
     }
 }
 
-/// The first fault of what the words give for a mode: that of the schema, then those of the options in turn.
+/// Returns the first fault of what the words give for a mode: of the schema, then of the options in turn. Returns None if there is
+/// no fault.
 pub(crate) fn first_fault(mode: Mode, words: &[String]) -> Option<UsageFault>
     ensures { result ≡ first_fault mode (given_in (map string_bytes words.now)) order }
 {
     fault_at(mode, words, OptionName::Schema).or(first_of(mode, words, OPTIONS.as_slice()))
 }
 
-/// The first fault of these options, in turn.
+/// Returns the first fault of the options, in turn.
 fn first_of(mode: Mode, words: &[String], names: &[OptionName]) -> Option<UsageFault>
     ensures { result ≡ first_fault mode (given_in (map string_bytes words.now)) names.now }
 {
@@ -43,7 +44,7 @@ fn first_of(mode: Mode, words: &[String], names: &[OptionName]) -> Option<UsageF
     }
 }
 
-/// What is wrong with what the words give for an option.
+/// Returns what is wrong with what the words give for an option; None if nothing is.
 fn fault_at(mode: Mode, words: &[String], name: OptionName) -> Option<UsageFault>
     ensures { result ≡ option_fault (takes mode name) name (given_in (map string_bytes words.now) name) }
 {
@@ -83,7 +84,7 @@ fn value_fault(form: Form, name: OptionName, value: &str) -> Option<UsageFault>
     }
 }
 
-/// The request that matches give for a mode, for want of memory alone refused.
+/// Returns the request that matches give for a mode. Fails only if memory runs out.
 pub(crate) fn request_of(
     alloc: Global,
     mode: Mode,
@@ -119,7 +120,7 @@ pub(crate) fn request_of(
     })
 }
 
-/// The format that is given: lines in COPY text form where none is.
+/// Returns the format that is given; COPY text form if none is.
 fn format_given(word: Option<&str>) -> Format
     ensures { result ≡ format_given (option_copied word.entry) }
 {
@@ -129,14 +130,14 @@ fn format_given(word: Option<&str>) -> Format
     }
 }
 
-/// The number that a mode has of an option.
+/// Returns the number that an option has in a mode; None if it has none.
 fn number_for(mode: Mode, matches: &ArgMatches<'_>, name: OptionName) -> Option<u64>
     ensures { result ≡ number_for mode (given_by matches.now) name }
 {
     number_given(takes(mode, name), given_by(matches, name))
 }
 
-/// The same, with 0 where the mode has none.
+/// Returns the number that an option has in a mode; 0 if it has none.
 fn number_or_zero(mode: Mode, matches: &ArgMatches<'_>, name: OptionName) -> u64
     ensures { result ≡ number_or_zero mode (given_by matches.now) name }
 {

@@ -5,19 +5,19 @@ use schema_model::Text;
 /// What the program does.
 #[derive(Clone, Copy, Debug, PartialEq, Eq)]
 pub enum Mode {
-    /// Tells a table's name, rows, sure life, cost and longest line.
+    /// Reports the name, rows, sure life, cost and longest line of each table.
     Check,
     /// Writes the text of each table at a unit.
     Snapshot,
     /// Writes what a unit deletes, updates and inserts in each table.
     Unit,
-    /// Tells when a row is born and gone, and how it stands at a unit.
+    /// Reports when a row is born and gone, and how it stands at a unit.
     Row,
     /// Applies the streams of units to the texts of tables, and writes the later texts.
     Apply,
-    /// Tells what the tables of a schema of its own come to, by a size.
+    /// Reports what the tables of a built-in schema come to, by a size.
     Sample,
-    /// Plays what the units make of the tables into a store.
+    /// Plays what the units do to the tables into a store.
     Play,
     /// Writes the text of a detail table at a unit.
     Details,
@@ -25,7 +25,7 @@ pub enum Mode {
     DetailsUnit,
     /// Applies the streams of units to the text of a detail table, and writes the later text.
     DetailsApply,
-    /// Writes what takes each table back from a unit to the one before it.
+    /// Writes the undo text of each table: it takes the table's text from a unit back to the unit before.
     Undo,
     /// Undoes units on the texts of tables, and writes the earlier texts.
     Revert,
@@ -40,7 +40,7 @@ pub enum OptionName {
     Unit,
     /// `--from`: the time unit of the texts that are read.
     From,
-    /// `--to`: the time unit that is come to.
+    /// `--to`: the time unit to reach.
     To,
     /// `--table`: the name of a table.
     Table,
@@ -48,13 +48,13 @@ pub enum OptionName {
     Key,
     /// `--in`: the directory of the files that are read.
     In,
-    /// `--out`: a directory for the files.
+    /// `--out`: the directory of the files that are written.
     Out,
     /// `--workers`: how many workers make the lines, 1 to 64.
     Workers,
     /// `--package`: how many rows make a package, 1 to 1,000,000.
     Package,
-    /// `--node`: which of the nodes writes, from 0.
+    /// `--node`: which node writes, from 0.
     Node,
     /// `--nodes`: how many nodes share the rows, 1 to 1,024.
     Nodes,
@@ -77,8 +77,8 @@ pub enum Format {
     Csv,
 }
 
-/// What the words ask for. A number that the mode doesn't take is 0, a package is none then, and a text is the empty one: the
-/// schema's name, the directory of the files that are read, the store, and the file of a detail table.
+/// What the words ask for. If the mode doesn't take an option, its number is 0 or its text is empty. Optional fields are None if
+/// nothing is given.
 #[derive(Debug, PartialEq)]
 pub struct Request {
     /// What to do.
@@ -89,28 +89,28 @@ pub struct Request {
     pub unit: u64,
     /// The time unit of the texts that are read.
     pub from: u64,
-    /// The time unit that is come to: the last one that is applied or played, or the one that units are undone to. The words may give
-    /// any.
+    /// The time unit to reach: the last unit that is applied or played, or the unit that tables are taken back to. The words can
+    /// give any number.
     pub to: u64,
-    /// The one table that is wanted, where not all are.
+    /// The one table that is wanted; None for all.
     pub table: Option<Text>,
     /// The key of the row that is wanted.
     pub key: u64,
     /// The directory of the files that are read.
     pub source: Text,
-    /// The directory of the files, where they don't go to the standard output.
+    /// The directory of the files that are written; None for the standard output.
     pub out: Option<Text>,
-    /// How many workers make the lines, 1 to 64: 4 where the words don't say.
+    /// How many workers make the lines, 1 to 64; 4 if the words don't say.
     pub workers: u32,
-    /// How many rows make a package, 1 to 1,000,000, where the words say.
+    /// How many rows make a package, 1 to 1,000,000; None if the words don't say.
     pub package: Option<u64>,
-    /// Which of the nodes writes, from 0: 0 where the words don't say. It may be past the last one.
+    /// Which node writes, from 0; 0 if the words don't say. The number can be past the last node.
     pub node: u64,
-    /// How many nodes share the rows, 1 to 1,024: 1 where the words don't say.
+    /// How many nodes share the rows, 1 to 1,024; 1 if the words don't say.
     pub nodes: u64,
     /// The size of the sample, 1 to 1,000.
     pub size: u64,
-    /// How rows are written and read: as lines in COPY text form where the words don't say, or the mode doesn't take it.
+    /// How rows are written and read. COPY text form, if the words don't say or the mode doesn't take a format.
     pub format: Format,
     /// The name of the store.
     pub store: Text,
@@ -151,19 +151,19 @@ impl Drop for Request {
 /// Why words give no request.
 #[derive(Clone, Copy, Debug, PartialEq, Eq)]
 pub enum UsageFault {
-    /// They don't have the form: a mode, an optional name, then options with their values, none twice.
+    /// The words don't have the form: a mode, at most one schema's name, and options with their values, none twice.
     Words,
-    /// There is no such mode.
+    /// No mode has the name.
     Mode,
-    /// The mode doesn't take what is given.
+    /// The mode doesn't take the option that is given.
     Unwanted(OptionName),
-    /// The mode needs what isn't given.
+    /// The mode needs the option that isn't given.
     Missing(OptionName),
-    /// The value is no number of one to twenty digits below 2^64, or not within the option's range.
+    /// The value isn't a number of one to twenty digits below 2^64, or is out of the option's range.
     Number(OptionName),
-    /// The directory is the empty text.
+    /// The directory's name is empty.
     EmptyDirectory(OptionName),
-    /// The value is no name of a format.
+    /// The value isn't the name of a format.
     Format,
     /// Memory ran out.
     Memory,

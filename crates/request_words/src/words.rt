@@ -12,12 +12,13 @@ use std::alloc::Global;
 
 /// Reads the words of a command line, the program's name first.
 ///
-/// Behind the name stand a mode, a schema or none, and options, in any order: each as its name behind two hyphens with its
-/// value as the next word, or as one word of its name, `=` and its value, and none twice. No mode, schema or value begins
-/// with a hyphen, and none behind `=` is empty. `Words` is told first, then `Mode`, then what is wrong with the schema, the
-/// unit, the unit of the texts that are read, the unit that is come to, the table, the key, the directory that is read, the
-/// directory of the files, the workers, the package, the node, the nodes, the size, the format, the store and the file of a detail
-/// table, in this order. A fault of the words is told without memory being taken. The numbers of a request are within the ranges of the options that its mode takes.
+/// After the name stand a mode, at most one schema, and options, in any order. An option is its name after two hyphens, with its
+/// value as the next word, or one word of its name, `=` and its value. No option stands twice. No mode, schema or value begins with
+/// a hyphen, and no value after `=` is empty.
+///
+/// `Words` comes first, then `Mode`, then the first fault of the schema and of the options, in this order: unit, from, to, table,
+/// key, in, out, workers, package, node, nodes, size, format, store, spec. A fault of the words takes no memory. The numbers of a
+/// request are within the ranges of the options that its mode takes.
 #[tactic(auto, unfolding(crate::specs::Words::request))]
 pub fn read_words(alloc: Global, words: &[String]) -> Result<Request, UsageFault>
     ensures read { IfOk result (λ made. request (map string_bytes words.now) ≡ Ok made) }

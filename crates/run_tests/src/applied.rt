@@ -1,4 +1,4 @@
-//! Mode apply over files in memory: what the modes snapshot and unit write gives the later snapshot, and an input at fault is told.
+//! Mode apply over files in memory. What the modes snapshot and unit write gives the later snapshot, and an input at fault is told.
 
 use crate::run::{REFUSED, Run, assert_run_over, idle_keeper, words_of};
 use crate::schemas::{ONE, SALES};
@@ -8,19 +8,19 @@ use std::alloc::Global;
 use std::process::Abort;
 use std::thread::Threads;
 
-// Puts files of these names and bytes behind others.
+// Appends files, each with a name and bytes, to others.
 fn push_all(rt: &impl Abort, files: &mut Files, named: &[(&str, &[u8])]) {
     for (name, bytes) in named {
         files.push(name, bytes).expect(rt, "memory");
     }
 }
 
-// A library that holds the files, none of which fails.
+// Returns a library that holds the files. No call on it fails.
 fn library_with(alloc: Global, files: Files) -> MemLibrary {
     MemLibrary::new(alloc, files, LibraryFails::new(alloc))
 }
 
-// Puts the files that the words write behind others.
+// Appends the files that a run of the words writes to others.
 fn push_written<R: Threads + Sync + Abort>(
     rt: &R,
     alloc: Global,
@@ -49,7 +49,7 @@ fn push_written<R: Threads + Sync + Abort>(
     }
 }
 
-// The same over the sales alone.
+// Appends the files that a run of the words writes over the sales only.
 fn push_sales<R: Threads + Sync + Abort>(rt: &R, alloc: Global, line: &str, files: &mut Files) {
     let mut own = Files::new(alloc);
     push_all(rt, &mut own, &[("s.toml", SALES.as_bytes())]);

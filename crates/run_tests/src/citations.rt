@@ -1,4 +1,4 @@
-//! Schemas that cite dictionaries: in which order the files are asked for, and which are refused.
+//! Schemas that cite dictionaries: in which order the files are asked for, and which schemas are refused.
 
 use crate::run::Held::Text;
 use crate::run::{DONE, REFUSED, Run, assert_run_over, library_of};
@@ -12,9 +12,9 @@ use std::thread::Threads;
 struct Citing<'a> {
     n: Option<&'a [u8]>,
     m: Option<&'a [u8]>,
-    // The call on one of the files that fails.
+    // The call on a file that fails.
     fail: (&'a str, u64),
-    // How many names are asked for: of the schema, the first dictionary and the second.
+    // How many names are asked: of the schema, the first dictionary and the second.
     asked: usize,
     run: Run<'a>,
 }
@@ -194,7 +194,7 @@ fn dictionaries_are_read_in_turn(rt: HostRuntime) {
     }
 }
 
-// So many lines with one letter each.
+// Returns `count` lines, with one letter each.
 fn lines(rt: &impl Abort, alloc: Global, count: u32) -> Vec<u8> {
     let mut bytes = Vec::new(alloc);
     for _ in 0..count {
@@ -207,7 +207,7 @@ fn copies(rt: &impl Abort, alloc: Global, byte: u8, count: usize) -> Vec<u8> {
     Vec::from_elem(alloc, byte, count).expect(rt, "memory")
 }
 
-// A dictionary of so many bytes or entries behind one that is good.
+// Runs over a good dictionary and a second one with the bytes, and compares the message.
 fn assert_second<'a, R: Threads + Sync + Abort>(
     rt: &R,
     alloc: Global,

@@ -1,5 +1,5 @@
-//! Modes details and details-unit over files in memory: the text of a detail table at a unit and what a unit changes in it, by any number of workers and
-//! in packages of any number of rows, and what is refused. The texts are worked out by hand.
+//! Modes details and details-unit over files in memory: the text of a detail table at a unit, what a unit changes in it, and what
+//! is refused. Any number of workers and any package size give the same. The texts are worked out by hand.
 
 use crate::details_applied::assert_details;
 use crate::run::{DONE, Held, REFUSED, Run};

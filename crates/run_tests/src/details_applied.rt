@@ -1,5 +1,5 @@
-//! Mode details-apply over files in memory: a unit's streams of a detail table give its later text, and what is at fault is told. The
-//! texts are worked out by hand.
+//! Mode details-apply over files in memory. A unit's streams of a detail table give its later text, and an input at fault is told.
+//! The texts are worked out by hand.
 
 use crate::run::{DONE, Held, REFUSED, Run, assert_run_over};
 use crate::schemas::TRADE;
@@ -8,7 +8,7 @@ use std::alloc::Global;
 use std::process::Abort;
 use std::thread::Threads;
 
-/// Two lines for each customer, each of them of the quantity 5.
+/// Two lines for each customer, each with the quantity 5.
 const ITEMS: &[u8] = br#"seed = 1
 name = "item"
 parent = "customer"
@@ -22,7 +22,7 @@ lo = 5
 hi = 5
 "#;
 
-/// The same, but of 65 lines.
+/// From 2 to 65 lines for each customer: more than a row can have.
 const TOO_MANY: &[u8] = br#"seed = 1
 name = "item"
 parent = "customer"
@@ -40,7 +40,7 @@ const AT_2: &[u8] = b"1\t1\t5\n1\t2\t5\n2\t1\t5\n2\t2\t5\n3\t1\t5\n3\t2\t5\n";
 
 const AT_3: &str = "2\t1\t5\n2\t2\t5\n3\t1\t5\n3\t2\t5\n4\t1\t5\n4\t2\t5\n";
 
-// A library of the schema, of declarations and of a unit's streams, with these bytes for what it deletes.
+// Returns a library of the schema, the declarations and a unit's streams. The stream of deletions has the bytes.
 fn library_with(rt: &impl Abort, alloc: Global, deleted: &[u8]) -> MemLibrary {
     let mut files = Files::new(alloc);
     for (name, bytes) in [

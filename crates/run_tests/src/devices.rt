@@ -85,7 +85,7 @@ fn assert_asked_alone(rt: &impl Abort, library: &MemLibrary) {
     assert!(rt; library.asked_len() == 1 && library.asked_name(0) == "s.toml");
 }
 
-// The start of the schema and the first two reads fail in turn: the second one comes at the end of its bytes.
+// The start of the schema and the first two reads fail in turn. The second read comes at the end of the schema's bytes.
 #[test]
 fn a_failed_read_begins_no_file(rt: HostRuntime) {
     for call in [1, 2, 3] {
@@ -105,7 +105,7 @@ fn an_absent_schema_begins_no_file(rt: HostRuntime) {
     assert_asked_alone(&rt, &library);
 }
 
-// The inputs of the step to unit 3, of which the one at a place holds other bytes.
+// Returns the inputs of the step to unit 3. The input at the place `other` holds other bytes.
 fn inputs_with(rt: &impl Abort, alloc: Global, other: usize, bytes: &str) -> MemLibrary {
     let mut files = Files::new(alloc);
     files.push("s.toml", TRADE.as_bytes()).expect(rt, "memory");
@@ -188,7 +188,7 @@ fn assert_cut<R: Threads + Sync + Abort>(rt: &R, alloc: Global, size: usize, mes
     assert_run_over(rt, alloc, &mut library, &run);
 }
 
-// What is told of the text that is cut behind so many of its first bytes: behind a whole line the next key that is required is missing.
+// Returns what is told of the text cut after `size` bytes. After a whole line the next required key is missing.
 fn told_of_cut(size: usize) -> &'static str {
     match size {
         8 | 9 => "pdgf: schema: top key units: expected whole number\n",

@@ -6,7 +6,7 @@ use schema_model::{Text, Texts};
 use std::alloc::Global;
 use std::process::Abort;
 
-// What is read, and what it is to come to.
+// What is read, and what reading it must come to.
 #[derive(Clone, Copy)]
 struct Case<'a> {
     names: &'a [&'a str],
@@ -18,7 +18,7 @@ struct Case<'a> {
     asked: usize,
 }
 
-// Three files of 5, 0 and 6 bytes, and a call that fails.
+// Returns a library of three files, of 5, 0 and 6 bytes, on which one call fails.
 fn library_with(rt: &impl Abort, alloc: Global, fail: (&str, u64)) -> MemLibrary {
     let mut files = Files::new(alloc);
     for (name, bytes) in [("a", b"first".as_slice()), ("b", b""), ("c", b"second")] {

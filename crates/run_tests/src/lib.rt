@@ -1,4 +1,5 @@
-//! Tests of whole runs, from words to files over devices in memory that fail, of these devices, of files read in turn and of streams applied.
+//! Tests of whole runs, from words to files over devices in memory that fail; of the devices; of files read in turn; and of applied
+//! streams.
 #![tactic(auto)]
 
 #[cfg(test)]

@@ -1,4 +1,4 @@
-//! What no clause says of the devices: that calls succeed with ample memory, and what a table of failures gives.
+//! What no clause says of the devices: calls succeed with ample memory, and a table of failures gives its failures.
 
 ghost use Rattle.std.specs.Prelude.{◌<◌, ◌^◌, None};
 
@@ -37,7 +37,7 @@ impl Library for Drip {
     }
 }
 
-// Two files of one name, and an empty one.
+// Returns two files of one name, and an empty file.
 fn files_of(rt: &impl Abort, alloc: Global) -> Files {
     let mut files = Files::new(alloc);
     for (name, bytes) in [("a", b"first".as_slice()), ("b", b""), ("a", b"second")] {
@@ -46,7 +46,7 @@ fn files_of(rt: &impl Abort, alloc: Global) -> Files {
     files
 }
 
-// These files, where a call on `a` fails.
+// Returns a library of these files, on which a call on `a` fails.
 fn failing(rt: &impl Abort, alloc: Global, call: u64) -> MemLibrary {
     let mut fails = LibraryFails::new(alloc);
     fails.push("a", call).expect(rt, "memory");
@@ -66,7 +66,7 @@ fn lists_keep_what_is_pushed(rt: HostRuntime) {
     crosses_threads(&OpenGate);
 }
 
-// Workers share it.
+// Workers share such a value.
 fn crosses_threads<T: Send + Sync>(_value: &T) {}
 
 fn assert_read<L: Library>(
@@ -85,7 +85,7 @@ fn assert_read<L: Library>(
     }
 }
 
-// Reads the file of two, and an empty one, where a call on `a` fails.
+// Reads one of the files, where a call on `a` fails.
 fn assert_read_of_two(
     rt: &impl Abort,
     alloc: Global,
@@ -126,7 +126,7 @@ fn files_are_read_whole_or_refused(rt: HostRuntime) {
 const LONG: &str =
     "............................................................................................................................................................................................................................................................................................................";
 
-// Reads a file of so many bytes.
+// Reads a file of a size, and compares whether it is read.
 fn assert_size(rt: &impl Abort, alloc: Global, name: &str, size: usize, limit: u64, is_read: bool)
     requires { limit < 2 ^ 32 }
 {
@@ -148,7 +148,7 @@ fn assert_size(rt: &impl Abort, alloc: Global, name: &str, size: usize, limit: u
     }
 }
 
-// The name of the file and how long it is, the limit, and whether it is read.
+// The name of the file and its size, the limit, and whether it is read.
 #[test]
 fn files_at_the_edges_of_sizes_are_read(rt: HostRuntime) {
     for (name, size, limit, is_read) in [
@@ -167,8 +167,8 @@ fn files_at_the_edges_of_sizes_are_read(rt: HostRuntime) {
     }
 }
 
-// A call's number is counted anew from each start, and a byte at a time makes more calls: the start, five bytes and the end
-// are seven. The third byte is past the limit of two.
+// Each start counts calls anew, and a byte at a time takes more calls: the start, five bytes and the end are seven. The third byte
+// is past the limit of two.
 #[test]
 fn short_reads_are_joined(rt: HostRuntime) {
     let inner = failing(&rt, rt.alloc(), 7);
@@ -201,8 +201,8 @@ fn is_written(rt: &impl Abort, shelf: &mut MemShelf, name: &str, bytes: &[u8]) -
     shelf.end().is_ok()
 }
 
-// Writes the file `x` to a shelf that takes a byte at a time, where a call fails, and tells how far it came: begun, its bytes,
-// finished.
+// Writes the file `x` to a shelf that takes a byte at a time, where a call fails. Compares how far it came: the begun file, its
+// bytes, and the number of finished files.
 fn assert_written(
     rt: &impl Abort,
     alloc: Global,
@@ -245,7 +245,7 @@ fn short_writes_are_joined_and_stop_at_a_failure(rt: HostRuntime) {
     }
 }
 
-// The second write fails, and the second begin before it doesn't.
+// The second write fails, but the second begin before it doesn't.
 #[test]
 fn only_the_stated_call_fails(rt: HostRuntime) {
     let mut shelf = failing_shelf(&rt, rt.alloc(), ShelfFail::Write(2), 1000);

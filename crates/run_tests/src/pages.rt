@@ -2,7 +2,7 @@
 
 use line_pages::{PageBuf, Piece};
 
-// Workers hand it on.
+// Workers hand such a value on.
 fn crosses_threads<T: Send + Sync>(_value: &T) {}
 
 #[test]

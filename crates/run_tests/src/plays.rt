@@ -1,4 +1,4 @@
-//! Mode play over files and a store in memory: what a store holds that is played to, and where it is left when a statement fails.
+//! Mode play over files and a store in memory: what the store holds after a play, and what a failed statement leaves in it.
 
 ghost use Rattle.std.specs.Prelude.{◌≡◌, false};
 ghost use Rattle.keeper_play.specs.MapKeeper.{keeping_of};
@@ -12,7 +12,7 @@ use std::alloc::Global;
 use std::process::Abort;
 use std::thread::Threads;
 
-// A run over customers and their orders, and what it is to come to.
+// A run over customers and their orders, and what it must come to.
 #[derive(Clone, Copy)]
 struct Play<'a> {
     words: &'a str,
@@ -30,7 +30,7 @@ const PLAYED: Play<'static> = Play {
     summary: Some(b"customer\t3\norders\t1\n"),
 };
 
-// A store whose statement of this number fails.
+// Returns a store in which the statement of this number fails.
 fn keeper_failing(rt: &impl Abort, alloc: Global, call: u64) -> MapKeeper
     ensures { (keeping_of result).is_open ≡ false }
 {
@@ -102,7 +102,7 @@ fn assert_missing(rt: &impl Abort, keeper: &MapKeeper, table: u32, keys: &[u64])
     }
 }
 
-// Unit 0 puts two rows. Each of the units 1 and 2 puts one that it updates and two that it inserts. So does unit 3, which drops the first
+// Unit 0 puts two rows. Units 1 and 2 each put one updated row and two inserted rows. So does unit 3, which also drops the first
 // customer and its three orders: 2 + 3 + 3 + 7 statements.
 #[test]
 fn a_store_holds_what_the_tables_do(rt: HostRuntime) {
@@ -140,7 +140,7 @@ fn a_statement_that_fails_leaves_those_before_it(rt: HostRuntime) {
     assert_missing(&rt, &keeper, 1, &[2]);
 }
 
-// What is refused touches no store, and a failed write comes once it is finished.
+// A refused request touches no store. A failed write comes only after the store is finished.
 #[test]
 fn a_store_is_finished_before_the_output_is_begun(rt: HostRuntime) {
     let mut keeper = keeper_failing(&rt, rt.alloc(), 1);

@@ -504,7 +504,7 @@ static SHARES: [Run<'static>; 23] = [
     },
 ];
 
-// Units and keys of other schemas.
+// Units and keys out of the range of other schemas.
 static RANGES: [Run<'static>; 4] = [
     Run {
         name: "a unit past the last of the sales",
@@ -561,7 +561,7 @@ fn requests_are_refused_in_order(rt: HostRuntime) {
     assert_runs(&rt, rt.alloc(), &RANGES);
 }
 
-// A schema's text with line feeds before it, of so many bytes. It is made apart, so that no proof unfolds it.
+// Returns a schema's text after line feeds, `size` bytes in all. It is a function of its own so that no proof unfolds its bytes.
 fn padded(rt: &impl Abort, alloc: Global, schema: &str, size: usize) -> Vec<u8> {
     let more = size.wrapping_sub(schema.len());
     let mut bytes = Vec::from_elem(alloc, b'\n', more).expect(rt, "memory");

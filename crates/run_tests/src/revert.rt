@@ -1,4 +1,5 @@
-//! Mode revert over files in memory: the undo texts of a unit and the texts at it give the earlier snapshot, and an input at fault is told.
+//! Mode revert over files in memory. A unit's undo texts and the texts at the unit give the earlier snapshot, and an input at fault
+//! is told.
 
 use crate::run::Held::Text;
 use crate::run::{DONE, REFUSED, Run, assert_run_over};
@@ -10,7 +11,7 @@ use std::thread::Threads;
 
 const CUSTOMER_UNDO: &str = "drop\t4\nset\t3\t2\t2\nadd\t0\t1\t0\t1\n";
 
-// The inputs of going back from unit 3 to unit 2, of which the customers' undo text has these bytes.
+// Returns the inputs for going back from unit 3 to unit 2. The customers' undo text has the given bytes.
 fn inputs_with(rt: &impl Abort, alloc: Global, customer_undo: &str) -> MemLibrary {
     let mut files = Files::new(alloc);
     for (name, text) in &[

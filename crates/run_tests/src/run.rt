@@ -1,4 +1,4 @@
-//! A run of the program over files in memory: what it is given and what it is to come to.
+//! A run of the program over files in memory: what it is given and what it must come to.
 
 ghost use Rattle.std.specs.Prelude.{◌≡◌, false};
 ghost use Rattle.keeper_play.specs.MapKeeper.{keeping_of};
@@ -14,37 +14,41 @@ use std::thread::Threads;
 /// What a finished file holds.
 #[derive(Clone, Copy)]
 pub enum Held<'a> {
-    /// This text.
+    /// The text itself.
     Text(&'a str),
-    /// A text of this checksum: its bytes in turn, folded by c * 1,000,003 + byte modulo 2^64.
+    /// A text by its checksum: its bytes in turn, folded by c * 1,000,003 + byte modulo 2^64.
     Sum(u64),
 }
 
-/// What a run is given, and what it is to come to.
+/// What a run is given, and what it must come to.
 #[derive(Clone, Copy)]
 pub struct Run<'a> {
-    /// What tells the run from others where an assertion fails.
+    /// The name that tells the run from others if an assertion fails.
     pub name: &'a str,
     /// The text of the schema `s.toml`.
     pub schema: &'a str,
-    /// The words with a space between two, the program's name first. An empty line has no word.
+    /// The words, with a space between two, the program's name first. An empty line has no word.
     pub words: &'a str,
     /// The call of the shelf that fails.
     pub fail: ShelfFail,
     /// The most bytes that the shelf takes at once.
     pub step: usize,
+    /// The status that the run must come to.
     pub status: u8,
+    /// The message that the run must come to.
     pub message: &'a str,
-    /// The name of the file that is left begun, and its bytes.
+    /// The name of the file that is left begun.
     pub begun: Option<&'a str>,
+    /// The bytes of the file that is left begun.
     pub begun_bytes: &'a str,
-    /// The finished files, each a name and what it holds.
+    /// The finished files, each with a name and what it holds.
     pub finished: &'a [(&'a str, Held<'a>)],
 }
 
-/// The text of the schema `ONE` at unit 2, and the words that ask for it.
+/// The text of the schema `ONE` at unit 2.
 pub const ONE_AT_2: &str = "1\t0\n2\t1\n3\t2\n";
 
+/// The words that ask for the snapshot at unit 2.
 pub const TWO: &str = "pdgf snapshot s.toml --unit 2";
 
 /// A run that ends well.
@@ -67,15 +71,14 @@ pub const REFUSED: Run<'static> = Run {
     ..DONE
 };
 
-/// A run whose write fails.
+/// A run in which a write fails.
 pub const STOPPED: Run<'static> = Run {
     status: 6,
     message: "pdgf: write failed\n",
     ..DONE
 };
 
-/// A library that holds the schema as `s.toml`, and the dictionaries `n` and `m` where they are given, with one call that
-/// fails.
+/// Returns a library that holds the schema as `s.toml`, and the dictionaries `n` and `m` if they are given. One call on it fails.
 pub fn library_of(
     rt: &impl Abort,
     alloc: Global,
@@ -97,7 +100,7 @@ pub fn library_of(
     MemLibrary::new(alloc, files, fails)
 }
 
-/// The words of a line with a space between two.
+/// Returns the words of a line, which have one space between two.
 pub fn words_of(rt: &impl Abort, alloc: Global, line: &str) -> Vec<String> {
     let mut words = Vec::new(alloc);
     if !line.is_empty() {
@@ -142,7 +145,7 @@ fn assert_files(rt: &impl Abort, shelf: &MemShelf, run: &Run<'_>) {
     }
 }
 
-/// A store into which nothing is played.
+/// Returns a store into which nothing is played.
 pub fn idle_keeper(alloc: Global) -> MapKeeper
     ensures closed { (keeping_of result).is_open ≡ false }
     ensures no_fault { (keeping_of result).faults ≡ 0 }

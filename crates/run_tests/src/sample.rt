@@ -1,6 +1,6 @@
-//! Samples: the text of their schema, which is read as the schema that they are made by, and their summaries. The lines of the sample of size 1
-//! follow by hand: lives of 2 to 11 units are equally frequent in each cohort, each customer has three orders of its own unit, and each
-//! order two lines. The sums, and the summary of size 200, are those of a second program.
+//! Samples: their summaries, and the text of their schema, which is read as the schema that they are made by. The lines of the
+//! sample of size 1 follow by hand. Lives of 2 to 11 units are equally frequent in each cohort. Each customer has three orders of
+//! its own unit, and each order two lines. The sums, and the summary of size 200, come from a second program.
 
 use crate::run::Held::Text;
 use crate::run::{DONE, REFUSED, Run, STOPPED, assert_runs};

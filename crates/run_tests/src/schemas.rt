@@ -16,7 +16,7 @@ name = "born"
 kind = "born"
 "#;
 
-/// The same with scrambled keys, which are in place in cohorts of one row.
+/// The table of `ONE` with scrambled keys. They stay in place in cohorts of one row.
 pub const ONE_SCRAMBLED: &str = r#"seed = 1
 units = 2
 [[table]]
@@ -33,7 +33,7 @@ name = "born"
 kind = "born"
 "#;
 
-/// Three tables: keys alone, one row at the first unit, and rows from the second unit on.
+/// Three tables: one with only keys, one with a row at the first unit only, and one with rows from the second unit on.
 pub const THREE: &str = r#"seed = 5
 units = 1
 [[table]]
@@ -79,7 +79,7 @@ kind = "key"
 base = 1
 "#;
 
-/// More rows than a table may have.
+/// More rows than a table can have.
 pub const TOO_MANY_ROWS: &str = r#"seed = 1
 units = 2
 [[table]]
@@ -91,7 +91,7 @@ kind = "key"
 base = 1
 "#;
 
-/// As many rows as a table may have.
+/// As many rows as a table can have.
 pub const MOST_ROWS: &str = r#"seed = 1
 units = 0
 [[table]]
@@ -120,7 +120,8 @@ name = "born"
 kind = "born"
 "#;
 
-/// A row at each unit that lives for four, and changes at the ages of one and three units: a cohort of one row has its place first.
+/// A row at each unit that lives for four units, and changes at the ages of one and three units. The one row of a cohort has the
+/// first place.
 pub const CHANGING: &str = r#"seed = 1
 units = 4
 [[table]]
@@ -141,8 +142,8 @@ name = "changed"
 kind = "changed"
 "#;
 
-/// Customers live three units and change every two; orders live nine, or as long as their customer, the oldest who was born in the two
-/// units before or with them.
+/// Customers live three units and change every two. Orders live nine units, or as long as their customer. That is the oldest
+/// customer born with the order or in the two units before.
 pub const TRADE: &str = r#"seed = 7
 units = 5
 [[table]]
@@ -177,8 +178,9 @@ table = "customer"
 window = 2
 "#;
 
-/// Customers live three units and change every two; orders live nine, or as long as their customer, the oldest who was born in the two
-/// units before or with them; and a line lives as long as the order that is born with it. A cohort of one row has its place first.
+/// Customers live three units and change every two. Orders live nine units, or as long as their customer. That is the oldest
+/// customer born with the order or in the two units before. A line lives as long as the order that is born with it. The one row of
+/// a cohort has the first place.
 pub const SALES: &str = r#"seed = 7
 units = 5
 [[table]]
@@ -226,7 +228,7 @@ table = "orders"
 window = 0
 "#;
 
-/// An order that may be born when its customer is gone: the window is as long as the sure life.
+/// An order that can be born when its customer is gone: the window is as long as the sure life.
 pub const WINDOW_TOO_LONG: &str = r#"seed = 7
 units = 5
 [[table]]
@@ -294,7 +296,7 @@ via = "id"
 column = "id"
 "#;
 
-/// The same with more rows than a table may have: of two broken rules the first is told.
+/// A lookup by a column that is no reference, and more rows than a table can have. Of two broken rules the first is told.
 pub const SHOWING_AND_TOO_MANY_ROWS: &str = r#"seed = 1
 units = 2
 [[table]]
@@ -311,7 +313,7 @@ via = "id"
 column = "id"
 "#;
 
-/// More rows than a table may have, and no unit 2: a broken rule is told before a unit past the last.
+/// More rows than a table can have, and no unit 2. A broken rule is told before a unit past the last.
 pub const TOO_MANY_ROWS_TO_UNIT_1: &str = r#"seed = 1
 units = 1
 [[table]]
@@ -323,7 +325,7 @@ kind = "key"
 base = 1
 "#;
 
-/// A table with a row at each unit, whose last three fields are drawn from two dictionaries, the first of them cited twice.
+/// A table with a row at each unit. Its last three fields are drawn from two dictionaries, the first of which is cited twice.
 pub const CITING: &str = r#"seed = 1
 units = 2
 [[table]]
@@ -350,7 +352,7 @@ kind = "dict"
 file = "n"
 "#;
 
-/// The same with a dictionary that no schema may cite, and more rows than a table may have.
+/// A dictionary that no schema can cite, and more rows than a table can have.
 pub const CITING_NO_NAME: &str = r#"seed = 1
 units = 2
 [[table]]
@@ -370,7 +372,7 @@ kind = "dict"
 file = ""
 "#;
 
-/// More rows than a table may have, beside a dictionary.
+/// More rows than a table can have, beside a dictionary.
 pub const CITING_TOO_MANY_ROWS: &str = r#"seed = 1
 units = 2
 [[table]]
@@ -386,8 +388,8 @@ kind = "dict"
 file = "n"
 "#;
 
-/// A table of one row, and one of 1,000 rows at unit 0 and 10 at each later one, with scrambled keys from 1 and their
-/// birth units: cohorts that are large enough for tables of their order.
+/// A table of one row, and one of 1,000 rows at unit 0 and 10 rows at each later unit. The second has scrambled keys from 1, and
+/// birth units. Its cohorts are large enough for tables of their order.
 pub const THOUSAND: &str = r#"seed = 7
 units = 5
 [[table]]
@@ -411,7 +413,7 @@ name = "born"
 kind = "born"
 "#;
 
-/// A table whose rows live for two to five units, with a column of each sort that changes and of each that doesn't.
+/// A table whose rows live for two to five units, with a column of each sort that changes and of each sort that doesn't.
 pub const LIVING: &str = r#"seed = 7
 units = 6
 [[table]]
@@ -462,8 +464,8 @@ changes = true
 null = 100
 "#;
 
-/// Lines refer to orders and to products, and orders to customers of regions: rows die with their parents, up to three
-/// tables above.
+/// Lines refer to orders and to products, and orders to customers of regions. Rows die with their parents, up to three tables
+/// above.
 pub const FIVE: &str = r#"seed = 11
 units = 5
 

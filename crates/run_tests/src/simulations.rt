@@ -1,5 +1,5 @@
-//! Texts that an independent program wrote, stepping from unit to unit, in Python (docs/SECOND_PROGRAM.md): of each the
-//! checksum.
+//! Texts that an independent program in Python wrote, stepping from unit to unit (docs/SECOND_PROGRAM.md). Each text is known by
+//! its checksum.
 
 use crate::run::Held::{Sum, Text};
 use crate::run::{DONE, Run, assert_runs};
@@ -100,7 +100,7 @@ static ONE_TABLE: [Run<'static>; 13] = [
     },
 ];
 
-// The same of five tables, one after the other.
+// What five tables hold at each unit, and what units delete, update and insert in them, one after the other.
 static FIVE_TABLES: [Run<'static>; 11] = [
     Run {
         name: "snapshot 0 of five tables",

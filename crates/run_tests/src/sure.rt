@@ -17,7 +17,7 @@ use std::alloc::Global;
 use std::process::Abort;
 use std::thread::Threads;
 
-/// What `pdgf` does over them, where it plays nothing: where files are due all is done, or memory ran out.
+/// Runs `pdgf` over such an outside. If it plays nothing and files are due, all is done, or memory ran out.
 fn run_surely<R: Threads + Sync>(
     rt: &R,
     alloc: Global,
@@ -53,7 +53,7 @@ fn assert_done<R: Threads + Sync + Abort>(rt: &R, alloc: Global, line: &str) {
     assert_eq!(rt; status, 0, "{line}");
 }
 
-// Of the inputs no file is there: they are empty, and so are the tables that they make.
+// No input file exists. So the inputs are empty, and so are the tables that they make.
 #[test]
 fn all_is_done_over_an_outside_that_never_fails(rt: HostRuntime) {
     assert_done(&rt, rt.alloc(), "pdgf snapshot s.toml --unit 2 --out out");

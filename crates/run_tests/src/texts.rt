@@ -7,7 +7,7 @@ use pd_outside::ShelfFail;
 
 const THREE_OUT: &str = "pdgf snapshot s.toml --unit 1 --out d";
 
-// The three files of it.
+// The three files that `THREE_OUT` asks for.
 const A: (&str, Held<'static>) = ("d/a.tbl", Text("1\n2\n3\n"));
 
 const B: (&str, Held<'static>) = ("d/b.tbl", Text("10\t0\n"));
@@ -225,7 +225,7 @@ fn references_come_to_their_files(rt: HostRuntime) {
     assert_runs(&rt, rt.alloc(), &REFERENCES);
 }
 
-// Who is alive at each unit, and when they changed last.
+// Which rows are alive at each unit, and when they changed last.
 static LIVES: [Run<'static>; 10] = [
     Run {
         name: "mortal at 0",
@@ -387,7 +387,7 @@ fn changes_of_a_unit_are_as_worked_out(rt: HostRuntime) {
     assert_runs(&rt, rt.alloc(), &UNITS);
 }
 
-// When a row is born and gone, how it stands at a unit, and what it holds where it is alive then.
+// When a row is born and gone, how it stands at a unit, and what it holds if it is alive then.
 static ROWS: [Run<'static>; 8] = [
     Run {
         name: "a living row",

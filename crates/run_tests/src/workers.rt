@@ -1,4 +1,5 @@
-//! Jobs by several workers, by packages of other sizes, and in shares: the same bytes. The texts are worked out by hand from the rules.
+//! Jobs by several workers, with packages of other sizes, and in shares: the same bytes. The texts are worked out by hand from the
+//! rules.
 
 use crate::run::Held::Text;
 use crate::run::{
@@ -275,7 +276,7 @@ kind = "key"
 base = 1
 "#;
 
-/// A gate that holds the package that enters first, until so many others have entered.
+/// A gate that holds the package that enters first, until a number of others have entered.
 #[derive(Drop)]
 struct HoldingGate {
     others: u64,
@@ -306,7 +307,7 @@ impl HoldingGate {
     }
 }
 
-// Eight packages by two workers, of which the first one is held.
+// Runs eight packages by two workers. The gate holds the package that enters first.
 fn assert_held<R: Threads + Sync + Abort>(rt: &R, alloc: std::alloc::Global, others: u64) {
     let gate = HoldingGate {
         others,

@@ -9,8 +9,8 @@ use std::rt::Files;
 
 /// The files of the system, read one at a time. It can't tell what they hold, nor which were asked.
 ///
-/// A name is a path. One that can't be opened, an absent one among them, is a failed start. Each error that the system
-/// answers is counted as a fault, but a read that a signal breaks off is made again. A read of no byte is the end of the file.
+/// A name is a path. A start fails if the file can't be opened, such as an absent file. Each error of the system counts as a
+/// fault. A read that a signal breaks off is no fault: it is made again. A read of no byte is the end of the file.
 #[derive(Drop)]
 pub struct FileLibrary<R: Files> {
     rt: R,
@@ -18,7 +18,7 @@ pub struct FileLibrary<R: Files> {
 }
 
 impl<R: Files> FileLibrary<R> {
-    /// Nothing is started or taken, and no call failed.
+    /// Returns a library in which nothing is started or taken, and no call failed.
     pub fn new(rt: R) -> Self
         ensures started { is_some result.reading.started ≡ false }
         ensures taken { result.reading.taken ≡ 0 }

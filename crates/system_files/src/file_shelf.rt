@@ -13,16 +13,18 @@ use std::rt::Files;
 
 /// The files of the system and the standard output, written one after the other. It can't tell what they hold.
 ///
-/// A name is a path, and `-` is the standard output. No folder is made. A file that isn't there is created. A regular file stays as it is
-/// until the new one is whole: that one is written beside it, as `NAME.part`, and takes its place at the end. A link to a regular file is
-/// followed to it. Anything else, as a pipe or a device, is opened as it is.
+/// A name is a path, and `-` is the standard output. No folder is made. An absent file is created. A regular file stays as it is
+/// until the new one is whole. The new one is written beside it, as `NAME.part`, and takes its place at the end. If the folder
+/// refuses another file, the file itself is opened and emptied. A link to a regular file is followed. Anything else, such as a pipe
+/// or a device, is opened as it is.
 ///
-/// Bytes are gathered in a buffer of 16 KiB, which is written out where the next ones don't fit and at the end. A text of 16 KiB or
-/// more is handed to the system as it is, after what is gathered. At the end a file is synced, where that is wanted. So a failure may be
-/// told later than at the call that brought the bytes, and at the end at the latest. What closing a file says is lost, after the sync.
+/// Bytes gather in a buffer of 16 KiB. The buffer is written out when the next bytes don't fit, and at the end. A text of 16 KiB or
+/// more goes to the system directly, after the gathered bytes. At the end a file is synced, if that is wanted. So a failure can
+/// show later than at the call that brought the bytes, but no later than at the end. An error from closing a file, after the sync,
+/// is lost.
 ///
-/// Each error that the system answers is counted as a fault. So is a write of which the system takes no byte, and a
-/// buffer for which there is no memory.
+/// Each error of the system counts as a fault. So does a write of which the system takes no byte, and a buffer for which there is
+/// no memory.
 #[derive(Drop)]
 pub struct FileShelf<R: Files> {
     places: Places<R>,
@@ -30,7 +32,7 @@ pub struct FileShelf<R: Files> {
 }
 
 impl<R: Files> FileShelf<R> {
-    /// Nothing is begun, and no call failed. Files are synced at their end.
+    /// Returns a shelf on which nothing is begun, and no call failed. Files are synced at their end.
     pub fn new(rt: R, alloc: Global, stdout: Stdout) -> Self
         ensures begun { is_some result.writing.begun ≡ false }
         ensures faults { result.writing.faults ≡ 0 }
@@ -39,7 +41,7 @@ impl<R: Files> FileShelf<R> {
         FileShelf::with_syncing(rt, alloc, stdout, Syncing::AtEnd)
     }
 
-    /// The same, and files are synced when that is wanted.
+    /// Returns a shelf on which nothing is begun, and no call failed. `syncing` says when files are synced.
     pub fn with_syncing(rt: R, alloc: Global, stdout: Stdout, syncing: Syncing) -> Self
         ensures begun { is_some result.writing.begun ≡ false }
         ensures faults { result.writing.faults ≡ 0 }

@@ -1,4 +1,4 @@
-//! The outside over the system: its files that are read, and its files and the standard output that are written.
+//! The outside over the system: files that are read, files that are written, and the standard output.
 #![tactic(auto)]
 
 mod file_library;

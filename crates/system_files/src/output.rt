@@ -28,7 +28,8 @@ impl<F: Write> Write for Output<F> {
 }
 
 impl<F: OpenFile> Output<F> {
-    /// Waits until the system has the file on its device. A pipe, a terminal and the like can't be synced, and the standard output isn't.
+    /// Waits until the system has the file on its device. Doesn't sync the standard output, and passes over what can't be synced,
+    /// such as a pipe or a terminal.
     pub(crate) fn sync(&self) -> io::Result<()> {
         let Output::File(file) = self else {
             return Ok(());
@@ -40,7 +41,7 @@ impl<F: OpenFile> Output<F> {
     }
 }
 
-/// Whether this is the system's answer of a file that it can't sync, whatever it holds.
+/// Whether the error means that the system can't sync such a file, whatever it holds.
 fn is_unfit(kind: ErrorKind) -> bool {
     matches!(kind, ErrorKind::InvalidInput | ErrorKind::Unsupported)
 }

@@ -1,4 +1,4 @@
-//! Where files are opened that are written, and put in their places.
+//! Opening the files that are written, and putting them in their places.
 
 use crate::Syncing;
 use crate::output::Output;
@@ -10,17 +10,18 @@ use std::os::unix::fs::MetadataExt;
 use std::rt::Files;
 use std::{fs, io};
 
-/// The bytes that are gathered before the system is asked to write them. A longer text isn't copied into the buffer: calls of
-/// the system with so many bytes cost no more a byte than longer ones.
+/// The bytes that are gathered before the system is asked to write them. A longer text isn't copied into the buffer: calls with so
+/// many bytes cost no more per byte than longer ones.
 const BUFFER: usize = 1 << 14;
 
-/// How the name ends of a file that isn't whole yet.
+/// The end of the name of a file that isn't whole yet.
 const PART: &str = ".part";
 
 /// The system's files by their names, and the standard output.
 ///
-/// A name that stands as a regular file keeps it until the new one is whole: that one is written beside it, under the name with `.part`
-/// after it, and put in its place at the end. Every other name is opened as it is.
+/// If a regular file has the name, it stays until the new one is whole. The new one is written beside it, under the name with
+/// `.part` after it, and takes its place at the end. If the folder refuses another file, the file itself is opened. Every other
+/// name is opened as it is.
 pub(crate) struct Places<R: Files> {
     rt: R,
     alloc: Global,
@@ -43,9 +44,11 @@ impl<R: Files + Drop> Drop for Places<R> {
     }
 }
 
-/// A file that is written beside the one in whose place it is to stand.
+/// A file that is written beside the file whose place it takes.
 struct Beside {
+    /// The path of the file that is written.
     part: String,
+    /// The path of the file whose place it takes.
     name: String,
 }
 
@@ -58,7 +61,7 @@ impl Drop for Beside {
 }
 
 impl<R: Files> Places<R> {
-    /// The files of a system, and its standard output.
+    /// Returns the places over a system's files and its standard output.
     pub(crate) fn new(rt: R, alloc: Global, stdout: Stdout, syncing: Syncing) -> Self {
         Places {
             rt,
@@ -79,7 +82,7 @@ impl<R: Files> Places<R> {
         BufWriter::with_capacity(self.alloc, BUFFER, output)
     }
 
-    /// Opens the file of a path, or the one beside it.
+    /// Opens the file of a path, or makes the file beside it.
     fn open_path(&mut self, path: &str) -> io::Result<R::File> {
         match fs::metadata(&self.rt, path) {
             Ok(found) if found.is_file() => self.open_beside(path, &found),
@@ -87,7 +90,8 @@ impl<R: Files> Places<R> {
         }
     }
 
-    /// Makes the file beside the one of a path, which may be written. In a folder where none can be made that one itself is opened.
+    /// Makes the file beside the file of a path, which must be writable. In a folder where no file can be made, opens the file
+    /// itself.
     fn open_beside(&mut self, path: &str, found: &Metadata) -> io::Result<R::File> {
         let name = self.followed(path)?;
         let part = self.part_of(name.as_str())?;
@@ -108,7 +112,7 @@ impl<R: Files> Places<R> {
         }
     }
 
-    /// The path of the file to which a path leads, itself where it is no link.
+    /// Returns the path of the file to which a path leads. It is the path itself if that is no link.
     fn followed(&self, path: &str) -> io::Result<String> {
         if fs::symlink_metadata(&self.rt, path)?.is_symlink() {
             let found = self.rt.canonicalize(self.alloc, path)?;
@@ -117,14 +121,15 @@ impl<R: Files> Places<R> {
         Ok(String::from_str(self.alloc, path)?)
     }
 
-    /// The path of the file beside that of a path.
+    /// Returns the path of the file beside another.
     fn part_of(&self, name: &str) -> io::Result<String> {
         let mut part = String::from_str(self.alloc, name)?;
         part.push_str(PART)?;
         Ok(part)
     }
 
-    /// Makes a file of a path, in place of what an earlier run left there, with the owner and the mode of another file as far as the system lets.
+    /// Makes a file at a path, and removes what an earlier run left there. It gets the owner and the mode of another file, as far
+    /// as the system allows.
     fn made(&self, part: &str, like: &Metadata) -> io::Result<R::File> {
         let file = match File::create_new(&self.rt, part) {
             Err(error) if error.kind() == ErrorKind::AlreadyExists => {

@@ -5,36 +5,46 @@ use std::io::{Cursor, Write};
 use std::rt::Clock;
 use std::time::Instant;
 
-/// So many bytes are written between two looks at the clock, at least.
+/// The fewest bytes that are written between two looks at the clock.
 const BYTES_A_LOOK: u64 = 1 << 14;
 
-/// The most bytes of a name that are shown. Those of the program's own files are shorter.
+/// The most bytes of a name that are shown. The names of the program's own files are shorter.
 const NAME_ROOM: usize = 48;
 
-/// The most bytes of a line: a name, two numbers and what stands between them.
+/// The most bytes of a line: a name, two numbers and the text between them.
 const LINE_ROOM: usize = 160;
 
-/// Takes the cursor to the line's beginning and clears the line.
+/// Moves the cursor to the line's beginning and clears the line.
 const CLEARED: &[u8] = b"\r\x1b[K";
 
-/// How far the file that is written has come: its name, its bytes, and the rate since the line before, told in one line that is written over
-/// once a second. Where something fails here, the line stays away, and nothing else comes of it.
+/// How far the file that is written has come: its name, its bytes, and the rate since the line before. They stand in one line,
+/// which is written over once a second. If something fails here, the line is missing, and nothing else changes.
 #[derive(Drop)]
 pub(crate) struct Progress<C, W> {
+    /// The clock that is looked at.
     clock: C,
+    /// Where the line is written; None to write no line.
     to: Option<W>,
+    /// Whether the standard output shares the place of the line, as a terminal.
     shares_output: bool,
+    /// Whether the line is told for the file that is written.
     is_told: bool,
+    /// The file's name, cut to its room.
     name: Cursor<[u8; NAME_ROOM]>,
+    /// The bytes written of the file.
     bytes: u64,
+    /// The bytes counted since the last look at the clock.
     unlooked: u64,
+    /// The bytes counted since the last line.
     untold: u64,
+    /// When the last line was told, or the clock was first read.
     told_at: Option<Instant>,
+    /// Whether a line is shown.
     is_shown: bool,
 }
 
 impl<C: Clock + Drop, W: Write + Drop> Progress<C, W> {
-    /// Nothing is told yet, and nothing ever without an output.
+    /// Returns a progress of which nothing is told yet. Without an output nothing ever is.
     pub(crate) fn new(clock: C, to: Option<W>, shares_output: bool) -> Self {
         Progress {
             clock,
@@ -50,7 +60,7 @@ impl<C: Clock + Drop, W: Write + Drop> Progress<C, W> {
         }
     }
 
-    /// A file of this path is written from here on.
+    /// Begins a file of a path.
     pub(crate) fn begin(&mut self, path: &str) {
         let is_output = path == "-";
         self.is_told = self.to.is_some() && !(is_output && self.shares_output);
@@ -69,7 +79,7 @@ impl<C: Clock + Drop, W: Write + Drop> Progress<C, W> {
         }
     }
 
-    /// So many bytes more are written.
+    /// Counts further bytes as written.
     pub(crate) fn count(&mut self, bytes: usize) {
         if self.is_told {
             self.bytes = self.bytes.saturating_add(bytes as u64);
@@ -92,7 +102,7 @@ impl<C: Clock + Drop, W: Write + Drop> Progress<C, W> {
         }
     }
 
-    /// Looks at the clock, and tells where a second has passed.
+    /// Looks at the clock, and tells the progress if a second has passed since the last line.
     fn look(&mut self) {
         let Ok(now) = Instant::now(&self.clock) else {
             return;
@@ -114,7 +124,7 @@ impl<C: Clock + Drop, W: Write + Drop> Progress<C, W> {
         self.told_at = Some(now);
     }
 
-    /// Tells of the file, at a rate in bytes a millisecond.
+    /// Writes the line of the file, with a rate in bytes a millisecond.
     fn tell(&mut self, rate: u64) -> io::Result<()> {
         let Some(to) = &mut self.to else {
             return Ok(());
@@ -136,7 +146,7 @@ impl<C: Clock + Drop, W: Write + Drop> Progress<C, W> {
     }
 }
 
-/// What was written to an array.
+/// Returns what was written to an array.
 fn written<const N: usize>(cursor: &Cursor<[u8; N]>) -> &[u8] {
     let bytes = cursor.get_ref().as_slice();
     &bytes[..(cursor.position() as usize).min(bytes.len())]

@@ -7,8 +7,8 @@ use pd_outside::{Failed, Shelf};
 use std::io::Write;
 use std::rt::Clock;
 
-/// A shelf, and beside what it does a line on how far its file has come: the name, the bytes and the rate, once a second, and cleared where the file
-/// ends or a call fails. It goes to an output of its own. What the shelf holds and answers is what it would without.
+/// A shelf that also shows a line on how far its file has come: the name, the bytes and the rate, once a second. The line goes to
+/// an output of its own. It is cleared when the file ends or a call fails. What the shelf holds and answers stays the same.
 #[derive(Drop)]
 pub struct ProgressShelf<S, C, W> {
     shelf: S,
@@ -16,8 +16,8 @@ pub struct ProgressShelf<S, C, W> {
 }
 
 impl<S: Shelf + Drop, C: Clock + Drop, W: Write + Drop> ProgressShelf<S, C, W> {
-    /// The shelf as it stands, with the clock that is looked at and the output that is told to. Where there is none, nothing is told, and
-    /// nothing while `-` is written where that shares the place with it, as a terminal.
+    /// Returns the shelf with its progress told to `to`, by a clock. Nothing is told if `to` is None. Nothing is told while `-` is
+    /// written if `-` shares the place with `to`, such as a terminal.
     pub fn new(shelf: S, clock: C, to: Option<W>, shares_output: bool) -> Self
         ensures { result.shelf ≡ shelf }
     {

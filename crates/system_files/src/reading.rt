@@ -1,4 +1,4 @@
-//! What is read, with its faults.
+//! Reading, with its faults.
 
 ghost use Rattle.std.specs.Prelude.{◌≡◌, ◌≤◌, ◌<◌, ◌+◌, ◌^◌, false, length, IfOk, IfSome, IsTrue, is_ok, is_some};
 ghost use Rattle.std.specs.Io.{ReadsAtMost};
@@ -10,17 +10,20 @@ use pd_outside::Failed;
 use std::io;
 use std::io::{ErrorKind, Read};
 
-/// A file that is read, if one is started, with the count of its bytes that were taken and that of the faults. Each error that
-/// the system answers is one fault, and is counted here, where it comes. That a signal broke a read off is none: it is made again.
+/// A file that is read, if one is started, with the count of bytes taken and the count of faults. Each error of the system is one
+/// fault, and is counted here, where it comes. A read that a signal breaks off is no fault: it is made again.
 #[derive(Drop)]
 pub(crate) struct Reading<F> {
+    /// The started file.
     started: Option<F>,
+    /// How many bytes were taken since the last start.
     taken: u64,
+    /// How many calls failed.
     faults: u64,
 }
 
 impl<F: Read + Drop> Reading<F> {
-    /// Nothing is started or taken, and no call failed.
+    /// Returns a reading in which nothing is started or taken, and no call failed.
     pub(crate) fn new() -> Self
         ensures started { is_some result.started ≡ false }
         ensures taken { result.taken ≡ 0 }
@@ -33,7 +36,7 @@ impl<F: Read + Drop> Reading<F> {
         }
     }
 
-    /// Starts the file that was opened. Where none was, that is a fault, and none is started.
+    /// Starts the file that was opened. If opening it failed, counts a fault, and no file is started.
     pub(crate) fn start(&mut self, opened: io::Result<F>) -> Result<(), Failed>
         ensures failed { is_ok result ≡ is_ok opened }
         ensures started { is_some self.new.started ≡ is_ok opened }
@@ -52,8 +55,8 @@ impl<F: Read + Drop> Reading<F> {
         }
     }
 
-    /// Takes bytes of the file into the beginning of `into`, and tells how many: at least one, but at the end of the file.
-    /// Where the system answers an error, that is a fault, and no file is started.
+    /// Takes bytes of the file into the beginning of `into`, and returns how many: at least one, except at the end of the file. An
+    /// error of the system counts as a fault, and no file is started then.
     pub(crate) fn read(&mut self, into: &mut [u8]) -> Result<usize, Failed>
         requires started { IsTrue (is_some self.old.started) }
         requires not_empty { 0 < length into.old }
@@ -89,7 +92,7 @@ impl<F: Read + Drop> Reading<F> {
     }
 }
 
-/// Reads, and once more where a signal breaks that off.
+/// Reads, and reads again if a signal breaks the read off.
 fn read_through<F: Read>(file: &mut F, into: &mut [u8]) -> io::Result<usize>
     ensures within { ReadsAtMost result into.new }
     ensures bytes { ReadConsumes (F.remaining file.old) (F.remaining file.new) result into.new }

@@ -1,4 +1,4 @@
-//! What is written, with its faults.
+//! Writing, with its faults.
 
 ghost use Rattle.std.specs.Prelude.{◌≡◌, ◌≤◌, ◌<◌, [], false, length, IfOk, IfSome, IsTrue, OnOk, is_err, is_ok, is_some};
 ghost use Rattle.std.specs.Io.Buffered.{writer_buffer, writer_contents};
@@ -9,23 +9,26 @@ use pd_outside::Failed;
 use std::io;
 use std::io::{BufWriter, Write};
 
-/// What is left to do of an output once all its bytes are handed to it.
+/// What is left to do for an output after all its bytes are handed to it.
 pub(crate) trait Finish<W> {
-    /// Finishes the output, to which all bytes were handed.
+    /// Finishes an output to which all bytes were handed.
     fn finish(&self, output: &W) -> io::Result<()>;
 }
 
-/// A file that is written, if one is begun, with the count of the faults and whether the last call was one. Each error that the
-/// system answers is one fault, and is counted here, where it comes.
+/// A file that is written, if one is begun, with the count of faults and whether the last call failed. Each error of the system is
+/// one fault, and is counted here, where it comes.
 #[derive(Drop)]
 pub(crate) struct Writing<W: Write + Drop> {
+    /// The begun file.
     begun: Option<BufWriter<W>>,
+    /// How many calls failed.
     faults: u64,
+    /// Whether the last call failed.
     last_failed: bool,
 }
 
 impl<W: Write + Drop> Writing<W> {
-    /// Nothing is begun, and no call failed.
+    /// Returns a writing in which nothing is begun, and no call failed.
     pub(crate) fn new() -> Self
         ensures begun { is_some result.begun ≡ false }
         ensures faults { result.faults ≡ 0 }
@@ -38,7 +41,7 @@ impl<W: Write + Drop> Writing<W> {
         }
     }
 
-    /// Begins the file that was opened. Where none was, that is a fault, and none is begun.
+    /// Begins the file that was opened. If opening it failed, counts a fault, and no file is begun.
     pub(crate) fn begin(&mut self, opened: io::Result<BufWriter<W>>) -> Result<(), Failed>
         ensures failed { is_ok result ≡ is_ok opened }
         ensures begun { is_some self.new.begun ≡ is_ok opened }
@@ -58,8 +61,8 @@ impl<W: Write + Drop> Writing<W> {
         }
     }
 
-    /// Appends the first of the bytes to the file, and tells how many: at least one. Where the system takes none, or answers an
-    /// error, that is a fault.
+    /// Appends the first bytes to the file, and returns how many: at least one. If the system takes none, or tells an error, that
+    /// counts as a fault.
     pub(crate) fn write(&mut self, bytes: &[u8]) -> Result<usize, Failed>
         requires begun { IsTrue (is_some self.old.begun) }
         ensures some { IfOk result (λ n. 1 ≤ n) }
@@ -81,7 +84,8 @@ impl<W: Write + Drop> Writing<W> {
         }
     }
 
-    /// Hands all that is gathered on to the output behind the buffer, has it finished, and lets go of the file.
+    /// Hands all gathered bytes on to the buffer's output, finishes the output, and lets go of the file. At `Failed` the file stays
+    /// begun.
     pub(crate) fn end<P: Finish<W>>(&mut self, places: &P) -> Result<(), Failed>
         requires begun { IsTrue (is_some self.old.begun) }
         ensures begun { is_some self.new.begun ≡ is_err result }
@@ -118,7 +122,7 @@ impl<W: Write + Drop> Writing<W> {
     }
 }
 
-/// Hands all that is gathered on to the output behind the buffer.
+/// Hands all gathered bytes on to the buffer's output.
 fn hand_on<W: Write + Drop>(output: &mut BufWriter<W>) -> io::Result<()>
     ensures all { OnOk result (writer_buffer output.new ≡ []) }
     ensures kept { Keeps (writer_contents W.contents output.old) (writer_contents W.contents output.new) }

@@ -1,11 +1,11 @@
-//! The system's files, of which some calls fail.
+//! The system's files, on which some calls fail.
 
 use std::fs::{Files, Metadata, OpenFile, OpenOptions};
 use std::io;
 use std::io::{ErrorKind, Read, Seek, SeekFrom, Write};
 
-// Which calls fail on a file that is opened: so many reads are broken off by a signal before the first that isn't, a write past so many
-// bytes finds no room, and it is said whether the file can be synced.
+// Which calls fail on an opened file. A signal breaks off the first `broken_off` reads. A write past `room` bytes finds no room.
+// `sync` is the error of syncing the file; None if syncing works.
 #[derive(Clone, Copy)]
 pub(crate) struct Faults {
     pub(crate) broken_off: u32,
@@ -14,7 +14,7 @@ pub(crate) struct Faults {
 }
 
 impl Faults {
-    // None.
+    // Returns no faults.
     pub(crate) fn none() -> Faults {
         Faults {
             broken_off: 0,

@@ -8,7 +8,7 @@ use std::fs;
 use std::test::Fail;
 use system_files::{FileLibrary, FileShelf};
 
-// A path of more than 300 bytes to the file of this name here.
+// Returns a path of more than 300 bytes to the file of this name here.
 fn long_path(alloc: Global, name: &str) -> Result<String, AllocError> {
     let mut path = String::new(alloc);
     for _ in 0..150 {
@@ -50,7 +50,7 @@ fn failed_reads_are_told(rt: HostRuntime) -> Result<(), Fail> {
     Ok(())
 }
 
-// More bytes than a buffer holds. They are made apart, so that no proof unfolds them.
+// Returns more bytes than a buffer holds. It is a function of its own so that no proof unfolds its bytes.
 fn many_dots(alloc: Global) -> Result<Vec<u8>, AllocError> {
     Vec::from_elem(alloc, b'.', 1_000_000)
 }
@@ -82,7 +82,7 @@ fn a_file_is_written_from_its_start(rt: HostRuntime) -> Result<(), Fail> {
     Ok(())
 }
 
-// A folder that isn't there, and a folder that is to be a file. Then a file is written nonetheless.
+// An absent folder, and a folder in place of the file. Then a file is written nonetheless.
 #[test]
 fn failed_begins_are_told(rt: HostRuntime) -> Result<(), Fail> {
     let name = "failed_begins_test.txt";
@@ -98,8 +98,8 @@ fn failed_begins_are_told(rt: HostRuntime) -> Result<(), Fail> {
     Ok(())
 }
 
-// A full device takes no byte: more than a buffer holds is refused at once, and less at the end. What is refused at
-// once isn't kept, so the file ends, and another is written.
+// A full device takes no byte. A text that the buffer can't hold is refused at once, and a shorter text at the end. A text that is
+// refused at once isn't kept, so the file ends, and another is written.
 #[test]
 fn a_full_device_is_told(rt: HostRuntime) -> Result<(), Fail> {
     let name = "full_device_test.txt";

@@ -1,4 +1,4 @@
-//! Tests of the files of the system: real bytes through the adapters, and what is told of them meanwhile.
+//! Tests of the system's files: real bytes through the adapters, and the progress that is told meanwhile.
 #![tactic(auto)]
 
 #[cfg(test)]

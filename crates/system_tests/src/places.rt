@@ -1,4 +1,4 @@
-//! What no clause says of a file that takes the place of another one: what stands there when, and what a failure leaves.
+//! What no clause says of a file that takes the place of another: what stands there when, and what a failure leaves.
 
 use crate::faulty::{Faults, FaultyFiles};
 use pd_outside::{Library, Shelf, read_whole, write_all};
@@ -9,13 +9,13 @@ use std::os::unix::fs::{PermissionsExt, symlink};
 use std::test::Fail;
 use system_files::{FileLibrary, FileShelf, Syncing};
 
-// More bytes than a buffer holds. They are made apart, so that no proof unfolds them.
+// Returns more bytes than a buffer holds. It is a function of its own so that no proof unfolds its bytes.
 fn dots(alloc: Global) -> Result<Vec<u8>, AllocError> {
     Vec::from_elem(alloc, b'.', 100_000)
 }
 
-// The old file stands while the new one is written beside it, and then the new one, with the old one's mode. What an earlier run left
-// beside it is no hindrance.
+// The old file stands while the new one is written beside it. Then the new one stands, with the old one's mode. What an earlier run
+// left beside it is no hindrance.
 #[test]
 fn a_file_stands_until_the_new_one_is_whole(rt: HostRuntime) -> Result<(), Fail> {
     let (name, part) = ("stands_test.txt", "stands_test.txt.part");
@@ -41,7 +41,7 @@ fn a_file_stands_until_the_new_one_is_whole(rt: HostRuntime) -> Result<(), Fail>
     Ok(())
 }
 
-// A link to a file is followed to it, and stays a link.
+// A link to a file is followed, and stays a link.
 #[test]
 fn a_link_is_followed(rt: HostRuntime) -> Result<(), Fail> {
     let (name, link) = ("followed_test.txt", "link_test.txt");
@@ -60,7 +60,7 @@ fn a_link_is_followed(rt: HostRuntime) -> Result<(), Fail> {
     Ok(())
 }
 
-// Where a folder has the name of the file that would be written beside it, none is begun, and the old one stands.
+// If a folder has the name of the file to write beside the old one, no file is begun, and the old one stands.
 #[test]
 fn a_folder_beside_it_is_a_failed_begin(rt: HostRuntime) -> Result<(), Fail> {
     let (name, part) = ("hindered_test.txt", "hindered_test.txt.part");
@@ -75,7 +75,7 @@ fn a_folder_beside_it_is_a_failed_begin(rt: HostRuntime) -> Result<(), Fail> {
     Ok(())
 }
 
-// Where a device has room for 70,000 bytes, the old file stands and the part holds those.
+// If a device has room for 70,000 bytes, the old file stands, and the part holds those bytes.
 #[test]
 fn a_full_device_leaves_the_old_file(rt: HostRuntime) -> Result<(), Fail> {
     let (name, part) = ("full_test.txt", "full_test.txt.part");
@@ -95,7 +95,7 @@ fn a_full_device_leaves_the_old_file(rt: HostRuntime) -> Result<(), Fail> {
     Ok(())
 }
 
-// Whether a file is ended, onto a device that answers so where it is to be synced.
+// Whether a file is ended, on a device that gives the answer when the file is to be synced.
 fn is_ended(
     rt: HostRuntime,
     name: &str,
@@ -111,7 +111,8 @@ fn is_ended(
     Ok(shelf.end().is_ok())
 }
 
-// What a device says late is a failure, and the old file stands. That it can't be synced is none, and nothing is told where that isn't wanted.
+// An error that a device tells late is a failure, and the old file stands. It is no failure that a device can't sync, and nothing
+// is told if syncing isn't wanted.
 #[test]
 fn a_failed_sync_is_told(rt: HostRuntime) -> Result<(), Fail> {
     let (name, part) = ("synced_test.txt", "synced_test.txt.part");

@@ -1,4 +1,4 @@
-//! What no clause says of a progress that is told: its text, when it comes, and that it may fail.
+//! What no clause says of a progress that is told: its text, when it comes, and that telling it can fail.
 
 ghost use Rattle.std.specs.Prelude.{◌≡◌, false, OnOk};
 
@@ -12,7 +12,7 @@ use std::time::Duration;
 use std::{fs, io};
 use system_files::{FileShelf, ProgressShelf};
 
-// A clock that goes on by so many milliseconds each time that it is looked at.
+// A clock that goes on by `step` milliseconds each time it is looked at.
 #[derive(Drop)]
 struct Ticking {
     millis: Cell<u64>,
@@ -40,12 +40,12 @@ impl Clock for Ticking {
     }
 }
 
-// So many bytes. They are made apart, so that no proof unfolds them.
+// Returns `count` bytes. It is a function of its own so that no proof unfolds them.
 fn dots(alloc: Global, count: usize) -> Result<Vec<u8>, AllocError> {
     Vec::from_elem(alloc, b'.', count)
 }
 
-// Writes a file of 1,000,000 bytes, then 500,000, then 2.
+// Writes a file in three writes, of 1,000,000, 500,000 and 2 bytes.
 fn write_file<S: Shelf>(alloc: Global, shelf: &mut S, name: &str) -> Result<(), Fail>
     requires { S.is_begun shelf.old ≡ false }
     ensures { OnOk result (S.is_begun shelf.new ≡ false) }
@@ -58,7 +58,7 @@ fn write_file<S: Shelf>(alloc: Global, shelf: &mut S, name: &str) -> Result<(), 
     Ok(())
 }
 
-// What is told of two files of three writes each, of which the last is too short for a look at the clock.
+// Returns what is told of two files of three writes each. The last write is too short for a look at the clock.
 fn told(
     alloc: Global,
     first: &str,
@@ -75,7 +75,7 @@ fn told(
     Ok(told)
 }
 
-// What goes to the standard output isn't told of where the same terminal shows it.
+// Nothing is told of the standard output if the same terminal shows it.
 #[test]
 fn a_line_is_told_each_second_and_cleared_at_the_end(rt: HostRuntime) -> Result<(), Fail> {
     let each = told(rt.alloc(), "a/b/orders.tbl", "-", 1000, true)?;
@@ -93,7 +93,7 @@ fn a_line_is_told_each_second_and_cleared_at_the_end(rt: HostRuntime) -> Result<
     Ok(())
 }
 
-// What it is told to refuses each byte.
+// The output of the progress refuses each byte.
 #[test]
 fn a_progress_that_cannot_be_told_changes_nothing(rt: HostRuntime) -> Result<(), Fail> {
     let name = "progress_test.txt";

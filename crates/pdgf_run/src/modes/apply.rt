@@ -1,4 +1,4 @@
-//! Mode apply: the texts of tables and the streams of later units are read from files and applied.
+//! Mode apply: reads the texts of tables and the streams of later units from files, and applies the streams.
 
 ghost use Rattle.std.specs.Prelude.{◌≡◌, ◌≢◌, ◌<◌, ◌≤◌, ◌+◌, ◌-◌, ◌*◌, ◌⊎◌, ◌++◌, ◌∷◌, [], ℕ, All, List, IfErr, IfOk, IfSome, OnOk, drop, length, map, zip};
 ghost use Rattle.std.specs.Bool.{OnFalse, OnTrue};
@@ -32,18 +32,21 @@ use std::alloc::Global;
 use stream_apply::{ApplyFault, KeyFields, apply_in_turn};
 use update_box::{Content, Memory, Places, places_of};
 
-/// The most bytes that all inputs have together.
+/// The most bytes that all inputs can have together.
 pub(crate) const INPUT_LIMIT: u64 = 268_435_456;
 
-/// The tables whose texts are made, the ones of consecutive places, and how many inputs each has.
+/// Tables of consecutive places, whose texts are made.
 #[derive(Clone, Copy)]
 pub(super) struct Tables {
+    /// The place of the first table.
     pub(super) first: u32,
+    /// How many tables there are.
     pub(super) count: u32,
+    /// How many inputs each table has.
     pub(super) inputs: usize,
 }
 
-/// The job of a request, whose inputs are read and applied before any file is written.
+/// Returns the job of a request. The inputs are read and applied before any file is written.
 pub(crate) fn plan_apply<L: Library>(
     alloc: Global,
     library: &mut L,
@@ -78,7 +81,7 @@ pub(crate) fn plan_apply<L: Library>(
     }
 }
 
-/// The table that is chosen, or none for all; or the first option that is out of its range: the first unit, the last one and the table.
+/// Returns the chosen table, or no table, for all. Refuses the first option out of range: first unit, last unit, table.
 fn tables_asked(plan: &Plan, request: &Request) -> Result<Option<u32>, JobFault>
     ensures asked { result ≡ tables_asked plan.now request.now }
     ensures within { IfOk result (IsChoice plan.now) }
@@ -98,7 +101,7 @@ fn tables_asked(plan: &Plan, request: &Request) -> Result<Option<u32>, JobFault>
     }
 }
 
-/// The tables that are chosen.
+/// Returns the tables that are chosen.
 fn tables_of(plan: &Plan, table: Option<u32>, request: &Request) -> Tables
     requires table { IsChoice plan.now table }
     requires order { request.now.from ≤ request.now.to }
@@ -119,12 +122,13 @@ fn tables_of(plan: &Plan, table: Option<u32>, request: &Request) -> Tables
     }
 }
 
-/// What the file of a table's text tells, and those of what a unit changes in it, in the order in which it is applied.
+/// The content of the file of a table's text.
 const TEXT: [Content; 1] = [Content::Snapshot];
 
+/// The contents of the files of a unit's streams, in the order of applying them.
 const CHANGES: [Content; 3] = [Content::Deleted, Content::Updated, Content::Inserted];
 
-/// The paths of the inputs of tables, in the order in which they are read.
+/// Returns the paths of the tables' inputs, in the order of reading.
 fn input_paths(
     alloc: Global,
     plan: &Plan,
@@ -156,7 +160,7 @@ fn input_paths(
     Ok(paths)
 }
 
-/// Puts the paths of a table's inputs behind others.
+/// Appends the paths of a table's inputs to others.
 fn push_paths(
     alloc: Global,
     paths: &mut Texts,
@@ -179,7 +183,7 @@ fn push_paths(
     Ok(())
 }
 
-/// The name of an input by its path, without the directory.
+/// Returns the name of an input by its path, without the directory.
 pub(crate) fn file_of(path: &Text, request: &Request) -> FileName
     requires { length request.now.source + 1 ≤ length path.now }
     ensures { result ≡ file_named (drop (length request.now.source + 1) path.now) }
@@ -188,7 +192,7 @@ pub(crate) fn file_of(path: &Text, request: &Request) -> FileName
     FileName::of(&name[..name.len().min(FileName::ROOM)])
 }
 
-/// The job of inputs that are read, in the request's format.
+/// Returns the job of the inputs that were read, in the request's format.
 fn made_in(
     alloc: Global,
     plan: &Plan,
@@ -215,7 +219,7 @@ fn made_in(
     }
 }
 
-/// Inputs in CSV as they are in COPY text form; or why the first with a bad record isn't read.
+/// Returns inputs in CSV converted to COPY text form. Refuses the first input with a bad record.
 fn copies_of(
     alloc: Global,
     plan: &Plan,
@@ -243,7 +247,7 @@ fn copies_of(
     read_csv(alloc, plan.delimiter(), &fields, request, paths, inputs)
 }
 
-/// How many fields the rows of each input of tables have.
+/// Returns how many fields the rows of each input of the tables have.
 fn input_fields(
     alloc: Global,
     plan: &Plan,
@@ -264,7 +268,7 @@ fn input_fields(
     Ok(fields)
 }
 
-/// Puts how many fields the rows of each input of a table have behind others: of its text, and of what so many units change.
+/// Appends the numbers of fields in the rows of a table's inputs: first of its text, then of the streams of each unit.
 fn push_fields(fields: &mut Vec<u32>, columns: u32, units: u64) -> Result<(), Memory>
     ensures { OnOk result (fields.new.items ≡ fields.old.items ++ fields_in columns units) }
 {
@@ -277,7 +281,8 @@ fn push_fields(fields: &mut Vec<u32>, columns: u32, units: u64) -> Result<(), Me
     Ok(())
 }
 
-/// Inputs in CSV, with so many fields in the rows of each, as they are in COPY text form; or why the first with a bad record isn't read.
+/// Returns inputs in CSV converted to COPY text form, by the number of fields in the rows of each. Refuses the first input with a
+/// bad record.
 fn read_csv(
     alloc: Global,
     delimiter: u8,
@@ -312,7 +317,7 @@ fn read_csv(
     Ok(copies)
 }
 
-/// Why the input of a path isn't read as rows.
+/// Returns the fault of the input of a path whose record `at` is bad.
 fn unread_record(path: &Text, request: &Request, at: u64) -> JobFault
     requires { length request.now.source + 1 ≤ length path.now }
     ensures { result ≡ JobFault.Input (record { file = file_named (drop (length request.now.source + 1) path.now); cause = InputCause.BadRecord at }) }
@@ -323,7 +328,7 @@ fn unread_record(path: &Text, request: &Request, at: u64) -> JobFault
     })
 }
 
-/// The job of inputs in COPY text form.
+/// Returns the job of inputs in COPY text form.
 fn made_job(
     alloc: Global,
     plan: &Plan,
@@ -352,7 +357,7 @@ fn made_job(
     }
 }
 
-/// The job of texts of tables, in the request's format: in a directory, or on the standard output.
+/// Returns the job of the tables' texts, in the request's format. They go to a directory, or to the standard output.
 fn written_job(
     alloc: Global,
     plan: &Plan,
@@ -383,7 +388,7 @@ fn written_job(
     }))
 }
 
-/// Texts in COPY text form as they are written in a format.
+/// Returns texts in COPY text form in the format in which they are written.
 fn written_in(alloc: Global, format: Format, texts: Inputs, delimiter: u8) -> Result<Inputs, Memory>
     requires delimiter { IsDelimiter delimiter }
     requires rows { format ≡ Format.Csv → All (HasRows delimiter) texts }
@@ -396,7 +401,7 @@ fn written_in(alloc: Global, format: Format, texts: Inputs, delimiter: u8) -> Re
     }
 }
 
-/// Texts in COPY text form as CSV.
+/// Returns texts in COPY text form as CSV.
 fn csv_of_texts(alloc: Global, texts: &Inputs, delimiter: u8) -> Result<Inputs, Memory>
     requires delimiter { IsDelimiter delimiter }
     requires rows { All (HasRows delimiter) texts.now }
@@ -410,7 +415,7 @@ fn csv_of_texts(alloc: Global, texts: &Inputs, delimiter: u8) -> Result<Inputs, 
     Ok(csvs)
 }
 
-/// The texts that the inputs of tables make; or why the first that can't be applied isn't.
+/// Returns the texts that the inputs of the tables make. Refuses the first input that can't be applied.
 fn applied_texts(
     alloc: Global,
     delimiter: u8,
@@ -449,7 +454,7 @@ fn applied_texts(
     Ok(texts)
 }
 
-/// Whether a fault is want of memory, which tells no input.
+/// Whether a fault is want of memory, which concerns no input.
 pub(crate) fn is_memory(fault: ApplyFault) -> bool
     ensures memory { OnTrue result (fault ≡ ApplyFault.Memory) }
     ensures other { OnFalse result (fault ≢ ApplyFault.Memory) }
@@ -457,7 +462,7 @@ pub(crate) fn is_memory(fault: ApplyFault) -> bool
     matches!(fault, ApplyFault::Memory)
 }
 
-/// Why the input of a path can't be applied.
+/// Returns the fault of the input of a path that can't be applied.
 pub(crate) fn unapplied(path: &Text, request: &Request, fault: ApplyFault) -> JobFault
     requires { length request.now.source + 1 ≤ length path.now }
     ensures { result ≡ JobFault.Input (record { file = file_named (drop (length request.now.source + 1) path.now); cause = InputCause.Applying fault }) }
@@ -468,7 +473,7 @@ pub(crate) fn unapplied(path: &Text, request: &Request, fault: ApplyFault) -> Jo
     })
 }
 
-/// The paths of the files of tables' texts.
+/// Returns the paths of the files of the tables' texts.
 pub(super) fn text_paths(
     alloc: Global,
     directory: &Directory<'_>,

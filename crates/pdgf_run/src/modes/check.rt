@@ -15,7 +15,7 @@ use refusals::JobFault;
 use schema_plan::Plan;
 use std::alloc::Global;
 
-/// The job of a check of a plan's tables.
+/// Returns the job of a check of a plan's tables.
 pub(crate) fn plan_check(alloc: Global, plan: &Plan) -> Result<Job, JobFault>
     ensures job { Decides job_status due_of result (check_due plan.now) }
     ensures refused { IfErr result (λ fault. (job_status fault ≡ 7) ⊎ (job_status fault ≡ 8)) }
@@ -26,7 +26,7 @@ pub(crate) fn plan_check(alloc: Global, plan: &Plan) -> Result<Job, JobFault>
     Ok(Job::Text(text))
 }
 
-/// A line for each table: its name, the rows born in all units, its sure life, its cost and its greatest line.
+/// Returns a line for each table: its name, the rows born in all units, its sure life, its cost and its longest line in bytes.
 fn check_text(alloc: Global, plan: &Plan) -> Result<Vec<u8>, Memory>
     ensures { IfOk result (λ text. text.items ≡ check_lines plan.now (length plan.now.schema.tables)) }
 {
@@ -37,7 +37,7 @@ fn check_text(alloc: Global, plan: &Plan) -> Result<Vec<u8>, Memory>
     Ok(text)
 }
 
-/// Appends what is told of a table.
+/// Appends the line of a table.
 fn push_line(text: &mut Vec<u8>, plan: &Plan, table: u32) -> Result<(), Memory>
     requires { table < length plan.now.schema.tables }
     ensures { OnOk result (text.new.items ≡ text.old.items ++ check_line plan.now table) }
@@ -50,7 +50,7 @@ fn push_line(text: &mut Vec<u8>, plan: &Plan, table: u32) -> Result<(), Memory>
     push_number(text, u128::from(plan.max_line(table)), b'\n')
 }
 
-/// Appends the sure life of a table, and a tab.
+/// Appends the sure life of a table, or `none`, and a tab.
 fn push_life(text: &mut Vec<u8>, life: Option<u64>) -> Result<(), Memory>
     ensures { OnOk result (text.new.items ≡ (text.old.items ++ life_text life) ++ codes "\t") }
 {

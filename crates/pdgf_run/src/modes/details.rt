@@ -1,4 +1,4 @@
-//! Modes details and details-unit: the text of a detail table at a unit, and what a unit changes in it.
+//! Modes details and details-unit: the text of a detail table at a unit, and what a unit changes in the table.
 
 ghost use Rattle.std.specs.Prelude.{◌≡◌, ◌≢◌, ◌<◌, ◌≤◌, ◌+◌, ◌^◌, ◌⊎◌, ◌++◌, ◌∷◌, [], false, IfErr, IfOk, IfSome, IsErrOf, Ok, OnOk, Some, length, map, nat_lt};
 ghost use Rattle.std.specs.List.{sum_by};
@@ -51,7 +51,7 @@ use std::thread::Threads;
 use step_count::Steps;
 use update_box::{Content, Memory, UnitRows, rows_of_unit};
 
-/// The job of a request, whose declaration is read before any file is written.
+/// Returns the job of a request. The declaration is read before any file is written.
 pub(crate) fn plan_details<B: Ledger, L: Library>(
     alloc: Global,
     library: &mut L,
@@ -80,7 +80,7 @@ pub(crate) fn plan_details<B: Ledger, L: Library>(
     }
 }
 
-/// The job of a request over a detail table, which leaves the library as it is.
+/// Returns the job of a request over a detail table.
 fn declared_job<B: Ledger>(
     alloc: Global,
     plan: Plan,
@@ -110,7 +110,7 @@ fn declared_job<B: Ledger>(
 
 // ---- what is asked
 
-/// Whether a unit is out of its range.
+/// Whether a unit is out of range for what is told.
 fn is_refused(told: Told, plan: &Plan, unit: u64) -> bool
     ensures { result ≡ is_refused told plan.now unit }
 {
@@ -120,7 +120,7 @@ fn is_refused(told: Told, plan: &Plan, unit: u64) -> bool
     }
 }
 
-/// How many rows of the parent a package of a request has.
+/// Returns how many rows of the parent a package of a request has.
 fn package_of(plan: &Plan, detail: &DetailPlan, request: &Request) -> u64
     requires keeps { KeepsRules plan.now detail.now }
     requires ranges { CanPackBy request.now }
@@ -134,7 +134,7 @@ fn package_of(plan: &Plan, detail: &DetailPlan, request: &Request) -> u64
     }
 }
 
-/// The same where the request doesn't say.
+/// Returns how many rows of the parent a package has if the request doesn't say.
 fn preset_package(plan: &Plan, detail: &DetailPlan, workers: u32) -> u64
     requires keeps { KeepsRules plan.now detail.now }
     requires some_worker { 1 ≤ workers }
@@ -146,7 +146,7 @@ fn preset_package(plan: &Plan, detail: &DetailPlan, workers: u32) -> u64
     default_package(workers, detail.reach(plan))
 }
 
-/// Whether the pages of the workers have more bytes together than they may, with packages of so many rows of the parent.
+/// Whether the pages of the workers have more bytes together than is allowed. A package has `size` rows of the parent.
 fn is_past_room(plan: &Plan, detail: &DetailPlan, workers: u32, size: u64) -> bool
     requires keeps { KeepsRules plan.now detail.now }
     requires worker_limit { workers ≤ 64 }
@@ -156,8 +156,7 @@ fn is_past_room(plan: &Plan, detail: &DetailPlan, workers: u32, size: u64) -> bo
     MOST_PAGE_BYTES < PAGES * u64::from(workers) * size * detail.reach(plan)
 }
 
-/// How many rows of the parent a package has, where what a request asks of a detail table can be done; or the first option that is out of its range:
-/// the unit, and the package.
+/// Returns how many rows of the parent a package has. Refuses the first option out of range: unit, package.
 fn asked_size(
     plan: &Plan,
     detail: &DetailPlan,
@@ -183,7 +182,7 @@ fn asked_size(
 
 // ---- the job
 
-/// The paths of the files of what is told of a detail table.
+/// Returns the paths of the files for what is told of a detail table.
 fn paths_of(
     alloc: Global,
     directory: &str,
@@ -204,7 +203,7 @@ fn paths_of(
     Ok(paths)
 }
 
-/// The paths of the files of a request, where they go to a directory.
+/// Returns the paths of a request's files; None if they go to the standard output.
 fn names_of(
     alloc: Global,
     detail: &Detail,
@@ -223,7 +222,7 @@ fn names_of(
     }
 }
 
-/// The orders that are kept for a detail table's parent at a unit, for its rows or for what the unit changes in them.
+/// Returns the orders that are kept for a detail table's parent at a unit, for its rows or for what the unit changes in them.
 fn orders_of(
     alloc: Global,
     plan: &Plan,
@@ -246,7 +245,7 @@ fn orders_of(
     }
 }
 
-/// What a unit changes in a detail table's parent, where this is told.
+/// Returns what a unit changes in a detail table's parent; None if the table's text is told.
 fn changes_of<B: Ledger>(
     alloc: Global,
     plan: &Plan,
@@ -277,7 +276,8 @@ fn changes_of<B: Ledger>(
     }
 }
 
-/// The job of a request over a detail table that keeps the rules, with packages of so many rows of the parent. At `Memory` there is none.
+/// Returns the job of a request over a detail table that keeps the rules. A package has `size` rows of the parent. Fails with
+/// `Memory` if memory runs out.
 fn made_job<B: Ledger>(
     alloc: Global,
     plan: Plan,
@@ -320,7 +320,7 @@ fn made_job<B: Ledger>(
 
 // ---- the files
 
-/// Puts the packer of the lines of some rows of the parent behind others.
+/// Appends the packer of the lines of some rows of the parent to others.
 fn push_lines<'a>(
     alloc: Global,
     packers: &mut Joined<DetailPacker<'a>>,
@@ -345,7 +345,7 @@ fn push_lines<'a>(
     }
 }
 
-/// The packer of a detail table's text.
+/// Returns the packer of a detail table's text.
 fn text_packers<'a>(alloc: Global, job: &'a DetailsJob) -> Result<Joined<DetailPacker<'a>>, Memory>
     requires can { CanPackDetails job.now }
     ensures { IfOk result (λ packers. map (whole_text count_of text_numbered) packers.parts.items ≡ told_texts Told.Text job.now.plan job.now.detail job.now.unit) }
@@ -356,7 +356,7 @@ fn text_packers<'a>(alloc: Global, job: &'a DetailsJob) -> Result<Joined<DetailP
     Ok(packers)
 }
 
-/// The packers of what a unit changes in a detail table, by what it changes in the parent.
+/// Returns the packers of what a unit changes in a detail table, by what the unit changes in the parent.
 fn change_packers<'a>(
     alloc: Global,
     job: &'a DetailsJob,
@@ -383,7 +383,7 @@ fn change_packers<'a>(
     Ok(packers)
 }
 
-/// The packers of a job, one for each text that is told.
+/// Returns the packers of a job, one for each text that is told.
 fn packers_of<'a>(alloc: Global, job: &'a DetailsJob) -> Result<Joined<DetailPacker<'a>>, Memory>
     requires can { CanPackDetails job.now }
     ensures { IfOk result (λ packers. map (whole_text count_of text_numbered) packers.parts.items
@@ -395,7 +395,7 @@ fn packers_of<'a>(alloc: Global, job: &'a DetailsJob) -> Result<Joined<DetailPac
     }
 }
 
-/// The names of the files of a job's packers: one for each, or the standard output.
+/// Returns the marks of a job's files: one for each packer, or one for the standard output.
 fn marks_of(
     alloc: Global,
     job: &DetailsJob,

@@ -1,4 +1,4 @@
-//! Mode details-apply: the text of a detail table and the streams of later units are read from files and applied.
+//! Mode details-apply: reads the text of a detail table and the streams of later units from files, and applies the streams.
 
 ghost use Rattle.std.specs.Prelude.{◌≡◌, ◌≢◌, ◌≤◌, ◌+◌, ◌⊎◌, ◌++◌, ◌∷◌, [], ℕ, List, Ok, IfErr, IfNone, IfOk, IfSome, OnOk, Some, None, length, map};
 ghost use Rattle.pd_outside.specs.Library.{AskedPrefixOf};
@@ -30,7 +30,7 @@ use std::alloc::Global;
 use stream_apply::{KeyFields, apply_in_turn};
 use update_box::{Content, Memory, push_ending};
 
-/// The job of a request, whose declaration and inputs are read and applied before any file is written.
+/// Returns the job of a request. The declaration and the inputs are read, and the streams applied, before any file is written.
 pub(crate) fn plan_details_apply<L: Library>(
     alloc: Global,
     library: &mut L,
@@ -55,7 +55,7 @@ pub(crate) fn plan_details_apply<L: Library>(
     }
 }
 
-/// The job of a request over a detail table, of which the inputs are read.
+/// Reads the inputs of a detail table and returns the job of a request.
 fn apply_inputs<L: Library>(
     alloc: Global,
     library: &mut L,
@@ -89,7 +89,7 @@ fn apply_inputs<L: Library>(
     }
 }
 
-/// Refuses the first option that is out of its range: the first unit, and the last one.
+/// Refuses the first option out of range: first unit, last unit.
 fn check_units(plan: &Plan, request: &Request) -> Result<(), JobFault>
     ensures refused { IfErr result (λ fault. units_refused plan.now request.now ≡ Some fault) }
     ensures accepted { OnOk result (units_refused plan.now request.now ≡ None) }
@@ -106,7 +106,7 @@ fn check_units(plan: &Plan, request: &Request) -> Result<(), JobFault>
     Ok(())
 }
 
-/// The path of the file that holds this content of a detail table at a unit.
+/// Returns the path of the file that holds a content of a detail table at a unit.
 pub(crate) fn path_in(
     alloc: Global,
     directory: &str,
@@ -124,7 +124,7 @@ pub(crate) fn path_in(
     Ok(path)
 }
 
-/// The paths of the inputs of a detail table, in the order in which they are read.
+/// Returns the paths of a detail table's inputs, in the order of reading.
 fn input_paths(
     alloc: Global,
     plan: &Plan,
@@ -154,7 +154,7 @@ fn input_paths(
     Ok(paths)
 }
 
-/// Puts the paths of what a unit changes in a detail table behind others.
+/// Appends the paths of a unit's streams for a detail table to others.
 pub(crate) fn push_unit(
     alloc: Global,
     paths: &mut Texts,
@@ -172,7 +172,7 @@ pub(crate) fn push_unit(
     put(paths, inserted)
 }
 
-/// The job of inputs that are read; or why the first that can't be applied isn't.
+/// Returns the job of the inputs that were read. Refuses the first input that can't be applied.
 fn made_job(
     alloc: Global,
     plan: &Plan,
@@ -201,7 +201,7 @@ fn made_job(
     }
 }
 
-/// The job of a detail table's text: a file in a directory, or the standard output.
+/// Returns the job of a detail table's text. It goes to a file in a directory, or to the standard output.
 fn written_job(
     alloc: Global,
     detail: &Detail,

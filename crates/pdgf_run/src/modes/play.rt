@@ -1,4 +1,4 @@
-//! Mode play: units are played into a store.
+//! Mode play: plays units into a store.
 
 ghost use Rattle.std.specs.Prelude.{◌≡◌, ◌<◌, ◌≤◌, ◌++◌, ◌⊎◌, IfErr, IfOk, OnOk, codes, decimal, length};
 ghost use Rattle.life_intervals.specs.Generator.{last_unit};
@@ -24,7 +24,7 @@ use std::sync::ledger::{Blank, Ledger};
 use step_count::Steps;
 use undo_streams::count_living;
 
-/// The units of a plan that a request plays, with the orders that are kept for its rows. Rows are counted here, and nothing is put.
+/// Returns the job that plays the units of a request. It counts rows here, and puts no row into the store.
 pub(crate) fn plan_play<B: Ledger>(
     alloc: Global,
     plan: Plan,
@@ -60,7 +60,7 @@ pub(crate) fn plan_play<B: Ledger>(
     })
 }
 
-/// A line for each table: its name, and how many rows it holds at a unit.
+/// Returns a line for each table: its name, and how many rows it holds at a unit.
 fn summary_of<B: Ledger>(
     alloc: Global,
     plan: &Plan,
@@ -85,7 +85,7 @@ fn summary_of<B: Ledger>(
     Ok(text)
 }
 
-/// Appends what is told of a table: its name, and how many rows it holds.
+/// Appends the line of a table: its name, and how many rows it holds.
 fn push_line(text: &mut Vec<u8>, name: &str, count: u64) -> Result<(), Memory>
     ensures { OnOk result (text.new.items ≡ text.old.items ++ (name.now ++ codes "\t" ++ decimal count ++ codes "\n")) }
 {

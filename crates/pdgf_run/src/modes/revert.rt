@@ -1,4 +1,4 @@
-//! Mode revert: the texts of tables and the undo texts of the units up to theirs are read from files, and the units are undone.
+//! Mode revert: reads the texts of tables and the undo texts of units from files, and undoes the units.
 
 ghost use Rattle.std.specs.Prelude.{◌≡◌, ◌≢◌, ◌<◌, ◌≤◌, ◌+◌, ◌-◌, ◌*◌, ◌⊎◌, ◌++◌, List, ℕ, IfErr, IfOk, IfSome, MatchOption, OnOk, drop, length, map};
 ghost use Rattle.std.specs.List.{range_with_len};
@@ -32,7 +32,7 @@ use std::alloc::Global;
 use undo_streams::{RevertFault, revert_in_turn};
 use update_box::{Content, Memory, Places, places_of};
 
-/// The job of a request, whose inputs are read and undone before any file is written.
+/// Returns the job of a request. The inputs are read and the units undone before any file is written.
 pub(crate) fn plan_revert<L: Library>(
     alloc: Global,
     library: &mut L,
@@ -67,7 +67,7 @@ pub(crate) fn plan_revert<L: Library>(
     }
 }
 
-/// The table that is chosen, or none for all; or the first option that is out of its range: the later unit, the earlier one and the table.
+/// Returns the chosen table, or no table, for all. Refuses the first option out of range: later unit, earlier unit, table.
 fn tables_reverted(plan: &Plan, request: &Request) -> Result<Option<u32>, JobFault>
     ensures asked { result ≡ tables_reverted plan.now request.now }
     ensures within { IfOk result (IsChoice plan.now) }
@@ -87,7 +87,7 @@ fn tables_reverted(plan: &Plan, request: &Request) -> Result<Option<u32>, JobFau
     }
 }
 
-/// The tables that are chosen.
+/// Returns the tables that are chosen.
 fn tables_of(plan: &Plan, table: Option<u32>, request: &Request) -> Tables
     requires table { IsChoice plan.now table }
     requires order { request.now.to ≤ request.now.from }
@@ -108,7 +108,7 @@ fn tables_of(plan: &Plan, table: Option<u32>, request: &Request) -> Tables
     }
 }
 
-/// The paths of the inputs of tables, in the order in which they are read.
+/// Returns the paths of the tables' inputs, in the order of reading.
 fn input_paths(
     alloc: Global,
     plan: &Plan,
@@ -139,7 +139,7 @@ fn input_paths(
     Ok(paths)
 }
 
-/// Puts the paths of a table's inputs behind others.
+/// Appends the paths of a table's inputs to others.
 fn push_paths(
     alloc: Global,
     paths: &mut Texts,
@@ -162,7 +162,7 @@ fn push_paths(
     Ok(())
 }
 
-/// The job of inputs.
+/// Returns the job of the inputs that were read.
 fn made_job(
     alloc: Global,
     plan: &Plan,
@@ -188,7 +188,7 @@ fn made_job(
     }
 }
 
-/// The job of texts of tables: in a directory, or on the standard output.
+/// Returns the job of the tables' texts. They go to a directory, or to the standard output.
 fn texts_job(
     alloc: Global,
     plan: &Plan,
@@ -213,7 +213,7 @@ fn texts_job(
     Ok(Job::Files(FilesJob { names, texts }))
 }
 
-/// The texts that the inputs of tables make; or why the first that can't be undone isn't.
+/// Returns the texts that the inputs of the tables make. Refuses the first input that can't be undone.
 fn reverted_texts(
     alloc: Global,
     delimiter: u8,
@@ -253,7 +253,7 @@ fn reverted_texts(
     Ok(texts)
 }
 
-/// The line of a fault and what is wrong with it; None for want of memory, which tells no input.
+/// Returns the line of a fault and what is wrong with the line; None for want of memory, which concerns no input.
 fn line_fault(fault: RevertFault) -> Option<LineFault>
     ensures { MatchOption result (fault ≡ RevertFault.Memory) (λ told. fault_told told ≡ fault) }
 {
@@ -268,7 +268,7 @@ fn line_fault(fault: RevertFault) -> Option<LineFault>
     Some(LineFault { line, reason })
 }
 
-/// Why the input of a path can't be undone.
+/// Returns the fault of the input of a path that can't be undone.
 fn unreverted(path: &Text, request: &Request, fault: LineFault) -> JobFault
     requires { length request.now.source + 1 ≤ length path.now }
     ensures { result ≡ JobFault.Input (record { file = file_named (drop (length request.now.source + 1) path.now); cause = InputCause.Reverting fault }) }

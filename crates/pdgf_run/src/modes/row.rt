@@ -24,10 +24,10 @@ use std::alloc::Global;
 use std::sync::ledger::{Blank, Ledger};
 use step_count::Steps;
 
-/// The most bytes that are told of a row beside its line.
+/// The most bytes of a report without the row's line.
 const BESIDE_LINE: usize = 128;
 
-/// The job of the report on a row of one of a plan's tables.
+/// Returns the job of the report on a row of one of a plan's tables.
 pub(crate) fn plan_row<B: Ledger>(
     alloc: Global,
     plan: Plan,
@@ -54,7 +54,7 @@ pub(crate) fn plan_row<B: Ledger>(
     Ok(Job::Page(report))
 }
 
-/// The report at a unit on the row of a table that has a key; None where no row has it, for which no memory is taken.
+/// Returns the report at a unit on the row of a table that has a key. If no row has the key, returns None and takes no memory.
 fn row_text<B: Ledger>(
     alloc: Global,
     plan: &Plan,

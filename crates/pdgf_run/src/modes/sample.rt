@@ -1,4 +1,4 @@
-//! Mode sample: what a sample's tables hold first and last, and what the units between change in them.
+//! Mode sample: what a sample's tables hold at unit 0 and at the last unit, and what the units after 0 change in them.
 
 ghost use Rattle.std.specs.Prelude.{◌≡◌, ◌<◌, ◌≤◌, ◌⊎◌, ◌+◌, ◌++◌, ◌^◌, ℕ, List, IfErr, IfOk, OnOk, length, map, sum};
 ghost use Rattle.pd_outside.specs.Files.{File, file_at};
@@ -35,7 +35,7 @@ use std::thread::Threads;
 use stream_apply::{KeyFields, apply_in_turn};
 use update_box::Memory;
 
-/// How many lines the rows have that the units delete, update and insert.
+/// How many lines the units delete, update and insert in a table.
 #[derive(Clone, Copy)]
 struct Changed {
     deleted: u128,
@@ -43,10 +43,13 @@ struct Changed {
     inserted: u128,
 }
 
-/// The texts of a table: at unit 0 and what the units change in it, in the order in which that is applied, and at the last unit.
+/// The texts of a table.
 struct TableTexts {
+    /// The text at unit 0, and then the streams of each unit, in the order of applying them.
     inputs: Inputs,
+    /// How many lines the streams have.
     changed: Changed,
+    /// The text at the last unit.
     last: Vec<u8>,
 }
 
@@ -62,7 +65,7 @@ impl Drop for TableTexts {
     }
 }
 
-/// The job of a sample: its summary. All texts are made here, by the workers, and each package of lines enters the gate then.
+/// Returns the job of a sample: its summary. The workers make all texts here, and each package of lines enters the gate.
 pub(crate) fn plan_sample<R: Threads + Sync, G: Gate + Sync>(
     rt: &R,
     alloc: Global,
@@ -89,7 +92,7 @@ pub(crate) fn plan_sample<R: Threads + Sync, G: Gate + Sync>(
     }
 }
 
-/// The summary of a plan's tables: a line for each, and the sum of the bytes of the texts that their changes make.
+/// Returns the summary of a plan's tables: a line for each, and the sum of the bytes of the texts that their changes make.
 fn summary<R: Threads + Sync, G: Gate + Sync>(
     rt: &R,
     alloc: Global,
@@ -115,7 +118,7 @@ fn summary<R: Threads + Sync, G: Gate + Sync>(
     Ok(text)
 }
 
-/// What is asked of a table alone, whole.
+/// Returns the job of all rows of one table at a unit.
 fn whole_job(plan: &Plan, request: &Request, table: u32, unit: u64) -> update_box::Job
     requires ranges { CanPackBy request.now }
     requires table { table < length plan.now.schema.tables }
@@ -132,7 +135,7 @@ fn whole_job(plan: &Plan, request: &Request, table: u32, unit: u64) -> update_bo
     }
 }
 
-/// The text of a table at a unit, and the plan.
+/// Returns the text of a table at a unit, and the plan.
 fn snapshot_text<R: Threads + Sync, G: Gate + Sync>(
     rt: &R,
     alloc: Global,
@@ -161,7 +164,7 @@ fn snapshot_text<R: Threads + Sync, G: Gate + Sync>(
     Ok((job.into_plan(), text))
 }
 
-/// What a unit changes in a table, on a shelf, and the plan.
+/// Returns what a unit changes in a table, on a shelf, and the plan.
 fn unit_shelf<R: Threads + Sync, G: Gate + Sync>(
     rt: &R,
     alloc: Global,
@@ -190,7 +193,7 @@ fn unit_shelf<R: Threads + Sync, G: Gate + Sync>(
     }
 }
 
-/// The texts of a table, and the plan.
+/// Returns the texts of a table, and the plan.
 fn table_texts<R: Threads + Sync, G: Gate + Sync>(
     rt: &R,
     alloc: Global,
@@ -230,7 +233,7 @@ fn table_texts<R: Threads + Sync, G: Gate + Sync>(
     Ok((end.0, texts))
 }
 
-/// Puts what a unit changes behind other inputs, and counts its lines.
+/// Appends a unit's streams to the other inputs, and counts their lines.
 fn push_changes(
     alloc: Global,
     inputs: &mut Inputs,
@@ -254,7 +257,7 @@ fn push_changes(
     Ok(())
 }
 
-/// Appends what is told of a table.
+/// Appends the line of a table.
 fn push_line(text: &mut Vec<u8>, plan: &Plan, table: u32, texts: &TableTexts) -> Result<(), Memory>
     requires table { table < length plan.now.schema.tables }
     requires texts { AreTexts plan.now table texts.now }
@@ -274,7 +277,7 @@ fn push_line(text: &mut Vec<u8>, plan: &Plan, table: u32, texts: &TableTexts) ->
     Ok(())
 }
 
-/// How many lines a text has.
+/// Returns how many lines a text has.
 fn lines_in(text: &[u8]) -> u128
     ensures lines { result ≡ lines_in text.now }
     ensures few { result < 2 ^ 64 }
@@ -282,7 +285,7 @@ fn lines_in(text: &[u8]) -> u128
     text.iter().filter(|byte| **byte == b'\n').count() as u128
 }
 
-/// The sum of the bytes of the text that the changes of a table make.
+/// Returns the sum of the bytes of the text that the changes of a table make.
 fn later_sum(alloc: Global, plan: &Plan, table: u32, texts: &TableTexts) -> Result<u128, Memory>
     requires table { table < length plan.now.schema.tables }
     requires texts { AreTexts plan.now table texts.now }
@@ -302,7 +305,7 @@ fn later_sum(alloc: Global, plan: &Plan, table: u32, texts: &TableTexts) -> Resu
     }
 }
 
-/// The sum of the bytes of a text.
+/// Returns the sum of the bytes of a text.
 fn sum_of(text: &[u8]) -> u128
     ensures sum { result ≡ sum text.now }
     ensures few { result < 2 ^ 72 }

@@ -30,10 +30,10 @@ use std::alloc::Global;
 use std::thread::Threads;
 use update_box::{Content, SnapshotPacker};
 
-/// What a snapshot's files tell of each table.
+/// The contents of a snapshot's files, for each table.
 const CONTENTS: [Content; 1] = [Content::Snapshot];
 
-/// The job of a snapshot of a plan's tables. In CSV its texts are made here.
+/// Returns the job of a snapshot of a plan's tables. In CSV its texts are made here.
 pub(crate) fn plan_snapshot<R: Threads + Sync, G: Gate + Sync>(
     rt: &R,
     alloc: Global,
@@ -60,7 +60,7 @@ pub(crate) fn plan_snapshot<R: Threads + Sync, G: Gate + Sync>(
     }
 }
 
-/// The job of a snapshot in COPY text form.
+/// Returns the job of a snapshot in COPY text form.
 fn copied_snapshot(
     alloc: Global,
     plan: Plan,
@@ -83,7 +83,7 @@ fn copied_snapshot(
     }
 }
 
-/// The job of a snapshot in CSV.
+/// Returns the job of a snapshot in CSV.
 fn csv_snapshot<R: Threads + Sync, G: Gate + Sync>(
     rt: &R,
     alloc: Global,
@@ -108,7 +108,7 @@ fn csv_snapshot<R: Threads + Sync, G: Gate + Sync>(
     csv_job(alloc, &job, CONTENTS.as_slice(), written, &shelf, request)
 }
 
-/// Writes the files of a snapshot, by its workers. All memory is taken before the first file is begun.
+/// Writes the files of a snapshot, by the job's workers. All memory is taken before the first file is begun.
 pub(crate) fn write_snapshot<R: Threads + Sync, S: Shelf, G: Gate + Sync>(
     rt: &R,
     alloc: Global,

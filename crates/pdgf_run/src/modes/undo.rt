@@ -1,4 +1,4 @@
-//! Mode undo: what takes the texts of tables at a unit back to those at the unit before.
+//! Mode undo: the undo texts of tables at a unit. They take the texts back to the unit before.
 
 ghost use Rattle.std.specs.Prelude.{◌≡◌, ◌<◌, ◌≤◌, ◌-◌, ◌⊎◌, false, IfErr, IfOk, IsErrOf, None, Some, OnOk, length, map, slice_index_or};
 ghost use Rattle.std.specs.List.{sum_by};
@@ -39,7 +39,7 @@ use update_box::{Memory, Places, places_of};
 /// The name of the standard output.
 const STANDARD_OUTPUT: &str = "-";
 
-/// The most bytes of a line of the undo text of any of a plan's tables.
+/// Returns the most bytes of a line in the undo text of any of a plan's tables.
 fn undo_reach(plan: &Plan) -> u64
     ensures most { result ≡ undo_reach plan.now }
     ensures some { 1 ≤ result }
@@ -49,7 +49,7 @@ fn undo_reach(plan: &Plan) -> u64
     WORD_AND_PLACE + plan.reach()
 }
 
-/// How many lines a package of a request has.
+/// Returns how many lines a package of a request has.
 fn undo_package(plan: &Plan, request: &Request) -> u64
     requires { CanPackBy request.now }
     ensures lines { result ≡ undo_package plan.now request.now }
@@ -62,8 +62,7 @@ fn undo_package(plan: &Plan, request: &Request) -> u64
     }
 }
 
-/// What a request asks of a plan's tables, whole; or the first of these options that is out of its range: the unit, the table and the
-/// package.
+/// Returns what a request asks of a plan's tables, whole. Refuses the first option out of range: unit, table, package.
 fn undo_asked(plan: &Plan, request: &Request) -> Result<update_box::Job, JobFault>
     requires ranges { CanPackBy request.now }
     ensures asked { result ≡ undo_asked request.now plan.now }
@@ -90,7 +89,7 @@ fn undo_asked(plan: &Plan, request: &Request) -> Result<update_box::Job, JobFaul
     })
 }
 
-/// The job of what takes the texts of a plan's tables back to those at the unit before.
+/// Returns the job of the undo texts of a plan's tables.
 pub(crate) fn plan_undo(alloc: Global, plan: Plan, request: &Request) -> Result<Job, JobFault>
     requires ranges { CanPackBy request.now }
     ensures job { Decides job_status due_of result (undo_due request.now plan) }
@@ -107,7 +106,8 @@ pub(crate) fn plan_undo(alloc: Global, plan: Plan, request: &Request) -> Result<
     }
 }
 
-/// The job that is asked for, with the rows that its unit changes and the places of those that it deletes. At `Memory` there is none.
+/// Returns the job that is asked for, with the rows that its unit changes and the places of the deleted rows. Fails with `Memory`
+/// if memory runs out.
 fn undo_job(
     alloc: Global,
     plan: Plan,
@@ -129,7 +129,7 @@ fn undo_job(
     Ok(UndoJob { of, places })
 }
 
-/// The places that the rows which a job's unit deletes had at the unit before, table by table.
+/// Returns the places that the rows deleted by a job's unit had at the unit before, table by table.
 fn found_places<B: Ledger>(
     alloc: Global,
     job: &UnitJob,
@@ -153,7 +153,7 @@ fn found_places<B: Ledger>(
     Ok(found)
 }
 
-/// The same of one of the tables.
+/// Returns the places that the deleted rows of one table had at the unit before.
 fn table_places<B: Ledger>(
     alloc: Global,
     job: &UnitJob,
@@ -175,7 +175,7 @@ fn table_places<B: Ledger>(
     }
 }
 
-/// The packer of the undo text of one of a job's tables, which has a number among them.
+/// Returns the packer of the undo text of one of a job's tables. `number` is the table's place among them.
 fn undo_packer<'a>(
     alloc: Global,
     job: &'a UndoJob,
@@ -206,7 +206,7 @@ fn undo_packer<'a>(
     }
 }
 
-/// The packers of the undo texts of a job's tables, one after the other.
+/// Returns the packers of the undo texts of a job's tables, one after the other.
 fn undo_packers<'a>(
     alloc: Global,
     job: &'a UndoJob,
@@ -230,7 +230,7 @@ fn undo_packers<'a>(
     Ok(joined)
 }
 
-/// The mark under which the packages of a job's undo texts are written to the standard output.
+/// Returns the mark under which the packages of a job's undo texts go to the standard output.
 fn one_mark(alloc: Global, job: &UndoJob, joined: &Joined<UndoPacker<'_>>) -> Result<Marks, Memory>
     requires can { CanUndo job.now }
     requires parts { joined.now.parts.items ≡ map (undo_packages job.now.of.of.plan job.now.of.of.asked) (chosen_places job.now.of.of.plan job.now.of.of.asked.table) }
@@ -244,7 +244,7 @@ fn one_mark(alloc: Global, job: &UndoJob, joined: &Joined<UndoPacker<'_>>) -> Re
     }
 }
 
-/// The marks under which they are written to files in a directory.
+/// Returns the marks under which the packages of a job's undo texts go to files in a directory.
 fn file_marks(
     alloc: Global,
     job: &UndoJob,
@@ -271,7 +271,7 @@ fn file_marks(
     }
 }
 
-/// The marks under which the packages of a job's undo texts are written.
+/// Returns the marks under which the packages of a job's undo texts are written.
 fn undo_marks(
     alloc: Global,
     job: &UndoJob,

@@ -33,10 +33,10 @@ use std::thread::Threads;
 use step_count::Steps;
 use update_box::{Content, ListPacker, Memory, UnitRows, rows_of_unit};
 
-/// What the files of what a unit changes tell of each table.
+/// The contents of a unit's files, for each table.
 const CONTENTS: [Content; 3] = [Content::Deleted, Content::Updated, Content::Inserted];
 
-/// The job of what a unit changes in a plan's tables. In CSV its texts are made here.
+/// Returns the job of what a unit changes in a plan's tables. In CSV its texts are made here.
 pub(crate) fn plan_unit<B: Ledger, R: Threads + Sync, G: Gate + Sync>(
     rt: &R,
     alloc: Global,
@@ -67,7 +67,7 @@ pub(crate) fn plan_unit<B: Ledger, R: Threads + Sync, G: Gate + Sync>(
     }
 }
 
-/// The job of what a unit changes in COPY text form.
+/// Returns the job of what a unit changes, in COPY text form.
 fn copied_unit<B: Ledger>(
     alloc: Global,
     plan: Plan,
@@ -95,7 +95,7 @@ fn copied_unit<B: Ledger>(
     }
 }
 
-/// The job of what a unit changes in CSV.
+/// Returns the job of what a unit changes, in CSV.
 fn csv_unit<B: Ledger, R: Threads + Sync, G: Gate + Sync>(
     rt: &R,
     alloc: Global,
@@ -132,7 +132,8 @@ fn csv_unit<B: Ledger, R: Threads + Sync, G: Gate + Sync>(
     )
 }
 
-/// The job of what a unit changes, with its files in a directory or on the standard output. At `Memory` there is none.
+/// Returns the job of what a unit changes. The files go to a directory, or to the standard output if `out` is None. Fails with
+/// `Memory` if memory runs out.
 pub(crate) fn found_job<B: Ledger>(
     alloc: Global,
     plan: Plan,
@@ -159,7 +160,7 @@ pub(crate) fn found_job<B: Ledger>(
     Ok(UnitJob { of, rows })
 }
 
-/// The rows of a job's tables that its unit changes, found with the orders that are prepared.
+/// Returns the rows that a job's unit changes in its tables. They are found with the prepared orders.
 fn found_rows<B: Ledger>(alloc: Global, job: &TablesJob, blank: Blank) -> Result<UnitRows, Memory>
     requires name { blank.name ≡ B.name }
     requires parts { blank.parts ≡ B.parts }
