@@ -2,17 +2,16 @@
 
 ghost use Rattle.std.specs.Prelude.{◌≡◌, ◌+◌, ◌-◌, ◌<◌, ◌≤◌, ◌++◌, ◌^◌, OnErr, OnOk, Some, is_some, length, sum, true};
 ghost use Rattle.std.specs.List.{range_with_len};
-ghost use Rattle.cohort_sizes.specs.Births.{LiesIn, cohort_size, first_ordinal};
 ghost use Rattle.schema_plan.specs.References.{IsSpread, Reference, reference_at};
 ghost use Rattle.life_intervals.specs.Blocks.{block_below, places_choosing, places_of_parent};
-ghost use Rattle.life_intervals.specs.Children.{IsCandidate, child_at, child_block, children_of_each};
+ghost use Rattle.life_intervals.specs.Children.{IsCandidate, child_block, children_of_each};
 ghost use Rattle.life_intervals.specs.CohortParents.{IsReferenceOf, reference_by};
 ghost use Rattle.life_intervals.specs.FoundAt.{AreAppended, GoesOn};
-ghost use Rattle.life_intervals.specs.Generator.{generator_of, last_unit, table_of};
+ghost use Rattle.life_intervals.specs.Generator.{last_unit, table_of};
 
 use crate::births::cohort;
 use crate::memory::Memory;
-use crate::orders::{Purpose, wanted};
+use crate::orders::Purpose;
 use crate::rows::Rows;
 use crate::window::Window;
 use schema_plan::{Plan, ReadyKind, ReadyReference};
@@ -78,29 +77,6 @@ pub fn child_block(
     let before = turn.saturating_mul(window.count.number()); // no cohort has as many rows as what saturates
     let number = before.saturating_add(parent - window.first);
     block_below(reference, cohort(plan, table, unit).size, number)
-}
-
-/// Returns the ordinal of a row of the cohort born at `unit`: the row with the place `place` in the order of parents. The order is
-/// of the reference in the column at a place. `place` must be below the cohort's size. Takes one step.
-pub fn child_of_place<L: Ledger>(
-    plan: &Plan,
-    table: u32,
-    column: u32,
-    unit: u64,
-    place: u64,
-    steps: &mut Steps<L>,
-) -> u64
-    requires table { table < length plan.now.schema.tables }
-    requires unit { unit ≤ last_unit plan.now }
-    requires reference { is_some (reference_at (table_of plan.now table) column) ≡ true }
-    requires place { place < cohort_size (table_of plan.now table).births unit }
-    ensures child { result ≡ child_at plan.now table column unit place }
-    ensures lies { LiesIn (table_of plan.now table).births unit result }
-    ensures place { (generator_of plan.now).order table column unit (result - first_ordinal (table_of plan.now table).births unit) ≡ place }
-    ensures one_step { steps.new ≡ steps.old + 1 }
-{
-    let order = wanted(plan, table, Purpose::Parents(column), unit).by_rounds();
-    cohort(plan, table, unit).first + order.unplace(place, steps)
 }
 
 /// Appends the places of a block to a list.

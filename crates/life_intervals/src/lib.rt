@@ -31,14 +31,13 @@ mod wanted;
 mod window;
 
 pub use births::{birth, born, cohort};
-pub use children::{Block, child_block, child_of_place};
+pub use children::{Block, child_block};
 pub use cohort_sizes::Cohort;
 pub use found::{FoundRow, find, row_of_cohort};
 pub use job_orders::JobOrders;
 pub use keys::{key, row_of_key};
-pub use lives::{Survival, last_change, may_change, own_death, survival_at};
+pub use lives::{Survival, last_change, own_death, survival_at};
 pub use memory::Memory;
-pub use orders::{key_order, life_order, update_order};
 pub use parents::{death, held_parent, parent};
 pub use rows::Rows;
 pub use run_ends::MOST_ROWS;

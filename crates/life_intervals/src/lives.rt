@@ -4,7 +4,7 @@ ghost use Rattle.std.specs.Prelude.{◌≡◌, ◌+◌, ◌<◌, ◌≤◌, ◌�
 ghost use Rattle.std.specs.Option.{option_map};
 ghost use Rattle.cohort_sizes.specs.Births.{born_count};
 ghost use Rattle.schema_plan.specs.Lineage.{one_if};
-ghost use Rattle.life_intervals.specs.Changes.{change_span, due_by, last_due, may_change};
+ghost use Rattle.life_intervals.specs.Changes.{change_span, due_by, last_due};
 ghost use Rattle.life_intervals.specs.CohortLives.{survival_at};
 ghost use Rattle.life_intervals.specs.CohortOrders.{do_lives_differ, do_updates_differ};
 ghost use Rattle.life_intervals.specs.CohortParents.{asked_for_change};
@@ -15,7 +15,6 @@ ghost use Rattle.life_intervals.specs.Rows.{life_by};
 
 use crate::found::{FoundRow, find};
 use crate::orders::Purpose;
-use crate::parents::has_nullings;
 use crate::rows::Rows;
 use schema_plan::{Plan, Span};
 use std::sync::ledger::Ledger;
@@ -82,14 +81,6 @@ pub fn survival_at(plan: &Plan, table: u32, born: u64, unit: u64) -> Survival
     } else {
         Survival::Over
     }
-}
-
-/// Whether rows of a table can change after their birth: they are updated, or they can lose a parent.
-pub fn may_change(plan: &Plan, table: u32) -> bool
-    requires { table < length plan.now.schema.tables }
-    ensures { result ≡ may_change (table_of plan.now table) }
-{
-    plan.update(table).is_some() || has_nullings(plan, table)
 }
 
 impl<'a> Rows<'a> {

@@ -1,12 +1,11 @@
 //! The orders of cohorts: of keys, lives, updates and chosen parents.
 
 ghost use Rattle.std.specs.Prelude.{◌≡◌, ◌<◌, ◌≤◌, length};
-ghost use Rattle.life_intervals.specs.CohortOrders.{do_lives_differ, do_updates_differ, is_drawn, key_order, life_order, order_for, order_seed, update_order};
+ghost use Rattle.life_intervals.specs.CohortOrders.{do_lives_differ, do_updates_differ, is_drawn, order_for, order_seed};
 ghost use Rattle.life_intervals.specs.Generator.{last_unit, table_of};
 
 use crate::births::cohort;
 use crate::wanted::Wanted;
-use id_permutation::Order;
 use philox_seeds::{key_order_seed, life_order_seed, reference_order_seed, update_order_seed};
 use schema_plan::{Plan, Span};
 
@@ -85,31 +84,4 @@ pub(crate) fn wanted(plan: &Plan, table: u32, purpose: Purpose, unit: u64) -> Wa
             None
         },
     }
-}
-
-/// Returns the order of the keys of the rows of a table that are born at a unit. Takes no memory.
-pub fn key_order<'a>(plan: &Plan, table: u32, unit: u64) -> Order<'a>
-    requires table { table < length plan.now.schema.tables }
-    requires unit { unit ≤ last_unit plan.now }
-    ensures { result ≡ key_order plan.now table unit }
-{
-    wanted(plan, table, Purpose::Keys, unit).by_rounds()
-}
-
-/// Returns the order of the lives of the rows of a table that are born at a unit. Takes no memory.
-pub fn life_order<'a>(plan: &Plan, table: u32, unit: u64) -> Order<'a>
-    requires table { table < length plan.now.schema.tables }
-    requires unit { unit ≤ last_unit plan.now }
-    ensures { result ≡ life_order plan.now table unit }
-{
-    wanted(plan, table, Purpose::Lives, unit).by_rounds()
-}
-
-/// Returns the order of the updates of the rows of a table that are born at a unit. Takes no memory.
-pub fn update_order<'a>(plan: &Plan, table: u32, unit: u64) -> Order<'a>
-    requires table { table < length plan.now.schema.tables }
-    requires unit { unit ≤ last_unit plan.now }
-    ensures { result ≡ update_order plan.now table unit }
-{
-    wanted(plan, table, Purpose::Updates, unit).by_rounds()
 }

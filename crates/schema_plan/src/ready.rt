@@ -124,7 +124,8 @@ impl Drop for ReadyPart {
     }
 }
 
-/// A value that is drawn for a field alone, ready for rows.
+/// A value that is drawn for a field, ready for rows.
+#[derive(Drop)]
 pub enum ReadyLeaf {
     /// One of so many choices from `lo` to `hi`, each `step` past the one before.
     Int {
@@ -174,54 +175,4 @@ pub enum ReadyLeaf {
         lengths: FixedDivisor,
         words: ReadyWords,
     },
-}
-
-impl Drop for ReadyLeaf {
-    fn drop(self) {
-        match self {
-            ReadyLeaf::Int {
-                lo: _,
-                hi: _,
-                step: _,
-                choices: _,
-            }
-            | ReadyLeaf::Fixed {
-                lo: _,
-                hi: _,
-                choices: _,
-                decimals: _,
-                unit: _,
-            }
-            | ReadyLeaf::Date {
-                lo: _,
-                hi: _,
-                choices: _,
-            } => {}
-            ReadyLeaf::Pick {
-                entries,
-                weights,
-                total: _,
-            } => {
-                drop(entries);
-                drop(weights);
-            }
-            ReadyLeaf::Skew {
-                lo: _,
-                weights,
-                total: _,
-            } => drop(weights),
-            ReadyLeaf::Chars {
-                lo: _,
-                lengths: _,
-                characters,
-                count: _,
-            } => drop(characters),
-            ReadyLeaf::Dict(it) => drop(it),
-            ReadyLeaf::Words {
-                lo: _,
-                lengths: _,
-                words,
-            } => drop(words),
-        }
-    }
 }
