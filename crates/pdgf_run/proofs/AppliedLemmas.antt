@@ -49,14 +49,19 @@ use Rattle.pdgf_run.specs.declared.job.Task.{Task}
 use Rattle.pdgf_run.specs.declared.report.Report.{Report}
 use Rattle.pdgf_run.proofs.TaskLemmas.{plays_no_other}
 use Rattle.update_box.specs.Packages.{chosen_places}
+use Rattle.update_box.specs.Parts.{name_at}
 use Rattle.csv_face.specs.Csv.{HasRows}
 use Rattle.request_words.specs.declared.usage.Format.{Format}
 use Rattle.request_words.specs.declared.usage.Format.TheVariants.{Copy, Csv}
 use Rattle.pdgf_run.specs.Formats.{AreWritten, made_files}
-use Rattle.pdgf_run.specs.modes.Apply.{AreApplied, AreLaterFiles, HoldInputs, IsApplyDue, IsMadeIn, IsMadeOf, input_fields, input_limit, input_paths, inputs_at, inputs_each, of_choice, table_inputs, tables_asked, text_name}
-use Rattle.pdgf_run.proofs.KeyedTextLemmas.{IsKeyedText, inputs-keyed, later-rows, some-csvs, texts-read}
+use Rattle.pdgf_run.specs.Replay.{AreReplayed, IsMadeIn, IsMadeOf, format_by, format_of, input_fields, input_limit, input_paths, inputs_at, text_name}
+use Rattle.pdgf_run.specs.declared.replay.Replay.{Replay}
+use Rattle.pdgf_run.specs.declared.replay.Way.TheVariants as way
+use Rattle.pdgf_run.specs.modes.Apply.{AreLaterFiles, HoldInputs, IsApplyDue, apply_of, columns_by, of_choice, table_inputs, tables_asked}
+use Rattle.pdgf_run.proofs.KeyedTextLemmas.{IsKeyedText, columns_at, format_is, inputs-keyed, later-rows, some-csvs, texts-read}
 use Rattle.pdgf_run.proofs.ChunkLemmas.{chunk}
-use Rattle.pdgf_run.proofs.ApplyLemmas.{long_behind, read_and_made}
+use Rattle.pdgf_run.proofs.ApplyLemmas.{due_asked}
+use Rattle.pdgf_run.proofs.ReplayLemmas.{long_behind, read_and_made}
 use Rattle.pdgf_run.proofs.DecideLemmas.{of_words}
 use Rattle.pdgf_run.proofs.OutcomeLemmas.{one_verdict}
 
@@ -108,7 +113,7 @@ length-streams plan place first (suc count) =
     let more : length (unit_streams plan place first ++ rest) ≡ 3 + length rest = length-append (unit_streams plan place first) rest in
     omega (arith, more, length-streams plan place (first + 1) count)
 
-length-table_inputs : (plan : Project) (r : Request) (place : ℕ) → length (table_inputs plan r.from (r.to - r.from) place) ≡ inputs_each r
+length-table_inputs : (plan : Project) (r : Request) (place : ℕ) → length (table_inputs plan r.from (r.to - r.from) place) ≡ 1 + 3 * (r.to - r.from)
 length-table_inputs plan r place = omega (arith, length-streams plan place (r.from + 1) (r.to - r.from))
 
 -- ---- they make what the tables hold later
@@ -125,23 +130,23 @@ place_within plan (Some place) (suc i) within below = absurd (omega (arith, belo
 later_applied : (plan : Project) (r : Request) (table : Option ℕ) (inputs : List (List ℕ)) → IsInLimits plan → r.from ≤ r.to → r.to ≤ last_unit plan →
     IfSome table (λ place. place < length plan.schema.tables) →
     inputs ≡ flat_map (table_inputs plan r.from (r.to - r.from)) (chosen_places plan table) →
-    AreApplied (layout_of plan).delimiter (inputs_each r) inputs (map (table_text (generator_of plan) r.to) (chosen_places plan table))
+    AreReplayed (way.Apply One) (layout_of plan).delimiter (1 + 3 * (r.to - r.from)) inputs (map (table_text (generator_of plan) r.to) (chosen_places plan table))
 later_applied plan r table inputs limits order units within are = record {
-  applied = λ i below.
+  replayed = λ i below.
       let places : List ℕ = chosen_places plan table in
       let inside : i < length places = omega (arith, below, length-map places (table_text (generator_of plan) r.to)) in
       let place : ℕ = get_or places i 0 in
       let sum : r.from + (r.to - r.from) ≡ r.to = omega (arith, order) in
       let at_end : r.from + (r.to - r.from) ≤ last_unit plan = omega (arith, sum, units) in
-      let own : inputs_at (inputs_each r) inputs i ≡ table_inputs plan r.from (r.to - r.from) place =
-      ap (λ (l : List (List ℕ)). inputs_at (inputs_each r) l i) are
-      ∙ chunk (table_inputs plan r.from (r.to - r.from)) (inputs_each r) places i (length-table_inputs plan r) inside in
+      let own : inputs_at (1 + 3 * (r.to - r.from)) inputs i ≡ table_inputs plan r.from (r.to - r.from) place =
+      ap (λ (l : List (List ℕ)). inputs_at (1 + 3 * (r.to - r.from)) l i) are
+      ∙ chunk (table_inputs plan r.from (r.to - r.from)) (1 + 3 * (r.to - r.from)) places i (length-table_inputs plan r) inside in
       let text : get_or (map (table_text (generator_of plan) r.to) places) i [] ≡ table_text (generator_of plan) r.to place =
       get_or-map (table_text (generator_of plan) r.to) places i 0 [] inside in
       let made : IsAppliedText One (layout_of plan).delimiter (table_inputs plan r.from (r.to - r.from) place) (table_text (generator_of plan) r.to place) =
       subst (λ (t : ℕ). IsAppliedText One (layout_of plan).delimiter (table_inputs plan r.from (r.to - r.from) place) (table_text (generator_of plan) t place)) sum
       (units-applied plan limits place (place_within plan table i within inside) r.from (r.to - r.from) at_end) in
-      subst (λ (t : List ℕ). IsAppliedText One (layout_of plan).delimiter (inputs_at (inputs_each r) inputs i) t) (sym text)
+      subst (λ (t : List ℕ). IsAppliedText One (layout_of plan).delimiter (inputs_at (1 + 3 * (r.to - r.from)) inputs i) t) (sym text)
       (subst (λ (l : List (List ℕ)). IsAppliedText One (layout_of plan).delimiter l (table_text (generator_of plan) r.to place)) (sym own) made);
 }
 
@@ -162,12 +167,13 @@ all_read files paths within =
     ap (λ (long : Option ℕ). unless_too_long long (inputs_of files paths)) (none_too_long (inputs_of files paths) (first_too_long input_limit [] (inputs_of files paths)) refl within)
 
 -- what they come to in a format
-written_made : (format : Format) (plan : Project) (r : Request) (table : Option ℕ) (texts inputs : List (List ℕ)) (answer : Result (List File) JobFault) → IsDelimiter (layout_of plan).delimiter →
-    AllZip (IsKeyedText (layout_of plan).delimiter) (input_fields plan r (chosen_places plan table)) texts → AreWritten format (layout_of plan).delimiter texts inputs →
-    IsMadeOf plan r table texts answer → IsMadeIn format plan r table inputs answer
-written_made Copy plan r table texts inputs answer delimits of are made = subst (λ (l : List (List ℕ)). IsMadeOf plan r table l answer) (sym are) made
-written_made Csv plan r table texts inputs answer delimits of are made =
-    inl (texts, texts-read (layout_of plan).delimiter delimits (input_fields plan r (chosen_places plan table)) texts inputs of are, made)
+written_made : (format : Format) (plan : Project) (r : Request) (replay : Replay) (places : List ℕ) (texts inputs : List (List ℕ)) (answer : Result (List File) JobFault) →
+    IsDelimiter (layout_of plan).delimiter → AllZip (IsKeyedText (layout_of plan).delimiter) (input_fields r (columns_at plan places)) texts → AreWritten format (layout_of plan).delimiter texts inputs →
+    IsMadeOf (layout_of plan).delimiter r replay texts answer → IsMadeIn (columns_by format plan places) (layout_of plan).delimiter r replay inputs answer
+written_made Copy plan r replay places texts inputs answer delimits of are made =
+    subst (λ (l : List (List ℕ)). IsMadeOf (layout_of plan).delimiter r replay l answer) (sym are) made
+written_made Csv plan r replay places texts inputs answer delimits of are made =
+    inl (texts, texts-read (layout_of plan).delimiter delimits (input_fields r (columns_at plan places)) texts inputs of are, made)
 
 -- what is written of texts with rows, in a format
 some_written : (format : Format) (delimiter : ℕ) (texts : List (List ℕ)) → All (λ (text : List ℕ). HasRows delimiter text) texts → (written : List (List ℕ)) × AreWritten format delimiter texts written
@@ -180,23 +186,29 @@ later_due plan r files table delimits limits asked hold =
     let first = passes (nat_lt r.to r.from) (job.Range option.From) _ table asked in
     let second = passes (nat_lt (layout_of plan).units r.to) (job.Range option.To) _ table first.1 in
     let chosen : chosen_table plan.schema r.table ≡ Some table = choice_is (chosen_table plan.schema r.table) table second.1 in
-    let paths : List (List ℕ) = input_paths plan r table in
-    let texts : List (List ℕ) = flat_map (table_inputs plan r.from (r.to - r.from)) (chosen_places plan table) in
-    let later : List (List ℕ) = map (table_text (generator_of plan) r.to) (chosen_places plan table) in
-    let written = some_written r.format (layout_of plan).delimiter later (later-rows plan limits r.to table (there table chosen)) in
-    let due : List File = made_files (text_name r.format plan.schema) r.out (chosen_places plan table) written.0 in
-    let are : AreLaterFiles plan r table due = record { written = written.0; are = written.1; due_is = refl } in
+    let delimiter : ℕ = (layout_of plan).delimiter in
+    let places : List ℕ = chosen_places plan table in
+    let replay : Replay = apply_of plan r table in
+    let inputs : List (List ℕ) = inputs_of files (input_paths r replay) in
+    let texts : List (List ℕ) = flat_map (table_inputs plan r.from (r.to - r.from)) places in
+    let later : List (List ℕ) = map (table_text (generator_of plan) r.to) places in
+    let written = some_written r.format delimiter later (later-rows plan limits r.to table (there table chosen)) in
+    let due : List File = made_files (text_name (format_of replay)) r.out replay.names written.0 in
+    let are : AreLaterFiles plan r table due =
+    record { written = written.0; are = subst (λ (f : Format). AreWritten f delimiter later written.0) (sym (format_is r.format plan places)) written.1; due_is = refl } in
     let within : r.to ≤ last_unit plan = not_less (layout_of plan).units r.to second.0 in
-    let order : r.from ≤ r.to = not_less r.to r.from first.0 in (
+    let order : r.from ≤ r.to = not_less r.to r.from first.0 in
+    let made : IsMadeOf delimiter r replay texts (Ok due) = (
+      later,
+      length-map places (table_text (generator_of plan) r.to) ∙ sym (length-map places (name_at plan.schema)),
+      later_applied plan r table texts limits order within (there table chosen) refl,
+      are,
+    ) in (
       due,
       are,
-      read_and_made plan r files table (Ok (inputs_of files paths)) (Ok due) (sym asked) (all_read files paths hold.within)
-          (written_made r.format plan r table texts (inputs_of files paths) (Ok due) delimits (inputs-keyed plan limits r table order within (there table chosen)) hold.texts (
-            later,
-            length-map (chosen_places plan table) (table_text (generator_of plan) r.to),
-            later_applied plan r table texts limits order within (there table chosen) refl,
-            are,
-          )),
+      due_asked (apply_of plan r) delimiter delimiter r files (tables_asked plan r) table replay (Ok due) (sym asked) refl refl
+          (read_and_made delimiter r replay files (Ok inputs) (Ok due) (all_read files (input_paths r replay) hold.within)
+          (written_made r.format plan r replay places texts inputs (Ok due) delimits (inputs-keyed plan limits r table order within (there table chosen)) hold.texts made)),
     )
   where
     there : (table : Option ℕ) → chosen_table plan.schema r.table ≡ Some table → IfSome table (λ place. place < length plan.schema.tables)

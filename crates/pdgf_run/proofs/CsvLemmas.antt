@@ -12,7 +12,7 @@ use Rattle.request_words.specs.declared.usage.Format.TheVariants.{Copy, Csv}
 use Rattle.row_text.specs.Fields.{IsDelimiter}
 use Rattle.schema_plan.proofs.WordListLemmas.{take_more_got}
 use Rattle.pdgf_run.specs.Formats.{AreCsvOf, AreWritten}
-use Rattle.pdgf_run.specs.modes.Apply.{AreReadAs, HasBadAt, IsReadIn}
+use Rattle.pdgf_run.specs.Replay.{AreReadAs, HasBadAt, IsReadIn}
 
 -- ---- two lists, one for one
 

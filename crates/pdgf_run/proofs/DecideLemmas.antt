@@ -25,6 +25,16 @@ use Rattle.request_words.specs.declared.usage.UsageFault.TheVariants as usage
 use Rattle.schema_plan.specs.Dictionaries.{Project, project_of}
 use Rattle.schema_plan.specs.Limits.{IsInLimits}
 use Rattle.schema_read.specs.Schema.{schema_of}
+use Rattle.std.specs.Prelude.{flat_map, map}
+use Rattle.request_words.specs.declared.usage.Format.{Format}
+use Rattle.stream_apply.specs.declared.key_fields.KeyFields.TheVariants.{One}
+use Rattle.update_box.specs.Packages.{chosen_places}
+use Rattle.update_box.specs.Parts.{name_at}
+use Rattle.pdgf_run.specs.Formats.{in_directory}
+use Rattle.pdgf_run.specs.Replay.{names_by, possible_of}
+use Rattle.pdgf_run.specs.declared.replay.Way.TheVariants as way
+use Rattle.pdgf_run.specs.modes.Apply.{apply_of, tables_asked}
+use Rattle.pdgf_run.proofs.KeyedTextLemmas.{format_is}
 use Rattle.pdgf_run.specs.Playing.{task_due}
 use Rattle.pdgf_run.specs.ReadingList.{AsksInMode, AsksInTurn, names_behind, names_in_mode, possible_behind, possible_in_mode, possible_list, reading_list, reads_schema}
 use Rattle.pdgf_run.specs.TopCall.{IsLimitOf, IsLimitRefused, IsLimitTold, LibraryDone, LibraryLeft, reads_for}
@@ -266,12 +276,19 @@ asked_then first list before mid now once more =
     (more.asked ∙ ap (option_map (λ (names : List (List ℕ)). names ++ take more.count list)) once ∙ asked_also first (take more.count list) before)
     (ap (λ (l : List (List ℕ)). first ++ l) (sym (take-append-drop more.count list)) ∙ sym (append_assoc first (take more.count list) (drop more.count list)))
 
+-- of a plan only the schema is asked
+same-possible : (r : Request) (plan : Project) (asked : Result (Option ℕ) JobFault) → possible_of (apply_of plan r) r asked ≡ possible_of (apply_of (project_of plan.schema []) r) r asked
+same-possible r plan (Err fault) = refl
+same-possible r plan (Ok table) =
+    ap (λ (format : Format). map (in_directory r.source) (flat_map (names_by (way.Apply One) format r.from r.to) (map (name_at plan.schema) (chosen_places plan table))))
+    (format_is r.format plan (chosen_places plan table) ∙ sym (format_is r.format (project_of plan.schema []) (chosen_places plan table)))
+
 possible_same : (mode : Mode) (r : Request) (plan : Project) (details : List ℕ) → possible_in_mode mode r plan details ≡ possible_in_mode mode r (project_of plan.schema []) details
 possible_same Check r plan details = refl
 possible_same Snapshot r plan details = refl
 possible_same Unit r plan details = refl
 possible_same Row r plan details = refl
-possible_same Apply r plan details = refl
+possible_same Apply r plan details = same-possible r plan (tables_asked plan r)
 possible_same Sample r plan details = refl
 possible_same Play r plan details = refl
 possible_same Details r plan details = refl

@@ -1,6 +1,6 @@
 -- The files of a detail table's lines: their names, their texts, and the packers of these.
-use Rattle.std.proofs.Common.{◌≡◌, ◌<◌, ◌≤◌, ◌+◌, ◌^◌, ℕ, Bool, false, true, List, [], ◌∷◌, ◌++◌, get_or, length, map, Option, None, Some, inl, inr, refl, ap, arith, subst, sym, ◌∙◌}
-use Rattle.std.specs.Prelude.{◌==◌, ◌||◌, All, IfSome, flat_map, nat_lt, zip}
+use Rattle.std.proofs.Common.{◌≡◌, ◌<◌, ◌≤◌, ◌+◌, ◌^◌, ℕ, Bool, false, true, List, [], ◌∷◌, ◌++◌, get_or, length, map, Option, None, Some, refl, ap, arith, subst, sym, ◌∙◌}
+use Rattle.std.specs.Prelude.{◌==◌, ◌||◌, All, IfSome, flat_map, nat_lt}
 use Rattle.std.specs.List.{sum_by}
 use Rattle.std.specs.Option.{option_map}
 use Rattle.std.proofs.lemmas.Bool.{eq-eqb, ltb-false}
@@ -8,17 +8,14 @@ use Rattle.std.proofs.lemmas.List.{length-map, map-append}
 use Rattle.std.proofs.lemmas.List.Folds.{flat_map-map}
 use Rattle.pd_outside.specs.Files.{File}
 use Rattle.pd_outside.specs.Library.{AskedAtMost, AskedPrefixOf}
-use Rattle.cohort_sizes.specs.Births.{Births, born_count}
-use Rattle.cohort_sizes.proofs.CohortLemmas.{born_count-le}
+use Rattle.cohort_sizes.specs.Births.{born_count}
 use Rattle.schema_plan.specs.Dictionaries.{Project}
 use Rattle.schema_plan.specs.Limits.{IsInLimits}
 use Rattle.life_intervals.specs.Generator.{generator_of, last_unit, table_of}
 use Rattle.life_intervals.specs.Streams.{deleted, updated}
 use Rattle.life_intervals.proofs.CohortParentLemmas.{row_limit}
-use Rattle.update_box.specs.Cuts.{package_count}
-use Rattle.update_box.specs.Parts.{content_count}
 use Rattle.update_box.specs.TableLists.{HasLists, HoldLists, table_lists_at}
-use Rattle.update_box.specs.UnitLists.{TableLists, UnitLists, ordinals, table_lists}
+use Rattle.update_box.specs.UnitLists.{TableLists, UnitLists, ordinals}
 use Rattle.update_box.specs.declared.parts.Content.{Content}
 use Rattle.update_box.specs.declared.parts.Content.TheVariants as content
 use Rattle.update_box.proofs.CutLemmas.{package_count-least}

@@ -1,21 +1,18 @@
 -- The packages of a detail table's lines, one after the other, are its texts.
-use Rattle.std.proofs.Common.{◌≡◌, ◌<◌, ◌≤◌, ℕ, zero, suc, ◌+◌, ◌-◌, ◌*◌, List, [], ◌∷◌, ◌++◌, filter, flat_map, length, map, min, take, drop, decimal, Some, refl, ap, arith, sym, ◌∙◌}
+use Rattle.std.proofs.Common.{◌≡◌, ◌<◌, ◌≤◌, ℕ, zero, suc, ◌+◌, ◌-◌, ◌*◌, List, [], ◌∷◌, ◌++◌, flat_map, length, map, min, take, drop, decimal, Some, refl, ap, arith, sym, ◌∙◌}
 use Rattle.std.specs.List.{range_with_len, slice_range}
 use Rattle.std.proofs.Math.Seq.{take-add}
 use Rattle.std.proofs.lemmas.List.{take_all}
 use Rattle.std.proofs.lemmas.List.Concat.{flat_map-append}
 use Rattle.std.proofs.lemmas.List.Folds.{flat_map-map}
 use Rattle.range_workers.specs.Marks.{texts}
-use Rattle.cohort_sizes.specs.Births.{Births, born_count, cohort_size, first_ordinal}
-use Rattle.cohort_sizes.proofs.CohortLemmas.{born_count-next}
+use Rattle.cohort_sizes.specs.Births.{Births, born_count, first_ordinal}
 use Rattle.schema_plan.specs.Dictionaries.{Project}
 use Rattle.schema_plan.specs.Limits.{IsInLimits}
 use Rattle.life_intervals.specs.Generator.{Generator, generator_of, last_unit, table_of}
 use Rattle.life_intervals.specs.Intervals.{changing, death, dying, is_at, is_live, living, newborn, row_at}
 use Rattle.life_intervals.specs.Keys.{key_in_cohort}
-use Rattle.life_intervals.specs.Rows.{Row}
-use Rattle.life_intervals.specs.Simulation.{rows_at}
-use Rattle.life_intervals.specs.Streams.{deleted, inserted, updated}
+use Rattle.life_intervals.specs.Streams.{deleted, updated}
 use Rattle.life_intervals.proofs.AcceptedLemmas.{AreSound-accepted, place-below}
 use Rattle.life_intervals.proofs.Ranges.{filter-range_with_len_all}
 use Rattle.life_intervals.proofs.SimulationLemmas.{rows_at-rows_of}
@@ -33,7 +30,7 @@ use Rattle.detail_rows.specs.declared.detail_lines.LineKind.TheVariants.{Whole, 
 use Rattle.detail_rows.specs.declared.packer.Rows.{Rows}
 use Rattle.detail_rows.specs.declared.packer.Rows.TheVariants.{All, Born, Keys, Lines}
 use Rattle.detail_rows.specs.Lines.{count_column, detail_deleted_text, detail_draw, detail_inserted_text, detail_text, detail_updated_text, key_lines_of_row, line_by, lines_of_draw, lines_of_row, parent_place}
-use Rattle.detail_rows.specs.Packages.{CanPack, Packages, born_by, count_of, first_born, listed_text, living_from, range_text, row_text, rows_in, size_born, text_numbered}
+use Rattle.detail_rows.specs.Packages.{Packages, born_by, count_of, first_born, listed_text, living_from, range_text, row_text, rows_in, size_born, text_numbered}
 use Rattle.detail_rows.proofs.ParentLemmas.{living-more}
 
 -- ---- texts of ranges join where they meet

@@ -1,173 +1,30 @@
--- Mode details-apply as it reads its declaration and its inputs: what comes of it, what is asked, and what is left of the library.
-use Rattle.std.proofs.Common.{◌≡◌, ◌≢◌, ◌<◌, ◌≤◌, ◌+◌, ℕ, Bool, List, [], ◌∷◌, ◌++◌, drop, get_or, length, length-append, map, take, Option, None, Some, Result, Ok, Err, inl, inr, refl, ap, sym, subst, ◌∙◌, arith}
-use Rattle.std.specs.Prelude.{◌⊎◌, IfSome, flat_map}
-use Rattle.std.specs.List.{range_with_len}
+-- Mode details-apply as it reads its declaration: what comes of it, what is asked, and what is left of the library.
+use Rattle.std.proofs.Common.{◌≡◌, ◌≤◌, ◌+◌, ℕ, Bool, List, [], ◌∷◌, ◌++◌, length, length-append, take, Option, None, Some, Result, Ok, Err, inl, inr, refl, ap, sym, subst, ◌∙◌, arith}
+use Rattle.std.specs.Prelude.{◌⊎◌, IfSome}
 use Rattle.std.specs.Option.{option_map}
 use Rattle.pd_outside.specs.Files.{File}
 use Rattle.pd_outside.specs.Library.{AskedAtMost, AskedPrefixOf, Content, ask}
-use Rattle.plan_stages.specs.Inputs.{AskedInTurn, AskedToFault, first_too_long, input_status, inputs_in, inputs_of, total_length, unless_too_long}
 use Rattle.plan_stages.specs.Limits.{schema_limit}
 use Rattle.plan_stages.specs.PlanNames.{AskedNone}
 use Rattle.plan_stages.specs.Stages.{Decides, LibraryAfter}
-use Rattle.plan_stages.specs.declared.inputs.InputFault.{InputFault}
 use Rattle.plan_stages.proofs.DictionaryLemmas.{IfSome-same}
 use Rattle.refusals.specs.Statuses.{details_status, job_status}
 use Rattle.refusals.specs.declared.refusal.DetailsCause.{DetailsCause}
-use Rattle.refusals.specs.declared.refusal.InputCause.TheVariants.{Applying, Reading}
 use Rattle.refusals.specs.declared.refusal.JobFault.{JobFault}
 use Rattle.refusals.specs.declared.refusal.JobFault.TheVariants as job
 use Rattle.request_words.specs.declared.usage.Request.{Request}
 use Rattle.schema_plan.specs.Dictionaries.{Project}
-use Rattle.schema_plan.specs.Layout.{layout_of}
-use Rattle.stream_apply.specs.InTurn.{IsFaultAt}
-use Rattle.stream_apply.specs.declared.fault.ApplyFault.{ApplyFault}
-use Rattle.stream_apply.specs.declared.fault.ApplyFault.TheVariants.{Memory}
-use Rattle.stream_apply.specs.declared.key_fields.KeyFields.TheVariants.{Two}
 use Rattle.detail_plan.specs.declared.detail.Detail.{Detail}
 use Rattle.pdgf_run.specs.Details.{detail_in, detail_of_text}
-use Rattle.pdgf_run.specs.Formats.{in_directory}
 use Rattle.pdgf_run.specs.Jobs.{due_of}
 use Rattle.pdgf_run.specs.TopCall.{IsLimitOf, LibraryLeft}
 use Rattle.pdgf_run.specs.Verdict.{IsDecided}
 use Rattle.pdgf_run.specs.declared.job.Job.{Job}
-use Rattle.pdgf_run.specs.modes.Apply.{file_named, input_limit, up_to_long}
-use Rattle.pdgf_run.specs.modes.DetailsApply.{AreDeclared, AreDetailsAsked, AreDetailsMade, AreDetailsOf, AreDetailsRead, IsDetailsApplyDue, behind_declared, detail_input_names, detail_input_paths, detail_paths_asked, detail_paths_possible, detail_paths_unless, detail_text_name, detail_unit_names, details_apply_asked, details_apply_possible, units_refused}
-use Rattle.pdgf_run.proofs.ApplyLemmas.{all_names, asked_at_most, asked_some, fits_so_far, length-in_directory, named_at, none_first, up_to}
+use Rattle.pdgf_run.specs.modes.DetailsApply.{AreDeclared, AreDetailsOf, IsDetailsApplyDue, behind_declared, detail_paths_asked, detail_paths_possible, details_apply_asked, details_apply_possible}
+use Rattle.pdgf_run.proofs.ReplayLemmas.{asked_some, none_first}
 use Rattle.pdgf_run.proofs.DecideLemmas.{asked_then}
-use Rattle.pdgf_run.proofs.PathLemmas.{names_more}
 
--- ---- what comes of the inputs
-
-of_units : (plan : Project) (r : Request) (files : List File) (detail : Detail) (refused : Option JobFault) (answer : Result (List File) JobFault) →
-    units_refused plan r ≡ refused → AreDetailsAsked plan r files detail refused answer → AreDetailsOf plan r files detail answer
-of_units plan r files detail refused answer is made = subst (λ (a : Option JobFault). AreDetailsAsked plan r files detail a answer) (sym is) made
-
--- a unit is out of its range
-pub units_decided : (told : Option (List File)) (plan : Project) (r : Request) (detail : Detail) (fault : JobFault) → units_refused plan r ≡ Some fault →
-    IfSome told (λ files. IsDecided job_status due_of (AreDetailsOf plan r files detail) (Err fault))
-units_decided None plan r detail fault is = tt
-units_decided (Some files) plan r detail fault is = λ free. of_units plan r files detail (Some fault) (Err fault) is refl
-
--- memory ran out
-pub no_memory_detail : (told : Option (List File)) (plan : Project) (r : Request) (detail : Detail) →
-    IfSome told (λ files. IsDecided job_status due_of (AreDetailsOf plan r files detail) (Err job.Memory))
-no_memory_detail None plan r detail = tt
-no_memory_detail (Some files) plan r detail = λ free. absurd (cc)
-
-read_and_made : (plan : Project) (r : Request) (files : List File) (detail : Detail) (inputs : Result (List (List ℕ)) InputFault) (answer : Result (List File) JobFault) →
-    units_refused plan r ≡ None → inputs_in files (detail_input_paths r detail) input_limit ≡ inputs → AreDetailsRead plan r detail inputs answer →
-    AreDetailsOf plan r files detail answer
-read_and_made plan r files detail inputs answer asked is made =
-    of_units plan r files detail None answer asked (subst (λ (i : Result (List (List ℕ)) InputFault). AreDetailsRead plan r detail i answer) (sym is) made)
-
--- an input isn't read
-pub unread_detail : (told : Option (List File)) (plan : Project) (r : Request) (detail : Detail) (paths : List (List ℕ)) (fault : InputFault) (file : List ℕ) →
-    units_refused plan r ≡ None → paths ≡ detail_input_paths r detail → fault.number < length paths →
-    file ≡ file_named (drop (length r.source + 1) (get_or paths fault.number [])) →
-    IfSome told (λ files. Decides input_status (λ inputs. inputs) (Err fault) (inputs_in files paths input_limit)) →
-    IfSome told (λ files. IsDecided job_status due_of (AreDetailsOf plan r files detail) (Err (job.Input (record { file = file; cause = Reading fault.cause }))))
-unread_detail None plan r detail paths fault file asked are within named decided = tt
-unread_detail (Some files) plan r detail paths fault file asked are within named decided = λ free.
-    let names : List (List ℕ) = detail_input_names r detail in
-    let below : fault.number < length names = omega (arith, within, ap length are, length-in_directory r.source names) in
-    let file_is : file ≡ file_named (get_or names fault.number []) =
-    named
-    ∙ ap (λ (p : List (List ℕ)). file_named (drop (length r.source + 1) (get_or p fault.number []))) are
-    ∙ ap file_named (named_at r.source names fault.number below) in
-    read_and_made plan r files detail (Err fault) (Err (job.Input (record { file = file; cause = Reading fault.cause }))) asked
-    (ap (λ (p : List (List ℕ)). inputs_in files p input_limit) (sym are) ∙ decided free)
-    (ap (λ (f : List ℕ). Err (job.Input (record { file = f; cause = Reading fault.cause }))) file_is)
-
--- what the inputs come to
-pub made_detail : (told : Option (List File)) (plan : Project) (r : Request) (detail : Detail) (paths inputs : List (List ℕ)) (answer : Result Job JobFault) →
-    units_refused plan r ≡ None → paths ≡ detail_input_paths r detail →
-    IfSome told (λ files. Decides input_status (λ inputs. inputs) (Ok inputs) (inputs_in files paths input_limit)) →
-    IsDecided job_status due_of (AreDetailsMade plan r detail inputs) answer →
-    IfSome told (λ files. IsDecided job_status due_of (AreDetailsOf plan r files detail) answer)
-made_detail None plan r detail paths inputs answer asked are decided made = tt
-made_detail (Some files) plan r detail paths inputs (Ok job) asked are decided made =
-    read_and_made plan r files detail (Ok inputs) (Ok (due_of job)) asked
-    (ap (λ (p : List (List ℕ)). inputs_in files p input_limit) (sym are) ∙ decided) made
-made_detail (Some files) plan r detail paths inputs (Err fault) asked are decided made = λ free.
-    read_and_made plan r files detail (Ok inputs) (Err fault) asked
-    (ap (λ (p : List (List ℕ)). inputs_in files p input_limit) (sym are) ∙ decided) (made free)
-
--- the first that can't be applied
-pub unapplied_detail : (plan : Project) (r : Request) (detail : Detail) (paths inputs : List (List ℕ)) (number : ℕ) (cause : ApplyFault) (told : JobFault) → paths ≡ detail_input_paths r detail →
-    length inputs ≡ length paths → number < length inputs → IsFaultAt Two (layout_of plan).delimiter inputs number cause → cause ≢ Memory →
-    told ≡ job.Input (record { file = file_named (drop (length r.source + 1) (get_or paths number [])); cause = Applying cause }) →
-    AreDetailsMade plan r detail inputs (Err told)
-unapplied_detail plan r detail paths inputs number cause told are many within has known is =
-    let names : List (List ℕ) = detail_input_names r detail in
-    let below : number < length names = omega (arith, within, many, ap length are, length-in_directory r.source names) in (
-      number,
-      cause,
-      within,
-      has,
-      known,
-      is
-          ∙ ap (λ (p : List (List ℕ)). job.Input (record { file = file_named (drop (length r.source + 1) (get_or p number [])); cause = Applying cause })) are
-          ∙ ap (λ (name : List ℕ). job.Input (record { file = file_named name; cause = Applying cause })) (named_at r.source names number below),
-    )
-
--- ---- the names that are asked for the inputs
-
-pub none_asked_detail_told : (told : Option (List File)) (plan : Project) (r : Request) (detail : Detail) (before : Option (List (List ℕ))) →
-    IfSome told (λ files. AskedPrefixOf (detail_paths_asked plan r files detail) before before)
-none_asked_detail_told None plan r detail before = tt
-none_asked_detail_told (Some files) plan r detail before = none_first (detail_paths_asked plan r files detail) before
-
-pub none_asked_detail : (plan : Project) (r : Request) (detail : Detail) (before : Option (List (List ℕ))) → AskedPrefixOf (detail_paths_possible plan r detail) before before
-none_asked_detail plan r detail before = none_first (detail_paths_possible plan r detail) before
-
-possible_is : (plan : Project) (r : Request) (detail : Detail) (paths : List (List ℕ)) (before now : Option (List (List ℕ))) → units_refused plan r ≡ None →
-    paths ≡ detail_input_paths r detail → AskedPrefixOf paths before now → AskedPrefixOf (detail_paths_possible plan r detail) before now
-possible_is plan r detail paths before now asked are first =
-    subst (λ (a : Option JobFault). AskedPrefixOf (detail_paths_unless a (detail_input_paths r detail)) before now) (sym asked)
-    (subst (λ (p : List (List ℕ)). AskedPrefixOf p before now) are first)
-
-pub asked_detail : (plan : Project) (r : Request) (detail : Detail) (paths : List (List ℕ)) (before now : Option (List (List ℕ))) → units_refused plan r ≡ None →
-    paths ≡ detail_input_paths r detail → AskedInTurn paths before now → AskedPrefixOf (detail_paths_possible plan r detail) before now
-asked_detail plan r detail paths before now asked are turn = possible_is plan r detail paths before now asked are (all_names paths before now turn)
-
-pub asked_detail_to : (plan : Project) (r : Request) (detail : Detail) (paths : List (List ℕ)) (fault : InputFault) (taken : ℕ) (before now : Option (List (List ℕ))) →
-    units_refused plan r ≡ None → paths ≡ detail_input_paths r detail → AskedToFault fault paths taken before now → AskedPrefixOf (detail_paths_possible plan r detail) before now
-asked_detail_to plan r detail paths fault taken before now asked are to = possible_is plan r detail paths before now asked are (asked_at_most paths fault taken before now to)
-
--- the same where files are told
-list_is : (plan : Project) (r : Request) (files : List File) (detail : Detail) (paths : List (List ℕ)) (inputs : Result (List (List ℕ)) InputFault) (before now : Option (List (List ℕ))) →
-    units_refused plan r ≡ None → paths ≡ detail_input_paths r detail → inputs_in files paths input_limit ≡ inputs →
-    AskedPrefixOf (up_to_long paths inputs) before now → AskedPrefixOf (detail_paths_asked plan r files detail) before now
-list_is plan r files detail paths inputs before now asked are is first =
-    subst (λ (a : Option JobFault). AskedPrefixOf (detail_paths_unless a (up_to_long (detail_input_paths r detail) (inputs_in files (detail_input_paths r detail) input_limit))) before now) (sym asked)
-    (subst (λ (p : List (List ℕ)). AskedPrefixOf (up_to_long p (inputs_in files p input_limit)) before now) are
-    (subst (λ (i : Result (List (List ℕ)) InputFault). AskedPrefixOf (up_to_long paths i) before now) (sym is) first))
-
-pub asked_detail_told : (told : Option (List File)) (plan : Project) (r : Request) (detail : Detail) (paths inputs : List (List ℕ)) (before now : Option (List (List ℕ))) →
-    units_refused plan r ≡ None → paths ≡ detail_input_paths r detail →
-    IfSome told (λ files. Decides input_status (λ inputs. inputs) (Ok inputs) (inputs_in files paths input_limit)) → AskedInTurn paths before now →
-    IfSome told (λ files. AskedPrefixOf (detail_paths_asked plan r files detail) before now)
-asked_detail_told None plan r detail paths inputs before now asked are decided turn = tt
-asked_detail_told (Some files) plan r detail paths inputs before now asked are decided turn =
-    list_is plan r files detail paths (Ok inputs) before now asked are decided (all_names paths before now turn)
-
-pub asked_detail_to_told : (told : Option (List File)) (plan : Project) (r : Request) (detail : Detail) (paths : List (List ℕ)) (fault : InputFault) (own taken : ℕ) (before now : Option (List (List ℕ))) →
-    units_refused plan r ≡ None → paths ≡ detail_input_paths r detail → AskedToFault fault paths taken before now →
-    IfSome told (λ files. total_length (inputs_of files (take fault.number paths)) + own ≡ input_limit) →
-    IfSome told (λ files. AskedPrefixOf (detail_paths_asked plan r files detail) before now)
-asked_detail_to_told None plan r detail paths fault own taken before now asked are to limits = tt
-asked_detail_to_told (Some files) plan r detail paths fault own taken before now asked are to limits =
-    let long : Option ℕ = first_too_long input_limit [] (inputs_of files paths) in
-    let fits : IfSome long (λ number. fault.number ≤ number) = fits_so_far files paths fault.number own long refl limits in
-    list_is plan r files detail paths (inputs_in files paths input_limit) before now asked are refl (go long fits to.at_most)
-  where
-    go : (long : Option ℕ) → IfSome long (λ number. fault.number ≤ number) →
-        AskedInTurn (take (fault.number + 1) paths) before now ⊎ (AskedInTurn (take fault.number paths) before now × (taken ≡ 0)) →
-        AskedPrefixOf (up_to_long paths (unless_too_long long (inputs_of files paths))) before now
-    go long fits (inl once) = up_to paths fault.number (fault.number + 1) long before now (inputs_of files paths) fits (omega arith) once
-    go long fits (inr never) = up_to paths fault.number fault.number long before now (inputs_of files paths) fits (omega arith) never.0
-
--- ---- behind the declaration
+-- ---- after the declaration
 
 of_declared : (plan : Project) (r : Request) (files : List File) (declared : Result Detail DetailsCause) (answer : Result (List File) JobFault) → detail_in plan files r.spec ≡ declared →
     AreDeclared plan r files declared answer → IsDetailsApplyDue plan r files answer
@@ -226,7 +83,7 @@ pub undeclared_asked : (plan : Project) (r : Request) (name : List ℕ) (before 
 undeclared_asked plan r name before now is asked =
     ([], once_at_most r.spec (behind_declared (detail_paths_possible plan r) (detail_of_text plan [])) before now (subst (λ (n : List ℕ). AskedAtMost n before now) is asked))
 
--- and where it is, the inputs' behind it
+-- and where it is, the inputs' after it
 behind_name : (name : List ℕ) (list : List (List ℕ)) (before mid now : Option (List (List ℕ))) → mid ≡ ask name before → AskedPrefixOf list mid now → AskedPrefixOf (name ∷ list) before now
 behind_name name list before mid now once more = asked_then (name ∷ []) list before mid now once more
 
@@ -265,19 +122,3 @@ declared_unasked plan r name detail taken earlier before mid now once asked none
         let same : ◌≡◌ {A = Option (List (List ℕ))} (Some ((names ++ name ∷ []) ++ take count (detail_paths_possible plan r detail))) (Some names) = sym whole ∙ none in
         let lists : (names ++ name ∷ []) ++ take count (detail_paths_possible plan r detail) ≡ names = cc in
         omega (arith, ap length lists, length-append (names ++ name ∷ []) (take count (detail_paths_possible plan r detail)), length-append names (name ∷ []))
-
--- ---- the paths of the inputs
-
--- those of a text, and of so many units behind a first one
-abbrev pub detail_paths_to : List ℕ → Detail → ℕ → ℕ → List (List ℕ)
-detail_paths_to directory detail from count =
-    map (in_directory directory) (detail_text_name detail ∷ flat_map (detail_unit_names detail) (range_with_len (from + 1) count))
-
--- and of one more
-pub detail_paths_more : (directory : List ℕ) (detail : Detail) (from count unit : ℕ) (mid now : List (List ℕ)) → unit ≡ from + 1 + count → mid ≡ detail_paths_to directory detail from count →
-    now ≡ mid ++ map (in_directory directory) (detail_unit_names detail unit) → now ≡ detail_paths_to directory detail from (count + 1)
-detail_paths_more directory detail from count unit mid now at so_far step =
-    step
-    ∙ ap (λ (front : List (List ℕ)). front ++ map (in_directory directory) (detail_unit_names detail unit)) so_far
-    ∙ ap (λ (u : ℕ). detail_paths_to directory detail from count ++ map (in_directory directory) (detail_unit_names detail u)) at
-    ∙ ap (λ (rest : List (List ℕ)). in_directory directory (detail_text_name detail) ∷ rest) (sym (names_more directory (detail_unit_names detail) (from + 1) count))

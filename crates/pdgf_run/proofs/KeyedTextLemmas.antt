@@ -8,7 +8,7 @@ use Rattle.std.proofs.lemmas.Fmt.{decimal_is_IsNumeral}
 use Rattle.std.proofs.lemmas.List.{append-nil, length-map}
 use Rattle.std.proofs.lemmas.List.Elements.{All-append, All-cons, All-from_get_or, All-head, All-map, All-nil, All-tail}
 use Rattle.std.proofs.lemmas.Str.Parse.{tells_digits}
-use Rattle.csv_face.specs.Csv.{BeginsWithDigit, HasRows, IsCopyText, IsCsvOf, csv_text, rows_text}
+use Rattle.csv_face.specs.Csv.{BeginsWithDigit, HasRows, IsCsvOf, csv_text}
 use Rattle.csv_face.specs.Csv as csv
 use Rattle.csv_face.specs.Reading.{AreGood, IsReadAs, is_bad_field, is_bad_record, row_field}
 use Rattle.csv_face.proofs.BackLemmas.{csv-one, csv_text-read}
@@ -32,12 +32,19 @@ use Rattle.update_box.specs.TextLaws.{unit_streams}
 use Rattle.update_box.proofs.KeyLineLemmas.{key-small}
 use Rattle.update_box.proofs.KeyedTextLemmas.{body_text, key_text, keyed-text, table_text-rows, unit_streams-lines}
 use Rattle.update_box.proofs.UpdateLemmas.{changes_at}
+use Rattle.request_words.specs.declared.usage.Format.{Format}
+use Rattle.request_words.specs.declared.usage.Format.TheVariants.{Copy, Csv}
 use Rattle.request_words.specs.declared.usage.Request.{Request}
 use Rattle.pdgf_run.specs.Formats.{AreCsvOf, AreRowsOf, IsOfFields}
-use Rattle.pdgf_run.specs.modes.Apply.{AreApplied, AreReadAs, change_fields, fields_in, input_fields, inputs_at, inputs_each, table_fields, table_inputs}
+use Rattle.pdgf_run.specs.Replay.{AreReadAs, AreReplayed, IsCsvOfTables, IsReplayedText, change_fields, fields_in, format_by, input_fields, inputs_at, inputs_by}
+use Rattle.pdgf_run.specs.declared.replay.Replay.{Replay}
+use Rattle.pdgf_run.specs.declared.replay.Way.{Way}
+use Rattle.pdgf_run.specs.declared.replay.Way.TheVariants as way
+use Rattle.pdgf_run.specs.modes.Apply.{columns_by, table_inputs}
 use Rattle.pdgf_run.proofs.ChunkLemmas.{chunk}
 use Rattle.pdgf_run.proofs.CsvLemmas.{appended, dropped, taken}
 use Rattle.pdgf_run.proofs.RowLemmas.{applied-rows, keys-copy, lines-copy, some_column}
+use Rattle.stream_apply.specs.declared.key_fields.KeyFields.TheVariants.{One}
 
 -- a text of rows with so many fields that begins with a key
 abbrev pub IsKeyedText : ℕ → ℕ → List ℕ → Type 0
@@ -158,7 +165,7 @@ module _ (plan : Project) (limits : IsInLimits plan) (place : ℕ) (below : plac
       (unit-keyed from (omega (arith, within))) (units-keyed (first + 1) (from + 1) count (omega (arith, within)))
 
   pub own-keyed : (from count : ℕ) → from + count ≤ last_unit plan →
-      AllZip (IsKeyedText (layout_of plan).delimiter) (fields_in (length (table_of plan place).columns) count) (table_inputs plan from count place)
+      AllZip (IsKeyedText (layout_of plan).delimiter) (fields_in count (length (table_of plan place).columns)) (table_inputs plan from count place)
   own-keyed from count within = (table-keyed from (omega (arith, within)), units-keyed 0 (from + 1) count (omega (arith, within)))
 
 -- ---- of tables
@@ -172,17 +179,33 @@ chosen-within plan None choice = range-within (length plan.schema.tables) 0 (len
         All-cons (λ (place : ℕ). place < all) first (range_with_len (first + 1) count) (omega (arith, within)) (range-within all (first + 1) count (omega (arith, within)))
 chosen-within plan (Some place) choice = All-cons (λ (p : ℕ). p < length plan.schema.tables) place [] choice (All-nil (λ (p : ℕ). p < length plan.schema.tables))
 
+-- how many columns each of some tables has
+abbrev pub columns_at : Project → List ℕ → List ℕ
+columns_at plan places = map (λ place. length (table_of plan place).columns) places
+
+-- they are told where a format wants them
+pub format_is : (format : Format) (plan : Project) (places : List ℕ) → format_by (columns_by format plan places) ≡ format
+format_is Copy plan places = refl
+format_is Csv plan places = refl
+
 tables-keyed : (plan : Project) → IsInLimits plan → (r : Request) → r.from ≤ r.to → r.to ≤ last_unit plan → (places : List ℕ) → All (λ place. place < length plan.schema.tables) places →
-    AllZip (IsKeyedText (layout_of plan).delimiter) (input_fields plan r places) (flat_map (table_inputs plan r.from (r.to - r.from)) places)
+    AllZip (IsKeyedText (layout_of plan).delimiter) (input_fields r (columns_at plan places)) (flat_map (table_inputs plan r.from (r.to - r.from)) places)
 tables-keyed plan limits r order within [] all = tt
 tables-keyed plan limits r order within (place ∷ places) all =
-    appended (IsKeyedText (layout_of plan).delimiter) (table_fields plan r place) (table_inputs plan r.from (r.to - r.from) place) _ _
+    appended (IsKeyedText (layout_of plan).delimiter) (fields_in (r.to - r.from) (length (table_of plan place).columns)) (table_inputs plan r.from (r.to - r.from) place) _ _
     (own-keyed plan limits place (All-head (λ (p : ℕ). p < length plan.schema.tables) place places all) r.from (r.to - r.from) (omega (arith, order, within)))
     (tables-keyed plan limits r order within places (All-tail (λ (p : ℕ). p < length plan.schema.tables) place places all))
 
 pub inputs-keyed : (plan : Project) → IsInLimits plan → (r : Request) (table : Option ℕ) → r.from ≤ r.to → r.to ≤ last_unit plan → IfSome table (λ place. place < length plan.schema.tables) →
-    AllZip (IsKeyedText (layout_of plan).delimiter) (input_fields plan r (chosen_places plan table)) (flat_map (table_inputs plan r.from (r.to - r.from)) (chosen_places plan table))
+    AllZip (IsKeyedText (layout_of plan).delimiter) (input_fields r (columns_at plan (chosen_places plan table))) (flat_map (table_inputs plan r.from (r.to - r.from)) (chosen_places plan table))
 inputs-keyed plan limits r table order within choice = tables-keyed plan limits r order within (chosen_places plan table) (chosen-within plan table choice)
+
+-- each table has a column at least
+pub columns-some : (plan : Project) → IsInLimits plan → (table : Option ℕ) → IfSome table (λ place. place < length plan.schema.tables) →
+    All (λ fields. 0 < fields) (columns_at plan (chosen_places plan table))
+columns-some plan limits table choice =
+    All-map (λ fields. 0 < fields) (λ place. length (table_of plan place).columns) (chosen_places plan table)
+    (λ k d inside. some_column plan limits _ (chosen-within plan table choice k d inside))
 
 pub later-rows : (plan : Project) → IsInLimits plan → (unit : ℕ) (table : Option ℕ) → IfSome table (λ place. place < length plan.schema.tables) →
     All (λ (text : List ℕ). HasRows (layout_of plan).delimiter text) (map (table_text (generator_of plan) unit) (chosen_places plan table))
@@ -255,17 +278,18 @@ length-changes : (columns first units : ℕ) → length (flat_map (λ (unit : �
 length-changes columns first zero = refl
 length-changes columns first (suc units) = omega (arith, length-changes columns (first + 1) units)
 
-length-fields : (plan : Project) (r : Request) (place : ℕ) → length (table_fields plan r place) ≡ inputs_each r
-length-fields plan r place = omega (arith, length-changes (length (table_of plan place).columns) 0 (r.to - r.from))
+length-fields : (units columns : ℕ) → length (fields_in units columns) ≡ 1 + 3 * units
+length-fields units columns = omega (arith, length-changes columns 0 units)
 
-pub length-input_fields : (plan : Project) (r : Request) (first count : ℕ) → length (input_fields plan r (range_with_len first count)) ≡ count * inputs_each r
-length-input_fields plan r first zero = omega arith
-length-input_fields plan r first (suc count) =
-    let rest : List ℕ = input_fields plan r (range_with_len (first + 1) count) in
-    length-append (table_fields plan r first) rest
-    ∙ ap (λ (n : ℕ). n + length rest) (length-fields plan r first)
-    ∙ ap (λ (n : ℕ). inputs_each r + n) (length-input_fields plan r (first + 1) count)
-    ∙ one_more (inputs_each r) count
+pub length-input_fields : (r : Request) (columns : List ℕ) → length (input_fields r columns) ≡ length columns * (1 + 3 * (r.to - r.from))
+length-input_fields r [] = omega arith
+length-input_fields r (own ∷ columns) =
+    let each : ℕ = 1 + 3 * (r.to - r.from) in
+    let rest : List ℕ = input_fields r columns in
+    length-append (fields_in (r.to - r.from) own) rest
+    ∙ ap (λ (n : ℕ). n + length rest) (length-fields (r.to - r.from) own)
+    ∙ ap (λ (n : ℕ). each + n) (length-input_fields r columns)
+    ∙ one_more each (length columns)
   where
     one_more : (each count : ℕ) → each + count * each ≡ suc count * each
     one_more each count = grind (arith)
@@ -278,33 +302,35 @@ changes-some columns first (suc units) some =
     (All-cons (λ count. 0 < count) columns (columns ∷ rest) some (All-cons (λ count. 0 < count) columns rest some (changes-some columns (first + 1) units some)))
 
 -- each has a field at least
-pub input_fields-some : (plan : Project) → IsInLimits plan → (r : Request) (first count : ℕ) → first + count ≤ length plan.schema.tables →
-    All (λ fields. 0 < fields) (input_fields plan r (range_with_len first count))
-input_fields-some plan limits r first zero within = All-nil (λ fields. 0 < fields)
-input_fields-some plan limits r first (suc count) within =
-    let columns : ℕ = length (table_of plan first).columns in
-    let some : 0 < columns = some_column plan limits first (omega (arith, within)) in
-    All-append (λ fields. 0 < fields) (table_fields plan r first) (input_fields plan r (range_with_len (first + 1) count))
-    (All-cons (λ fields. 0 < fields) columns (flat_map (λ (unit : ℕ). change_fields columns) (range_with_len 0 (r.to - r.from))) some (changes-some columns 0 (r.to - r.from) some))
-    (input_fields-some plan limits r (first + 1) count (omega (arith, within)))
+pub input_fields-some : (r : Request) (columns : List ℕ) → All (λ fields. 0 < fields) columns → All (λ fields. 0 < fields) (input_fields r columns)
+input_fields-some r [] all = All-nil (λ fields. 0 < fields)
+input_fields-some r (own ∷ columns) all =
+    let some : 0 < own = All-head (λ fields. 0 < fields) own columns all in
+    let units : ℕ = r.to - r.from in
+    All-append (λ fields. 0 < fields) (fields_in units own) (input_fields r columns)
+    (All-cons (λ fields. 0 < fields) own (flat_map (λ (unit : ℕ). change_fields own) (range_with_len 0 units)) some (changes-some own 0 units some))
+    (input_fields-some r columns (All-tail (λ fields. 0 < fields) own columns all))
 
 -- each text that inputs with rows make has rows
-pub made-rows : (plan : Project) → IsInLimits plan → (r : Request) (table : Option ℕ) (inputs texts : List (List ℕ)) → IsDelimiter (layout_of plan).delimiter →
-    IfSome table (λ place. place < length plan.schema.tables) → AreRowsOf (layout_of plan).delimiter (input_fields plan r (chosen_places plan table)) inputs →
-    AreApplied (layout_of plan).delimiter (inputs_each r) inputs texts → length texts ≡ length (chosen_places plan table) →
-    All (λ (text : List ℕ). HasRows (layout_of plan).delimiter text) texts
-made-rows plan limits r table inputs texts delimits choice are applied many =
-    let delimiter : ℕ = (layout_of plan).delimiter in
-    let places : List ℕ = chosen_places plan table in
-    let each : ℕ = inputs_each r in
+pub made-rows : (delimiter : ℕ) (r : Request) (w : Way) (columns : List ℕ) (inputs texts : List (List ℕ)) → IsDelimiter delimiter → w ≡ way.Apply One → All (λ fields. 0 < fields) columns →
+    AreRowsOf delimiter (input_fields r columns) inputs → AreReplayed w delimiter (inputs_by w r.from r.to) inputs texts → length texts ≡ length columns →
+    All (λ (text : List ℕ). HasRows delimiter text) texts
+made-rows delimiter r w columns inputs texts delimits applies some are replayed many =
+    let units : ℕ = r.to - r.from in
+    let each : ℕ = 1 + 3 * units in
     All-from_get_or (λ (text : List ℕ). HasRows delimiter text) texts [] (λ p inside.
-    let below : p < length places = omega (arith, inside, many) in
-    let place : ℕ = get_or places p 0 in
-    let own : AllZip (IsOfFields delimiter) (table_fields plan r place) (inputs_at each inputs p) =
-    subst (λ (fields : List ℕ). AllZip (IsOfFields delimiter) fields (inputs_at each inputs p)) (chunk (table_fields plan r) each places p (length-fields plan r) below)
+    let below : p < length columns = omega (arith, inside, many) in
+    let own : AllZip (IsOfFields delimiter) (fields_in units (get_or columns p 0)) (inputs_at each inputs p) =
+    subst (λ (fields : List ℕ). AllZip (IsOfFields delimiter) fields (inputs_at each inputs p)) (chunk (fields_in units) each columns p (length-fields units) below)
     (taken (IsOfFields delimiter) each _ _ (dropped (IsOfFields delimiter) (p * each) _ _ are)) in
-    applied-rows delimiter (length (table_of plan place).columns) (r.to - r.from) delimits
-    (some_column plan limits place (within places p below)) (inputs_at each inputs p) (get_or texts p []) own (applied.applied p inside))
-  where
-    within : (places : List ℕ) (p : ℕ) → p < length (chosen_places plan table) → get_or (chosen_places plan table) p 0 < length plan.schema.tables
-    within places p below = chosen-within plan table choice p 0 below
+    let applied : IsReplayedText (way.Apply One) delimiter (inputs_at each inputs p) (get_or texts p []) =
+    subst (λ (v : Way). IsReplayedText v delimiter (inputs_at (inputs_by v r.from r.to) inputs p) (get_or texts p [])) applies (replayed.replayed p inside) in
+    applied-rows delimiter (get_or columns p 0) units delimits (some p 0 below) (inputs_at each inputs p) (get_or texts p []) own applied)
+
+-- so has each where they are written as CSV
+pub made-rows_by : (delimiter : ℕ) (r : Request) (replay : Replay) (csv : Option (List ℕ)) (inputs texts : List (List ℕ)) → IsDelimiter delimiter →
+    IfSome csv (IsCsvOfTables replay.way (length replay.names)) → IfSome csv (λ columns. AreRowsOf delimiter (input_fields r columns) inputs) → format_by csv ≡ Csv →
+    AreReplayed replay.way delimiter (inputs_by replay.way r.from r.to) inputs texts → length texts ≡ length replay.names → All (λ (text : List ℕ). HasRows delimiter text) texts
+made-rows_by delimiter r replay None inputs texts delimits of are csv replayed many = absurd (cc)
+made-rows_by delimiter r replay (Some columns) inputs texts delimits of are csv replayed many =
+    made-rows delimiter r replay.way columns inputs texts delimits of.applies of.some are replayed (many ∙ sym of.alike)

@@ -1,12 +1,14 @@
 pub mod AskedLemmas
 pub mod DecideLemmas
 pub mod ReportLemmas
+mod ReplayLemmas
 mod ApplyLemmas
 mod ModeLemmas
 mod JoinedLemmas
-mod MadeLemmas
+mod ReplayedLemmas
+mod ReplayOutcomeLemmas
 mod FileLemmas
-mod PathLemmas
+mod NameLemmas
 mod CsvJobLemmas
 mod CsvLemmas
 mod OutcomeLemmas
@@ -23,9 +25,6 @@ mod PlayLemmas
 mod TaskLemmas
 pub mod SampleLemmas
 mod UndoLawLemmas
-mod RevertLemmas
-mod RevertMadeLemmas
 mod ListLemmas
-mod RevertOutcomeLemmas
 mod RevertedLemmas
 pub mod UndoLemmas

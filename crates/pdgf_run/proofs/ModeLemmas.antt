@@ -15,17 +15,17 @@ use Rattle.pdgf_run.specs.Jobs.{due_of}
 use Rattle.pdgf_run.specs.ReadingList.{AsksInMode, names_in_mode, possible_in_mode}
 use Rattle.pdgf_run.specs.TopCall.{IsLimitTold, LibraryLeft}
 use Rattle.pdgf_run.specs.Verdict.{IsDecided, IsInMode}
-use Rattle.pdgf_run.specs.modes.Apply.{paths_asked, paths_possible, tables_asked}
+use Rattle.pdgf_run.specs.modes.Apply.{paths_asked, paths_possible}
 use Rattle.pdgf_run.specs.modes.Check.{check_due}
 use Rattle.pdgf_run.specs.modes.Details.{details_due}
 use Rattle.pdgf_run.specs.modes.DetailsApply.{details_apply_asked, details_apply_possible}
-use Rattle.pdgf_run.specs.modes.Revert.{tables_reverted, undo_paths_asked, undo_paths_possible}
+use Rattle.pdgf_run.specs.modes.Revert.{undo_paths_asked, undo_paths_possible}
 use Rattle.pdgf_run.specs.modes.Row.{row_due}
 use Rattle.pdgf_run.specs.modes.Snapshot.{IsSnapshotDue}
 use Rattle.pdgf_run.specs.modes.Unit.{IsUnitDue}
 use Rattle.pdgf_run.specs.declared.job.Job.{Job}
 use Rattle.pdgf_run.specs.declared.job.Told.TheVariants.{Changes, Text}
-use Rattle.pdgf_run.proofs.ApplyLemmas.{left_alone}
+use Rattle.pdgf_run.proofs.ReplayLemmas.{left_alone}
 
 -- ---- what it answers
 
@@ -101,8 +101,8 @@ apply_decided told r plan made is decided =
     subst (λ (m : Mode). IfSome told (λ files. IsDecided job_status due_of (IsInMode m r plan files) made)) (sym is) decided
 
 pub apply_asks : (r : Request) (plan : Project) (told : Option (List File)) (before now : Option (List (List ℕ))) → r.mode ≡ Apply →
-    IfSome told (λ files. AskedPrefixOf (paths_asked plan r files (tables_asked plan r)) before now) →
-    AskedPrefixOf (paths_possible plan r (tables_asked plan r)) before now → AsksInMode r plan told before now
+    IfSome told (λ files. AskedPrefixOf (paths_asked plan r files) before now) →
+    AskedPrefixOf (paths_possible plan r) before now → AsksInMode r plan told before now
 apply_asks r plan told before now is first possible = record {
   told = subst (λ (m : Mode). IfSome told (λ (f : List File). AskedPrefixOf (names_in_mode m r plan f) before now)) (sym is) first;
   details = [];
@@ -135,8 +135,8 @@ revert_decided told r plan made is decided =
     subst (λ (m : Mode). IfSome told (λ files. IsDecided job_status due_of (IsInMode m r plan files) made)) (sym is) decided
 
 pub revert_asks : (r : Request) (plan : Project) (told : Option (List File)) (before now : Option (List (List ℕ))) → r.mode ≡ Revert →
-    IfSome told (λ files. AskedPrefixOf (undo_paths_asked plan r files (tables_reverted plan r)) before now) →
-    AskedPrefixOf (undo_paths_possible plan r (tables_reverted plan r)) before now → AsksInMode r plan told before now
+    IfSome told (λ files. AskedPrefixOf (undo_paths_asked plan r files) before now) →
+    AskedPrefixOf (undo_paths_possible plan r) before now → AsksInMode r plan told before now
 revert_asks r plan told before now is first possible = record {
   told = subst (λ (m : Mode). IfSome told (λ (f : List File). AskedPrefixOf (names_in_mode m r plan f) before now)) (sym is) first;
   details = [];

@@ -1,10 +1,7 @@
 -- Units that are played into a store.
-use Rattle.std.proofs.Common.{◌≡◌, ◌<◌, ◌≤◌, ℕ, zero, suc, ◌+◌, ◌-◌, Bool, true, false, List, [], ◌∷◌, ◌++◌, Option, Some, None, filter, length, map, take, get_or, option_map, inl, inr, refl, ap, ap₂, arith, subst, sym, ◌∙◌}
-use Rattle.std.specs.Prelude.{IfSome, if◌then◌else◌, min}
+use Rattle.std.proofs.Common.{◌≡◌, ◌<◌, ◌≤◌, ℕ, ◌+◌, ◌-◌, Bool, true, false, List, [], ◌++◌, Option, Some, None, length, take, get_or, option_map, refl, ap, ap₂, arith, subst, sym, ◌∙◌}
 use Rattle.std.specs.List.{range_with_len}
-use Rattle.std.proofs.lemmas.Bool.{cases_Bool}
-use Rattle.std.proofs.lemmas.List.{append-nil, get_or-map, length-append, length-map, length-take, take-append-le}
-use Rattle.std.proofs.lemmas.List.Elements.{filter-append}
+use Rattle.std.proofs.lemmas.List.{get_or-map, length-append, length-map, length-take, take-append-le}
 use Rattle.std.proofs.lemmas.List.FromFn.{get_or-range_with_len, length-range_with_len}
 use Rattle.std.proofs.Math.Seq.{take-append-add, take-length}
 use Rattle.cohort_sizes.specs.Births.{cohort_size, first_ordinal}
@@ -12,10 +9,9 @@ use Rattle.schema_plan.specs.Dictionaries.{Project}
 use Rattle.schema_plan.specs.Limits.{IsInLimits}
 use Rattle.life_intervals.specs.Generator.{generator_of, last_unit, table_of}
 use Rattle.life_intervals.specs.Streams.{deleted, updated}
-use Rattle.life_intervals.proofs.Ranges.{range_with_len-add}
 use Rattle.keeper_play.specs.Kept.{KeptRows, Statement, after_statements, no_rows}
-use Rattle.keeper_play.specs.Played.{Changes, TellsUnit, changes_of}
-use Rattle.keeper_play.specs.Statements.{rows_after, rows_of_unit, statements_to}
+use Rattle.keeper_play.specs.Played.{TellsUnit, changes_of}
+use Rattle.keeper_play.specs.Statements.{rows_after, statements_to}
 use Rattle.keeper_play.specs.Store.{StoppedIn, Store, finish_store, perform_all, start_store}
 use Rattle.keeper_play.proofs.PlayedLemmas.{statements-give}
 use Rattle.keeper_play.proofs.StoreLemmas.{made-more, made-none}

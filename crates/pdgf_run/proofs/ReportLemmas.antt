@@ -10,7 +10,7 @@ use Rattle.plan_stages.specs.Plans.{limit_at}
 use Rattle.refusals.specs.Messages.{cause_text, details_text, input_text, message_line, message_of, plan_fault_text}
 use Rattle.refusals.specs.Statuses.{cause_status, details_status, input_cause_status, plan_status, status_of}
 use Rattle.pdgf_run.specs.TopCall.{IsLimitOfRefusal, IsPastLimit}
-use Rattle.pdgf_run.specs.modes.Apply.{input_limit}
+use Rattle.pdgf_run.specs.Replay.{input_limit}
 use Rattle.refusals.specs.declared.refusal.DetailsCause.{DetailsCause}
 use Rattle.refusals.specs.declared.refusal.DetailsCause.TheVariants as details
 use Rattle.refusals.specs.declared.refusal.DictionaryCause.{DictionaryCause}

@@ -26,6 +26,8 @@ use Rattle.schema_plan.specs.Layout.{layout_of}
 use Rattle.schema_plan.specs.Limits.{IsInLimits}
 use Rattle.undo_streams.specs.InTurn.{IsRevertedText}
 use Rattle.update_box.specs.Packages.{chosen_places}
+use Rattle.update_box.specs.Parts.{name_at}
+use Rattle.request_words.specs.declared.usage.Format.TheVariants.{Copy}
 use Rattle.pdgf_run.specs.DueFiles.{chosen_table}
 use Rattle.pdgf_run.specs.Jobs.{due_of}
 use Rattle.pdgf_run.specs.Playing.{IsTaskOf, is_playing, task_due}
@@ -36,13 +38,17 @@ use Rattle.pdgf_run.specs.Verdict.{IsDecided, IsInMode, IsJobOver, IsPlanned, Is
 use Rattle.pdgf_run.specs.declared.job.Task.{Task}
 use Rattle.pdgf_run.specs.declared.report.Report.{Report}
 use Rattle.pdgf_run.proofs.TaskLemmas.{plays_no_other}
-use Rattle.pdgf_run.specs.modes.Apply.{inputs_at}
-use Rattle.pdgf_run.specs.modes.Revert.{AreEarlierFiles, AreReverted, HoldUndoInputs, IsRevertDue, files_reverted, tables_reverted, undo_input_paths, undo_inputs, undo_inputs_each}
+use Rattle.pdgf_run.specs.Formats.{made_files}
+use Rattle.pdgf_run.specs.Replay.{AreReplayed, IsMadeOf, input_paths, inputs_at, text_name}
+use Rattle.pdgf_run.specs.declared.replay.Replay.{Replay}
+use Rattle.pdgf_run.specs.declared.replay.Way.TheVariants as way
+use Rattle.pdgf_run.specs.modes.Revert.{AreEarlierFiles, HoldUndoInputs, IsRevertDue, revert_of, tables_reverted, undo_inputs}
 use Rattle.pdgf_run.proofs.AppliedLemmas.{all_read, choice_is, chosen_within, delimits, not_free, not_less, passes, place_within}
 use Rattle.pdgf_run.proofs.ChunkLemmas.{chunk}
 use Rattle.pdgf_run.proofs.DecideLemmas.{of_words}
 use Rattle.pdgf_run.proofs.OutcomeLemmas.{one_verdict}
-use Rattle.pdgf_run.proofs.RevertLemmas.{read_and_made}
+use Rattle.pdgf_run.proofs.ApplyLemmas.{due_asked}
+use Rattle.pdgf_run.proofs.ReplayLemmas.{read_and_made}
 use Rattle.pdgf_run.proofs.UndoLawLemmas.{units-reverted}
 
 -- ---- the inputs of a table among all
@@ -51,7 +57,7 @@ length-undo_texts : (plan : Project) (place to count : ℕ) → length (undo_tex
 length-undo_texts plan place to zero = refl
 length-undo_texts plan place to (suc count) = ap suc (length-undo_texts plan place to count)
 
-length-undo_inputs : (plan : Project) (r : Request) (place : ℕ) → length (undo_inputs plan r.to (r.from - r.to) place) ≡ undo_inputs_each r
+length-undo_inputs : (plan : Project) (r : Request) (place : ℕ) → length (undo_inputs plan r.to (r.from - r.to) place) ≡ 1 + (r.from - r.to)
 length-undo_inputs plan r place = omega (arith, length-undo_texts plan place r.to (r.from - r.to))
 
 -- ---- they make what the tables held earlier
@@ -59,19 +65,19 @@ length-undo_inputs plan r place = omega (arith, length-undo_texts plan place r.t
 earlier_reverted : (plan : Project) (r : Request) (table : Option ℕ) (inputs : List (List ℕ)) → IsInLimits plan → r.to ≤ r.from → r.from ≤ last_unit plan →
     IfSome table (λ place. place < length plan.schema.tables) →
     inputs ≡ flat_map (undo_inputs plan r.to (r.from - r.to)) (chosen_places plan table) →
-    AreReverted (layout_of plan).delimiter (undo_inputs_each r) inputs (map (table_text (generator_of plan) r.to) (chosen_places plan table))
+    AreReplayed way.Undo (layout_of plan).delimiter (1 + (r.from - r.to)) inputs (map (table_text (generator_of plan) r.to) (chosen_places plan table))
 earlier_reverted plan r table inputs limits order units within are = record {
-  reverted = λ i below.
+  replayed = λ i below.
       let places : List ℕ = chosen_places plan table in
       let inside : i < length places = omega (arith, below, length-map places (table_text (generator_of plan) r.to)) in
       let place : ℕ = get_or places i 0 in
       let at_start : r.to + (r.from - r.to) ≤ last_unit plan = omega (arith, order, units) in
-      let own : inputs_at (undo_inputs_each r) inputs i ≡ undo_inputs plan r.to (r.from - r.to) place =
-      ap (λ (l : List (List ℕ)). inputs_at (undo_inputs_each r) l i) are
-      ∙ chunk (undo_inputs plan r.to (r.from - r.to)) (undo_inputs_each r) places i (length-undo_inputs plan r) inside in
+      let own : inputs_at (1 + (r.from - r.to)) inputs i ≡ undo_inputs plan r.to (r.from - r.to) place =
+      ap (λ (l : List (List ℕ)). inputs_at (1 + (r.from - r.to)) l i) are
+      ∙ chunk (undo_inputs plan r.to (r.from - r.to)) (1 + (r.from - r.to)) places i (length-undo_inputs plan r) inside in
       let text : get_or (map (table_text (generator_of plan) r.to) places) i [] ≡ table_text (generator_of plan) r.to place =
       get_or-map (table_text (generator_of plan) r.to) places i 0 [] inside in
-      subst (λ (t : List ℕ). IsRevertedText (layout_of plan).delimiter (inputs_at (undo_inputs_each r) inputs i) t) (sym text)
+      subst (λ (t : List ℕ). IsRevertedText (layout_of plan).delimiter (inputs_at (1 + (r.from - r.to)) inputs i) t) (sym text)
       (subst (λ (l : List (List ℕ)). IsRevertedText (layout_of plan).delimiter l (table_text (generator_of plan) r.to place)) (sym own)
       (units-reverted plan limits place (place_within plan table i within inside) r.to (r.from - r.to) at_start));
 }
@@ -82,19 +88,25 @@ earlier_due plan r files table limits asked hold =
     let first = passes (nat_lt (layout_of plan).units r.from) (job.Range option.From) _ table asked in
     let second = passes (nat_lt r.from r.to) (job.Range option.To) _ table first.1 in
     let chosen : chosen_table plan.schema r.table ≡ Some table = choice_is (chosen_table plan.schema r.table) table second.1 in
-    let paths : List (List ℕ) = undo_input_paths plan r table in
-    let earlier : List (List ℕ) = map (table_text (generator_of plan) r.to) (chosen_places plan table) in
-    let due : List File = files_reverted plan r table earlier in
+    let delimiter : ℕ = (layout_of plan).delimiter in
+    let places : List ℕ = chosen_places plan table in
+    let replay : Replay = revert_of plan table in
+    let inputs : List (List ℕ) = inputs_of files (input_paths r replay) in
+    let earlier : List (List ℕ) = map (table_text (generator_of plan) r.to) places in
+    let due : List File = made_files (text_name Copy) r.out replay.names earlier in
+    let are : AreEarlierFiles plan r table due = record { written = earlier; are = refl; due_is = refl } in
     let within : r.from ≤ last_unit plan = not_less (layout_of plan).units r.from first.0 in
-    let order : r.to ≤ r.from = not_less r.from r.to second.0 in (
+    let order : r.to ≤ r.from = not_less r.from r.to second.0 in
+    let made : IsMadeOf delimiter r replay inputs (Ok due) = (
+      earlier,
+      length-map places (table_text (generator_of plan) r.to) ∙ sym (length-map places (name_at plan.schema)),
+      earlier_reverted plan r table inputs limits order within (there table chosen) hold.texts,
+      are,
+    ) in (
       due,
-      refl,
-      read_and_made plan r files table (Ok (inputs_of files paths)) (Ok due) (sym asked) (all_read files paths hold.within) (
-        earlier,
-        length-map (chosen_places plan table) (table_text (generator_of plan) r.to),
-        earlier_reverted plan r table (inputs_of files paths) limits order within (there table chosen) hold.texts,
-        refl,
-      ),
+      are,
+      due_asked (revert_of plan) delimiter delimiter r files (tables_reverted plan r) table replay (Ok due) (sym asked) refl refl
+          (read_and_made delimiter r replay files (Ok inputs) (Ok due) (all_read files (input_paths r replay) hold.within) made),
     )
   where
     there : (table : Option ℕ) → chosen_table plan.schema r.table ≡ Some table → IfSome table (λ place. place < length plan.schema.tables)

@@ -5,7 +5,7 @@ use Rattle.std.specs.List.{AllZip, join_with_byte, range_with_len}
 use Rattle.std.proofs.lemmas.List.{length-map}
 use Rattle.std.proofs.lemmas.List.Elements.{All-append, All-cons, All-head, All-map, All-nil, All-tail}
 use Rattle.std.proofs.lemmas.List.FromFn.{get_or-range_with_len, length-range_with_len}
-use Rattle.csv_face.specs.Csv.{BeginsWithDigit, HasRows, IsCopyText, IsCsvOf, csv_text, rows_text}
+use Rattle.csv_face.specs.Csv.{HasRows, rows_text}
 use Rattle.csv_face.specs.Csv as csv
 use Rattle.pd_outside.specs.Files.{File}
 use Rattle.row_text.specs.Fields.{IsDelimiter, field_text}
@@ -33,7 +33,7 @@ use Rattle.update_box.specs.declared.parts.Content.TheVariants as content
 use Rattle.update_box.specs.declared.parts.Job.{Job}
 use Rattle.pdgf_run.specs.DueFiles.{table_files}
 use Rattle.pdgf_run.specs.Formats.{IsOfFields}
-use Rattle.pdgf_run.specs.modes.Apply.{change_fields, fields_in}
+use Rattle.pdgf_run.specs.Replay.{change_fields, fields_in}
 
 -- ---- lines of rows
 
@@ -203,7 +203,7 @@ changes-fields delimiter columns delimits first (suc units) (deletes ∷ updates
   ),
 )
 
-table-fields : (delimiter columns units : ℕ) → IsDelimiter delimiter → (inputs : List (List ℕ)) → AllZip (IsOfFields delimiter) (fields_in columns units) inputs →
+table-fields : (delimiter columns units : ℕ) → IsDelimiter delimiter → (inputs : List (List ℕ)) → AllZip (IsOfFields delimiter) (fields_in units columns) inputs →
     AreTrueOfTable (HasFields delimiter columns) One delimiter inputs
 table-fields delimiter columns units delimits [] are = absurd are
 table-fields delimiter columns units delimits (text ∷ inputs) are =
@@ -222,7 +222,7 @@ rows-of_lines delimiter count (line ∷ lines) all =
       All-cons (λ (row : csv.Row). length row ≡ count) own.0 rest.0 own.2 rest.2,
     )
 
-pub applied-rows : (delimiter columns units : ℕ) → IsDelimiter delimiter → 0 < columns → (inputs : List (List ℕ)) (text : List ℕ) → AllZip (IsOfFields delimiter) (fields_in columns units) inputs →
+pub applied-rows : (delimiter columns units : ℕ) → IsDelimiter delimiter → 0 < columns → (inputs : List (List ℕ)) (text : List ℕ) → AllZip (IsOfFields delimiter) (fields_in units columns) inputs →
     IsAppliedText One delimiter inputs text → HasRows delimiter text
 applied-rows delimiter columns units delimits some inputs text are is =
     let all = applied-all (HasFields delimiter columns) One delimiter inputs text (table-fields delimiter columns units delimits inputs are) is in

@@ -35,7 +35,7 @@ use Rattle.pdgf_run.specs.Sampled.{whole_job}
 use Rattle.pdgf_run.specs.modes.Sample.{IsLaterText, IsSampleDue, IsSampleOf, IsSampleUnless, IsSummary, later_units, lines_at, lines_in, sum_of_bytes, table_line, text_and_changes}
 use Rattle.pdgf_run.proofs.AppliedLemmas.{delimits}
 use Rattle.pdgf_run.proofs.CsvLemmas.{pushed}
-use Rattle.pdgf_run.proofs.OutcomeLemmas.{never_both}
+use Rattle.pdgf_run.proofs.ReplayOutcomeLemmas.{applied-no_fault}
 
 -- ---- the files of a table alone
 
@@ -167,7 +167,7 @@ sums-next plan count total more text made are total_is is more_is = (
 pub no-fault : (plan : Project) → IsInLimits plan → (place : ℕ) → place < length plan.schema.tables → (inputs : List (List ℕ)) → inputs ≡ text_and_changes plan place (later_units plan) →
     (at : ℕ) (fault : ApplyFault) → fault ≢ Memory → IsFaultAt One (layout_of plan).delimiter inputs at fault → ⊥
 no-fault plan limits place below inputs is at fault told has =
-    never_both One (layout_of plan).delimiter (text_and_changes plan place (later_units plan)) _ at fault (delimits plan)
+    applied-no_fault One (layout_of plan).delimiter (text_and_changes plan place (later_units plan)) _ at fault (delimits plan)
     (units-applied plan limits place below 0 (last_unit plan) (omega arith)) told
     (subst (λ (list : List (List ℕ)). IsFaultAt One (layout_of plan).delimiter list at fault) is has)
 

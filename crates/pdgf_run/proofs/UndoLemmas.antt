@@ -1,15 +1,13 @@
 -- The undo texts of a job's tables, and their files.
-use Rattle.std.proofs.Common.{◌≡◌, ◌<◌, ◌≤◌, ◌^◌, ℕ, zero, suc, ◌+◌, ◌-◌, ◌*◌, All, List, [], ◌∷◌, ◌++◌, Vec, Global, Option, get_or, length, map, ap, ap₂, arith, refl, subst, sym, ◌∙◌}
+use Rattle.std.proofs.Common.{◌≡◌, ◌<◌, ◌≤◌, ◌^◌, ℕ, zero, suc, ◌+◌, ◌-◌, ◌*◌, List, [], ◌∷◌, ◌++◌, Vec, Global, Option, get_or, length, map, ap, ap₂, arith, refl, sym, ◌∙◌}
 use Rattle.std.specs.List.{flat_map, range_with_len, sum_by}
-use Rattle.std.specs.List.Sorted.{IsStrictlyIncreasing}
 use Rattle.std.proofs.lemmas.List.FromFn.{get_or-range_with_len, length-range_with_len, map-range_with_len_more}
 use Rattle.std.proofs.lemmas.List.Sums.{sum_by-cons}
 use Rattle.pd_outside.specs.Files.{File}
 use Rattle.cohort_sizes.proofs.CohortLemmas.{cohort-within}
 use Rattle.schema_plan.specs.Dictionaries.{Project}
 use Rattle.schema_plan.specs.Limits.{IsInLimits}
-use Rattle.life_intervals.specs.Generator.{generator_of, last_unit, table_of}
-use Rattle.life_intervals.specs.Simulation.{holds_row, rows_at}
+use Rattle.life_intervals.specs.Generator.{last_unit, table_of}
 use Rattle.life_intervals.proofs.CohortParentLemmas.{row_limit}
 use Rattle.undo_streams.specs.Packages.{AreChanges, Packages, count_of, text_numbered}
 use Rattle.undo_streams.specs.Places.{places_of}

@@ -1,5 +1,5 @@
 -- Rows in a format: the names of their files, and their texts.
-use Rattle.std.specs.Prelude.{◌≡◌, ℕ, ◌++◌, List, [], ◌∷◌, codes, flat_map, map, Option, Some, None}
+use Rattle.std.specs.Prelude.{◌≡◌, ℕ, ◌++◌, List, [], ◌∷◌, codes, decimal, flat_map, map, Option, Some, None}
 use Rattle.std.specs.List.{AllZip}
 use Rattle.pd_outside.specs.Files.{File}
 use Rattle.csv_face.specs.Csv.{IsCopyText, IsCsvOf, Row}
@@ -23,6 +23,10 @@ ending_in Csv unit content = ending_of unit content ++ codes ".csv"
 -- the name of a file that holds a part at a unit, without its directory
 abbrev pub file_name : Format → Schema → ℕ → Part → List ℕ
 file_name format schema unit part = name_at schema part.place ++ ending_in format unit part.content
+
+-- the name of the file of a table's undo text of a unit
+abbrev pub undo_name_of : List ℕ → ℕ → List ℕ
+undo_name_of table unit = table ++ codes "." ++ decimal unit ++ codes ".undo"
 
 abbrev pub in_directory : List ℕ → List ℕ → List ℕ
 in_directory directory name = (directory ++ codes "/") ++ name

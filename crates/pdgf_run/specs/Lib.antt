@@ -7,6 +7,7 @@ pub mod Jobs
 pub mod Joined
 pub mod Playing
 pub mod ReadingList
+pub mod Replay
 pub mod TopCall
 pub mod Verdict
 pub mod modes

@@ -17,7 +17,6 @@ use Rattle.keeper_play.specs.Store.{Store, perform_all}
 use Rattle.update_box.specs.UnitLists.{TableLists}
 use Rattle.pdgf_run.specs.DueFiles.{text_files}
 use Rattle.pdgf_run.specs.Jobs.{CanFill, due_of}
-use Rattle.pdgf_run.specs.modes.Play.{play_lines}
 use Rattle.pdgf_run.specs.declared.job.PlayJob.{PlayJob}
 use Rattle.pdgf_run.specs.declared.job.Task.{Task}
 use Rattle.pdgf_run.specs.declared.job.Task.TheVariants as task

@@ -11,9 +11,9 @@ use Rattle.request_words.specs.declared.usage.UsageFault.{UsageFault}
 use Rattle.schema_model.specs.declared.table.Schema.{Schema}
 use Rattle.schema_plan.specs.Dictionaries.{Project, project_of}
 use Rattle.schema_read.specs.Schema.{schema_of}
-use Rattle.pdgf_run.specs.modes.Apply.{paths_asked, paths_possible, tables_asked}
+use Rattle.pdgf_run.specs.modes.Apply.{paths_asked, paths_possible}
 use Rattle.pdgf_run.specs.modes.DetailsApply.{details_apply_asked, details_apply_possible}
-use Rattle.pdgf_run.specs.modes.Revert.{tables_reverted, undo_paths_asked, undo_paths_possible}
+use Rattle.pdgf_run.specs.modes.Revert.{undo_paths_asked, undo_paths_possible}
 
 -- ---- what words ask for
 
@@ -42,14 +42,14 @@ names_in_mode Check request plan files = []
 names_in_mode Snapshot request plan files = []
 names_in_mode Unit request plan files = []
 names_in_mode Row request plan files = []
-names_in_mode Apply request plan files = paths_asked plan request files (tables_asked plan request)
+names_in_mode Apply request plan files = paths_asked plan request files
 names_in_mode Sample request plan files = []
 names_in_mode Play request plan files = []
 names_in_mode Details request plan files = request.spec ∷ []
 names_in_mode DetailsUnit request plan files = request.spec ∷ []
 names_in_mode DetailsApply request plan files = details_apply_asked plan request files
 names_in_mode Undo request plan files = []
-names_in_mode Revert request plan files = undo_paths_asked plan request files (tables_reverted plan request)
+names_in_mode Revert request plan files = undo_paths_asked plan request files
 
 abbrev pub names_behind : {F : Type 0} → Request → List File → Result Project F → List (List ℕ)
 names_behind request files (Err fault) = []
@@ -67,14 +67,14 @@ possible_in_mode Check request plan details = []
 possible_in_mode Snapshot request plan details = []
 possible_in_mode Unit request plan details = []
 possible_in_mode Row request plan details = []
-possible_in_mode Apply request plan details = paths_possible plan request (tables_asked plan request)
+possible_in_mode Apply request plan details = paths_possible plan request
 possible_in_mode Sample request plan details = []
 possible_in_mode Play request plan details = []
 possible_in_mode Details request plan details = request.spec ∷ []
 possible_in_mode DetailsUnit request plan details = request.spec ∷ []
 possible_in_mode DetailsApply request plan details = details_apply_possible plan request details
 possible_in_mode Undo request plan details = []
-possible_in_mode Revert request plan details = undo_paths_possible plan request (tables_reverted plan request)
+possible_in_mode Revert request plan details = undo_paths_possible plan request
 
 abbrev pub possible_behind : {F : Type 0} → Request → List ℕ → Result Schema F → List (List ℕ)
 possible_behind request details (Err fault) = []

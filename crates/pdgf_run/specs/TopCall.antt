@@ -19,7 +19,8 @@ use Rattle.request_words.specs.declared.usage.UsageFault.{UsageFault}
 use Rattle.schema_plan.specs.Dictionaries.{Project}
 use Rattle.pdgf_run.specs.declared.report.Report.{Report}
 use Rattle.pdgf_run.specs.ReadingList.{reads_schema}
-use Rattle.pdgf_run.specs.modes.Apply.{AreLaterFiles, HoldInputs, input_limit, tables_asked}
+use Rattle.pdgf_run.specs.Replay.{input_limit}
+use Rattle.pdgf_run.specs.modes.Apply.{AreLaterFiles, HoldInputs, tables_asked}
 use Rattle.pdgf_run.specs.modes.Revert.{AreEarlierFiles, HoldUndoInputs, tables_reverted}
 
 -- The report is the verdict's: the due files were finished, in order, and none is begun; or the shelf is as it was.

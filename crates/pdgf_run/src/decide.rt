@@ -13,7 +13,7 @@ ghost use Rattle.pdgf_run.specs.Playing.{CanDo, IsTaskOf, IsTaskOver, task_due};
 ghost use Rattle.pdgf_run.specs.ReadingList.{AsksInMode, AsksInTurn, reads_on, reads_schema};
 ghost use Rattle.pdgf_run.specs.TopCall.{IsLimitRefused, IsLimitTold, LibraryDone, LibraryLeft, reads_for};
 ghost use Rattle.pdgf_run.specs.Verdict.{IsDecided, IsInMode, IsJobOver, IsPlanned, IsVerdict};
-ghost use Rattle.pdgf_run.specs.modes.Apply.{input_limit};
+ghost use Rattle.pdgf_run.specs.Replay.{input_limit};
 
 use crate::job::Task;
 use crate::modes::job_of;

@@ -15,6 +15,7 @@ mod modes;
 mod names;
 mod numbers;
 mod play;
+mod replay;
 mod report;
 mod run;
 mod text_shelf;

@@ -11,7 +11,7 @@ ghost use Rattle.pdgf_run.specs.Jobs.{due_of, CanFill};
 ghost use Rattle.pdgf_run.specs.ReadingList.{AsksInMode, reads_on, reads_schema};
 ghost use Rattle.pdgf_run.specs.TopCall.{IsLimitTold, LibraryLeft};
 ghost use Rattle.pdgf_run.specs.Verdict.{IsDecided, IsInMode};
-ghost use Rattle.pdgf_run.specs.modes.Apply.{input_limit};
+ghost use Rattle.pdgf_run.specs.Replay.{input_limit};
 
 mod apply;
 mod check;

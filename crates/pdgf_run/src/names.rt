@@ -3,7 +3,7 @@
 ghost use Rattle.std.specs.Prelude.{◌≡◌, ◌<◌, ◌≤◌, ◌+◌, ◌++◌, ◌∷◌, [], IfOk, OnOk, length, map};
 ghost use Rattle.std.specs.List.{range_with_len};
 ghost use Rattle.update_box.specs.Parts.{name_at, parts_at, parts_of};
-ghost use Rattle.pdgf_run.specs.Formats.{ending_in, file_name, in_directory};
+ghost use Rattle.pdgf_run.specs.Formats.{ending_in, file_name, in_directory, undo_name_of};
 ghost use Rattle.pdgf_run.specs.modes.Undo.{undo_path};
 
 use itoa::Buffer;
@@ -11,7 +11,7 @@ use request_words::Format;
 use schema_model::{Text, Texts};
 use schema_plan::Plan;
 use std::alloc::Global;
-use update_box::{Content, Memory, Places, push_file_name};
+use update_box::{Content, Memory, Places, push_ending};
 
 /// A directory whose files hold parts of a plan's tables in a format.
 #[derive(Clone, Copy)]
@@ -52,24 +52,61 @@ pub(crate) fn name_of(plan: &Plan, table: u32) -> &str
     plan.table(table).name.as_str()
 }
 
-/// Appends the name of the CSV file that holds a content of a table at a unit.
-fn push_csv_name(
-    path: &mut Text,
-    plan: &Plan,
-    table: u32,
+/// Returns a copy of a name.
+pub(crate) fn copy_of(alloc: Global, name: &str) -> Result<Text, Memory>
+    ensures { IfOk result (λ copy. copy ≡ name.now) }
+{
+    let mut copy = Text::new(alloc);
+    push(&mut copy, name)?;
+    Ok(copy)
+}
+
+/// Returns the names of tables.
+pub(crate) fn table_names(alloc: Global, plan: &Plan, places: Places) -> Result<Texts, Memory>
+    requires { places.from + places.count ≤ length plan.now.schema.tables }
+    ensures { IfOk result (λ names. names ≡ map (name_at plan.now.schema) (range_with_len places.from places.count)) }
+{
+    let _limits = plan.schema(); // there are 1 to 64 tables
+    let mut names = Texts::new(alloc);
+    for number in 0..places.count {
+        let name = copy_of(alloc, name_of(plan, places.from + number))?;
+        put(&mut names, name)?;
+    }
+    Ok(names)
+}
+
+/// Appends the ending of a file's name in a format: of the file that holds a content of a table at a unit.
+pub(crate) fn push_ending_in(
+    name: &mut Text,
+    format: Format,
     unit: u64,
     content: Content,
 ) -> Result<(), Memory>
-    requires { table < length plan.now.schema.tables }
-    ensures { OnOk result (path.new ≡ path.old ++ (name_at plan.now.schema table ++ ending_in Format.Csv unit content)) }
+    ensures { OnOk result (name.new ≡ name.old ++ ending_in format unit content) }
 {
-    match content {
-        Content::Snapshot => push(path, name_of(plan, table))?,
-        Content::Deleted | Content::Updated | Content::Inserted => {
-            push_file_name(path, plan, table, unit, content)?
+    match format {
+        Format::Copy => push_ending(name, unit, content),
+        Format::Csv => {
+            match content {
+                Content::Snapshot => {}
+                Content::Deleted | Content::Updated | Content::Inserted => {
+                    push_ending(name, unit, content)?
+                }
+            }
+            push(name, ".csv")
         }
     }
-    push(path, ".csv")
+}
+
+/// Appends the name of the file of a table's undo text of a unit.
+pub(crate) fn push_undo_name(name: &mut Text, table: &str, unit: u64) -> Result<(), Memory>
+    ensures { OnOk result (name.new ≡ name.old ++ undo_name_of table.now unit) }
+{
+    let mut digits = Buffer::new();
+    push(name, table)?;
+    push(name, ".")?;
+    push(name, digits.format(unit))?;
+    push(name, ".undo")
 }
 
 impl Directory<'_> {
@@ -88,10 +125,8 @@ impl Directory<'_> {
         let mut path = Text::new(alloc);
         push(&mut path, self.name)?;
         push(&mut path, "/")?;
-        match self.format {
-            Format::Copy => push_file_name(&mut path, self.plan, table, unit, content)?,
-            Format::Csv => push_csv_name(&mut path, self.plan, table, unit, content)?,
-        }
+        push(&mut path, name_of(self.plan, table))?;
+        push_ending_in(&mut path, self.format, unit, content)?;
         Ok(path)
     }
 
@@ -100,14 +135,10 @@ impl Directory<'_> {
         requires { table < length self.now.plan.now.schema.tables }
         ensures { IfOk result (λ path. path ≡ undo_path self.now.plan.now unit self.now.name.now table) }
     {
-        let mut digits = Buffer::new();
         let mut path = Text::new(alloc);
         push(&mut path, self.name)?;
         push(&mut path, "/")?;
-        push(&mut path, name_of(self.plan, table))?;
-        push(&mut path, ".")?;
-        push(&mut path, digits.format(unit))?;
-        push(&mut path, ".undo")?;
+        push_undo_name(&mut path, name_of(self.plan, table), unit)?;
         Ok(path)
     }
 

@@ -17,7 +17,7 @@ ghost use Rattle.pdgf_run.specs.Playing.{IsBrokenOff, is_play, played_store, pla
 ghost use Rattle.pdgf_run.specs.ReadingList.{AsksInTurn, reads_on, reads_schema};
 ghost use Rattle.pdgf_run.specs.TopCall.{Carries, GivesEarlier, GivesLater, IsPastLimit, reads_for};
 ghost use Rattle.pdgf_run.specs.Verdict.{WhereTold};
-ghost use Rattle.pdgf_run.specs.modes.Apply.{input_limit};
+ghost use Rattle.pdgf_run.specs.Replay.{input_limit};
 
 use crate::carry_out::carry_out;
 use crate::decide::decide;

@@ -1,5 +1,5 @@
 -- Modes details and details-unit: the text of a detail table at a unit, and what a unit changes in it.
-use Rattle.std.specs.Prelude.{◌==◌, ◌||◌, nat_lt, ℕ, Bool, List, [], ◌∷◌, Option, Some, None, Result, Ok, Err, flat_map, if◌then◌else◌, unwrap_or}
+use Rattle.std.specs.Prelude.{◌==◌, ◌||◌, nat_lt, ℕ, Bool, List, [], ◌∷◌, ◌++◌, Option, Some, None, Result, Ok, Err, flat_map, if◌then◌else◌, unwrap_or}
 use Rattle.pd_outside.specs.Files.{File}
 use Rattle.plan_stages.specs.Stages.{in_stage, on_ok}
 use Rattle.refusals.specs.declared.refusal.JobFault.{JobFault}
@@ -8,7 +8,7 @@ use Rattle.request_words.specs.declared.usage.OptionName.TheVariants as option
 use Rattle.request_words.specs.declared.usage.Request.{Request}
 use Rattle.schema_plan.specs.Dictionaries.{Project}
 use Rattle.life_intervals.specs.Generator.{last_unit}
-use Rattle.update_box.specs.Parts.{snapshot_contents, unit_contents}
+use Rattle.update_box.specs.Parts.{ending_of, snapshot_contents, unit_contents}
 use Rattle.update_box.specs.UnitLists.{UnitLists}
 use Rattle.update_box.specs.declared.parts.Content.{Content}
 use Rattle.detail_plan.specs.Rules.{reach_of}
@@ -19,7 +19,6 @@ use Rattle.pdgf_run.specs.DueFiles.{default_package, most_page_bytes, page_bytes
 use Rattle.pdgf_run.specs.Formats.{made_files, named_files}
 use Rattle.pdgf_run.specs.declared.job.Told.{Told}
 use Rattle.pdgf_run.specs.declared.job.Told.TheVariants.{Text, Changes}
-use Rattle.pdgf_run.specs.modes.DetailsApply.{detail_name}
 
 -- ---- what is told
 
@@ -62,6 +61,10 @@ details_asked told plan request detail =
     else Ok (detail_package plan request detail))
 
 -- ---- what comes of it
+
+-- the name of the file that holds this content of a detail table at a unit
+abbrev pub detail_name : Detail → ℕ → Content → List ℕ
+detail_name detail unit content = detail.name ++ ending_of unit content
 
 abbrev pub details_files : Told → Project → Request → Detail → List File
 details_files told plan request detail =

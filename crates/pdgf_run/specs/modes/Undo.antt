@@ -1,5 +1,5 @@
 -- Mode undo: what takes the texts of tables at a unit back to those at the unit before.
-use Rattle.std.specs.Prelude.{ℕ, ◌+◌, ◌==◌, ◌||◌, ◌++◌, nat_lt, List, Option, Some, None, Result, Ok, Err, codes, decimal, flat_map, if◌then◌else◌, map, unwrap_or}
+use Rattle.std.specs.Prelude.{ℕ, ◌+◌, ◌==◌, ◌||◌, nat_lt, List, Option, Some, None, Result, Ok, Err, flat_map, if◌then◌else◌, map, unwrap_or}
 use Rattle.pd_outside.specs.Files.{File}
 use Rattle.plan_stages.specs.Stages.{on_ok}
 use Rattle.schema_model.specs.declared.table.Schema.{Schema}
@@ -18,7 +18,7 @@ use Rattle.update_box.specs.Packages.{chosen_places}
 use Rattle.update_box.specs.Parts.{name_at}
 use Rattle.update_box.specs.declared.parts.Job.{Job}
 use Rattle.pdgf_run.specs.DueFiles.{chosen_table, default_package, most_page_bytes, page_bytes, text_files}
-use Rattle.pdgf_run.specs.Formats.{in_directory}
+use Rattle.pdgf_run.specs.Formats.{in_directory, undo_name_of}
 
 -- ---- what is asked
 
@@ -55,7 +55,7 @@ undo_packages plan job place = record { plan = plan; table = place; unit = job.u
 
 -- the name of the file of the table at a place, its path, and the file
 abbrev pub undo_name : Schema → ℕ → ℕ → List ℕ
-undo_name schema unit place = name_at schema place ++ codes "." ++ decimal unit ++ codes ".undo"
+undo_name schema unit place = undo_name_of (name_at schema place) unit
 
 abbrev pub undo_path : Project → ℕ → List ℕ → ℕ → List ℕ
 undo_path plan unit directory place = in_directory directory (undo_name plan.schema unit place)

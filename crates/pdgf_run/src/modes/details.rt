@@ -1,6 +1,6 @@
 //! Modes details and details-unit: the text of a detail table at a unit, and what a unit changes in the table.
 
-ghost use Rattle.std.specs.Prelude.{◌≡◌, ◌≢◌, ◌<◌, ◌≤◌, ◌+◌, ◌^◌, ◌⊎◌, ◌++◌, ◌∷◌, [], false, IfErr, IfOk, IfSome, IsErrOf, Ok, OnOk, Some, length, map, nat_lt};
+ghost use Rattle.std.specs.Prelude.{◌≡◌, ◌≢◌, ◌<◌, ◌≤◌, ◌+◌, ◌^◌, ◌⊎◌, ◌++◌, ◌∷◌, [], false, IfErr, IfOk, IfSome, IsErrOf, Ok, OnOk, Some, map, nat_lt};
 ghost use Rattle.std.specs.List.{sum_by};
 ghost use Rattle.std.specs.Option.{option_map};
 ghost use Rattle.pd_outside.specs.Faults.{FailsAtLast, Rose};
@@ -8,7 +8,7 @@ ghost use Rattle.pd_outside.specs.Library.{AskedPrefixOf};
 ghost use Rattle.pd_outside.specs.Shelf.{HoldsPrefixOf, finish_files};
 ghost use Rattle.plan_stages.specs.Limits.{schema_limit};
 ghost use Rattle.plan_stages.specs.PlanNames.{AskedNone};
-ghost use Rattle.plan_stages.specs.Stages.{ended, told_files, Decides, IsReadOut};
+ghost use Rattle.plan_stages.specs.Stages.{ended, told_files, Decides};
 ghost use Rattle.range_workers.specs.Marks.{AreMarksOf, due_files};
 ghost use Rattle.refusals.specs.Statuses.{job_status};
 ghost use Rattle.life_intervals.specs.Generator.{last_unit};
@@ -25,31 +25,30 @@ ghost use Rattle.pdgf_run.specs.Jobs.{due_of, CanFill, CanPackBy, CanPackDetails
 ghost use Rattle.pdgf_run.specs.TopCall.{IsLimitTold, LibraryLeft};
 ghost use Rattle.pdgf_run.specs.Verdict.{IsDecided};
 ghost use Rattle.pdgf_run.specs.declared.job.Told.TheVariants as Told;
-ghost use Rattle.pdgf_run.specs.modes.Apply.{input_limit};
-ghost use Rattle.pdgf_run.specs.modes.Details.{contents_of, detail_package, details_asked, details_due, details_of, files_by, is_refused, told_by, told_texts};
-ghost use Rattle.pdgf_run.specs.modes.DetailsApply.{detail_name};
+ghost use Rattle.pdgf_run.specs.Replay.{input_limit};
+ghost use Rattle.pdgf_run.specs.modes.Details.{contents_of, detail_name, detail_package, details_asked, details_due, details_of, files_by, is_refused, told_by, told_texts};
 
 use crate::asked::{MOST_PAGE_BYTES, PAGES, default_package, is_past_last};
 use crate::details::read_details;
 use crate::fill::STANDARD_OUTPUT;
 use crate::job::{DetailsJob, Job, Told};
 use crate::joined::Joined;
-use crate::modes::details_apply::{path_in, push_unit};
 use crate::names::put;
+use crate::replay::{paths_in, push_stream_names, text_name};
 use detail_plan::{Detail, DetailPlan};
 use detail_rows::{DetailPacker, Rows, parent_of};
 use life_intervals::JobOrders;
 use pd_outside::{Gate, Library, Shelf};
 use range_workers::{Marks, RunFault, run};
 use refusals::JobFault;
-use request_words::{OptionName, Request};
+use request_words::{Format, OptionName, Request};
 use schema_model::Texts;
 use schema_plan::Plan;
 use std::alloc::Global;
 use std::sync::ledger::{Blank, Ledger};
 use std::thread::Threads;
 use step_count::Steps;
-use update_box::{Content, Memory, UnitRows, rows_of_unit};
+use update_box::{Memory, UnitRows, rows_of_unit};
 
 /// Returns the job of a request. The declaration is read before any file is written.
 pub(crate) fn plan_details<B: Ledger, L: Library>(
@@ -192,15 +191,13 @@ fn paths_of(
 ) -> Result<Texts, Memory>
     ensures { IfOk result (λ paths. paths ≡ map (λ content. in_directory directory.now (detail_name detail.now unit content)) (contents_of told)) }
 {
-    let mut paths = Texts::new(alloc);
+    let name = detail.name.as_str();
+    let mut names = Texts::new(alloc);
     match told {
-        Told::Text => {
-            let path = path_in(alloc, directory, detail, unit, Content::Snapshot)?;
-            put(&mut paths, path)?;
-        }
-        Told::Changes => push_unit(alloc, &mut paths, directory, detail, unit)?,
+        Told::Text => put(&mut names, text_name(alloc, name, Format::Copy)?)?,
+        Told::Changes => push_stream_names(alloc, &mut names, name, Format::Copy, unit)?,
     }
-    Ok(paths)
+    paths_in(alloc, directory, &names)
 }
 
 /// Returns the paths of a request's files; None if they go to the standard output.

@@ -1,6 +1,7 @@
 //! Mode sample: what a sample's tables hold at unit 0 and at the last unit, and what the units after 0 change in them.
 
-ghost use Rattle.std.specs.Prelude.{◌≡◌, ◌<◌, ◌≤◌, ◌⊎◌, ◌+◌, ◌++◌, ◌^◌, ℕ, List, IfErr, IfOk, OnOk, length, map, sum};
+ghost use Rattle.std.specs.Prelude.{◌≡◌, ◌≢◌, ◌<◌, ◌≤◌, ◌⊎◌, ◌+◌, ◌++◌, ◌^◌, ℕ, List, IfErr, IfOk, OnOk, length, map, sum};
+ghost use Rattle.std.specs.Bool.{OnFalse, OnTrue};
 ghost use Rattle.pd_outside.specs.Files.{File, file_at};
 ghost use Rattle.life_intervals.specs.Generator.{generator_of, last_unit};
 ghost use Rattle.refusals.specs.Statuses.{job_status};
@@ -16,7 +17,6 @@ ghost use Rattle.pdgf_run.specs.modes.Sample.{HaveRoom, IsLaterText, IsSampleDue
 
 use crate::asked::{is_past_room, package_of};
 use crate::job::{Job, TablesJob, tables_job};
-use crate::modes::apply::is_memory;
 use crate::modes::snapshot::write_snapshot;
 use crate::modes::unit::{found_job, write_unit};
 use crate::names::name_of;
@@ -32,7 +32,7 @@ use std::alloc::Global;
 use std::marker::Brand;
 use std::sync::ledger::Blank;
 use std::thread::Threads;
-use stream_apply::{KeyFields, apply_in_turn};
+use stream_apply::{ApplyFault, KeyFields, apply_in_turn};
 use update_box::Memory;
 
 /// How many lines the units delete, update and insert in a table.
@@ -303,6 +303,14 @@ fn later_sum(alloc: Global, plan: &Plan, table: u32, texts: &TableTexts) -> Resu
         Err(told) if is_memory(told.fault) => Err(Memory),
         Err(_) => unreachable!(), // what the units change can be applied
     }
+}
+
+/// Whether a fault is want of memory, which no input causes.
+fn is_memory(fault: ApplyFault) -> bool
+    ensures memory { OnTrue result (fault ≡ ApplyFault.Memory) }
+    ensures other { OnFalse result (fault ≢ ApplyFault.Memory) }
+{
+    matches!(fault, ApplyFault::Memory)
 }
 
 /// Returns the sum of the bytes of a text.

@@ -1,4 +1,4 @@
-use Rattle.pdgf_run.proofs.PathLemmas.{joined_more}
+use Rattle.pdgf_run.proofs.NameLemmas.{joined_more}
 use Rattle.pdgf_run.proofs.csv.joined.Goals as goal
 
 pub loop-place-preserved : goal.loop-place-preserved

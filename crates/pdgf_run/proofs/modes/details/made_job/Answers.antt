@@ -1,5 +1,5 @@
 use Rattle.pdgf_run.specs.Formats.{in_directory}
-use Rattle.pdgf_run.specs.modes.DetailsApply.{detail_name}
+use Rattle.pdgf_run.specs.modes.Details.{detail_name}
 use Rattle.pdgf_run.proofs.DetailFilesLemmas.{named-alike, unit-within}
 use Rattle.pdgf_run.proofs.modes.details.made_job.Goals as goal
 

@@ -1,5 +1,5 @@
 use Rattle.pdgf_run.specs.Formats.{file_name, in_directory}
-use Rattle.pdgf_run.proofs.PathLemmas.{parts_more}
+use Rattle.pdgf_run.proofs.NameLemmas.{parts_more}
 use Rattle.pdgf_run.proofs.names.Directory.paths.Goals as goal
 
 pub loop-number-preserved : goal.loop-number-preserved

@@ -1,0 +1,10 @@
+use Rattle.std.proofs.Common.{◌∙◌, ap, map, List, ℕ}
+use Rattle.pdgf_run.specs.Formats.{in_directory}
+use Rattle.pdgf_run.proofs.ReplayedLemmas.{due_in_directory}
+use Rattle.pdgf_run.proofs.replay.texts.written_job.Goals as goal
+
+pub returns-clause-made : goal.returns-clause-made
+returns-clause-made c =
+    due_in_directory c.args.delimiter c.args.request.now c.args.replay.now c.args.texts c.in_ok-written.written c.in_ok-names.names c.in_ok-names-2.names c.in-Some.directory c.format.result
+    c.format.ensures c.in-Some.is c.in_ok-written.ensures.written c.in_ok-names.ensures
+    (c.in_ok-names-2.ensures ∙ ap (λ (directory : List ℕ). map (in_directory directory) c.in_ok-names.names) c.as_str.ensures.value)

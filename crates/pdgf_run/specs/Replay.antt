@@ -1,0 +1,266 @@
+-- Texts, and what makes others of them, are read from files, replayed table by table, and the texts that come of it are written.
+use Rattle.std.specs.Prelude.{◌≡◌, ◌≢◌, ◌<◌, ◌≤◌, ◌⊎◌, ℕ, ◌+◌, ◌-◌, ◌*◌, zero, suc, zip, All, List, [], ◌∷◌, ◌++◌, IfSome, drop, flat_map, get_or, length, map, take, Option, Some, None, Result, Ok, Err}
+use Rattle.std.specs.List.{AllZip, range_with_len}
+use Rattle.csv_face.specs.Reading.{HasBadRecord, IsReadAs}
+use Rattle.pd_outside.specs.Files.{File}
+use Rattle.plan_stages.specs.Inputs.{inputs_in}
+use Rattle.plan_stages.specs.declared.inputs.InputFault.{InputFault}
+use Rattle.refusals.specs.declared.refusal.InputCause.{InputCause}
+use Rattle.refusals.specs.declared.refusal.InputCause.TheVariants.{Reading, Applying, Reverting, BadRecord}
+use Rattle.refusals.specs.declared.refusal.JobFault.{JobFault}
+use Rattle.refusals.specs.declared.refusal.JobFault.TheVariants as job
+use Rattle.refusals.specs.declared.refusal.LineFault.{LineFault}
+use Rattle.refusals.specs.declared.refusal.LineReason.{LineReason}
+use Rattle.refusals.specs.declared.refusal.LineReason.TheVariants as reason
+use Rattle.request_words.specs.declared.usage.Format.{Format}
+use Rattle.request_words.specs.declared.usage.Format.TheVariants.{Copy, Csv}
+use Rattle.request_words.specs.declared.usage.Request.{Request}
+use Rattle.stream_apply.specs.InTurn.{IsAppliedText, IsFaultAt}
+use Rattle.stream_apply.specs.declared.fault.ApplyFault.{ApplyFault}
+use Rattle.stream_apply.specs.declared.fault.ApplyFault.TheVariants as apply
+use Rattle.stream_apply.specs.declared.key_fields.KeyFields.TheVariants.{One}
+use Rattle.undo_streams.specs.InTurn.{IsRevertFaultAt, IsRevertedText}
+use Rattle.undo_streams.specs.declared.fault.RevertFault.{RevertFault}
+use Rattle.undo_streams.specs.declared.fault.RevertFault.TheVariants as revert
+use Rattle.update_box.specs.Parts.{unit_contents}
+use Rattle.update_box.specs.declared.parts.Content.{Content}
+use Rattle.update_box.specs.declared.parts.Content.TheVariants as content
+use Rattle.pdgf_run.specs.Formats.{AreWritten, ending_in, in_directory, made_files, undo_name_of}
+use Rattle.pdgf_run.specs.declared.replay.Replay.{Replay}
+use Rattle.pdgf_run.specs.declared.replay.Way.{Way}
+use Rattle.pdgf_run.specs.declared.replay.Way.TheVariants as way
+
+-- ---- the inputs
+
+-- the most bytes that all inputs have together
+abbrev pub input_limit : ℕ
+input_limit = 268435456
+
+-- the file of a table's text in a format, and those of what a unit changes in it, in the order in which it is applied
+abbrev pub text_name : Format → List ℕ → List ℕ
+text_name format name = name ++ ending_in format 0 content.Snapshot
+
+abbrev pub stream_names : Format → List ℕ → ℕ → List (List ℕ)
+stream_names format name unit = map (λ (c : Content). name ++ ending_in format unit c) unit_contents
+
+-- the files of the undo texts of as many units after one as a count tells, from the last of these down
+abbrev pub undo_names : List ℕ → ℕ → ℕ → List (List ℕ)
+undo_names name to zero = []
+undo_names name to (suc count) = undo_name_of name (to + suc count) ∷ undo_names name to count
+
+-- the files of a table, in the order in which they are read: its text, and then the streams of the units after the first one up to the last,
+-- or the undo texts of the units from the later one down
+abbrev pub names_by : Way → Format → ℕ → ℕ → List ℕ → List (List ℕ)
+names_by (way.Apply keys) format from to name = text_name format name ∷ flat_map (stream_names format name) (range_with_len (from + 1) (to - from))
+names_by way.Undo format from to name = text_name format name ∷ undo_names name to (from - to)
+
+-- how many these are
+abbrev pub inputs_by : Way → ℕ → ℕ → ℕ
+inputs_by (way.Apply keys) from to = 1 + 3 * (to - from)
+inputs_by way.Undo from to = 1 + (from - to)
+
+-- how the inputs and the texts are written: as CSV where it is told how many fields the rows of each table have
+abbrev pub format_by : Option (List ℕ) → Format
+format_by None = Copy
+format_by (Some columns) = Csv
+
+abbrev pub format_of : Replay → Format
+format_of replay = format_by replay.csv
+
+abbrev pub inputs_each : Request → Replay → ℕ
+inputs_each request replay = inputs_by replay.way request.from request.to
+
+-- the names of all inputs, and their paths
+abbrev pub input_names : Request → Replay → List (List ℕ)
+input_names request replay = flat_map (names_by replay.way (format_of replay) request.from request.to) replay.names
+
+abbrev pub input_paths : Request → Replay → List (List ℕ)
+input_paths request replay = map (in_directory request.source) (input_names request replay)
+
+-- ---- what can be replayed
+
+-- the first unit is at most the last one, which is at most 10,000
+pub record IsInOrder (first last : ℕ) : Type 0 where
+  pub order : first ≤ last
+  pub most : last ≤ 10000
+
+abbrev pub AreUnitsOf : Way → ℕ → ℕ → Type 0
+AreUnitsOf (way.Apply keys) from to = IsInOrder from to
+AreUnitsOf way.Undo from to = IsInOrder to from
+
+-- CSV is of tables whose keys have one field
+pub record IsCsvOfTables (w : Way) (count : ℕ) (columns : List ℕ) : Type 0 where
+  pub applies : w ≡ way.Apply One
+  pub alike : length columns ≡ count
+  pub some : All (λ fields. 0 < fields) columns
+
+pub record CanReplay (request : Request) (replay : Replay) : Type 0 where
+  pub some : 1 ≤ length replay.names
+  pub few : length replay.names ≤ 64
+  pub units : AreUnitsOf replay.way request.from request.to
+  pub csv : IfSome replay.csv (IsCsvOfTables replay.way (length replay.names))
+
+-- ---- what inputs make
+
+-- the inputs of the table at a place, of which each table has as many
+abbrev pub inputs_at : ℕ → List (List ℕ) → ℕ → List (List ℕ)
+inputs_at each inputs place = take each (drop (place * each) inputs)
+
+-- the text that the inputs of a table make
+abbrev pub IsReplayedText : Way → ℕ → List (List ℕ) → List ℕ → Type 0
+IsReplayedText (way.Apply keys) delimiter inputs text = IsAppliedText keys delimiter inputs text
+IsReplayedText way.Undo delimiter inputs text = IsRevertedText delimiter inputs text
+
+-- the fault of a line of an undo text, as it is told
+abbrev pub fault_of_reason : LineReason → ℕ → RevertFault
+fault_of_reason reason.BadLine line = revert.BadLine line
+fault_of_reason reason.DoubleKey line = revert.DoubleKey line
+fault_of_reason reason.NoSuchKey line = revert.NoSuchKey line
+fault_of_reason reason.KeyExists line = revert.KeyExists line
+fault_of_reason reason.BadPlace line = revert.BadPlace line
+
+abbrev pub fault_told : LineFault → RevertFault
+fault_told told = fault_of_reason told.reason told.line
+
+-- the input at a place is the first with a fault
+abbrev pub IsApplyFaultAt : Way → ℕ → List (List ℕ) → ℕ → ApplyFault → Type 0
+IsApplyFaultAt (way.Apply keys) delimiter inputs place fault = IsFaultAt keys delimiter inputs place fault × (fault ≢ apply.Memory)
+IsApplyFaultAt way.Undo delimiter inputs place fault = ⊥
+
+abbrev pub IsUndoFaultAt : Way → ℕ → List (List ℕ) → ℕ → LineFault → Type 0
+IsUndoFaultAt (way.Apply keys) delimiter inputs place fault = ⊥
+IsUndoFaultAt way.Undo delimiter inputs place fault = IsRevertFaultAt delimiter inputs place (fault_told fault)
+
+abbrev pub IsReplayFaultAt : Way → ℕ → List (List ℕ) → ℕ → InputCause → Type 0
+IsReplayFaultAt w delimiter inputs place (Applying fault) = IsApplyFaultAt w delimiter inputs place fault
+IsReplayFaultAt w delimiter inputs place (Reverting fault) = IsUndoFaultAt w delimiter inputs place fault
+IsReplayFaultAt w delimiter inputs place (Reading cause) = ⊥
+IsReplayFaultAt w delimiter inputs place (BadRecord at) = ⊥
+
+-- the texts that the first tables' inputs make, of which each table has as many
+pub record AreReplayed (w : Way) (delimiter each : ℕ) (inputs texts : List (List ℕ)) : Type 0 where
+  pub replayed : (place : ℕ) → place < length texts → IsReplayedText w delimiter (inputs_at each inputs place) (get_or texts place [])
+
+-- the first fault: that of an input of a table, where the tables before it have none
+pub record IsFirstFault (w : Way) (delimiter each : ℕ) (inputs : List (List ℕ)) (count number : ℕ) (cause : InputCause) : Type 0 where
+  pub texts : List (List ℕ)
+  pub place : ℕ
+  pub before : AreReplayed w delimiter each inputs texts
+  pub within : length texts < count
+  pub below : place < each
+  pub number_is : number ≡ length texts * each + place
+  pub has : IsReplayFaultAt w delimiter (inputs_at each inputs (length texts)) place cause
+
+-- ---- inputs in CSV
+
+-- how many fields each row has of what a unit deletes, updates and inserts in a table of so many columns: only the key of what it deletes
+abbrev pub change_fields : ℕ → List ℕ
+change_fields columns = 1 ∷ columns ∷ columns ∷ []
+
+-- how many each row has of the inputs of a table: of its text, and of what each of so many units changes
+abbrev pub fields_in : ℕ → ℕ → List ℕ
+fields_in units columns = columns ∷ flat_map (λ unit. change_fields columns) (range_with_len 0 units)
+
+-- bytes in CSV that have so many fields in each row, and what they are in COPY text form
+abbrev pub IsReadIn : ℕ → ℕ × List ℕ → List ℕ → Type 0
+IsReadIn delimiter input copy = IsReadAs delimiter input.0 input.1 copy
+
+abbrev pub AreReadAs : ℕ → List (ℕ × List ℕ) → List (List ℕ) → Type 0
+AreReadAs delimiter inputs copies = AllZip (IsReadIn delimiter) inputs copies
+
+-- of the input of a number, counted from 0, which is the first with a bad record, the record of another number is the first bad one
+abbrev pub HasBadAt : ℕ → List (ℕ × List ℕ) → ℕ → ℕ → Type 0
+HasBadAt delimiter [] number at = ⊥
+HasBadAt delimiter (input ∷ rest) zero at = HasBadRecord input.0 input.1 at
+HasBadAt delimiter (input ∷ rest) (suc number) at = ((copy : List ℕ) × IsReadIn delimiter input copy) × HasBadAt delimiter rest number at
+
+-- ---- what comes of it
+
+-- a name as it is told: a table's name has at most 32 bytes, so that no name of an accepted schema's files is cut
+abbrev pub file_named : List ℕ → List ℕ
+file_named name = take 64 name
+
+-- why the input of a number isn't read, or isn't replayed
+abbrev pub named_fault : List (List ℕ) → ℕ → InputCause → JobFault
+named_fault names number cause = job.Input (record { file = file_named (get_or names number []); cause = cause })
+
+abbrev pub fault_at : Request → Replay → ℕ → InputCause → JobFault
+fault_at request replay number cause = named_fault (input_names request replay) number cause
+
+-- why inputs in CSV aren't read as rows: memory ran out, or the first bad record
+abbrev pub IsUnreadRecord : ℕ → List (List ℕ) → List (ℕ × List ℕ) → JobFault → Type 0
+IsUnreadRecord delimiter names inputs fault =
+    (fault ≡ job.Memory) ⊎ ((number : ℕ) × (at : ℕ) × HasBadAt delimiter inputs number at × (fault ≡ named_fault names number (BadRecord at)))
+
+-- why the inputs of so many tables aren't replayed: memory ran out, or the first fault
+abbrev pub IsUnreplayed : Way → ℕ → List (List ℕ) → ℕ → List (List ℕ) → ℕ → JobFault → Type 0
+IsUnreplayed w delimiter names each inputs count fault =
+    (fault ≡ job.Memory) ⊎ ((number : ℕ) × (cause : InputCause) × IsFirstFault w delimiter each inputs count number cause
+    × (fault ≡ named_fault names number cause))
+
+-- what is due for texts of the tables: one file for each in a directory, or all joined on the standard output
+pub record AreDueFor (delimiter : ℕ) (request : Request) (replay : Replay) (texts : List (List ℕ)) (due : List File) : Type 0 where
+  pub written : List (List ℕ)
+  pub are : AreWritten (format_of replay) delimiter texts written
+  pub due_is : due ≡ made_files (text_name (format_of replay)) request.out replay.names written
+
+-- inputs in COPY text form give the due files, or the first fault
+abbrev pub IsMadeOf : ℕ → Request → Replay → List (List ℕ) → Result (List File) JobFault → Type 0
+IsMadeOf delimiter request replay inputs (Ok due) =
+    (texts : List (List ℕ)) × (length texts ≡ length replay.names)
+    × AreReplayed replay.way delimiter (inputs_each request replay) inputs texts
+    × AreDueFor delimiter request replay texts due
+IsMadeOf delimiter request replay inputs (Err fault) =
+    (number : ℕ) × (cause : InputCause)
+    × IsFirstFault replay.way delimiter (inputs_each request replay) inputs (length replay.names) number cause
+    × (fault ≡ fault_at request replay number cause)
+
+-- the first bad record refuses inputs in CSV, and else they are what they are in COPY text form
+abbrev pub IsCsvMade : ℕ → Request → Replay → List ℕ → List (List ℕ) → Result (List File) JobFault → Type 0
+IsCsvMade delimiter request replay fields inputs answer =
+    ((copies : List (List ℕ)) × AreReadAs delimiter (zip fields inputs) copies × IsMadeOf delimiter request replay copies answer)
+    ⊎ ((number : ℕ) × (at : ℕ) × HasBadAt delimiter (zip fields inputs) number at × (answer ≡ Err (fault_at request replay number (BadRecord at))))
+
+-- how many fields the rows of the inputs of tables have, which have so many columns
+abbrev pub input_fields : Request → List ℕ → List ℕ
+input_fields request columns = flat_map (fields_in (request.to - request.from)) columns
+
+abbrev pub IsMadeIn : Option (List ℕ) → ℕ → Request → Replay → List (List ℕ) → Result (List File) JobFault → Type 0
+IsMadeIn None delimiter request replay inputs answer = IsMadeOf delimiter request replay inputs answer
+IsMadeIn (Some columns) delimiter request replay inputs answer = IsCsvMade delimiter request replay (input_fields request columns) inputs answer
+
+abbrev pub IsReadAndMade : ℕ → Request → Replay → Result (List (List ℕ)) InputFault → Result (List File) JobFault → Type 0
+IsReadAndMade delimiter request replay (Ok inputs) answer = IsMadeIn replay.csv delimiter request replay inputs answer
+IsReadAndMade delimiter request replay (Err fault) answer = answer ≡ Err (fault_at request replay fault.number (Reading fault.cause))
+
+-- what is due over files: an input with which they are too long is refused first, then the first bad record of one in CSV, and then the first
+-- fault of one
+abbrev pub IsReplayDue : ℕ → Request → Replay → List File → Result (List File) JobFault → Type 0
+IsReplayDue delimiter request replay files answer =
+    IsReadAndMade delimiter request replay (inputs_in files (input_paths request replay) input_limit) answer
+
+-- ---- the names that are asked
+
+-- the first of some names, up to and with the one with whose file all are too long
+abbrev pub up_to_long : List (List ℕ) → Result (List (List ℕ)) InputFault → List (List ℕ)
+up_to_long paths (Ok inputs) = paths
+up_to_long paths (Err fault) = take (fault.number + 1) paths
+
+abbrev pub paths_read : Request → Replay → List File → List (List ℕ)
+paths_read request replay files = up_to_long (input_paths request replay) (inputs_in files (input_paths request replay) input_limit)
+
+-- ---- what is asked of a mode, and then replayed
+
+-- what is asked can be refused before anything is read
+abbrev pub IsReplayOf : {A : Type 0} → (A → Replay) → ℕ → Request → List File → Result A JobFault → Result (List File) JobFault → Type 0
+IsReplayOf of delimiter request files (Ok asked) answer = IsReplayDue delimiter request (of asked) files answer
+IsReplayOf of delimiter request files (Err fault) answer = answer ≡ Err fault
+
+-- the names that are asked, and those that may be asked where no file is told
+abbrev pub paths_of : {A : Type 0} → (A → Replay) → Request → List File → Result A JobFault → List (List ℕ)
+paths_of of request files (Ok asked) = paths_read request (of asked) files
+paths_of of request files (Err fault) = []
+
+abbrev pub possible_of : {A : Type 0} → (A → Replay) → Request → Result A JobFault → List (List ℕ)
+possible_of of request (Ok asked) = input_paths request (of asked)
+possible_of of request (Err fault) = []
