@@ -5,10 +5,10 @@ ghost use Rattle.detail_plan.specs.Rules.{KeepsRules, reach_of};
 ghost use Rattle.detail_rows.specs.Packages.{AreTold, count_of, package_count, range_text, room_of, rows_in, text_numbered};
 
 use crate::detail_lines::LineKind;
-use crate::memory::Memory;
 use crate::parent_lines::ParentLines;
 use detail_plan::DetailPlan;
 use line_pages::PageBuf;
+use out_of_memory::Memory;
 use range_workers::Packer;
 use std::alloc::Global;
 use std::marker::{Brand, Model};

@@ -10,10 +10,10 @@ ghost use Rattle.life_intervals.specs.FoundAt.{AreAppended, GoesOn};
 ghost use Rattle.life_intervals.specs.Generator.{last_unit, table_of};
 
 use crate::births::cohort;
-use crate::memory::Memory;
 use crate::orders::Purpose;
 use crate::rows::Rows;
 use crate::window::Window;
+use out_of_memory::Memory;
 use schema_plan::{Plan, ReadyKind, ReadyReference};
 use std::sync::ledger::Ledger;
 use step_count::Steps;

@@ -10,10 +10,10 @@ ghost use Rattle.schema_plan.specs.Dictionaries.{Project};
 
 use crate::asked::{asked_tables, least_size};
 use crate::kept::{Room, TableOrders};
-use crate::memory::Memory;
 use crate::orders::Purpose;
 use crate::window::Window;
 use id_permutation::Order;
+use out_of_memory::Memory;
 use schema_plan::Plan;
 use std::alloc::Global;
 use std::marker::Model;

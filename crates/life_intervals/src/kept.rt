@@ -8,11 +8,11 @@ ghost use Rattle.life_intervals.specs.JobOrders.{AreAllParentOrders, AreParentOr
 ghost use Rattle.schema_plan.specs.Dictionaries.{Project};
 
 use crate::asked::{Asked, are_places_asked, rows_to_one_change, table_entries};
-use crate::memory::Memory;
 use crate::orders::{Purpose, is_drawn, wanted};
 use crate::wanted::Wanted;
 use crate::window::Window;
 use id_permutation::{KeptOrders, Order};
+use out_of_memory::Memory;
 use schema_plan::{Plan, ReadyKind, ReadyReference};
 use std::alloc::Global;
 

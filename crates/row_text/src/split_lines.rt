@@ -7,9 +7,9 @@ ghost use Rattle.row_text.specs.Lines.{BeginsLineBody, IsLineBody};
 ghost use Rattle.row_text.specs.declared.split_lines.Place.TheVariants.{Backslash, Null, Text};
 ghost use Rattle.row_text.specs.SplitLines.{IsSplitFault, read_so_far};
 
-use crate::Memory;
 use crate::escapes::letter_of;
 use crate::field_list::Fields;
+use out_of_memory::Memory;
 use std::alloc::Global;
 
 /// Why a line gives no fields.

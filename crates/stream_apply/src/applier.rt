@@ -11,7 +11,7 @@ use crate::key_fields::KeyFields;
 use crate::key_table::KeyTable;
 use crate::kind::Kind;
 use crate::stream::{read_stream, read_table};
-use row_text::Memory;
+use out_of_memory::Memory;
 use std::alloc::Global;
 use std::marker::Model;
 

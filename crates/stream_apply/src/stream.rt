@@ -11,7 +11,8 @@ use crate::fault::ApplyFault;
 use crate::key_fields::KeyFields;
 use crate::key_table::KeyTable;
 use crate::kind::Kind;
-use row_text::{Fields, LineFault, Memory, field_size, next_line, split_line};
+use out_of_memory::Memory;
+use row_text::{Fields, LineFault, field_size, next_line, split_line};
 use std::alloc::Global;
 
 /// A line at the start of bytes, and the bytes after its line feed.

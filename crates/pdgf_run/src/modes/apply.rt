@@ -22,6 +22,7 @@ use crate::csv::{joined, push_csv};
 use crate::job::{FilesJob, Job};
 use crate::names::{Directory, put};
 use csv_face::{CsvFault, from_csv};
+use out_of_memory::Memory;
 use pd_outside::Library;
 use plan_stages::{Inputs, read_in_turn};
 use refusals::{FileName, InputCause, InputFault, JobFault};
@@ -30,7 +31,7 @@ use schema_model::{Text, Texts};
 use schema_plan::Plan;
 use std::alloc::Global;
 use stream_apply::{ApplyFault, KeyFields, apply_in_turn};
-use update_box::{Content, Memory, Places, places_of};
+use update_box::{Content, Places, places_of};
 
 /// The most bytes that all inputs can have together.
 pub(crate) const INPUT_LIMIT: u64 = 268_435_456;

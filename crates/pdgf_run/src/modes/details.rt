@@ -39,6 +39,7 @@ use crate::names::put;
 use detail_plan::{Detail, DetailPlan};
 use detail_rows::{DetailPacker, Rows, parent_of};
 use life_intervals::JobOrders;
+use out_of_memory::Memory;
 use pd_outside::{Gate, Library, Shelf};
 use range_workers::{Marks, RunFault, run};
 use refusals::JobFault;
@@ -49,7 +50,7 @@ use std::alloc::Global;
 use std::sync::ledger::{Blank, Ledger};
 use std::thread::Threads;
 use step_count::Steps;
-use update_box::{Content, Memory, UnitRows, rows_of_unit};
+use update_box::{Content, UnitRows, rows_of_unit};
 
 /// Returns the job of a request. The declaration is read before any file is written.
 pub(crate) fn plan_details<B: Ledger, L: Library>(

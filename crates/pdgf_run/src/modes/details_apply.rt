@@ -20,6 +20,7 @@ use crate::job::{FilesJob, Job};
 use crate::modes::apply::{INPUT_LIMIT, file_of, is_memory, unapplied};
 use crate::names::{push, put};
 use detail_plan::Detail;
+use out_of_memory::Memory;
 use pd_outside::Library;
 use plan_stages::{Inputs, read_in_turn};
 use refusals::{InputCause, InputFault, JobFault};
@@ -28,7 +29,7 @@ use schema_model::{Text, Texts};
 use schema_plan::Plan;
 use std::alloc::Global;
 use stream_apply::{KeyFields, apply_in_turn};
-use update_box::{Content, Memory, push_ending};
+use update_box::{Content, push_ending};
 
 /// Returns the job of a request. The declaration and the inputs are read, and the streams applied, before any file is written.
 pub(crate) fn plan_details_apply<L: Library>(

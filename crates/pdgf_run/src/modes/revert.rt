@@ -22,6 +22,7 @@ use crate::csv::joined;
 use crate::job::{FilesJob, Job};
 use crate::modes::apply::{INPUT_LIMIT, Tables, file_of, text_paths};
 use crate::names::{Directory, put};
+use out_of_memory::Memory;
 use pd_outside::Library;
 use plan_stages::{Inputs, read_in_turn};
 use refusals::{InputCause, InputFault, JobFault, LineFault, LineReason};
@@ -30,7 +31,7 @@ use schema_model::{Text, Texts};
 use schema_plan::Plan;
 use std::alloc::Global;
 use undo_streams::{RevertFault, revert_in_turn};
-use update_box::{Content, Memory, Places, places_of};
+use update_box::{Content, Places, places_of};
 
 /// Returns the job of a request. The inputs are read and the units undone before any file is written.
 pub(crate) fn plan_revert<L: Library>(
