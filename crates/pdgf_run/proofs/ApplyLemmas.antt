@@ -11,7 +11,7 @@ use Rattle.pd_outside.specs.Library.{AskedPrefixOf, Content, left, read_out}
 use Rattle.plan_stages.specs.Inputs.{AskedInTurn, AskedToFault, InputUnread, InputsRead, all_read_out, first_too_long, input_status, inputs_in, inputs_of, taken_of_last, total_length, unless_too_long}
 use Rattle.plan_stages.specs.PlanNames.{AskedNone}
 use Rattle.plan_stages.specs.Stages.{Decides, IsReadOut, told_files}
-use Rattle.plan_stages.specs.declared.inputs.InputFault.{InputFault}
+use Rattle.plan_stages.specs.declared.inputs.UnreadInput.{UnreadInput}
 use Rattle.plan_stages.proofs.DictionaryLemmas.{asked_first}
 use Rattle.plan_stages.proofs.InputLemmas.{files_stay}
 use Rattle.refusals.specs.Statuses.{job_status, reading_status}
@@ -84,14 +84,14 @@ pub no_memory : (told : Option (List File)) (plan : Project) (r : Request) → I
 no_memory None plan r = tt
 no_memory (Some files) plan r = λ free. absurd (cc)
 
-pub read_and_made : (plan : Project) (r : Request) (files : List File) (table : Option ℕ) (inputs : Result (List (List ℕ)) InputFault) (answer : Result (List File) JobFault) →
+pub read_and_made : (plan : Project) (r : Request) (files : List File) (table : Option ℕ) (inputs : Result (List (List ℕ)) UnreadInput) (answer : Result (List File) JobFault) →
     Ok table ≡ tables_asked plan r → inputs_in files (input_paths plan r table) input_limit ≡ inputs → IsReadAndMade plan r table inputs answer →
     IsApplyDue plan r files answer
 read_and_made plan r files table inputs answer asked is made =
-    asked_and_made plan r files (Ok table) answer asked (subst (λ (i : Result (List (List ℕ)) InputFault). IsReadAndMade plan r table i answer) (sym is) made)
+    asked_and_made plan r files (Ok table) answer asked (subst (λ (i : Result (List (List ℕ)) UnreadInput). IsReadAndMade plan r table i answer) (sym is) made)
 
 -- an input isn't read
-pub unread_decided : (told : Option (List File)) (plan : Project) (r : Request) (table : Option ℕ) (paths : List (List ℕ)) (fault : InputFault) (file : List ℕ) →
+pub unread_decided : (told : Option (List File)) (plan : Project) (r : Request) (table : Option ℕ) (paths : List (List ℕ)) (fault : UnreadInput) (file : List ℕ) →
     Ok table ≡ tables_asked plan r → paths ≡ input_paths plan r table → fault.number < length paths →
     file ≡ file_named (drop (length r.source + 1) (get_or paths fault.number [])) →
     IfSome told (λ files. Decides input_status (λ inputs. inputs) (Err fault) (inputs_in files paths input_limit)) →
@@ -160,7 +160,7 @@ left_by_inputs status IsLimit inputs names limit before now taken_before taken_n
 }
 
 -- an input isn't read
-pub left_by_unread : (fault : InputFault) (file : List ℕ) (names : List (List ℕ)) (before now : Option Content) (taken : ℕ) (is_started : Bool) (faults_before faults_now : ℕ) →
+pub left_by_unread : (fault : UnreadInput) (file : List ℕ) (names : List (List ℕ)) (before now : Option Content) (taken : ℕ) (is_started : Bool) (faults_before faults_now : ℕ) →
     InputUnread fault names input_limit before now taken is_started faults_before faults_now →
     LibraryLeft (reading_status fault.cause) (IsLimitOf (job.Input (record { file = file; cause = Reading fault.cause }))) (told_files before) now taken is_started faults_before faults_now
 left_by_unread fault file names before now taken is_started faults_before faults_now of = record {
@@ -201,7 +201,7 @@ first_names paths count before now asked = record { count = count; asked = asked
 pub all_names : (paths : List (List ℕ)) (before now : Option (List (List ℕ))) → AskedInTurn paths before now → AskedPrefixOf paths before now
 all_names paths before now asked = asked_first paths paths [] before now asked (sym (append-nil paths))
 
-pub asked_at_most : (paths : List (List ℕ)) (fault : InputFault) (taken : ℕ) (before now : Option (List (List ℕ))) → AskedToFault fault paths taken before now →
+pub asked_at_most : (paths : List (List ℕ)) (fault : UnreadInput) (taken : ℕ) (before now : Option (List (List ℕ))) → AskedToFault fault paths taken before now →
     AskedPrefixOf paths before now
 asked_at_most paths fault taken before now asked = go asked.at_most
   where
@@ -219,20 +219,20 @@ pub asked_all : (plan : Project) (r : Request) (table : Option ℕ) (paths : Lis
     paths ≡ input_paths plan r table → AskedInTurn paths before now → AskedPrefixOf (paths_possible plan r (tables_asked plan r)) before now
 asked_all plan r table paths before now asked are turn = possible_is plan r table paths before now asked are (all_names paths before now turn)
 
-pub asked_up_to : (plan : Project) (r : Request) (table : Option ℕ) (paths : List (List ℕ)) (fault : InputFault) (taken : ℕ) (before now : Option (List (List ℕ))) →
+pub asked_up_to : (plan : Project) (r : Request) (table : Option ℕ) (paths : List (List ℕ)) (fault : UnreadInput) (taken : ℕ) (before now : Option (List (List ℕ))) →
     Ok table ≡ tables_asked plan r → paths ≡ input_paths plan r table → AskedToFault fault paths taken before now →
     AskedPrefixOf (paths_possible plan r (tables_asked plan r)) before now
 asked_up_to plan r table paths fault taken before now asked are to =
     possible_is plan r table paths before now asked are (asked_at_most paths fault taken before now to)
 
 -- the same where files are told
-list_is : (plan : Project) (r : Request) (files : List File) (table : Option ℕ) (paths : List (List ℕ)) (inputs : Result (List (List ℕ)) InputFault) (before now : Option (List (List ℕ))) →
+list_is : (plan : Project) (r : Request) (files : List File) (table : Option ℕ) (paths : List (List ℕ)) (inputs : Result (List (List ℕ)) UnreadInput) (before now : Option (List (List ℕ))) →
     Ok table ≡ tables_asked plan r → paths ≡ input_paths plan r table → inputs_in files paths input_limit ≡ inputs →
     AskedPrefixOf (up_to_long paths inputs) before now → AskedPrefixOf (paths_asked plan r files (tables_asked plan r)) before now
 list_is plan r files table paths inputs before now asked are is first =
     subst (λ (a : Result (Option ℕ) JobFault). AskedPrefixOf (paths_asked plan r files a) before now) asked
     (subst (λ (p : List (List ℕ)). AskedPrefixOf (up_to_long p (inputs_in files p input_limit)) before now) are
-    (subst (λ (i : Result (List (List ℕ)) InputFault). AskedPrefixOf (up_to_long paths i) before now) (sym is) first))
+    (subst (λ (i : Result (List (List ℕ)) UnreadInput). AskedPrefixOf (up_to_long paths i) before now) (sym is) first))
 
 pub asked_all_told : (told : Option (List File)) (plan : Project) (r : Request) (table : Option ℕ) (paths inputs : List (List ℕ)) (before now : Option (List (List ℕ))) →
     Ok table ≡ tables_asked plan r → paths ≡ input_paths plan r table →
@@ -300,7 +300,7 @@ fits_so_far files names place own (Some number) is limits =
     fits_before input_limit (inputs_of files names) number place is
     (omega (arith, limits, ap total_length (take-map (bytes_of files) place names)))
 
-pub asked_up_to_told : (told : Option (List File)) (plan : Project) (r : Request) (table : Option ℕ) (paths : List (List ℕ)) (fault : InputFault) (own taken : ℕ) (before now : Option (List (List ℕ))) →
+pub asked_up_to_told : (told : Option (List File)) (plan : Project) (r : Request) (table : Option ℕ) (paths : List (List ℕ)) (fault : UnreadInput) (own taken : ℕ) (before now : Option (List (List ℕ))) →
     Ok table ≡ tables_asked plan r → paths ≡ input_paths plan r table → AskedToFault fault paths taken before now →
     IfSome told (λ files. total_length (inputs_of files (take fault.number paths)) + own ≡ input_limit) →
     IfSome told (λ files. AskedPrefixOf (paths_asked plan r files (tables_asked plan r)) before now)
@@ -332,7 +332,7 @@ asked_some names (Some all) now some turn none =
 pub unasked_read : (names : List (List ℕ)) (taken earlier : ℕ) (before now : Option (List (List ℕ))) → 1 ≤ length names → AskedInTurn names before now → AskedNone before now → taken ≤ earlier
 unasked_read names taken earlier before now some turn none = absurd (asked_some names before now some turn none)
 
-pub unasked_fault : (paths : List (List ℕ)) (fault : InputFault) (taken earlier : ℕ) (before now : Option (List (List ℕ))) → fault.number < length paths → AskedToFault fault paths taken before now →
+pub unasked_fault : (paths : List (List ℕ)) (fault : UnreadInput) (taken earlier : ℕ) (before now : Option (List (List ℕ))) → fault.number < length paths → AskedToFault fault paths taken before now →
     AskedNone before now → taken ≤ earlier
 unasked_fault paths fault taken earlier before now within to none = go to.at_most
   where

@@ -9,7 +9,7 @@ use Rattle.plan_stages.specs.Inputs.{AskedInTurn, AskedToFault, first_too_long, 
 use Rattle.plan_stages.specs.Limits.{schema_limit}
 use Rattle.plan_stages.specs.PlanNames.{AskedNone}
 use Rattle.plan_stages.specs.Stages.{Decides, LibraryAfter}
-use Rattle.plan_stages.specs.declared.inputs.InputFault.{InputFault}
+use Rattle.plan_stages.specs.declared.inputs.UnreadInput.{UnreadInput}
 use Rattle.plan_stages.proofs.DictionaryLemmas.{IfSome-same}
 use Rattle.refusals.specs.Statuses.{details_status, job_status}
 use Rattle.refusals.specs.declared.refusal.DetailsCause.{DetailsCause}
@@ -54,14 +54,14 @@ pub no_memory_detail : (told : Option (List File)) (plan : Project) (r : Request
 no_memory_detail None plan r detail = tt
 no_memory_detail (Some files) plan r detail = λ free. absurd (cc)
 
-read_and_made : (plan : Project) (r : Request) (files : List File) (detail : Detail) (inputs : Result (List (List ℕ)) InputFault) (answer : Result (List File) JobFault) →
+read_and_made : (plan : Project) (r : Request) (files : List File) (detail : Detail) (inputs : Result (List (List ℕ)) UnreadInput) (answer : Result (List File) JobFault) →
     units_refused plan r ≡ None → inputs_in files (detail_input_paths r detail) input_limit ≡ inputs → AreDetailsRead plan r detail inputs answer →
     AreDetailsOf plan r files detail answer
 read_and_made plan r files detail inputs answer asked is made =
-    of_units plan r files detail None answer asked (subst (λ (i : Result (List (List ℕ)) InputFault). AreDetailsRead plan r detail i answer) (sym is) made)
+    of_units plan r files detail None answer asked (subst (λ (i : Result (List (List ℕ)) UnreadInput). AreDetailsRead plan r detail i answer) (sym is) made)
 
 -- an input isn't read
-pub unread_detail : (told : Option (List File)) (plan : Project) (r : Request) (detail : Detail) (paths : List (List ℕ)) (fault : InputFault) (file : List ℕ) →
+pub unread_detail : (told : Option (List File)) (plan : Project) (r : Request) (detail : Detail) (paths : List (List ℕ)) (fault : UnreadInput) (file : List ℕ) →
     units_refused plan r ≡ None → paths ≡ detail_input_paths r detail → fault.number < length paths →
     file ≡ file_named (drop (length r.source + 1) (get_or paths fault.number [])) →
     IfSome told (λ files. Decides input_status (λ inputs. inputs) (Err fault) (inputs_in files paths input_limit)) →
@@ -130,18 +130,18 @@ pub asked_detail : (plan : Project) (r : Request) (detail : Detail) (paths : Lis
     paths ≡ detail_input_paths r detail → AskedInTurn paths before now → AskedPrefixOf (detail_paths_possible plan r detail) before now
 asked_detail plan r detail paths before now asked are turn = possible_is plan r detail paths before now asked are (all_names paths before now turn)
 
-pub asked_detail_to : (plan : Project) (r : Request) (detail : Detail) (paths : List (List ℕ)) (fault : InputFault) (taken : ℕ) (before now : Option (List (List ℕ))) →
+pub asked_detail_to : (plan : Project) (r : Request) (detail : Detail) (paths : List (List ℕ)) (fault : UnreadInput) (taken : ℕ) (before now : Option (List (List ℕ))) →
     units_refused plan r ≡ None → paths ≡ detail_input_paths r detail → AskedToFault fault paths taken before now → AskedPrefixOf (detail_paths_possible plan r detail) before now
 asked_detail_to plan r detail paths fault taken before now asked are to = possible_is plan r detail paths before now asked are (asked_at_most paths fault taken before now to)
 
 -- the same where files are told
-list_is : (plan : Project) (r : Request) (files : List File) (detail : Detail) (paths : List (List ℕ)) (inputs : Result (List (List ℕ)) InputFault) (before now : Option (List (List ℕ))) →
+list_is : (plan : Project) (r : Request) (files : List File) (detail : Detail) (paths : List (List ℕ)) (inputs : Result (List (List ℕ)) UnreadInput) (before now : Option (List (List ℕ))) →
     units_refused plan r ≡ None → paths ≡ detail_input_paths r detail → inputs_in files paths input_limit ≡ inputs →
     AskedPrefixOf (up_to_long paths inputs) before now → AskedPrefixOf (detail_paths_asked plan r files detail) before now
 list_is plan r files detail paths inputs before now asked are is first =
     subst (λ (a : Option JobFault). AskedPrefixOf (detail_paths_unless a (up_to_long (detail_input_paths r detail) (inputs_in files (detail_input_paths r detail) input_limit))) before now) (sym asked)
     (subst (λ (p : List (List ℕ)). AskedPrefixOf (up_to_long p (inputs_in files p input_limit)) before now) are
-    (subst (λ (i : Result (List (List ℕ)) InputFault). AskedPrefixOf (up_to_long paths i) before now) (sym is) first))
+    (subst (λ (i : Result (List (List ℕ)) UnreadInput). AskedPrefixOf (up_to_long paths i) before now) (sym is) first))
 
 pub asked_detail_told : (told : Option (List File)) (plan : Project) (r : Request) (detail : Detail) (paths inputs : List (List ℕ)) (before now : Option (List (List ℕ))) →
     units_refused plan r ≡ None → paths ≡ detail_input_paths r detail →
@@ -151,7 +151,7 @@ asked_detail_told None plan r detail paths inputs before now asked are decided t
 asked_detail_told (Some files) plan r detail paths inputs before now asked are decided turn =
     list_is plan r files detail paths (Ok inputs) before now asked are decided (all_names paths before now turn)
 
-pub asked_detail_to_told : (told : Option (List File)) (plan : Project) (r : Request) (detail : Detail) (paths : List (List ℕ)) (fault : InputFault) (own taken : ℕ) (before now : Option (List (List ℕ))) →
+pub asked_detail_to_told : (told : Option (List File)) (plan : Project) (r : Request) (detail : Detail) (paths : List (List ℕ)) (fault : UnreadInput) (own taken : ℕ) (before now : Option (List (List ℕ))) →
     units_refused plan r ≡ None → paths ≡ detail_input_paths r detail → AskedToFault fault paths taken before now →
     IfSome told (λ files. total_length (inputs_of files (take fault.number paths)) + own ≡ input_limit) →
     IfSome told (λ files. AskedPrefixOf (detail_paths_asked plan r files detail) before now)

@@ -6,7 +6,7 @@ use Rattle.std.proofs.lemmas.Bool.{cases_eq, cases_lt}
 use Rattle.pd_outside.specs.Files.{File}
 use Rattle.plan_stages.specs.Stages.{in_stage}
 use Rattle.plan_stages.specs.Inputs.{inputs_in}
-use Rattle.plan_stages.specs.declared.inputs.InputFault.{InputFault}
+use Rattle.plan_stages.specs.declared.inputs.UnreadInput.{UnreadInput}
 use Rattle.refusals.specs.declared.refusal.JobFault.{JobFault}
 use Rattle.refusals.specs.declared.refusal.PlanFault.{PlanFault}
 use Rattle.refusals.specs.declared.refusal.Refusal.{Refusal}
@@ -133,7 +133,7 @@ one_made_in : (format : Format) (plan : Project) (r : Request) (table : Option �
 one_made_in Copy plan r table inputs answer other delimits is other_is = one_made plan r table inputs answer other delimits is other_is
 one_made_in Csv plan r table inputs answer other delimits is other_is = one_csv_made plan r table inputs answer other delimits is other_is
 
-one_read : (plan : Project) (r : Request) (table : Option ℕ) (inputs : Result (List (List ℕ)) InputFault) (answer other : Result (List File) JobFault) → IsDelimiter (layout_of plan).delimiter →
+one_read : (plan : Project) (r : Request) (table : Option ℕ) (inputs : Result (List (List ℕ)) UnreadInput) (answer other : Result (List File) JobFault) → IsDelimiter (layout_of plan).delimiter →
     IsReadAndMade plan r table inputs answer → IsReadAndMade plan r table inputs other → answer ≡ other
 one_read plan r table (Ok inputs) answer other delimits is other_is = one_made_in r.format plan r table inputs answer other delimits is other_is
 one_read plan r table (Err fault) answer other delimits is other_is = is ∙ sym other_is
@@ -198,7 +198,7 @@ one_details_made plan r detail inputs (Err fault) (Err other) delimits made othe
     let names : List (List ℕ) = detail_input_names r detail in
     ap Err (made.5 ∙ ap (λ (n : ℕ). unapplied names n made.1) one.0 ∙ ap (unapplied names other_made.0) one.1 ∙ sym other_made.5)
 
-one_details_read : (plan : Project) (r : Request) (detail : Detail) (inputs : Result (List (List ℕ)) InputFault) (answer other : Result (List File) JobFault) → IsDelimiter (layout_of plan).delimiter →
+one_details_read : (plan : Project) (r : Request) (detail : Detail) (inputs : Result (List (List ℕ)) UnreadInput) (answer other : Result (List File) JobFault) → IsDelimiter (layout_of plan).delimiter →
     AreDetailsRead plan r detail inputs answer → AreDetailsRead plan r detail inputs other → answer ≡ other
 one_details_read plan r detail (Ok inputs) answer other delimits is other_is = one_details_made plan r detail inputs answer other delimits is other_is
 one_details_read plan r detail (Err fault) answer other delimits is other_is = is ∙ sym other_is

@@ -5,7 +5,7 @@ use Rattle.pd_outside.specs.Files.{File}
 use Rattle.pd_outside.specs.Library.{AskedPrefixOf}
 use Rattle.plan_stages.specs.Inputs.{AskedInTurn, AskedToFault, first_too_long, input_status, inputs_in, inputs_of, total_length, unless_too_long}
 use Rattle.plan_stages.specs.Stages.{Decides}
-use Rattle.plan_stages.specs.declared.inputs.InputFault.{InputFault}
+use Rattle.plan_stages.specs.declared.inputs.UnreadInput.{UnreadInput}
 use Rattle.refusals.specs.Statuses.{job_status}
 use Rattle.refusals.specs.declared.refusal.InputCause.TheVariants.{Reading}
 use Rattle.refusals.specs.declared.refusal.JobFault.{JobFault}
@@ -35,14 +35,14 @@ pub no_memory : (told : Option (List File)) (plan : Project) (r : Request) → I
 no_memory None plan r = tt
 no_memory (Some files) plan r = λ free. absurd (cc)
 
-pub read_and_made : (plan : Project) (r : Request) (files : List File) (table : Option ℕ) (inputs : Result (List (List ℕ)) InputFault) (answer : Result (List File) JobFault) →
+pub read_and_made : (plan : Project) (r : Request) (files : List File) (table : Option ℕ) (inputs : Result (List (List ℕ)) UnreadInput) (answer : Result (List File) JobFault) →
     Ok table ≡ tables_reverted plan r → inputs_in files (undo_input_paths plan r table) input_limit ≡ inputs → IsRevertRead plan r table inputs answer →
     IsRevertDue plan r files answer
 read_and_made plan r files table inputs answer asked is made =
-    asked_and_made plan r files (Ok table) answer asked (subst (λ (i : Result (List (List ℕ)) InputFault). IsRevertRead plan r table i answer) (sym is) made)
+    asked_and_made plan r files (Ok table) answer asked (subst (λ (i : Result (List (List ℕ)) UnreadInput). IsRevertRead plan r table i answer) (sym is) made)
 
 -- an input isn't read
-pub unread_decided : (told : Option (List File)) (plan : Project) (r : Request) (table : Option ℕ) (paths : List (List ℕ)) (fault : InputFault) (file : List ℕ) →
+pub unread_decided : (told : Option (List File)) (plan : Project) (r : Request) (table : Option ℕ) (paths : List (List ℕ)) (fault : UnreadInput) (file : List ℕ) →
     Ok table ≡ tables_reverted plan r → paths ≡ undo_input_paths plan r table → fault.number < length paths →
     file ≡ file_named (drop (length r.source + 1) (get_or paths fault.number [])) →
     IfSome told (λ files. Decides input_status (λ inputs. inputs) (Err fault) (inputs_in files paths input_limit)) →
@@ -91,20 +91,20 @@ pub asked_all : (plan : Project) (r : Request) (table : Option ℕ) (paths : Lis
     paths ≡ undo_input_paths plan r table → AskedInTurn paths before now → AskedPrefixOf (undo_paths_possible plan r (tables_reverted plan r)) before now
 asked_all plan r table paths before now asked are turn = possible_is plan r table paths before now asked are (all_names paths before now turn)
 
-pub asked_up_to : (plan : Project) (r : Request) (table : Option ℕ) (paths : List (List ℕ)) (fault : InputFault) (taken : ℕ) (before now : Option (List (List ℕ))) →
+pub asked_up_to : (plan : Project) (r : Request) (table : Option ℕ) (paths : List (List ℕ)) (fault : UnreadInput) (taken : ℕ) (before now : Option (List (List ℕ))) →
     Ok table ≡ tables_reverted plan r → paths ≡ undo_input_paths plan r table → AskedToFault fault paths taken before now →
     AskedPrefixOf (undo_paths_possible plan r (tables_reverted plan r)) before now
 asked_up_to plan r table paths fault taken before now asked are to =
     possible_is plan r table paths before now asked are (asked_at_most paths fault taken before now to)
 
 -- the same where files are told
-list_is : (plan : Project) (r : Request) (files : List File) (table : Option ℕ) (paths : List (List ℕ)) (inputs : Result (List (List ℕ)) InputFault) (before now : Option (List (List ℕ))) →
+list_is : (plan : Project) (r : Request) (files : List File) (table : Option ℕ) (paths : List (List ℕ)) (inputs : Result (List (List ℕ)) UnreadInput) (before now : Option (List (List ℕ))) →
     Ok table ≡ tables_reverted plan r → paths ≡ undo_input_paths plan r table → inputs_in files paths input_limit ≡ inputs →
     AskedPrefixOf (up_to_long paths inputs) before now → AskedPrefixOf (undo_paths_asked plan r files (tables_reverted plan r)) before now
 list_is plan r files table paths inputs before now asked are is first =
     subst (λ (a : Result (Option ℕ) JobFault). AskedPrefixOf (undo_paths_asked plan r files a) before now) asked
     (subst (λ (p : List (List ℕ)). AskedPrefixOf (up_to_long p (inputs_in files p input_limit)) before now) are
-    (subst (λ (i : Result (List (List ℕ)) InputFault). AskedPrefixOf (up_to_long paths i) before now) (sym is) first))
+    (subst (λ (i : Result (List (List ℕ)) UnreadInput). AskedPrefixOf (up_to_long paths i) before now) (sym is) first))
 
 pub asked_all_told : (told : Option (List File)) (plan : Project) (r : Request) (table : Option ℕ) (paths inputs : List (List ℕ)) (before now : Option (List (List ℕ))) →
     Ok table ≡ tables_reverted plan r → paths ≡ undo_input_paths plan r table →
@@ -114,7 +114,7 @@ asked_all_told None plan r table paths inputs before now asked are decided turn 
 asked_all_told (Some files) plan r table paths inputs before now asked are decided turn =
     list_is plan r files table paths (Ok inputs) before now asked are decided (all_names paths before now turn)
 
-pub asked_up_to_told : (told : Option (List File)) (plan : Project) (r : Request) (table : Option ℕ) (paths : List (List ℕ)) (fault : InputFault) (own taken : ℕ) (before now : Option (List (List ℕ))) →
+pub asked_up_to_told : (told : Option (List File)) (plan : Project) (r : Request) (table : Option ℕ) (paths : List (List ℕ)) (fault : UnreadInput) (own taken : ℕ) (before now : Option (List (List ℕ))) →
     Ok table ≡ tables_reverted plan r → paths ≡ undo_input_paths plan r table → AskedToFault fault paths taken before now →
     IfSome told (λ files. total_length (inputs_of files (take fault.number paths)) + own ≡ input_limit) →
     IfSome told (λ files. AskedPrefixOf (undo_paths_asked plan r files (tables_reverted plan r)) before now)

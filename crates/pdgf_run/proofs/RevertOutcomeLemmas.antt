@@ -3,7 +3,7 @@ use Rattle.std.proofs.Common.{◌≡◌, ◌<◌, ◌+◌, ◌*◌, ℕ, List, l
 use Rattle.std.proofs.lemmas.Bool.{cases_eq, cases_lt}
 use Rattle.pd_outside.specs.Files.{File}
 use Rattle.plan_stages.specs.Inputs.{inputs_in}
-use Rattle.plan_stages.specs.declared.inputs.InputFault.{InputFault}
+use Rattle.plan_stages.specs.declared.inputs.UnreadInput.{UnreadInput}
 use Rattle.refusals.specs.declared.refusal.JobFault.{JobFault}
 use Rattle.refusals.specs.declared.refusal.LineFault.{LineFault}
 use Rattle.refusals.specs.declared.refusal.LineReason.{LineReason}
@@ -100,7 +100,7 @@ one_made plan r table inputs (Err fault) (Err other) delimits made other_made =
     let names : List (List ℕ) = undo_input_names plan.schema r (chosen_places plan table) in
     ap Err (made.3 ∙ ap (λ (n : ℕ). unreverted names n made.1) one.0 ∙ ap (unreverted names other_made.0) one.1 ∙ sym other_made.3)
 
-one_read : (plan : Project) (r : Request) (table : Option ℕ) (inputs : Result (List (List ℕ)) InputFault) (answer other : Result (List File) JobFault) → IsDelimiter (layout_of plan).delimiter →
+one_read : (plan : Project) (r : Request) (table : Option ℕ) (inputs : Result (List (List ℕ)) UnreadInput) (answer other : Result (List File) JobFault) → IsDelimiter (layout_of plan).delimiter →
     IsRevertRead plan r table inputs answer → IsRevertRead plan r table inputs other → answer ≡ other
 one_read plan r table (Ok inputs) answer other delimits is other_is = one_made plan r table inputs answer other delimits is other_is
 one_read plan r table (Err fault) answer other delimits is other_is = is ∙ sym other_is

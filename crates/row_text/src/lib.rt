@@ -17,5 +17,5 @@ mod written_texts;
 pub use field_list::Fields;
 pub use fields::{field_size, put_field, put_null, put_piece};
 pub use lines::{LineAt, next_line};
-pub use split_lines::{LineFault, split_line};
+pub use split_lines::{SplitFault, split_line};
 pub use written_texts::WrittenTexts;

@@ -4,7 +4,7 @@ use Rattle.std.specs.List.{AllZip, range_with_len}
 use Rattle.pd_outside.specs.Files.{File}
 use Rattle.life_intervals.specs.Generator.{generator_of, table_of}
 use Rattle.plan_stages.specs.Inputs.{inputs_in, inputs_of, total_length}
-use Rattle.plan_stages.specs.declared.inputs.InputFault.{InputFault}
+use Rattle.plan_stages.specs.declared.inputs.UnreadInput.{UnreadInput}
 use Rattle.csv_face.specs.Reading.{HasBadRecord, IsReadAs}
 use Rattle.refusals.specs.declared.refusal.InputCause.TheVariants.{Reading, Applying, BadRecord}
 use Rattle.refusals.specs.declared.refusal.JobFault.{JobFault}
@@ -141,7 +141,7 @@ IsUnapplied delimiter directory paths each inputs count fault =
 -- ---- what comes of it
 
 -- why the input of a number isn't read
-abbrev pub unread : List (List ℕ) → InputFault → JobFault
+abbrev pub unread : List (List ℕ) → UnreadInput → JobFault
 unread names fault = job.Input (record { file = file_named (get_or names fault.number []); cause = Reading fault.cause })
 
 -- why it isn't applied
@@ -181,7 +181,7 @@ abbrev pub IsMadeIn : Format → Project → Request → Option ℕ → List (Li
 IsMadeIn Copy plan request table inputs answer = IsMadeOf plan request table inputs answer
 IsMadeIn Csv plan request table inputs answer = IsCsvMade plan request table inputs answer
 
-abbrev pub IsReadAndMade : Project → Request → Option ℕ → Result (List (List ℕ)) InputFault → Result (List File) JobFault → Type 0
+abbrev pub IsReadAndMade : Project → Request → Option ℕ → Result (List (List ℕ)) UnreadInput → Result (List File) JobFault → Type 0
 IsReadAndMade plan request table (Ok inputs) answer = IsMadeIn request.format plan request table inputs answer
 IsReadAndMade plan request table (Err fault) answer = answer ≡ Err (unread (input_names plan.schema request (chosen_places plan table)) fault)
 
@@ -198,7 +198,7 @@ IsApplyDue plan request files answer = IsAskedAndMade plan request files (tables
 -- ---- the names that are asked
 
 -- the first of some names, up to and with the one with whose file all are too long
-abbrev pub up_to_long : List (List ℕ) → Result (List (List ℕ)) InputFault → List (List ℕ)
+abbrev pub up_to_long : List (List ℕ) → Result (List (List ℕ)) UnreadInput → List (List ℕ)
 up_to_long paths (Ok inputs) = paths
 up_to_long paths (Err fault) = take (fault.number + 1) paths
 

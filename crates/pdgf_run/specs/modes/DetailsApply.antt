@@ -3,7 +3,7 @@ use Rattle.std.specs.Prelude.{◌≡◌, ◌≢◌, ◌<◌, ℕ, ◌+◌, ◌-�
 use Rattle.std.specs.List.{range_with_len}
 use Rattle.pd_outside.specs.Files.{File}
 use Rattle.plan_stages.specs.Inputs.{inputs_in}
-use Rattle.plan_stages.specs.declared.inputs.InputFault.{InputFault}
+use Rattle.plan_stages.specs.declared.inputs.UnreadInput.{UnreadInput}
 use Rattle.refusals.specs.declared.refusal.DetailsCause.{DetailsCause}
 use Rattle.refusals.specs.declared.refusal.JobFault.{JobFault}
 use Rattle.refusals.specs.declared.refusal.JobFault.TheVariants as job
@@ -66,7 +66,7 @@ AreDetailsMade plan request detail inputs (Err fault) =
     (number : ℕ) × (cause : ApplyFault) × (number < length inputs) × IsFaultAt Two (layout_of plan).delimiter inputs number cause × (cause ≢ Memory)
     × (fault ≡ unapplied (detail_input_names request detail) number cause)
 
-abbrev pub AreDetailsRead : Project → Request → Detail → Result (List (List ℕ)) InputFault → Result (List File) JobFault → Type 0
+abbrev pub AreDetailsRead : Project → Request → Detail → Result (List (List ℕ)) UnreadInput → Result (List File) JobFault → Type 0
 AreDetailsRead plan request detail (Ok inputs) answer = AreDetailsMade plan request detail inputs answer
 AreDetailsRead plan request detail (Err fault) answer = answer ≡ Err (unread (detail_input_names request detail) fault)
 

@@ -3,7 +3,7 @@ use Rattle.std.specs.Prelude.{◌≡◌, ◌<◌, ◌≤◌, ◌⊎◌, ℕ, ◌
 use Rattle.pd_outside.specs.Files.{File}
 use Rattle.life_intervals.specs.Generator.{generator_of}
 use Rattle.plan_stages.specs.Inputs.{inputs_in, inputs_of, total_length}
-use Rattle.plan_stages.specs.declared.inputs.InputFault.{InputFault}
+use Rattle.plan_stages.specs.declared.inputs.UnreadInput.{UnreadInput}
 use Rattle.refusals.specs.declared.refusal.InputCause.TheVariants.{Reverting}
 use Rattle.refusals.specs.declared.refusal.JobFault.{JobFault}
 use Rattle.refusals.specs.declared.refusal.JobFault.TheVariants as job
@@ -113,7 +113,7 @@ IsRevertMadeOf plan request table inputs (Err fault) =
     × IsFirstUndoFault (layout_of plan).delimiter (undo_inputs_each request) inputs (length (chosen_places plan table)) number cause
     × (fault ≡ unreverted (undo_input_names plan.schema request (chosen_places plan table)) number cause)
 
-abbrev pub IsRevertRead : Project → Request → Option ℕ → Result (List (List ℕ)) InputFault → Result (List File) JobFault → Type 0
+abbrev pub IsRevertRead : Project → Request → Option ℕ → Result (List (List ℕ)) UnreadInput → Result (List File) JobFault → Type 0
 IsRevertRead plan request table (Ok inputs) answer = IsRevertMadeOf plan request table inputs answer
 IsRevertRead plan request table (Err fault) answer = answer ≡ Err (unread (undo_input_names plan.schema request (chosen_places plan table)) fault)
 
