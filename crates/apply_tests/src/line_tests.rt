@@ -2,7 +2,7 @@
 
 ghost use Rattle.row_text.specs.Fields.{IsDelimiter};
 
-use row_text::{Fields, LineFault, next_line, split_line};
+use row_text::{Fields, SplitFault, next_line, split_line};
 use std::alloc::Global;
 
 /// Returns where a line goes wrong; None if it is a line body, or memory runs out.
@@ -10,7 +10,7 @@ fn bad_at(alloc: Global, line: &[u8], delimiter: u8) -> Option<usize>
     requires { IsDelimiter delimiter }
 {
     match split_line(alloc, line, delimiter) {
-        Err(LineFault::BadAt { at }) => Some(at),
+        Err(SplitFault::BadAt { at }) => Some(at),
         _ => None,
     }
 }

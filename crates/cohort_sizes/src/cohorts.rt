@@ -6,10 +6,10 @@ ghost use Rattle.cohort_sizes.specs.Rates.{AreRates, begin_of_rate};
 ghost use Rattle.cohort_sizes.specs.Stretches.{AreStretches};
 
 use crate::cohort::Cohort;
-use crate::memory::Memory;
 use crate::rate::Rate;
 use crate::stretch::Stretch;
 use fixed_divisors::FixedDivisor;
+use out_of_memory::Memory;
 use std::alloc::Global;
 use std::marker::Model;
 

@@ -8,11 +8,9 @@
 mod cohort;
 mod cohorts;
 pub mod laws;
-mod memory;
 mod rate;
 mod stretch;
 
 pub use cohort::Cohort;
 pub use cohorts::Cohorts;
-pub use memory::Memory;
 pub use rate::Rate;

@@ -7,11 +7,9 @@
 
 mod fault;
 pub mod laws;
-mod memory;
 mod read;
 mod write;
 
 pub use fault::CsvFault;
-pub use memory::Memory;
 pub use read::from_csv;
 pub use write::to_csv;

@@ -8,9 +8,10 @@ ghost use Rattle.row_text.specs.Fields.{IsDelimiter, field_text};
 ghost use Rattle.row_text.specs.Lines.{line_text};
 ghost use Rattle.csv_face.specs.Reading.{IsCsvFault, IsReadAs, is_bad_field, is_bad_record, row_field};
 
-use crate::{CsvFault, Memory};
+use crate::CsvFault;
 use csv::{ByteRecord, ReaderBuilder};
 use line_pages::PageBuf;
+use out_of_memory::Memory;
 use row_text::field_size;
 use std::alloc::Global;
 
@@ -83,14 +84,12 @@ impl Lines {
     fn new(alloc: Global) -> Result<Lines, Memory>
         ensures { IfOk result (λ lines. lines.text.items ≡ []) }
     {
-        match PageBuf::with_room(alloc, 0) {
-            Ok(field) => Ok(Lines {
-                alloc,
-                text: Vec::new(alloc),
-                field,
-            }),
-            Err(_) => Err(Memory),
-        }
+        let field = PageBuf::with_room(alloc, 0)?;
+        Ok(Lines {
+            alloc,
+            text: Vec::new(alloc),
+            field,
+        })
     }
 
     /// Empties the room for a field, and makes it at least `size` bytes.
@@ -101,10 +100,7 @@ impl Lines {
     {
         self.field.clear();
         if self.field.room() < size {
-            match PageBuf::with_room(self.alloc, size.saturating_mul(2)) {
-                Ok(field) => self.field = field,
-                Err(_) => return Err(Memory),
-            }
+            self.field = PageBuf::with_room(self.alloc, size.saturating_mul(2))?;
         }
         Ok(())
     }

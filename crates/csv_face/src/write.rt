@@ -7,8 +7,8 @@ ghost use Rattle.csv_face.specs.Scan.{byte_of, records_behind, with_byte, with_l
 ghost use Rattle.csv_face.specs.Scanners.{HasWritten, WillWrite};
 ghost use Rattle.row_text.specs.Fields.{IsDelimiter};
 
-use crate::Memory;
 use csv::{ByteRecord, Writer, WriterBuilder};
+use out_of_memory::Memory;
 use std::alloc::Global;
 
 /// A text that is being read, and the CSV written so far.
@@ -133,7 +133,9 @@ impl Scanner {
         ensures escape { OnOk result (self.new.is_escape ≡ self.old.is_escape) }
     {
         self.end_field()?;
-        self.writer.write_byte_record(&self.fields)?;
+        let Ok(()) = self.writer.write_byte_record(&self.fields) else {
+            return Err(Memory);
+        };
         self.fields.clear();
         Ok(())
     }

@@ -10,7 +10,8 @@ ghost use Rattle.detail_plan.specs.Form.{as_column, column_given, columns_under,
 use crate::detail::{DetailColumn, DetailColumns, DetailKind};
 use crate::key::{DetailKey, INT_KEYS, PICK_KEYS};
 use crate::members::{flag_under, has_only, member, str_under, text_under, whole_under};
-use schema_model::{Memory, Text, Texts};
+use out_of_memory::Memory;
+use schema_model::{Text, Texts};
 use std::alloc::Global;
 use toml::{Table, Value};
 

@@ -10,7 +10,8 @@ ghost use Rattle.detail_plan.specs.Form.{flag_under, has_only, under};
 ghost use Rattle.detail_plan.specs.Keys.{is_among, key_name};
 
 use crate::key::DetailKey;
-use schema_model::{Memory, Text};
+use out_of_memory::Memory;
+use schema_model::Text;
 use std::alloc::Global;
 use toml::{Table, Value};
 

@@ -11,7 +11,8 @@ use crate::columns::columns_under;
 use crate::detail::Detail;
 use crate::key::{DetailKey, TOP_KEYS};
 use crate::members::{has_only, text_under, whole_under};
-use schema_model::{Memory, Text};
+use out_of_memory::Memory;
+use schema_model::Text;
 use std::alloc::Global;
 use toml::Table;
 

@@ -10,12 +10,12 @@ ghost use Rattle.detail_plan.specs.Rules.{KeepsRules, line_size, reach_by, reach
 ghost use Rattle.detail_rows.specs.Ready.{ready_column, ready_columns};
 ghost use Rattle.detail_rows.specs.Told.{AreMany, AreSeeds, AreSeedsBefore, column_seeds, first_rows, row_of, told_count, told_key_line, told_key_lines, told_line, told_lines, told_text, told_unit};
 
-use crate::memory::Memory;
 use crate::parent_row::{ParentRow, ParentRows};
 use crate::values::{ReadyValue, put_fields, ready_value};
 use detail_plan::{Detail, DetailColumn, DetailPlan};
 use fixed_divisors::FixedDivisor;
 use line_pages::{PageBuf, Piece};
+use out_of_memory::Memory;
 use philox_seeds::{column_seed, draw, row_seed, table_seed, unit_seed};
 use schema_plan::{Plan, count};
 use std::alloc::Global;

@@ -4,7 +4,6 @@
 
 mod applied;
 mod detail_lines;
-mod memory;
 mod packer;
 mod parent_lines;
 mod parent_row;
@@ -12,6 +11,5 @@ mod values;
 
 pub use applied::{DetailApplyFault, apply_details};
 pub use detail_lines::LineKind;
-pub use memory::Memory;
-pub use packer::{DetailPacker, Rows};
+pub use packer::{DetailPacker, ParentRows};
 pub use parent_lines::parent_of;

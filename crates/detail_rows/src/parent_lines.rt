@@ -12,11 +12,11 @@ ghost use Rattle.detail_rows.specs.Packages.{born_by, first_born, listed_text, l
 ghost use Rattle.detail_rows.specs.Told.{AreMany};
 
 use crate::detail_lines::{DetailLines, LineKind};
-use crate::memory::Memory;
 use crate::parent_row::ParentRows;
 use detail_plan::DetailPlan;
 use life_intervals::{Cohort, MOST_ROWS, Rows, born, cohort};
 use line_pages::PageBuf;
+use out_of_memory::Memory;
 use row_lines::{keep, put_range};
 use schema_plan::Plan;
 use std::alloc::Global;

@@ -9,10 +9,10 @@ ghost use Rattle.schema_plan.specs.Limits.{IsRange};
 ghost use Rattle.detail_plan.specs.Limits.{IsKindInLimits};
 ghost use Rattle.detail_rows.specs.Ready.{AreChoices, IsNumber, IsReadyValue, fields_size, ready_fields, ready_size, ready_text, ready_value};
 
-use crate::memory::Memory;
 use detail_plan::DetailKind;
 use fixed_divisors::FixedDivisor;
 use line_pages::{PageBuf, Piece};
+use out_of_memory::Memory;
 use philox_seeds::{draw, row_seed};
 use row_text::WrittenTexts;
 use schema_model::Text;

@@ -1,9 +1,10 @@
 //! A dictionary: weighted entries, among which a number selects one.
 
 use crate::entries::Entries;
+use out_of_memory::Memory;
 use std::alloc::Global;
 use std::marker::Model;
-use weight_tables::{Memory, Weights};
+use weight_tables::Weights;
 
 /// A word list of 1 to 1,000,000 entries. An entry has at most 255 bytes, and a weight from 1 to 1,000,000. A contract sees the
 /// entries and their weights.

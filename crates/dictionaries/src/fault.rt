@@ -1,8 +1,9 @@
 //! Why bytes give no dictionary.
 
 ghost use Rattle.std.specs.Prelude.{◌≡◌};
-ghost use Rattle.dictionaries.specs.declared.fault.DictFault.TheVariants.{Memory};
+ghost use Rattle.dictionaries.specs.declared.fault.DictFault.TheVariants as dict_fault;
 
+use out_of_memory::Memory;
 use std::alloc::{AllocError, AllocFailed};
 use thiserror::Error;
 
@@ -42,7 +43,7 @@ pub enum DictFault {
 }
 
 impl From<AllocError> for DictFault {
-    ghost from_gives = { λ _ fault. fault ≡ Memory };
+    ghost from_gives = { λ _ fault. fault ≡ dict_fault.Memory };
 
     fn from(_error: AllocError) -> DictFault {
         DictFault::Memory
@@ -50,17 +51,17 @@ impl From<AllocError> for DictFault {
 }
 
 impl<T: Drop> From<AllocFailed<T>> for DictFault {
-    ghost from_gives = { λ _ fault. fault ≡ Memory };
+    ghost from_gives = { λ _ fault. fault ≡ dict_fault.Memory };
 
     fn from(_error: AllocFailed<T>) -> DictFault {
         DictFault::Memory
     }
 }
 
-impl From<weight_tables::Memory> for DictFault {
-    ghost from_gives = { λ _ fault. fault ≡ Memory };
+impl From<Memory> for DictFault {
+    ghost from_gives = { λ _ fault. fault ≡ dict_fault.Memory };
 
-    fn from(_error: weight_tables::Memory) -> DictFault {
+    fn from(_error: Memory) -> DictFault {
         DictFault::Memory
     }
 }

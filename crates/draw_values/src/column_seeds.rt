@@ -5,7 +5,7 @@ ghost use Rattle.philox_seeds.specs.SeedTree.{column_seed as column_seed_of, tab
 ghost use Rattle.schema_plan.specs.Layout.{layout_of};
 ghost use Rattle.draw_values.specs.ColumnSeeds.{AreUnitSeeds};
 
-use line_pages::Memory;
+use out_of_memory::Memory;
 use philox_seeds::{column_seed, table_seed, unit_seed};
 use schema_plan::Plan;
 use std::alloc::Global;

@@ -8,7 +8,8 @@ ghost use Rattle.draw_values.specs.ReadyValues.{IsReady};
 ghost use Rattle.draw_values.specs.Runs.{IsReadyDrawn, choices_kept, is_itemized, is_itemized_leaf, is_short, is_short_leaf, is_short_number, is_short_text, items_of, kept_texts, with_behind};
 
 use crate::dates::day_piece;
-use line_pages::{Memory, Piece};
+use line_pages::Piece;
+use out_of_memory::Memory;
 use row_text::WrittenTexts;
 use schema_plan::{ReadyKind, ReadyLeaf, ReadyWords};
 use std::alloc::Global;

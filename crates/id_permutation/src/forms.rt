@@ -5,9 +5,9 @@ ghost use Rattle.id_permutation.specs.Kept.{form_at, form_entries, tables_by, Is
 ghost use Rattle.id_permutation.specs.Placement.{height_of, width_of};
 ghost use Rattle.id_permutation.specs.Tables.{tables_of};
 
-use crate::memory::Memory;
 use crate::shape::Shape;
 use crate::tables::tables;
+use out_of_memory::Memory;
 use std::alloc::Global;
 
 const LARGEST: u64 = u32::MAX as u64;

@@ -6,8 +6,8 @@ ghost use Rattle.id_permutation.specs.OrderList.{OrderList};
 ghost use Rattle.id_permutation.specs.Kept.{arrangement_by, form_entries, tables_by, IsFormOf, IsCountable};
 
 use crate::forms::{Form, form_index, permutation_form, tables_for};
-use crate::memory::Memory;
 use crate::order::Order;
+use out_of_memory::Memory;
 use std::alloc::Global;
 use std::marker::Model;
 

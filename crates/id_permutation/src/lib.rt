@@ -9,7 +9,6 @@ mod fours;
 mod halves;
 mod kept;
 pub mod laws;
-mod memory;
 mod network;
 mod order;
 mod shape;
@@ -17,6 +16,5 @@ mod table_network;
 mod tables;
 
 pub use kept::KeptOrders;
-pub use memory::Memory;
 pub use order::Order;
 pub use shape::Shape;

@@ -3,9 +3,9 @@
 ghost use Rattle.std.specs.Prelude.{◌≡◌, ◌+◌, ◌*◌, ◌<◌, ◌≤◌, ◌^◌, ◌++◌, IfOk, OnOk};
 ghost use Rattle.id_permutation.specs.Tables.{round_values, pair_values, tables_of};
 
-use crate::memory::Memory;
 use crate::network::{Network, round_number};
 use fixed_divisors::FixedDivisor;
+use out_of_memory::Memory;
 use std::alloc::Global;
 
 /// Makes the tables of the six rounds, one after the other. The sides must be at most 2^16. Each entry is below the side that its

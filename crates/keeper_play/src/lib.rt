@@ -11,13 +11,11 @@
 mod keeper;
 pub mod laws;
 mod map_keeper;
-mod memory;
 mod play;
 mod refs;
 mod source;
 
 pub use keeper::{KeepFailed, Keeper, RefTo};
 pub use map_keeper::{KeeperFails, MapKeeper};
-pub use memory::Memory;
 pub use play::{play_rows, play_unit};
 pub use source::UnitSource;

@@ -7,7 +7,8 @@ ghost use Rattle.keeper_play.specs.Kept.{KeptRow, no_rows, put_row, drop_row, wi
 ghost use Rattle.keeper_play.specs.MapKeeper.{IsCounted, keeping_of, row_of, store_of};
 ghost use Rattle.keeper_play.specs.Store.{finish_store, perform, start_store};
 
-use crate::{KeepFailed, Keeper, Memory, RefTo};
+use crate::{KeepFailed, Keeper, RefTo};
+use out_of_memory::Memory;
 use std::alloc::Global;
 use std::collections::HashMap;
 use std::marker::Model;

@@ -23,7 +23,7 @@ use Rattle.life_intervals.specs.Blocks.{block_below, places_of_parent, places_of
 use Rattle.life_intervals.specs.Children.{IsCandidate, IsInWindow, candidate_number, child_at, child_block, children, children_of_each}
 use Rattle.life_intervals.specs.CohortOrders.{parent_order}
 use Rattle.life_intervals.specs.CohortParents.{IsReferenceOf, reference_by, window_by}
-use Rattle.life_intervals.specs.declared.window.Window.{Window}
+use Rattle.life_intervals.specs.declared.window.CandidateWindow.{CandidateWindow}
 use Rattle.life_intervals.specs.Generator.{Generator, generator_of, last_unit, table_of}
 use Rattle.life_intervals.specs.Intervals.{Known, known_tables, parent_by, parent_of}
 use Rattle.life_intervals.specs.References.{choice}
@@ -199,10 +199,10 @@ window-count plan limits table unit column ready below within of =
 
 -- the children of some rows by a reference that is ready
 pub children-ready : (plan : Project) → IsInLimits plan → (table : ℕ) → table < length plan.schema.tables → (unit : ℕ) → unit ≤ last_unit plan →
-    (column : ℕ) (ready : ReadyReference) → IsReferenceOf plan table column ready → (window : Window) → window ≡ window_by plan ready unit → (size : ℕ) → size ≡ cohort_size (table_of plan table).births unit → (rows : List ℕ) →
+    (column : ℕ) (ready : ReadyReference) → IsReferenceOf plan table column ready → (window : CandidateWindow) → window ≡ window_by plan ready unit → (size : ℕ) → size ≡ cohort_size (table_of plan table).births unit → (rows : List ℕ) →
     IsPermutation (children_of_each plan table (reference_by column ready) unit rows) (map (child_at plan table column unit) (flat_map (places_of_parent ready.spread window.first window.count size) rows))
 children-ready plan limits table below unit within column ready of window window_is size size_is rows =
-    subst (λ (w : Window). IsPermutation (children_of_each plan table (reference_by column ready) unit rows) (map (child_at plan table column unit) (flat_map (places_of_parent ready.spread w.first w.count size) rows))) (sym window_is)
+    subst (λ (w : CandidateWindow). IsPermutation (children_of_each plan table (reference_by column ready) unit rows) (map (child_at plan table column unit) (flat_map (places_of_parent ready.spread w.first w.count size) rows))) (sym window_is)
     (subst (λ (n : ℕ). IsPermutation (children_of_each plan table (reference_by column ready) unit rows)
     (map (child_at plan table column unit) (flat_map (places_of_parent ready.spread (window_by plan ready unit).first (window_by plan ready unit).count n) rows))) (sym size_is)
     (children-each plan limits table below unit within column (reference_by column ready) (ready_is plan table column ready of).is rows))
@@ -230,7 +230,7 @@ IsRead-columns plan table column columns held ready reference are is kind_is at 
     record { of = of; same = cc }
 
 -- the block of a turn, by a number that is cut past the size of the cohort
-pub child_block-cut : (plan : Project) (table column unit parent turn : ℕ) (ready : ReadyReference) (window : Window) (size number most : ℕ) → IsSpread ready.spread → IsCandidate plan (reference_by column ready) unit parent →
+pub child_block-cut : (plan : Project) (table column unit parent turn : ℕ) (ready : ReadyReference) (window : CandidateWindow) (size number most : ℕ) → IsSpread ready.spread → IsCandidate plan (reference_by column ready) unit parent →
     window ≡ window_by plan ready unit → size ≡ cohort_size (table_of plan table).births unit → size ≤ most → number ≡ min (min (turn * window.count) most + (parent - window.first)) most →
     block_below ready.spread size number ≡ child_block plan table (reference_by column ready) parent unit turn
 child_block-cut plan table column unit parent turn ready window size number most spread candidate window_is size_is within number_is =
@@ -238,7 +238,7 @@ child_block-cut plan table column unit parent turn ready window size number most
     let count : ℕ = count_in_window births ready.window unit in
     let exact : ℕ = candidate_number plan (reference_by column ready) unit parent + turn * count in
     let many : (window_by plan ready unit).count ≡ count = omega (arith, candidate.begun, candidate.born) in
-    let count_is : turn * window.count ≡ turn * count = ap (λ (w : Window). turn * w.count) window_is ∙ ap (λ (n : ℕ). turn * n) many in
-    let first_is : window.first ≡ first_in_window births ready.window unit = ap (λ (w : Window). w.first) window_is in
+    let count_is : turn * window.count ≡ turn * count = ap (λ (w : CandidateWindow). turn * w.count) window_is ∙ ap (λ (n : ℕ). turn * n) many in
+    let first_is : window.first ≡ first_in_window births ready.window unit = ap (λ (w : CandidateWindow). w.first) window_is in
     let cut : number ≡ min exact most = omega (arith, number_is, count_is, first_is) in
     ap (block_below ready.spread size) cut ∙ block_below-cut ready.spread spread size exact most within ∙ ap (λ (n : ℕ). block_below ready.spread n exact) size_is

@@ -21,7 +21,7 @@ use Rattle.schema_plan.specs.TableFacts.{change_cost}
 use Rattle.schema_plan.specs.Ready.{ready_column, ready_columns, ready_kind}
 use Rattle.schema_plan.specs.References.{IsReferenceInLimits, Reference, cascades_of, count_in_window, first_in_window, reference_at, references_of}
 use Rattle.schema_plan.proofs.LineageLemmas.{lineage_at-lineages}
-use Rattle.life_intervals.specs.declared.window.Window.{Window}
+use Rattle.life_intervals.specs.declared.window.CandidateWindow.{CandidateWindow}
 use Rattle.life_intervals.specs.Changes.{due_by, has_nullings, last_change, later_change}
 use Rattle.life_intervals.specs.CohortKeys.{CohortOf}
 use Rattle.life_intervals.specs.CohortOrders.{do_lives_differ, do_updates_differ, parent_order}
@@ -141,7 +141,7 @@ parent_in-born plan limits table column unit index ready below of within inside 
     (parent_by-lies (last_unit plan) generator.order (take table (known_tables generator)) (sure_life generator.tables) (table_of plan table).births unit index within inside reference refers).1
 
 -- its window, and its cohort, are of at most 2^40 rows
-pub record IsLimited (plan : Project) (table unit : ℕ) (window : Window) : Type 0 where
+pub record IsLimited (plan : Project) (table unit : ℕ) (window : CandidateWindow) : Type 0 where
   pub first : window.first ≤ 2 ^ 40
   pub count : window.count ≤ 2 ^ 40
   pub size : cohort_size (table_of plan table).births unit ≤ 2 ^ 40

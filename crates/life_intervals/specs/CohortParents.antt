@@ -9,7 +9,7 @@ use Rattle.schema_plan.specs.Layout.{TableLayout, column_at, layout_of, table_at
 use Rattle.schema_plan.specs.Lineage.{death_cost, loss_cost, one_if}
 use Rattle.schema_plan.specs.Ready.{ready_kind}
 use Rattle.schema_plan.specs.References.{Reference, cascades_of, count_in_window, first_in_window, references_of}
-use Rattle.life_intervals.specs.declared.window.Window.{Window}
+use Rattle.life_intervals.specs.declared.window.CandidateWindow.{CandidateWindow}
 use Rattle.life_intervals.specs.CohortKeys.{CohortOf}
 use Rattle.life_intervals.specs.CohortOrders.{do_lives_differ, do_updates_differ}
 use Rattle.life_intervals.specs.Generator.{generator_of, last_unit, table_of}
@@ -26,7 +26,7 @@ pub record IsReferenceOf (plan : Project) (table column : ℕ) (ready : ReadyRef
   pub is : ready_kind (layout_of plan).delimiter (column_at (table_of plan table).columns column).kind ≡ kind.Reference ready
 
 -- the rows that are born in the window of a reference for a unit's cohort, one row where there is none
-abbrev pub window_by : Project → ReadyReference → ℕ → Window
+abbrev pub window_by : Project → ReadyReference → ℕ → CandidateWindow
 window_by plan ready unit = record {
   first = first_in_window (table_of plan ready.parent).births ready.window unit;
   count = max 1 (count_in_window (table_of plan ready.parent).births ready.window unit);

@@ -5,9 +5,9 @@ ghost use Rattle.life_intervals.specs.Generator.{last_unit};
 
 use crate::births::cohort;
 use crate::lives::{Survival, survival_at};
-use crate::memory::Memory;
 use crate::orders::{Purpose, is_drawn};
 use crate::parents::never_dies;
+use out_of_memory::Memory;
 use schema_plan::{Plan, ReadyColumn, ReadyKind};
 use std::alloc::Global;
 

@@ -10,10 +10,10 @@ ghost use Rattle.life_intervals.specs.FoundAt.{AreAppended, GoesOn};
 ghost use Rattle.life_intervals.specs.Generator.{last_unit, table_of};
 
 use crate::births::cohort;
-use crate::memory::Memory;
 use crate::orders::Purpose;
 use crate::rows::Rows;
-use crate::window::Window;
+use crate::window::CandidateWindow;
+use out_of_memory::Memory;
 use schema_plan::{Plan, ReadyKind, ReadyReference};
 use std::sync::ledger::Ledger;
 use step_count::Steps;
@@ -73,7 +73,7 @@ pub fn child_block(
     let ReadyKind::Reference(reference) = &plan.columns(table)[column as usize].kind else {
         unreachable!()
     };
-    let window = Window::of_cohort(plan, reference, unit);
+    let window = CandidateWindow::of_cohort(plan, reference, unit);
     let before = turn.saturating_mul(window.count.number()); // no cohort has as many rows as what saturates
     let number = before.saturating_add(parent - window.first);
     block_below(reference, cohort(plan, table, unit).size, number)
@@ -121,7 +121,7 @@ fn push_choosing(
 /// Appends to a list the places below `size` at which a row is chosen as a parent from a window.
 fn push_places_of(
     reference: &ReadyReference,
-    window: &Window,
+    window: &CandidateWindow,
     size: u64,
     parent: u64,
     places: &mut Vec<u64>,

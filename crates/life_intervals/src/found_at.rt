@@ -8,10 +8,10 @@ ghost use Rattle.life_intervals.specs.FoundAt.{AreAppended, GoesOn, due_at, endi
 ghost use Rattle.life_intervals.specs.Generator.{last_unit, table_of};
 
 use crate::births::cohort;
-use crate::memory::Memory;
 use crate::orders::Purpose;
 use crate::rows::Rows;
 use crate::runs::add_start;
+use out_of_memory::Memory;
 use std::sync::ledger::Ledger;
 use step_count::Steps;
 

@@ -10,10 +10,10 @@ ghost use Rattle.schema_plan.specs.Dictionaries.{Project};
 
 use crate::asked::{asked_tables, least_size};
 use crate::kept::{Room, TableOrders};
-use crate::memory::Memory;
 use crate::orders::Purpose;
-use crate::window::Window;
+use crate::window::CandidateWindow;
 use id_permutation::Order;
+use out_of_memory::Memory;
 use schema_plan::Plan;
 use std::alloc::Global;
 use std::marker::Model;
@@ -124,7 +124,7 @@ impl JobOrders {
 
     /// Returns the window of these rows by the reference in the column at a place, if it is kept.
     #[inline]
-    pub(crate) fn window(&self, table: u32, column: u32, unit: u64) -> Option<Window>
+    pub(crate) fn window(&self, table: u32, column: u32, unit: u64) -> Option<CandidateWindow>
         ensures { IfSome result (λ window. (plan : Project) (reference : ReadyReference) → AreOrdersOf plan self.now → IsReferenceOf plan table column reference → window ≡ window_by plan reference unit) }
     {
         match self.tables.get(table as usize) {

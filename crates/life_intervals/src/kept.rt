@@ -8,11 +8,11 @@ ghost use Rattle.life_intervals.specs.JobOrders.{AreAllParentOrders, AreParentOr
 ghost use Rattle.schema_plan.specs.Dictionaries.{Project};
 
 use crate::asked::{Asked, are_places_asked, rows_to_one_change, table_entries};
-use crate::memory::Memory;
 use crate::orders::{Purpose, is_drawn, wanted};
 use crate::wanted::Wanted;
-use crate::window::Window;
+use crate::window::CandidateWindow;
 use id_permutation::{KeptOrders, Order};
+use out_of_memory::Memory;
 use schema_plan::{Plan, ReadyKind, ReadyReference};
 use std::alloc::Global;
 
@@ -32,7 +32,7 @@ pub(crate) struct Room {
 /// The orders in which a table's cohorts choose parents by a reference, unit by unit from 0, and the cohorts' windows.
 pub(crate) struct ParentOrders {
     pub(crate) orders: KeptOrders,
-    pub(crate) windows: Vec<Window>,
+    pub(crate) windows: Vec<CandidateWindow>,
 }
 
 impl Drop for ParentOrders {
@@ -161,7 +161,7 @@ fn windows_of(
     plan: &Plan,
     reference: &ReadyReference,
     count: u64,
-) -> Result<Vec<Window>, Memory>
+) -> Result<Vec<CandidateWindow>, Memory>
     requires parent { reference.now.parent < length plan.now.schema.tables }
     requires unit { count ≤ last_unit plan.now + 1 }
     ensures { IfOk result (λ windows. IsKeptByUnit (window_by plan.now reference.now) windows.items) }
@@ -169,7 +169,7 @@ fn windows_of(
     let _limits = plan.schema(); // there are at most 10,000 units
     let mut windows = Vec::new(alloc);
     for unit in 0..count {
-        windows.push(Window::of_cohort(plan, reference, unit))?;
+        windows.push(CandidateWindow::of_cohort(plan, reference, unit))?;
     }
     Ok(windows)
 }
@@ -314,7 +314,7 @@ impl TableOrders {
 
     /// Returns the window of a unit's cohort by the reference in the column at a place, if it is kept.
     #[inline]
-    pub(crate) fn window(&self, column: u32, unit: u64) -> Option<Window>
+    pub(crate) fn window(&self, column: u32, unit: u64) -> Option<CandidateWindow>
         ensures { IfSome result (λ window. (plan : Project) (table : _) (reference : ReadyReference) → AreTableOrders plan table self.now → IsReferenceOf plan table column reference → window ≡ window_by plan reference unit) }
     {
         let parents = self.parents.get(column as usize)?;

@@ -8,7 +8,7 @@ ghost use Rattle.life_intervals.specs.JobOrders.{AreOrdersOf};
 
 use crate::job_orders::JobOrders;
 use crate::orders::{Purpose, wanted};
-use crate::window::Window;
+use crate::window::CandidateWindow;
 use id_permutation::Order;
 use schema_plan::{Plan, ReadyReference};
 use std::marker::Model;
@@ -95,7 +95,7 @@ impl<'a> Rows<'a> {
         column: u32,
         reference: &ReadyReference,
         unit: u64,
-    ) -> Window
+    ) -> CandidateWindow
         requires parent { reference.now.parent < length self.now.schema.tables }
         requires unit { unit ≤ last_unit self.now }
         requires reference { IsReferenceOf self.now table column reference.now }
@@ -106,6 +106,6 @@ impl<'a> Rows<'a> {
                 return window;
             }
         }
-        Window::of_cohort(self.plan, reference, unit)
+        CandidateWindow::of_cohort(self.plan, reference, unit)
     }
 }

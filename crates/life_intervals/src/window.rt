@@ -13,7 +13,7 @@ use schema_plan::{Plan, ReadyReference};
 
 /// The rows that are born in the window of a reference.
 #[derive(Clone, Copy)]
-pub(crate) struct Window {
+pub(crate) struct CandidateWindow {
     /// The ordinal of the first row.
     pub(crate) first: u64,
     /// The number of rows; 1 if there are none, so that it can divide.
@@ -58,15 +58,15 @@ fn chosen(reference: &ReadyReference, count: &FixedDivisor, place: u64) -> u64
     count.remainder(turn.quotient * reference.groups + group)
 }
 
-impl Window {
+impl CandidateWindow {
     /// Returns the window of a reference for the rows of its table that are born at a unit.
-    pub(crate) fn of_cohort(plan: &Plan, reference: &ReadyReference, unit: u64) -> Window
+    pub(crate) fn of_cohort(plan: &Plan, reference: &ReadyReference, unit: u64) -> CandidateWindow
         requires parent { reference.now.parent < length plan.now.schema.tables }
         requires unit { unit ≤ last_unit plan.now }
         ensures { result ≡ window_by plan.now reference.now unit }
     {
         let first = first_in_window(plan, reference.parent, reference.window, unit);
-        Window {
+        CandidateWindow {
             first,
             count: count_from(plan, reference.parent, first, unit),
         }

@@ -4,7 +4,8 @@ ghost use Rattle.std.specs.Prelude.{◌≡◌, ◌<◌, ◌≤◌, ◌+◌, ◌^
 ghost use Rattle.line_pages.specs.Pieces.{low_bytes, piece_text};
 ghost use Rattle.line_pages.specs.Digits.{last_digits, AreFours, HasDigits};
 
-use crate::{Memory, Piece};
+use crate::Piece;
+use out_of_memory::Memory;
 use std::alloc::Global;
 
 /// The number of numbers with up to four digits.

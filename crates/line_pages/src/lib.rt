@@ -3,13 +3,11 @@
 #![tactic(auto)]
 
 mod digits;
-mod memory;
 mod numbers;
 mod page_buf;
 mod piece;
 mod rows;
 
 pub use digits::Digits;
-pub use memory::Memory;
 pub use page_buf::PageBuf;
 pub use piece::Piece;

@@ -3,7 +3,8 @@
 ghost use Rattle.std.specs.Prelude.{◌≡◌, ◌≤◌, ◌+◌, ◌-◌, [], ◌++◌, length, IfOk};
 ghost use Rattle.line_pages.specs.Pieces.{piece_text};
 
-use crate::{Memory, Piece};
+use crate::Piece;
+use out_of_memory::Memory;
 use std::alloc::Global;
 use std::marker::Model;
 

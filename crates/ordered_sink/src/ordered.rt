@@ -4,7 +4,8 @@ ghost use Rattle.std.specs.Prelude.{◌≡◌, ◌≤◌, ◌<◌, ◌+◌, ◌^
 ghost use Rattle.ordered_sink.specs.Ordered.{after_next, after_offer, answer, begun, finished, has_number, next, no_round, was_offered};
 
 use crate::{Missing, Numbered, Refused};
-use line_pages::{Memory, PageBuf};
+use line_pages::PageBuf;
+use out_of_memory::Memory;
 use std::alloc::Global;
 use std::marker::Model;
 

@@ -3,7 +3,7 @@
 ghost use Rattle.std.specs.Prelude.{◌≡◌};
 ghost use Rattle.pd_outside.specs.declared.faults.ReadFault.TheVariants as fault;
 
-use std::alloc::{AllocError, AllocFailed};
+use std::alloc::AllocError;
 use thiserror::Error;
 
 /// A call of a `Library` or a `Shelf` failed: its count of faults rose.
@@ -13,10 +13,6 @@ pub struct Failed;
 /// A write failed: the shelf's count of faults rose, and a prefix of the bytes was written.
 #[derive(Clone, Copy, Debug, PartialEq, Eq)]
 pub struct WriteFailed;
-
-/// Memory ran out.
-#[derive(Clone, Copy, Debug, PartialEq, Eq)]
-pub struct Memory;
 
 /// Why a whole file wasn't read.
 #[derive(Clone, Copy, Debug, PartialEq, Eq, Error)]
@@ -30,18 +26,6 @@ pub enum ReadFault {
     /// Memory ran out.
     #[error("out of memory")]
     Memory,
-}
-
-impl From<AllocError> for Memory {
-    fn from(_: AllocError) -> Self {
-        Memory
-    }
-}
-
-impl<T: Drop> From<AllocFailed<T>> for Memory {
-    fn from(_: AllocFailed<T>) -> Self {
-        Memory
-    }
 }
 
 impl From<AllocError> for ReadFault {

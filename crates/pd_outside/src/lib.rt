@@ -15,7 +15,7 @@ mod sure;
 mod whole;
 
 pub use fails::{LibraryFails, ShelfFail, ShelfFails};
-pub use faults::{Failed, Memory, ReadFault, WriteFailed};
+pub use faults::{Failed, ReadFault, WriteFailed};
 pub use files::Files;
 pub use gate::{Gate, OpenGate};
 pub use library::Library;

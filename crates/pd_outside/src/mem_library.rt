@@ -10,7 +10,8 @@ ghost use Rattle.pd_outside.specs.Library.{left, start_file, take_bytes, stop, R
 ghost use Rattle.pd_outside.specs.InMemory.{Reading, start_fails, read_fails};
 ghost use Rattle.pd_outside.specs.MemLibrary.{IsIn, rest_of};
 
-use crate::{Failed, Files, Library, LibraryFails, Memory};
+use crate::{Failed, Files, Library, LibraryFails};
+use out_of_memory::Memory;
 use std::alloc::Global;
 use std::marker::Model;
 

@@ -11,7 +11,8 @@ ghost use Rattle.pd_outside.specs.Shelf.{begin_file, append_bytes, end_file, byt
 ghost use Rattle.pd_outside.specs.declared.fails.ShelfFail.TheVariants as fail;
 
 use crate::files::Entry;
-use crate::{Failed, Files, Memory, Shelf, ShelfFail, ShelfFails};
+use crate::{Failed, Files, Shelf, ShelfFail, ShelfFails};
+use out_of_memory::Memory;
 use std::alloc::Global;
 use std::marker::Model;
 

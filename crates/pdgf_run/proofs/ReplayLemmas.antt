@@ -13,7 +13,7 @@ use Rattle.pd_outside.specs.declared.faults.ReadFault.TheVariants as read
 use Rattle.plan_stages.specs.Inputs.{AskedInTurn, AskedToFault, InputUnread, InputsRead, all_read_out, first_too_long, input_status, inputs_in, inputs_of, taken_of_last, total_length, unless_too_long}
 use Rattle.plan_stages.specs.PlanNames.{AskedNone}
 use Rattle.plan_stages.specs.Stages.{Decides, IsReadOut, told_files}
-use Rattle.plan_stages.specs.declared.inputs.InputFault.{InputFault}
+use Rattle.plan_stages.specs.declared.inputs.UnreadInput.{UnreadInput}
 use Rattle.plan_stages.proofs.DictionaryLemmas.{asked_first}
 use Rattle.plan_stages.proofs.InputLemmas.{files_stay}
 use Rattle.refusals.specs.Statuses.{is_free, job_status, reading_status}
@@ -36,12 +36,12 @@ pub no_memory : (told : Option (List File)) (delimiter : ℕ) (r : Request) (rep
 no_memory None delimiter r replay = tt
 no_memory (Some files) delimiter r replay = λ free. absurd (cc)
 
-pub read_and_made : (delimiter : ℕ) (r : Request) (replay : Replay) (files : List File) (inputs : Result (List (List ℕ)) InputFault) (answer : Result (List File) JobFault) →
+pub read_and_made : (delimiter : ℕ) (r : Request) (replay : Replay) (files : List File) (inputs : Result (List (List ℕ)) UnreadInput) (answer : Result (List File) JobFault) →
     inputs_in files (input_paths r replay) input_limit ≡ inputs → IsReadAndMade delimiter r replay inputs answer → IsReplayDue delimiter r replay files answer
-read_and_made delimiter r replay files inputs answer is made = subst (λ (i : Result (List (List ℕ)) InputFault). IsReadAndMade delimiter r replay i answer) (sym is) made
+read_and_made delimiter r replay files inputs answer is made = subst (λ (i : Result (List (List ℕ)) UnreadInput). IsReadAndMade delimiter r replay i answer) (sym is) made
 
 -- an input isn't read
-pub unread_decided : (told : Option (List File)) (delimiter : ℕ) (r : Request) (replay : Replay) (names paths : List (List ℕ)) (fault : InputFault) (refused : JobFault) →
+pub unread_decided : (told : Option (List File)) (delimiter : ℕ) (r : Request) (replay : Replay) (names paths : List (List ℕ)) (fault : UnreadInput) (refused : JobFault) →
     names ≡ input_names r replay → paths ≡ input_paths r replay → refused ≡ named_fault names fault.number (Reading fault.cause) →
     IfSome told (λ files. Decides input_status (λ inputs. inputs) (Err fault) (inputs_in files paths input_limit)) →
     IfSome told (λ files. IsDecided job_status due_of (IsReplayDue delimiter r replay files) (Err refused))
@@ -105,7 +105,7 @@ left_by_inputs status IsLimit inputs names limit before now taken_before taken_n
 }
 
 -- an input isn't read
-pub left_by_unread : (fault : InputFault) (refused : JobFault) (names paths : List (List ℕ)) (before now : Option Content) (taken : ℕ) (is_started : Bool) (faults_before faults_now : ℕ) →
+pub left_by_unread : (fault : UnreadInput) (refused : JobFault) (names paths : List (List ℕ)) (before now : Option Content) (taken : ℕ) (is_started : Bool) (faults_before faults_now : ℕ) →
     refused ≡ named_fault names fault.number (Reading fault.cause) →
     InputUnread fault paths input_limit before now taken is_started faults_before faults_now →
     LibraryLeft (job_status refused) (IsLimitOf refused) (told_files before) now taken is_started faults_before faults_now
@@ -155,7 +155,7 @@ first_names paths count before now asked = record { count = count; asked = asked
 pub all_names : (paths : List (List ℕ)) (before now : Option (List (List ℕ))) → AskedInTurn paths before now → AskedPrefixOf paths before now
 all_names paths before now asked = asked_first paths paths [] before now asked (sym (append-nil paths))
 
-pub asked_at_most : (paths : List (List ℕ)) (fault : InputFault) (taken : ℕ) (before now : Option (List (List ℕ))) → AskedToFault fault paths taken before now →
+pub asked_at_most : (paths : List (List ℕ)) (fault : UnreadInput) (taken : ℕ) (before now : Option (List (List ℕ))) → AskedToFault fault paths taken before now →
     AskedPrefixOf paths before now
 asked_at_most paths fault taken before now asked = go asked.at_most
   where
@@ -167,16 +167,16 @@ pub asked_all : (r : Request) (replay : Replay) (paths : List (List ℕ)) (befor
     AskedPrefixOf (input_paths r replay) before now
 asked_all r replay paths before now are turn = subst (λ (p : List (List ℕ)). AskedPrefixOf p before now) are (all_names paths before now turn)
 
-pub asked_up_to : (r : Request) (replay : Replay) (paths : List (List ℕ)) (fault : InputFault) (taken : ℕ) (before now : Option (List (List ℕ))) → paths ≡ input_paths r replay →
+pub asked_up_to : (r : Request) (replay : Replay) (paths : List (List ℕ)) (fault : UnreadInput) (taken : ℕ) (before now : Option (List (List ℕ))) → paths ≡ input_paths r replay →
     AskedToFault fault paths taken before now → AskedPrefixOf (input_paths r replay) before now
 asked_up_to r replay paths fault taken before now are to = subst (λ (p : List (List ℕ)). AskedPrefixOf p before now) are (asked_at_most paths fault taken before now to)
 
 -- the same where files are told
-list_is : (r : Request) (replay : Replay) (files : List File) (paths : List (List ℕ)) (inputs : Result (List (List ℕ)) InputFault) (before now : Option (List (List ℕ))) →
+list_is : (r : Request) (replay : Replay) (files : List File) (paths : List (List ℕ)) (inputs : Result (List (List ℕ)) UnreadInput) (before now : Option (List (List ℕ))) →
     paths ≡ input_paths r replay → inputs_in files paths input_limit ≡ inputs → AskedPrefixOf (up_to_long paths inputs) before now → AskedPrefixOf (paths_read r replay files) before now
 list_is r replay files paths inputs before now are is first =
     subst (λ (p : List (List ℕ)). AskedPrefixOf (up_to_long p (inputs_in files p input_limit)) before now) are
-    (subst (λ (i : Result (List (List ℕ)) InputFault). AskedPrefixOf (up_to_long paths i) before now) (sym is) first)
+    (subst (λ (i : Result (List (List ℕ)) UnreadInput). AskedPrefixOf (up_to_long paths i) before now) (sym is) first)
 
 pub asked_all_told : (told : Option (List File)) (r : Request) (replay : Replay) (paths inputs : List (List ℕ)) (before now : Option (List (List ℕ))) → paths ≡ input_paths r replay →
     IfSome told (λ files. Decides input_status (λ inputs. inputs) (Ok inputs) (inputs_in files paths input_limit)) → AskedInTurn paths before now →
@@ -242,7 +242,7 @@ fits_so_far files names place own (Some number) is limits =
     fits_before input_limit (inputs_of files names) number place is
     (omega (arith, limits, ap total_length (take-map (bytes_of files) place names)))
 
-pub asked_up_to_told : (told : Option (List File)) (r : Request) (replay : Replay) (paths : List (List ℕ)) (fault : InputFault) (own taken : ℕ) (before now : Option (List (List ℕ))) →
+pub asked_up_to_told : (told : Option (List File)) (r : Request) (replay : Replay) (paths : List (List ℕ)) (fault : UnreadInput) (own taken : ℕ) (before now : Option (List (List ℕ))) →
     paths ≡ input_paths r replay → AskedToFault fault paths taken before now →
     IfSome told (λ files. total_length (inputs_of files (take fault.number paths)) + own ≡ input_limit) →
     IfSome told (λ files. AskedPrefixOf (paths_read r replay files) before now)
@@ -274,7 +274,7 @@ asked_some names (Some all) now some turn none =
 pub unasked_read : (names : List (List ℕ)) (taken earlier : ℕ) (before now : Option (List (List ℕ))) → 1 ≤ length names → AskedInTurn names before now → AskedNone before now → taken ≤ earlier
 unasked_read names taken earlier before now some turn none = absurd (asked_some names before now some turn none)
 
-pub unasked_fault : (paths : List (List ℕ)) (fault : InputFault) (taken earlier : ℕ) (before now : Option (List (List ℕ))) → fault.number < length paths → AskedToFault fault paths taken before now →
+pub unasked_fault : (paths : List (List ℕ)) (fault : UnreadInput) (taken earlier : ℕ) (before now : Option (List (List ℕ))) → fault.number < length paths → AskedToFault fault paths taken before now →
     AskedNone before now → taken ≤ earlier
 unasked_fault paths fault taken earlier before now within to none = go to.at_most
   where

@@ -3,7 +3,7 @@ use Rattle.std.proofs.Common.{◌≡◌, ◌≢◌, ◌<◌, ◌+◌, ◌*◌, �
 use Rattle.std.proofs.lemmas.Bool.{cases_eq, cases_lt}
 use Rattle.pd_outside.specs.Files.{File}
 use Rattle.plan_stages.specs.Inputs.{inputs_in}
-use Rattle.plan_stages.specs.declared.inputs.InputFault.{InputFault}
+use Rattle.plan_stages.specs.declared.inputs.UnreadInput.{UnreadInput}
 use Rattle.refusals.specs.declared.refusal.InputCause.{InputCause}
 use Rattle.refusals.specs.declared.refusal.InputCause.TheVariants.{Applying, BadRecord, Reading, Reverting}
 use Rattle.refusals.specs.declared.refusal.JobFault.{JobFault}
@@ -194,7 +194,7 @@ one_made_in : (csv : Option (List ℕ)) (delimiter : ℕ) (r : Request) (replay 
 one_made_in None delimiter r replay inputs answer other delimits is other_is = one_made delimiter r replay inputs answer other delimits is other_is
 one_made_in (Some columns) delimiter r replay inputs answer other delimits is other_is = one_csv_made delimiter r replay (input_fields r columns) inputs answer other delimits is other_is
 
-one_read : (delimiter : ℕ) (r : Request) (replay : Replay) (inputs : Result (List (List ℕ)) InputFault) (answer other : Result (List File) JobFault) → IsDelimiter delimiter →
+one_read : (delimiter : ℕ) (r : Request) (replay : Replay) (inputs : Result (List (List ℕ)) UnreadInput) (answer other : Result (List File) JobFault) → IsDelimiter delimiter →
     IsReadAndMade delimiter r replay inputs answer → IsReadAndMade delimiter r replay inputs other → answer ≡ other
 one_read delimiter r replay (Ok inputs) answer other delimits is other_is = one_made_in replay.csv delimiter r replay inputs answer other delimits is other_is
 one_read delimiter r replay (Err fault) answer other delimits is other_is = is ∙ sym other_is

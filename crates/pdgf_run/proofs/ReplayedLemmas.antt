@@ -89,8 +89,8 @@ due_in_directory delimiter r replay texts written names paths directory format f
   are = subst (λ (f : Format). AreWritten f delimiter texts written) format_is are;
   due_is =
       ap (λ (p : List (List ℕ)). named_files p written)
-          (in_there ∙ ap (map (in_directory directory)) named ∙ map-map (in_directory directory) (text_name (format_of replay)) replay.names)
-          ∙ ap (λ (o : Option (List ℕ)). made_files (text_name (format_of replay)) o replay.names written) (sym out_is);
+      (in_there ∙ ap (map (in_directory directory)) named ∙ map-map (in_directory directory) (text_name (format_of replay)) replay.names)
+      ∙ ap (λ (o : Option (List ℕ)). made_files (text_name (format_of replay)) o replay.names written) (sym out_is);
 }
 
 -- texts that are made, as they are written

@@ -4,7 +4,7 @@ use Rattle.std.specs.List.{AllZip, range_with_len}
 use Rattle.csv_face.specs.Reading.{HasBadRecord, IsReadAs}
 use Rattle.pd_outside.specs.Files.{File}
 use Rattle.plan_stages.specs.Inputs.{inputs_in}
-use Rattle.plan_stages.specs.declared.inputs.InputFault.{InputFault}
+use Rattle.plan_stages.specs.declared.inputs.UnreadInput.{UnreadInput}
 use Rattle.refusals.specs.declared.refusal.InputCause.{InputCause}
 use Rattle.refusals.specs.declared.refusal.InputCause.TheVariants.{Reading, Applying, Reverting, BadRecord}
 use Rattle.refusals.specs.declared.refusal.JobFault.{JobFault}
@@ -229,7 +229,7 @@ abbrev pub IsMadeIn : Option (List ℕ) → ℕ → Request → Replay → List 
 IsMadeIn None delimiter request replay inputs answer = IsMadeOf delimiter request replay inputs answer
 IsMadeIn (Some columns) delimiter request replay inputs answer = IsCsvMade delimiter request replay (input_fields request columns) inputs answer
 
-abbrev pub IsReadAndMade : ℕ → Request → Replay → Result (List (List ℕ)) InputFault → Result (List File) JobFault → Type 0
+abbrev pub IsReadAndMade : ℕ → Request → Replay → Result (List (List ℕ)) UnreadInput → Result (List File) JobFault → Type 0
 IsReadAndMade delimiter request replay (Ok inputs) answer = IsMadeIn replay.csv delimiter request replay inputs answer
 IsReadAndMade delimiter request replay (Err fault) answer = answer ≡ Err (fault_at request replay fault.number (Reading fault.cause))
 
@@ -242,7 +242,7 @@ IsReplayDue delimiter request replay files answer =
 -- ---- the names that are asked
 
 -- the first of some names, up to and with the one with whose file all are too long
-abbrev pub up_to_long : List (List ℕ) → Result (List (List ℕ)) InputFault → List (List ℕ)
+abbrev pub up_to_long : List (List ℕ) → Result (List (List ℕ)) UnreadInput → List (List ℕ)
 up_to_long paths (Ok inputs) = paths
 up_to_long paths (Err fault) = take (fault.number + 1) paths
 

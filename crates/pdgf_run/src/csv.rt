@@ -21,6 +21,7 @@ use crate::job::{FilesJob, Job, TablesJob};
 use crate::names::Directory;
 use crate::text_shelf::TextShelf;
 use csv_face::to_csv;
+use out_of_memory::Memory;
 use pd_outside::Files;
 use plan_stages::Inputs;
 use range_workers::RunFault;
@@ -28,7 +29,7 @@ use refusals::JobFault;
 use request_words::{Format, OptionName, Request};
 use schema_model::Text;
 use std::alloc::Global;
-use update_box::{Content, Memory, places_of};
+use update_box::{Content, places_of};
 
 /// Appends a text in COPY text form to others, as CSV.
 pub(crate) fn push_csv(

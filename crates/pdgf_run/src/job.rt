@@ -10,12 +10,13 @@ ghost use Rattle.pdgf_run.specs.Jobs.{CanPack, CanPackBy};
 use detail_plan::DetailPlan;
 use life_intervals::JobOrders;
 use line_pages::PageBuf;
+use out_of_memory::Memory;
 use plan_stages::Inputs;
 use request_words::Request;
 use schema_model::{Text as Name, Texts};
 use schema_plan::Plan;
 use std::alloc::Global;
-use update_box::{Memory, PreparedTables, UnitRows};
+use update_box::{PreparedTables, UnitRows};
 
 /// All that is to be written.
 pub(crate) enum Job {

@@ -7,7 +7,8 @@ ghost use Rattle.update_box.specs.Cuts.{greatest, text_in};
 ghost use Rattle.pdgf_run.specs.Joined.{joined_text, part_files};
 
 use line_pages::PageBuf;
-use range_workers::{Marks, Memory, Packer};
+use out_of_memory::Memory;
+use range_workers::{Marks, Packer};
 use schema_model::Texts;
 use std::alloc::Global;
 

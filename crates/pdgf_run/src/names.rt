@@ -7,11 +7,12 @@ ghost use Rattle.pdgf_run.specs.Formats.{ending_in, file_name, in_directory, und
 ghost use Rattle.pdgf_run.specs.modes.Undo.{undo_path};
 
 use itoa::Buffer;
+use out_of_memory::Memory;
 use request_words::Format;
 use schema_model::{Text, Texts};
 use schema_plan::Plan;
 use std::alloc::Global;
-use update_box::{Content, Memory, Places, push_ending};
+use update_box::{Content, Places, push_ending};
 
 /// A directory whose files hold parts of a plan's tables in a format.
 #[derive(Clone, Copy)]

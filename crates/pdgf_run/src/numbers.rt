@@ -3,7 +3,7 @@
 ghost use Rattle.std.specs.Prelude.{◌≡◌, ◌∷◌, ◌++◌, [], OnOk, decimal};
 
 use itoa::Buffer;
-use line_pages::Memory;
+use out_of_memory::Memory;
 
 /// Appends a number in decimal, and then a byte.
 pub(crate) fn push_number(text: &mut Vec<u8>, number: u128, behind: u8) -> Result<(), Memory>

@@ -16,6 +16,7 @@ use crate::unit_sources::{Births, Changed};
 use keeper_play::{KeepFailed, Keeper, play_rows};
 use life_intervals::Rows;
 use line_pages::PageBuf;
+use out_of_memory::Memory;
 use std::alloc::Global;
 use std::marker::Brand;
 use std::sync::ledger::{Blank, Ledger};
@@ -39,18 +40,10 @@ impl From<KeepFailed> for PlayFault {
     }
 }
 
-impl From<update_box::Memory> for PlayFault {
+impl From<Memory> for PlayFault {
     ghost from_gives = { λ _ e. e ≡ fault.Memory };
 
-    fn from(_error: update_box::Memory) -> PlayFault {
-        PlayFault::Memory
-    }
-}
-
-impl From<line_pages::Memory> for PlayFault {
-    ghost from_gives = { λ _ e. e ≡ fault.Memory };
-
-    fn from(_error: line_pages::Memory) -> PlayFault {
+    fn from(_error: Memory) -> PlayFault {
         PlayFault::Memory
     }
 }

@@ -17,11 +17,11 @@ mod copies;
 mod names;
 mod texts;
 
-pub(crate) use names::{paths_in, push_stream_names, text_name};
-
 use crate::job::Job;
 use copies::copies_of;
 use names::input_names;
+pub(crate) use names::{paths_in, push_stream_names, text_name};
+use out_of_memory::Memory;
 use pd_outside::Library;
 use plan_stages::{Inputs, read_in_turn};
 use refusals::{FileName, InputCause, InputFault, JobFault};
@@ -30,7 +30,6 @@ use schema_model::{Sequence, Texts};
 use std::alloc::Global;
 use stream_apply::KeyFields;
 use texts::{replayed_texts, written_job};
-use update_box::Memory;
 
 /// The most bytes that all inputs can have together.
 const INPUT_LIMIT: u64 = 268_435_456;
@@ -132,11 +131,7 @@ pub(crate) fn replay_files<L: Library>(
     };
     match read_in_turn(alloc, library, &paths, INPUT_LIMIT) {
         Ok(inputs) => made_in(alloc, delimiter, replay, request, &names, &inputs),
-        Err(fault) => Err(fault_at(
-            &names,
-            fault.number,
-            InputCause::Reading(fault.cause),
-        )),
+        Err(fault) => Err(fault_at(&names, fault.number, InputCause::Reading(fault.cause))),
     }
 }
 
@@ -160,14 +155,7 @@ fn made_in(
     match &replay.csv {
         None => made_of(alloc, delimiter, replay, request, names, inputs),
         Some(columns) => {
-            let copies = copies_of(
-                alloc,
-                delimiter,
-                columns.as_slice(),
-                request,
-                names,
-                inputs,
-            )?;
+            let copies = copies_of(alloc, delimiter, columns.as_slice(), request, names, inputs)?;
             made_of(alloc, delimiter, replay, request, names, &copies)
         }
     }

@@ -7,7 +7,7 @@ use Rattle.pd_outside.specs.declared.faults.ReadFault.{ReadFault}
 use Rattle.pd_outside.specs.declared.faults.ReadFault.TheVariants.{TooLong}
 use Rattle.refusals.specs.Statuses.{reading_status}
 use Rattle.plan_stages.specs.Stages.{told_files, LibraryAfter}
-use Rattle.plan_stages.specs.declared.inputs.InputFault.{InputFault}
+use Rattle.plan_stages.specs.declared.inputs.UnreadInput.{UnreadInput}
 
 -- ---- what is read
 
@@ -26,20 +26,20 @@ first_too_long limit before (bytes ∷ rest) =
     if nat_lt limit (total_length (before ++ bytes ∷ [])) then Some (length before) else first_too_long limit (before ++ bytes ∷ []) rest
 
 -- a cause at the file of this number
-abbrev pub input_fault : ℕ → ReadFault → InputFault
+abbrev pub input_fault : ℕ → ReadFault → UnreadInput
 input_fault number cause = record { number = number; cause = cause }
 
 -- inputs, unless one is too long
-abbrev pub unless_too_long : Option ℕ → List (List ℕ) → Result (List (List ℕ)) InputFault
+abbrev pub unless_too_long : Option ℕ → List (List ℕ) → Result (List (List ℕ)) UnreadInput
 unless_too_long None inputs = Ok inputs
 unless_too_long (Some number) inputs = Err (input_fault number TooLong)
 
 -- the inputs of these names over files, which may have so many bytes together; or the first that is too long
-abbrev pub inputs_in : List File → List (List ℕ) → ℕ → Result (List (List ℕ)) InputFault
+abbrev pub inputs_in : List File → List (List ℕ) → ℕ → Result (List (List ℕ)) UnreadInput
 inputs_in files names limit = unless_too_long (first_too_long limit [] (inputs_of files names)) (inputs_of files names)
 
 -- the status of inputs that aren't read
-abbrev pub input_status : InputFault → ℕ
+abbrev pub input_status : UnreadInput → ℕ
 input_status fault = reading_status fault.cause
 
 -- ---- what is left of the library
@@ -63,7 +63,7 @@ pub record InputsRead (inputs names : List (List ℕ)) (limit : ℕ) (before now
   pub no_fault : faults_now ≡ faults_before
 
 -- One of the names' files wasn't read. It may have as many bytes as those before it leave of the limit.
-pub record InputUnread (fault : InputFault) (names : List (List ℕ)) (limit : ℕ) (before now : Option Content) (taken : ℕ) (is_started : Bool) (faults_before faults_now : ℕ) : Type 0 where
+pub record InputUnread (fault : UnreadInput) (names : List (List ℕ)) (limit : ℕ) (before now : Option Content) (taken : ℕ) (is_started : Bool) (faults_before faults_now : ℕ) : Type 0 where
   pub number : fault.number < length names
   pub own_limit : ℕ
   pub within : own_limit ≤ limit
@@ -80,7 +80,7 @@ abbrev pub AskedInTurn : List (List ℕ) → Option (List (List ℕ)) → Option
 AskedInTurn names before now = now ≡ option_map (λ all. all ++ names) before
 
 -- The names were asked up to and with the one at fault; nothing was taken where that one wasn't.
-pub record AskedToFault (fault : InputFault) (names : List (List ℕ)) (taken : ℕ) (before now : Option (List (List ℕ))) : Type 0 where
+pub record AskedToFault (fault : UnreadInput) (names : List (List ℕ)) (taken : ℕ) (before now : Option (List (List ℕ))) : Type 0 where
   pub at_most : AskedInTurn (take (fault.number + 1) names) before now ⊎ (AskedInTurn (take fault.number names) before now × (taken ≡ 0))
   pub too_long : fault.cause ≡ TooLong → AskedInTurn (take (fault.number + 1) names) before now
 

@@ -7,7 +7,7 @@ ghost use Rattle.plan_stages.specs.Inputs.{input_status, inputs_in, AskedInTurn,
 ghost use Rattle.plan_stages.specs.Stages.{told_files, Decides, LibraryAfter};
 ghost use Rattle.refusals.specs.Statuses.{reading_status};
 
-use crate::{InputFault, Inputs};
+use crate::{Inputs, UnreadInput};
 use pd_outside::{Library, ReadFault, read_whole};
 use schema_model::Texts;
 use std::alloc::Global;
@@ -24,7 +24,7 @@ pub fn read_in_turn<L: Library>(
     library: &mut L,
     names: &Texts,
     limit: u64,
-) -> Result<Inputs, InputFault>
+) -> Result<Inputs, UnreadInput>
     requires { limit < 2 ^ 32 }
 
     ensures inputs { IfSome (told_files (L.content library.old)) (λ files. Decides input_status (λ inputs. inputs) result (inputs_in files names.now limit)) }
@@ -42,7 +42,7 @@ pub fn read_in_turn<L: Library>(
         match add_input(alloc, library, name, left, &mut inputs) {
             Ok(length) => left -= length,
             Err(cause) => {
-                return Err(InputFault {
+                return Err(UnreadInput {
                     number: place,
                     cause,
                 });

@@ -12,7 +12,7 @@ pub struct Inputs {
 
 /// Which file isn't read, and why.
 #[derive(Clone, Copy, Debug, PartialEq, Eq)]
-pub struct InputFault {
+pub struct UnreadInput {
     /// The place of the file's name in the list, counted from 0.
     pub number: usize,
     /// Why the file isn't read. `TooLong` means that it has more bytes than the files before it leave of the limit.

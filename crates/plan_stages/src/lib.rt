@@ -7,5 +7,5 @@ mod inputs;
 mod plan;
 
 pub use input_files::read_in_turn;
-pub use inputs::{InputFault, Inputs};
+pub use inputs::{Inputs, UnreadInput};
 pub use plan::plan_of;

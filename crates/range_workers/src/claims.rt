@@ -5,9 +5,9 @@ ghost use Rattle.range_workers.specs.Rule.{AreAllBelow};
 ghost use Rattle.range_workers.specs.Views.{CanClaim, CanJoin, CanSplit, IsAlone, from_of, joined, new_worker, numbers, with_number, with_worker};
 ghost use Rattle.range_workers.specs.declared.view.View.TheVariants as seen;
 
-use crate::Memory;
 use crate::view::{ClaimRule, Cut, Merge, Read, Take, View};
 use atomic_table::{Seat, Table};
+use out_of_memory::Memory;
 use std::alloc::Global;
 
 /// Numbers from 0 on, claimed one by one, each once, by the thread that comes next. Threads share the table by reference, and each takes a

@@ -5,11 +5,12 @@ ghost use Rattle.ordered_sink.specs.Ordered.{after_offer};
 ghost use Rattle.range_workers.specs.Crew.{IsCrewAt, IsOffering, last_page};
 ghost use Rattle.range_workers.specs.declared.work.RoundClaims.{RoundClaims};
 
+use crate::Packer;
 use crate::work::RoundClaims;
 use crate::workshop::Workshop;
-use crate::{Memory, Packer};
 use line_pages::PageBuf;
 use ordered_sink::{Numbered, Ordered};
+use out_of_memory::Memory;
 use pd_outside::Gate;
 use std::alloc::Global;
 use std::thread::Threads;

@@ -14,7 +14,7 @@ mod work;
 mod workshop;
 
 pub use claims::{ClaimSeat, Claims};
-pub use faults::{Memory, RunFault};
+pub use faults::RunFault;
 pub use job::run;
 pub use marks::Marks;
 pub use packer::Packer;

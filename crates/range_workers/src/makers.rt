@@ -3,10 +3,11 @@
 ghost use Rattle.std.specs.Prelude.{◌≡◌, ◌+◌, ◌≤◌, ◌<◌, IfOk, List, ℕ};
 ghost use Rattle.range_workers.specs.Makers.{HasText, IsReadyToMake, text_made};
 
+use crate::Packer;
 use crate::crew::Crew;
 use crate::work::make_page;
-use crate::{Memory, Packer};
 use line_pages::PageBuf;
+use out_of_memory::Memory;
 use pd_outside::Gate;
 use std::alloc::Global;
 use std::thread::Threads;

@@ -3,7 +3,7 @@
 ghost use Rattle.std.specs.Prelude.{◌≡◌, ◌<◌, ◌+◌, ◌++◌, ◌∷◌, [], OnErr, OnOk, drop, length};
 ghost use Rattle.range_workers.specs.Marks.{end_before, mark_at};
 
-use crate::Memory;
+use out_of_memory::Memory;
 use std::alloc::Global;
 use std::marker::Model;
 

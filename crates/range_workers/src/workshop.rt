@@ -8,9 +8,10 @@ ghost use Rattle.range_workers.specs.Views.{CanJoin, joined, numbers};
 ghost use Rattle.range_workers.specs.Workshop.{HasMade, IsAtRest, IsCleared, IsGoingOut, IsSameShop};
 
 use crate::work::{Bench, PAGES_EACH, RoundClaims, RoundWorker, work_all};
-use crate::{ClaimSeat, Claims, Memory, Packer};
+use crate::{ClaimSeat, Claims, Packer};
 use line_pages::PageBuf;
 use ordered_sink::Numbered;
+use out_of_memory::Memory;
 use pd_outside::Gate;
 use std::alloc::Global;
 use std::thread::Threads;

@@ -12,7 +12,7 @@ ghost use Rattle.refusals.specs.declared.refusal.Refusal.TheVariants as refusal;
 use crate::FileName;
 use crate::message::{line, put_refusal};
 use dictionaries::DictFault;
-use line_pages::Memory;
+use out_of_memory::Memory;
 use pd_outside::{Message, ReadFault};
 use request_words::{OptionName, UsageFault};
 use schema_check::CheckFault;
@@ -352,10 +352,10 @@ impl From<DictFault> for DictionaryCause {
     }
 }
 
-impl From<schema_plan::Memory> for DictionaryCause {
+impl From<Memory> for DictionaryCause {
     ghost from_gives = { λ fault made. made ≡ dictionary_cause.Memory };
 
-    fn from(_: schema_plan::Memory) -> DictionaryCause {
+    fn from(_: Memory) -> DictionaryCause {
         DictionaryCause::Memory
     }
 }

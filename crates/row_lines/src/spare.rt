@@ -1,7 +1,7 @@
 //! The buffers of runs, kept from package to package.
 
 use crate::RunBuf;
-use line_pages::Memory;
+use out_of_memory::Memory;
 use std::alloc::Global;
 use std::sync::{Mutex, MutexGuard};
 

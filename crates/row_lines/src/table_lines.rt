@@ -7,7 +7,7 @@ ghost use Rattle.row_lines.specs.TableLines.{AreTableLines, column_of, has_short
 use crate::bytes::byte_behind;
 use draw_values::RunColumn;
 use life_intervals::born;
-use line_pages::Memory;
+use out_of_memory::Memory;
 use schema_plan::{Plan, ReadyKind};
 use std::alloc::Global;
 use std::marker::Model;

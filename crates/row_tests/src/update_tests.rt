@@ -7,13 +7,14 @@ ghost use Rattle.life_intervals.specs.Generator.{last_unit};
 use crate::fixtures::{SALES, is_row, plan_of, with_number};
 use crate::told::{Ordinals, Told, assert_all};
 use life_intervals::{Cohort, birth, born, death, last_change};
+use out_of_memory::Memory;
 use schema_plan::Plan;
 use std::alloc::{AllocError, Global};
 use std::marker::Brand;
 use std::sync::ledger::{Blank, Ledger};
 use std::test::Fail;
 use step_count::Steps;
-use update_box::{Memory, UnitRows, unit_rows};
+use update_box::{UnitRows, unit_rows};
 
 fn are(rows: &[u64], told: Ordinals<'_>) -> bool {
     match told {

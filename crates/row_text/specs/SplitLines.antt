@@ -2,8 +2,8 @@
 use Rattle.std.specs.Prelude.{ℕ, List, [], ◌∷◌, ◌++◌, flat_map, codes, Option}
 use Rattle.row_text.specs.Fields.{field_text, escaped_text}
 use Rattle.row_text.specs.Lines.{IsBadAt}
-use Rattle.row_text.specs.declared.split_lines.LineFault.{LineFault}
-use Rattle.row_text.specs.declared.split_lines.LineFault.TheVariants.{BadAt, Memory}
+use Rattle.row_text.specs.declared.split_lines.SplitFault.{SplitFault}
+use Rattle.row_text.specs.declared.split_lines.SplitFault.TheVariants.{BadAt, Memory}
 use Rattle.row_text.specs.declared.split_lines.Place.{Place}
 use Rattle.row_text.specs.declared.split_lines.Place.TheVariants.{Text, Backslash, Null}
 use Rattle.row_text.specs.declared.split_lines.Reader.{Reader}
@@ -23,6 +23,6 @@ abbrev pub read_so_far : ℕ → Reader → List ℕ
 read_so_far delimiter reader = fields_before delimiter reader.fields ++ field_so_far delimiter reader.text.items reader.place
 
 -- a fault that a line has
-abbrev pub IsSplitFault : ℕ → List ℕ → LineFault → Type 0
+abbrev pub IsSplitFault : ℕ → List ℕ → SplitFault → Type 0
 IsSplitFault delimiter line (BadAt at) = IsBadAt delimiter line at
 IsSplitFault delimiter line Memory = Unit {0}

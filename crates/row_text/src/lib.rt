@@ -11,13 +11,11 @@ mod field_list;
 mod fields;
 pub mod laws;
 mod lines;
-mod memory;
 mod split_lines;
 mod written_texts;
 
 pub use field_list::Fields;
 pub use fields::{field_size, put_field, put_null, put_piece};
 pub use lines::{LineAt, next_line};
-pub use memory::Memory;
-pub use split_lines::{LineFault, split_line};
+pub use split_lines::{SplitFault, split_line};
 pub use written_texts::WrittenTexts;

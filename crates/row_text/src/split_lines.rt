@@ -7,27 +7,27 @@ ghost use Rattle.row_text.specs.Lines.{BeginsLineBody, IsLineBody};
 ghost use Rattle.row_text.specs.declared.split_lines.Place.TheVariants.{Backslash, Null, Text};
 ghost use Rattle.row_text.specs.SplitLines.{IsSplitFault, read_so_far};
 
-use crate::Memory;
 use crate::escapes::letter_of;
 use crate::field_list::Fields;
+use out_of_memory::Memory;
 use std::alloc::Global;
 
 /// Why a line gives no fields.
 #[derive(Clone, Copy, Debug, PartialEq, Eq)]
-pub enum LineFault {
+pub enum SplitFault {
     /// The bytes are no line body. `at` is the length of their longest prefix with which some line body begins, in bytes.
     BadAt { at: usize },
     /// Memory ran out.
     Memory,
 }
 
-impl From<Memory> for LineFault {
-    ghost use Rattle.row_text.specs.declared.split_lines.LineFault.TheVariants.{Memory};
+impl From<Memory> for SplitFault {
+    ghost use Rattle.row_text.specs.declared.split_lines.SplitFault.TheVariants.{Memory};
 
     ghost from_gives = { λ _ fault. fault ≡ Memory };
 
-    fn from(_memory: Memory) -> LineFault {
-        LineFault::Memory
+    fn from(_memory: Memory) -> SplitFault {
+        SplitFault::Memory
     }
 }
 
@@ -52,7 +52,7 @@ struct Reader {
 
 /// Returns the fields of a line body that is written with this delimiter. Returns `BadAt` exactly if the bytes are no line body,
 /// unless memory runs out before that is found.
-pub fn split_line(alloc: Global, line: &[u8], delimiter: u8) -> Result<Fields, LineFault>
+pub fn split_line(alloc: Global, line: &[u8], delimiter: u8) -> Result<Fields, SplitFault>
     requires { IsDelimiter delimiter }
     ensures read { IfOk result (λ fields. IsLineBody delimiter fields line.now) }
     ensures bad { IfErr result (IsSplitFault delimiter line.now) }
@@ -64,7 +64,7 @@ pub fn split_line(alloc: Global, line: &[u8], delimiter: u8) -> Result<Fields, L
     };
     for (at, byte) in line.iter().enumerate() {
         if !read_byte(&mut reader, *byte, delimiter)? {
-            return Err(LineFault::BadAt { at });
+            return Err(SplitFault::BadAt { at });
         }
     }
     finish(reader, line, delimiter)
@@ -168,7 +168,7 @@ fn candidate(letter: u8) -> u8
 }
 
 /// Returns the fields of a line that is read whole.
-fn finish(mut reader: Reader, line: &[u8], delimiter: u8) -> Result<Fields, LineFault>
+fn finish(mut reader: Reader, line: &[u8], delimiter: u8) -> Result<Fields, SplitFault>
     requires delimiter { IsDelimiter delimiter }
     requires whole { read_so_far delimiter reader ≡ line.now }
     ensures read { IfOk result (λ fields. IsLineBody delimiter fields line.now) }
@@ -177,7 +177,7 @@ fn finish(mut reader: Reader, line: &[u8], delimiter: u8) -> Result<Fields, Line
     match reader.place {
         Place::Text => reader.fields.push_text(&reader.text)?,
         Place::Null => reader.fields.push_null()?,
-        Place::Backslash => return Err(LineFault::BadAt { at: line.len() }),
+        Place::Backslash => return Err(SplitFault::BadAt { at: line.len() }),
     }
     Ok(reader.fields)
 }

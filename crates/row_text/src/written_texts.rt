@@ -4,8 +4,8 @@ ghost use Rattle.std.specs.Prelude.{◌≡◌, ◌<◌, ◌==◌, [], ◌∷◌,
 ghost use Rattle.row_text.specs.Fields.{escaped_text};
 ghost use Rattle.row_text.specs.WrittenTexts.{AreEnds, start_of, written_text_at};
 
-use crate::Memory;
 use crate::escapes::{has_escape, letter_of};
+use out_of_memory::Memory;
 use std::alloc::{AllocError, Global};
 use std::marker::Model;
 

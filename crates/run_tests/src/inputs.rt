@@ -1,7 +1,7 @@
 //! Files that are read in turn, over files in memory.
 
 use pd_outside::{Files, LibraryFails, MemLibrary, ReadFault};
-use plan_stages::{InputFault, Inputs, read_in_turn};
+use plan_stages::{Inputs, UnreadInput, read_in_turn};
 use schema_model::{Text, Texts};
 use std::alloc::Global;
 use std::process::Abort;
@@ -13,7 +13,7 @@ struct Case<'a> {
     // The call that fails, by the name of its file.
     fail: (&'a str, u64),
     limit: u64,
-    want: Result<&'a [&'a str], InputFault>,
+    want: Result<&'a [&'a str], UnreadInput>,
     // How many names are asked.
     asked: usize,
 }
@@ -84,8 +84,8 @@ const TWICE: Case<'static> = Case {
     ..THREE
 };
 
-fn refused(number: usize, cause: ReadFault) -> Result<&'static [&'static str], InputFault> {
-    Err(InputFault { number, cause })
+fn refused(number: usize, cause: ReadFault) -> Result<&'static [&'static str], UnreadInput> {
+    Err(UnreadInput { number, cause })
 }
 
 #[test]

@@ -8,5 +8,4 @@ mod schema;
 mod text;
 
 pub use plan::sample_plan;
-pub use schema_model::Memory;
 pub use text::sample_schema;

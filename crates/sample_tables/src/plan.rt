@@ -4,8 +4,8 @@ ghost use Rattle.std.specs.Prelude.{◌≡◌, ◌≤◌, IfOk};
 ghost use Rattle.sample_tables.specs.Schema.{sample_project};
 
 use crate::schema::sample_of;
+use out_of_memory::Memory;
 use schema_check::{CheckFault, check};
-use schema_model::Memory;
 use schema_plan::{Dictionaries, Plan};
 use std::alloc::Global;
 

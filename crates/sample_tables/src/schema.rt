@@ -3,9 +3,10 @@
 ghost use Rattle.std.specs.Prelude.{◌≡◌, ◌≤◌, ◌<◌, ◌^◌, ◌*◌, ◌∷◌, [], IfOk, pos};
 ghost use Rattle.sample_tables.specs.Schema.{at_each_unit, customer, key, order_lines, orders, plain, reference, sample_of, score};
 
+use out_of_memory::Memory;
 use schema_model::{
-    Column, Columns, Delimiter, Kind, Leaf, Life, Longs, Memory, OnDelete, Phase, Phases, Schema,
-    Table, Tables, Text, Window,
+    Column, Columns, Delimiter, Kind, Leaf, Life, Longs, OnDelete, Phase, Phases, Schema, Table,
+    Tables, Text, Window,
 };
 use std::alloc::Global;
 

@@ -4,7 +4,7 @@ ghost use Rattle.std.specs.Prelude.{◌≡◌, ◌≤◌, ◌++◌, IfOk, OnOk};
 ghost use Rattle.sample_tables.specs.Text.{column_head, customer_text, key_text, lines_text, number_line, orders_text, reference_text, schema_text, table_head, text_line};
 
 use itoa::Buffer;
-use schema_model::Memory;
+use out_of_memory::Memory;
 use std::alloc::Global;
 
 /// Makes the text of the schema of a size from 1 to 1,000. For each 1 of the size there are 100 customers at unit 0, and 10 more at each of

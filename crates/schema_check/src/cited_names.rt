@@ -9,8 +9,8 @@ ghost use Rattle.schema_plan.specs.Rules.{are_supplied, is_supplied};
 
 use crate::candidate::Candidate;
 use crate::leaf_rules::leaves_of;
+use out_of_memory::Memory;
 use schema_model::{Column, Leaf, Schema, Table, Text, Texts};
-use schema_plan::Memory;
 use std::alloc::Global;
 use std::marker::Model;
 

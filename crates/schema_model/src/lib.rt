@@ -5,13 +5,11 @@
 #![tactic(auto)]
 
 mod column;
-mod memory;
 mod sequence;
 mod table;
 mod text;
 
 pub use column::{Column, Kind, Leaf, OnDelete, Part, Window};
-pub use memory::Memory;
 pub use sequence::{Columns, Leaves, Longs, Parts, Phases, Sequence, Tables, Texts};
 pub use table::{Delimiter, Life, Phase, Schema, Table};
 pub use text::Text;

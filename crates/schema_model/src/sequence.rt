@@ -1,6 +1,7 @@
 //! Sequences, which contracts see as lists.
 
-use crate::{Column, Leaf, Memory, Part, Phase, Table, Text};
+use crate::{Column, Leaf, Part, Phase, Table, Text};
+use out_of_memory::Memory;
 use std::alloc::Global;
 use std::marker::Model;
 

@@ -1,6 +1,6 @@
 //! Texts, which contracts see as their bytes.
 
-use crate::Memory;
+use out_of_memory::Memory;
 use std::alloc::Global;
 use std::marker::Model;
 

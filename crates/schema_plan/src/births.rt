@@ -7,8 +7,8 @@ ghost use Rattle.schema_plan.specs.Limits.{AreBirthsInLimits};
 ghost use Rattle.schema_plan.specs.Planned.{births_through};
 
 use crate::counts::count;
-use crate::memory::Memory;
 use cohort_sizes::{Cohorts, Rate};
+use out_of_memory::Memory;
 use schema_model::{Phase, Table};
 use std::alloc::Global;
 
@@ -52,7 +52,7 @@ fn cohorts_of(alloc: Global, table: &Table, last: u64) -> Result<Cohorts, Memory
     ensures { IfOk result (λ cohorts. cohorts ≡ births_through last table.now) }
 {
     let rates = rates_of(alloc, table.insert.as_slice())?;
-    Ok(Cohorts::new(alloc, count(table.rows), rates, last)?)
+    Cohorts::new(alloc, count(table.rows), rates, last)
 }
 
 /// Returns the rates of some phases, in order.

@@ -11,10 +11,10 @@ ghost use Rattle.schema_plan.specs.Limits.{IsAlphabet, IsDateRange, IsLeafInLimi
 ghost use Rattle.schema_plan.specs.Ready.{ready_leaf};
 
 use crate::counts::count;
-use crate::memory::Memory;
 use crate::ready::ReadyLeaf;
 use crate::ready_words::{Lexicon, ReadyWords};
 use fixed_divisors::FixedDivisor;
+use out_of_memory::Memory;
 use row_text::WrittenTexts;
 use schema_model::{Leaf, Text};
 use std::alloc::Global;

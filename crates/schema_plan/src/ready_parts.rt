@@ -5,9 +5,9 @@ ghost use Rattle.row_text.specs.Fields.{escaped_text};
 ghost use Rattle.schema_plan.specs.Layout.{part_layout};
 ghost use Rattle.schema_plan.specs.Ready.{ready_part};
 
-use crate::memory::Memory;
 use crate::places::place_of_column;
 use crate::ready::ReadyPart;
+use out_of_memory::Memory;
 use row_text::WrittenTexts;
 use schema_model::{Column, Part, Sequence};
 use std::alloc::Global;

@@ -5,10 +5,10 @@ ghost use Rattle.row_text.specs.Fields.{escaped_text};
 ghost use Rattle.schema_plan.specs.Dictionaries.{Dictionary as Named};
 ghost use Rattle.schema_plan.specs.ReadyWords.{written_words};
 
-use crate::memory::Memory;
 use crate::word_lists::{Dictionaries, NamedWords};
 use dictionaries::Dictionary;
 use fixed_divisors::FixedDivisor;
+use out_of_memory::Memory;
 use row_text::WrittenTexts;
 use schema_model::Text;
 use std::alloc::Global;

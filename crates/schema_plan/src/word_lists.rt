@@ -4,8 +4,8 @@ ghost use Rattle.std.specs.Prelude.{◌≡◌, length};
 ghost use Rattle.schema_plan.specs.FieldBounds.{entry_size};
 
 use crate::field_bounds::written_size;
-use crate::memory::Memory;
 use dictionaries::Dictionary;
+use out_of_memory::Memory;
 use schema_model::Text;
 use std::alloc::Global;
 use std::marker::Model;

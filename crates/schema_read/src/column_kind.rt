@@ -13,7 +13,8 @@ use crate::schema_key::SchemaKey;
 use crate::typed_member::{
     deletion_if_any, flag_if_any, leaf_kind_at, text_at, whole_at, window_if_any,
 };
-use schema_model::{Kind, Leaf, Leaves, Longs, Memory, OnDelete, Window};
+use out_of_memory::Memory;
+use schema_model::{Kind, Leaf, Leaves, Longs, OnDelete, Window};
 use std::alloc::Global;
 use toml::{Table, Value};
 

@@ -12,7 +12,8 @@ use crate::schema_key::SchemaKey;
 use crate::typed_member::{
     delimiter_if_any, flag_if_any, kind_at, life_if_any, text_at, whole_at, whole_if_any,
 };
-use schema_model::{Column, Columns, Delimiter, Memory, Schema, Table, Tables};
+use out_of_memory::Memory;
+use schema_model::{Column, Columns, Delimiter, Schema, Table, Tables};
 use std::alloc::Global;
 use toml::Value;
 

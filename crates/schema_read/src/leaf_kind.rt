@@ -9,7 +9,8 @@ use crate::kind_name::LeafName;
 use crate::lists::{list_at, list_if_any};
 use crate::schema_key::SchemaKey;
 use crate::typed_member::{day_if_any, text_at, whole_at, whole_if_any};
-use schema_model::{Leaf, Longs, Memory, Text, Texts};
+use out_of_memory::Memory;
+use schema_model::{Leaf, Longs, Text, Texts};
 use std::alloc::Global;
 use toml::Table;
 

@@ -9,7 +9,8 @@ ghost use Rattle.schema_read.specs.Values.{value_under, value_or};
 use crate::members::member;
 use crate::schema_key::SchemaKey;
 use crate::types::{array_elements, cited_name, phase_of_value};
-use schema_model::{Memory, Part, Phase, Phases, Sequence, Text};
+use out_of_memory::Memory;
+use schema_model::{Part, Phase, Phases, Sequence, Text};
 use std::alloc::Global;
 use toml::{Table, Value};
 

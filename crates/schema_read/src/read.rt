@@ -10,7 +10,8 @@ use crate::document::read_document;
 use crate::fault::{Expected, Place, Wrong};
 use crate::schema_key::SchemaKey;
 use crate::wrong_key::first_wrong_key;
-use schema_model::{Memory, Schema};
+use out_of_memory::Memory;
+use schema_model::Schema;
 use std::alloc::Global;
 
 /// Why bytes give no schema.

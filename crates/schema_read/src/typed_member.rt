@@ -15,7 +15,8 @@ use crate::types::{
     day_of, deletion_of, delimiter_of, kind_of, leaf_kind_of, life_of_value, table_elements,
     window_of,
 };
-use schema_model::{Delimiter, Life, Memory, OnDelete, Text, Window};
+use out_of_memory::Memory;
+use schema_model::{Delimiter, Life, OnDelete, Text, Window};
 use std::alloc::Global;
 use toml::{Table, Value};
 

@@ -3,11 +3,11 @@ use Rattle.std.proofs.Common.{◌≡◌, ℕ, List, ◌++◌, refl, ap, subst, �
 use Rattle.stream_apply.specs.KeyedLines.{KeyedLine}
 use Rattle.stream_apply.specs.Streams.{IsApplied, IsBehind, IsLoaded, IsStream, Table, with_each, without}
 use Rattle.stream_apply.specs.declared.key_fields.KeyFields.{KeyFields}
-use Rattle.stream_apply.specs.declared.kind.Kind.{Kind}
-use Rattle.stream_apply.specs.declared.kind.Kind.TheVariants.{Deletes, Inserts, Updates}
+use Rattle.stream_apply.specs.declared.kind.InputKind.{InputKind}
+use Rattle.stream_apply.specs.declared.kind.InputKind.TheVariants.{Deletes, Inserts, Updates}
 
 -- the lines of a stream, for a table that is known otherwise
-moved : (keys known : KeyFields) (delimiter delimits_it : ℕ) (kind : Kind) (table lines read : List KeyedLine) (bytes : List ℕ) → known ≡ keys → delimits_it ≡ delimiter → table ≡ lines →
+moved : (keys known : KeyFields) (delimiter delimits_it : ℕ) (kind : InputKind) (table lines read : List KeyedLine) (bytes : List ℕ) → known ≡ keys → delimits_it ≡ delimiter → table ≡ lines →
     IsStream known delimits_it kind table bytes read → IsStream keys delimiter kind lines bytes read
 moved keys known delimiter delimits_it kind table lines read bytes known_by delimits is stream =
     subst (λ (k : KeyFields). IsStream k delimiter kind lines bytes read) known_by

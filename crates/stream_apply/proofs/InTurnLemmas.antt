@@ -8,13 +8,13 @@ use Rattle.stream_apply.specs.Streams.{IsBehind, IsFaultOf, IsStream, made_by}
 use Rattle.stream_apply.specs.declared.fault.ApplyFault.{ApplyFault}
 use Rattle.stream_apply.specs.declared.fault.ApplyFault.TheVariants.{Memory}
 use Rattle.stream_apply.specs.declared.key_fields.KeyFields.{KeyFields}
-use Rattle.stream_apply.specs.declared.kind.Kind.{Kind}
-use Rattle.stream_apply.specs.declared.kind.Kind.TheVariants.{Inserts, Snapshot, Updates}
+use Rattle.stream_apply.specs.declared.kind.InputKind.{InputKind}
+use Rattle.stream_apply.specs.declared.kind.InputKind.TheVariants.{Inserts, Snapshot, Updates}
 use Rattle.stream_apply.proofs.MadeLemmas.{insert-appends}
 use Rattle.stream_apply.proofs.OutcomeLemmas.{one-fault, one-way, read-no_fault}
 
 -- inputs of which as many are applied as the place tells: all of them make what the rest makes of the table, and the rest's first fault is theirs
-pub record IsReached (keys : KeyFields) (delimiter : ℕ) (inputs rest : List (List ℕ)) (place : ℕ) (kind : Kind) (table : List KeyedLine) : Type 0 where
+pub record IsReached (keys : KeyFields) (delimiter : ℕ) (inputs rest : List (List ℕ)) (place : ℕ) (kind : InputKind) (table : List KeyedLine) : Type 0 where
   pub made : (after : List KeyedLine) → IsMadeInTurn keys delimiter (inputs_from kind rest) table after → IsMadeInTurn keys delimiter (inputs_from Snapshot inputs) [] after
   pub faults : (more : ℕ) (fault : ApplyFault) → HasFaultAt keys delimiter (inputs_from kind rest) table more fault → HasFaultAt keys delimiter (inputs_from Snapshot inputs) [] (place + more) fault
 
@@ -23,7 +23,7 @@ pub texts-at : {V : Type 0} (text : V → List ℕ) (inputs : List V) (place : �
 texts-at {V} text inputs place d below = ap (map text) (drop_more inputs place d below)
 
 -- an input more
-pub reached-more : (keys : KeyFields) (delimiter : ℕ) (inputs now rest : List (List ℕ)) (bytes : List ℕ) (place : ℕ) (kind next : Kind) (table made : List KeyedLine) → IsReached keys delimiter inputs now place kind table → now ≡ bytes ∷ rest → (lines : List KeyedLine) × IsStream keys delimiter kind table bytes lines × (made ≡ made_by kind table lines) → next ≡ next_kind kind → IsReached keys delimiter inputs rest (place + 1) next made
+pub reached-more : (keys : KeyFields) (delimiter : ℕ) (inputs now rest : List (List ℕ)) (bytes : List ℕ) (place : ℕ) (kind next : InputKind) (table made : List KeyedLine) → IsReached keys delimiter inputs now place kind table → now ≡ bytes ∷ rest → (lines : List KeyedLine) × IsStream keys delimiter kind table bytes lines × (made ≡ made_by kind table lines) → next ≡ next_kind kind → IsReached keys delimiter inputs rest (place + 1) next made
 reached-more keys delimiter inputs now rest bytes place kind next table made reached is read next_is =
     let lines : List KeyedLine = read.0 in
     let before : IsReached keys delimiter inputs (bytes ∷ rest) place kind table = subst (λ (ls : List (List ℕ)). IsReached keys delimiter inputs ls place kind table) is reached in
@@ -33,26 +33,26 @@ reached-more keys delimiter inputs now rest bytes place kind next table made rea
           let same : place + suc more ≡ place + 1 + more = omega arith in
           subst (λ (p : ℕ). HasFaultAt keys delimiter (inputs_from Snapshot inputs) [] p fault) same (before.faults (suc more) fault (lines, read.1, has));
     } in
-    subst (λ (k : Kind). IsReached keys delimiter inputs rest (place + 1) k made) (sym next_is)
+    subst (λ (k : InputKind). IsReached keys delimiter inputs rest (place + 1) k made) (sym next_is)
     (subst (IsReached keys delimiter inputs rest (place + 1) (next_kind kind)) (sym read.2) behind)
 
 -- the input at the place has the first fault
-pub reached-fault : (keys : KeyFields) (delimiter : ℕ) (inputs now rest : List (List ℕ)) (bytes : List ℕ) (place : ℕ) (kind : Kind) (table : List KeyedLine) (fault : ApplyFault) → IsReached keys delimiter inputs now place kind table → now ≡ bytes ∷ rest → IsFaultOf keys delimiter kind table bytes fault → HasFaultAt keys delimiter (inputs_from Snapshot inputs) [] place fault
+pub reached-fault : (keys : KeyFields) (delimiter : ℕ) (inputs now rest : List (List ℕ)) (bytes : List ℕ) (place : ℕ) (kind : InputKind) (table : List KeyedLine) (fault : ApplyFault) → IsReached keys delimiter inputs now place kind table → now ≡ bytes ∷ rest → IsFaultOf keys delimiter kind table bytes fault → HasFaultAt keys delimiter (inputs_from Snapshot inputs) [] place fault
 reached-fault keys delimiter inputs now rest bytes place kind table fault reached is has =
     let before : IsReached keys delimiter inputs (bytes ∷ rest) place kind table = subst (λ (ls : List (List ℕ)). IsReached keys delimiter inputs ls place kind table) is reached in
     let same : place + 0 ≡ place = omega arith in
     subst (λ (p : ℕ). HasFaultAt keys delimiter (inputs_from Snapshot inputs) [] p fault) same (before.faults zero fault has)
 
 -- lines that are put into a table, each in its turn
-pub put-made : (keys : KeyFields) (delimiter : ℕ) (kind : Kind) (table now lines : List KeyedLine) (bytes : List ℕ) → (kind ≡ Updates) ⊎ (kind ≡ Inserts) → IsStream keys delimiter kind table bytes lines → now ≡ fold put table lines → now ≡ made_by kind table lines
-put-made keys delimiter kind table now lines bytes (inl updates) stream is = is ∙ ap (λ (k : Kind). made_by k table lines) (sym updates)
+pub put-made : (keys : KeyFields) (delimiter : ℕ) (kind : InputKind) (table now lines : List KeyedLine) (bytes : List ℕ) → (kind ≡ Updates) ⊎ (kind ≡ Inserts) → IsStream keys delimiter kind table bytes lines → now ≡ fold put table lines → now ≡ made_by kind table lines
+put-made keys delimiter kind table now lines bytes (inl updates) stream is = is ∙ ap (λ (k : InputKind). made_by k table lines) (sym updates)
 put-made keys delimiter kind table now lines bytes (inr inserts) stream is =
     is
-    ∙ insert-appends keys delimiter table lines bytes (subst (λ (k : Kind). IsStream keys delimiter k table bytes lines) inserts stream)
-    ∙ ap (λ (k : Kind). made_by k table lines) (sym inserts)
+    ∙ insert-appends keys delimiter table lines bytes (subst (λ (k : InputKind). IsStream keys delimiter k table bytes lines) inserts stream)
+    ∙ ap (λ (k : InputKind). made_by k table lines) (sym inserts)
 
 -- the lines of an input are one list
-same-lines : (keys : KeyFields) (delimiter : ℕ) → IsDelimiter delimiter → (kind : Kind) (table lines others : List KeyedLine) (bytes : List ℕ) → IsStream keys delimiter kind table bytes lines → IsStream keys delimiter kind table bytes others → others ≡ lines
+same-lines : (keys : KeyFields) (delimiter : ℕ) → IsDelimiter delimiter → (kind : InputKind) (table lines others : List KeyedLine) (bytes : List ℕ) → IsStream keys delimiter kind table bytes lines → IsStream keys delimiter kind table bytes others → others ≡ lines
 same-lines keys delimiter delimits kind table lines others bytes stream other = one-way keys delimiter delimits kind others lines other.keyed stream.keyed (sym other.text ∙ stream.text)
 
 pub one-made : (keys : KeyFields) (delimiter : ℕ) (inputs : List Input) (before after other : List KeyedLine) → IsDelimiter delimiter → IsMadeInTurn keys delimiter inputs before after → IsMadeInTurn keys delimiter inputs before other → after ≡ other

@@ -9,8 +9,8 @@ use Rattle.stream_apply.specs.InTurn.{IsAppliedText, IsMadeInTurn, inputs_from, 
 use Rattle.stream_apply.specs.KeyedLines.{KeyedLine, keyed, put}
 use Rattle.stream_apply.specs.Streams.{IsStream, made_by}
 use Rattle.stream_apply.specs.declared.key_fields.KeyFields.{KeyFields}
-use Rattle.stream_apply.specs.declared.kind.Kind.{Kind}
-use Rattle.stream_apply.specs.declared.kind.Kind.TheVariants.{Deletes, Inserts, Snapshot, Updates}
+use Rattle.stream_apply.specs.declared.kind.InputKind.{InputKind}
+use Rattle.stream_apply.specs.declared.kind.InputKind.TheVariants.{Deletes, Inserts, Snapshot, Updates}
 
 -- a fact of each line's text
 abbrev pub AllTexts : (List ℕ → Type 0) → List KeyedLine → Type 0
@@ -19,14 +19,14 @@ AllTexts P lines = All (λ (line : KeyedLine). P line.text) lines
 -- it is true of the lines of bytes, whatever they are a stream for
 abbrev pub IsTrueOfLines : (List ℕ → Type 0) → KeyFields → ℕ → List ℕ → Type 0
 IsTrueOfLines P keys delimiter bytes =
-    (kind : Kind) (table lines : List KeyedLine) → IsStream keys delimiter kind table bytes lines → AllTexts P lines
+    (kind : InputKind) (table lines : List KeyedLine) → IsStream keys delimiter kind table bytes lines → AllTexts P lines
 
 -- and of those of inputs, but for what units delete, of which the first is of a kind
-abbrev pub IsTrueOfKind : (List ℕ → Type 0) → KeyFields → ℕ → Kind → List ℕ → Type 0
+abbrev pub IsTrueOfKind : (List ℕ → Type 0) → KeyFields → ℕ → InputKind → List ℕ → Type 0
 IsTrueOfKind P keys delimiter Deletes bytes = ⊤
 IsTrueOfKind P keys delimiter kind bytes = IsTrueOfLines P keys delimiter bytes
 
-abbrev pub AreTrueFrom : (List ℕ → Type 0) → KeyFields → ℕ → Kind → List (List ℕ) → Type 0
+abbrev pub AreTrueFrom : (List ℕ → Type 0) → KeyFields → ℕ → InputKind → List (List ℕ) → Type 0
 AreTrueFrom P keys delimiter kind [] = ⊤
 AreTrueFrom P keys delimiter kind (bytes ∷ rest) = IsTrueOfKind P keys delimiter kind bytes × AreTrueFrom P keys delimiter (next_kind kind) rest
 
@@ -52,14 +52,14 @@ all-each P table (line ∷ lines) all each =
     let Is : KeyedLine → Type 0 = λ (l : KeyedLine). P l.text in
     all-each P (put table line) lines (all-put P table line all (All-head Is line lines each)) (All-tail Is line lines each)
 
-all-made : (P : List ℕ → Type 0) (keys : KeyFields) (delimiter : ℕ) (kind : Kind) (bytes : List ℕ) (table lines : List KeyedLine) → AllTexts P table → IsTrueOfKind P keys delimiter kind bytes →
+all-made : (P : List ℕ → Type 0) (keys : KeyFields) (delimiter : ℕ) (kind : InputKind) (bytes : List ℕ) (table lines : List KeyedLine) → AllTexts P table → IsTrueOfKind P keys delimiter kind bytes →
     IsStream keys delimiter kind table bytes lines → AllTexts P (made_by kind table lines)
 all-made P keys delimiter Snapshot bytes table lines all true_of stream = true_of Snapshot table lines stream
 all-made P keys delimiter Deletes bytes table lines all true_of stream = All-filter _ (λ (l : KeyedLine). P l.text) table all
 all-made P keys delimiter Updates bytes table lines all true_of stream = all-each P table lines all (true_of Updates table lines stream)
 all-made P keys delimiter Inserts bytes table lines all true_of stream = All-append (λ (l : KeyedLine). P l.text) table lines all (true_of Inserts table lines stream)
 
-all-in_turn : (P : List ℕ → Type 0) (keys : KeyFields) (delimiter : ℕ) (kind : Kind) (inputs : List (List ℕ)) (before after : List KeyedLine) → AllTexts P before → AreTrueFrom P keys delimiter kind inputs →
+all-in_turn : (P : List ℕ → Type 0) (keys : KeyFields) (delimiter : ℕ) (kind : InputKind) (inputs : List (List ℕ)) (before after : List KeyedLine) → AllTexts P before → AreTrueFrom P keys delimiter kind inputs →
     IsMadeInTurn keys delimiter (inputs_from kind inputs) before after → AllTexts P after
 all-in_turn P keys delimiter kind [] before after all true_of same = rw same at all
 all-in_turn P keys delimiter kind (bytes ∷ rest) before after all true_of made =

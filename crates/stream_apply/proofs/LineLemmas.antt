@@ -13,8 +13,8 @@ use Rattle.stream_apply.specs.KeyedLines.{KeyedLine, keyed}
 use Rattle.stream_apply.specs.Streams.{IsFields, IsKeyedLine, StartsNone, holds_keys_alone, key_count, text_fields}
 use Rattle.stream_apply.specs.declared.key_fields.KeyFields.{KeyFields}
 use Rattle.stream_apply.specs.declared.key_fields.KeyFields.TheVariants.{One, Two}
-use Rattle.stream_apply.specs.declared.kind.Kind.{Kind}
-use Rattle.stream_apply.specs.declared.kind.Kind.TheVariants.{Snapshot}
+use Rattle.stream_apply.specs.declared.kind.InputKind.{InputKind}
+use Rattle.stream_apply.specs.declared.kind.InputKind.TheVariants.{Snapshot}
 
 -- where the first line feed stands
 pub end-below : (bytes : List ℕ) (end : ℕ) → IsLineAt bytes 0 end → end < length bytes
@@ -49,16 +49,16 @@ first-cut byte (x ∷ xs) (y ∷ ys) more others none other_none same =
     let behind : xs ≡ ys = first-cut byte xs ys more others (λ found. none (Contains-append_right (x ∷ []) xs byte found)) (λ found. other_none (Contains-append_right (y ∷ []) ys byte found)) tails in
     cc
 
-pub keyed-line_feed : (keys : KeyFields) (delimiter : ℕ) → IsDelimiter delimiter → (kind : Kind) (line : KeyedLine) → IsKeyedLine keys delimiter kind line → ¬ Contains line.text 10
+pub keyed-line_feed : (keys : KeyFields) (delimiter : ℕ) → IsDelimiter delimiter → (kind : InputKind) (line : KeyedLine) → IsKeyedLine keys delimiter kind line → ¬ Contains line.text 10
 keyed-line_feed keys delimiter delimits kind line is = IsLineBody-line_feed delimiter delimits is.fields line.text is.body
 
 -- bytes with no line feed start with no line
-pub starts_none-lacks : (keys : KeyFields) (delimiter : ℕ) (kind : Kind) (bytes : List ℕ) → ¬ Contains bytes 10 → StartsNone keys delimiter kind bytes
+pub starts_none-lacks : (keys : KeyFields) (delimiter : ℕ) (kind : InputKind) (bytes : List ℕ) → ¬ Contains bytes 10 → StartsNone keys delimiter kind bytes
 starts_none-lacks keys delimiter kind bytes none line rest is keyed_line =
     none (subst (λ (xs : List ℕ). Contains xs 10) (sym is) (Contains-append_right line.text (10 ∷ rest) 10 (Contains-get_or (10 ∷ rest) 0 10 (omega arith))))
 
 -- nor do those that start with bytes that are no line of the kind
-pub starts_none-no_key : (keys : KeyFields) (delimiter : ℕ) → IsDelimiter delimiter → (kind : Kind) (bytes text rest : List ℕ) → bytes ≡ text ++ 10 ∷ rest → ¬ Contains text 10 → ((key : List ℕ) → ¬ IsKeyedLine keys delimiter kind (keyed key text)) → StartsNone keys delimiter kind bytes
+pub starts_none-no_key : (keys : KeyFields) (delimiter : ℕ) → IsDelimiter delimiter → (kind : InputKind) (bytes text rest : List ℕ) → bytes ≡ text ++ 10 ∷ rest → ¬ Contains text 10 → ((key : List ℕ) → ¬ IsKeyedLine keys delimiter kind (keyed key text)) → StartsNone keys delimiter kind bytes
 starts_none-no_key keys delimiter delimits kind bytes text rest cut lacks none line behind is keyed_line =
     let same : line.text ≡ text = first-cut 10 line.text text behind rest (keyed-line_feed keys delimiter delimits kind line keyed_line) lacks (sym is ∙ cut) in
     none line.key (subst (λ (t : List ℕ). IsKeyedLine keys delimiter kind (keyed line.key t)) same keyed_line)
@@ -93,7 +93,7 @@ line_text-append delimiter (field ∷ fields) others some = (
 )
 
 -- the size of the key, where the fields tell it
-pub key_size-told : (keys : KeyFields) (delimiter : ℕ) → IsDelimiter delimiter → (kind : Kind) (fields : List (Option (List ℕ))) (text : List ℕ) (size : Option ℕ) → IsLineBody delimiter fields text →
+pub key_size-told : (keys : KeyFields) (delimiter : ℕ) → IsDelimiter delimiter → (kind : InputKind) (fields : List (Option (List ℕ))) (text : List ℕ) (size : Option ℕ) → IsLineBody delimiter fields text →
     MatchOption size ((front : List (List ℕ)) (others : List (Option (List ℕ))) → ¬ IsFields keys kind fields front others)
     (λ s. (front : List (List ℕ)) × (others : List (Option (List ℕ))) × IsFields keys kind fields front others × (s ≡ length (line_text delimiter (text_fields front)))) →
     MatchOption size ((key : List ℕ) → ¬ IsKeyedLine keys delimiter kind (keyed key text)) (λ s. (s ≤ length text) × IsKeyedLine keys delimiter kind (keyed (take s text) text))
@@ -120,17 +120,17 @@ key_size-told keys delimiter delimits kind fields text (Some size) body told =
 
 -- ---- which fields are those of a line
 
-pub few-none : (keys : KeyFields) (kind : Kind) (fields : List (Option (List ℕ))) → length fields < key_count keys →
+pub few-none : (keys : KeyFields) (kind : InputKind) (fields : List (Option (List ℕ))) → length fields < key_count keys →
     (front : List (List ℕ)) (others : List (Option (List ℕ))) → ¬ IsFields keys kind fields front others
 few-none keys kind fields few front others is =
     omega (arith, few, is.count, ap length is.is, length-append (text_fields front) others, length-map front (λ (t : List ℕ). Some t))
 
-pub more-none : (keys : KeyFields) (kind : Kind) (fields : List (Option (List ℕ))) → holds_keys_alone kind ≡ true → key_count keys < length fields →
+pub more-none : (keys : KeyFields) (kind : InputKind) (fields : List (Option (List ℕ))) → holds_keys_alone kind ≡ true → key_count keys < length fields →
     (front : List (List ℕ)) (others : List (Option (List ℕ))) → ¬ IsFields keys kind fields front others
 more-none keys kind fields alone more front others is =
     omega (arith, more, is.count, ap length is.is, length-append (text_fields front) others, length-map front (λ (t : List ℕ). Some t), ap length (is.alone alone))
 
-pub first_null-none : (keys : KeyFields) (kind : Kind) (fields : List (Option (List ℕ))) → slice_get fields 0 ≡ Some None →
+pub first_null-none : (keys : KeyFields) (kind : InputKind) (fields : List (Option (List ℕ))) → slice_get fields 0 ≡ Some None →
     (front : List (List ℕ)) (others : List (Option (List ℕ))) → ¬ IsFields keys kind fields front others
 first_null-none keys kind [] null front others is = let none : None ≡ Some None = null in cc
 first_null-none keys kind (field ∷ fields) null [] others is = omega (arith, key_count-some keys, is.count)
@@ -141,7 +141,7 @@ first_null-none keys kind (field ∷ fields) null (text ∷ front) others is =
     let none : None ≡ Some text = sym here ∙ there in
     cc
 
-pub second_null-none : (kind : Kind) (fields : List (Option (List ℕ))) → slice_get fields 1 ≡ Some None →
+pub second_null-none : (kind : InputKind) (fields : List (Option (List ℕ))) → slice_get fields 1 ≡ Some None →
     (front : List (List ℕ)) (others : List (Option (List ℕ))) → ¬ IsFields Two kind fields front others
 second_null-none kind [] null front others is = let none : None ≡ Some None = null in cc
 second_null-none kind (field ∷ fields) null [] others is = omega (arith, is.count)
@@ -150,14 +150,14 @@ second_null-none kind (field ∷ fields) null (text ∷ front) others is =
     first_null-none One Snapshot fields null front others (record { count = omega (arith, is.count); is = rest; alone = λ alone. absurd (true≢false (sym alone)) })
 
 -- as many texts as a key has, and others
-pub front-one : (kind : Kind) (fields : List (Option (List ℕ))) (first : List ℕ) → slice_get fields 0 ≡ Some (Some first) → (holds_keys_alone kind ≡ true → length fields ≤ 1) →
+pub front-one : (kind : InputKind) (fields : List (Option (List ℕ))) (first : List ℕ) → slice_get fields 0 ≡ Some (Some first) → (holds_keys_alone kind ≡ true → length fields ≤ 1) →
     (others : List (Option (List ℕ))) × IsFields One kind fields (first ∷ []) others
 front-one kind [] first is alone = let none : None ≡ Some (Some first) = is in cc
 front-one kind (field ∷ others) first is alone =
     let same : field ≡ Some first = cc in
     (others, record { count = refl; is = ap (λ (f : Option (List ℕ)). f ∷ others) same; alone = λ holds. nil_from_length others (omega (arith, alone holds)) })
 
-pub front-two : (kind : Kind) (fields : List (Option (List ℕ))) (first second : List ℕ) → slice_get fields 0 ≡ Some (Some first) → slice_get fields 1 ≡ Some (Some second) →
+pub front-two : (kind : InputKind) (fields : List (Option (List ℕ))) (first second : List ℕ) → slice_get fields 0 ≡ Some (Some first) → slice_get fields 1 ≡ Some (Some second) →
     (holds_keys_alone kind ≡ true → length fields ≤ 2) →
     (others : List (Option (List ℕ))) × IsFields Two kind fields (first ∷ second ∷ []) others
 front-two kind [] first second is next alone = let none : None ≡ Some (Some first) = is in cc

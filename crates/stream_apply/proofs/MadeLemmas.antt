@@ -8,7 +8,7 @@ use Rattle.std.proofs.lemmas.Option.{slice_get-get_or}
 use Rattle.stream_apply.specs.KeyedLines.{KeyedLine, has_key, keyed, lines_text, put}
 use Rattle.stream_apply.specs.Streams.{IsStream}
 use Rattle.stream_apply.specs.declared.key_fields.KeyFields.{KeyFields}
-use Rattle.stream_apply.specs.declared.kind.Kind.TheVariants.{Inserts}
+use Rattle.stream_apply.specs.declared.kind.InputKind.TheVariants.{Inserts}
 use Rattle.stream_apply.proofs.StreamLemmas.{lines_text-push, put-absent}
 
 abbrev no_line : KeyedLine

@@ -11,11 +11,11 @@ use Rattle.stream_apply.specs.Streams.{IsKeyedLine, IsReadTo, IsStream, IsFaultO
 use Rattle.stream_apply.specs.declared.fault.ApplyFault.{ApplyFault}
 use Rattle.stream_apply.specs.declared.fault.ApplyFault.TheVariants.{BadLine, DoubleKey, KeyExists, Memory, NoSuchKey}
 use Rattle.stream_apply.specs.declared.key_fields.KeyFields.{KeyFields}
-use Rattle.stream_apply.specs.declared.kind.Kind.{Kind}
+use Rattle.stream_apply.specs.declared.kind.InputKind.{InputKind}
 use Rattle.stream_apply.proofs.LineLemmas.{first-cut, front-same, keyed-line_feed}
 
 -- two lines of a stream with one text are one line
-pub same-line : (keys : KeyFields) (delimiter : ℕ) → IsDelimiter delimiter → (kind : Kind) (line other : KeyedLine) → IsKeyedLine keys delimiter kind line → IsKeyedLine keys delimiter kind other → line.text ≡ other.text → line ≡ other
+pub same-line : (keys : KeyFields) (delimiter : ℕ) → IsDelimiter delimiter → (kind : InputKind) (line other : KeyedLine) → IsKeyedLine keys delimiter kind line → IsKeyedLine keys delimiter kind other → line.text ≡ other.text → line ≡ other
 same-line keys delimiter delimits kind line other is other_is texts =
     let fields = IsLineBody-same delimiter delimits is.fields other_is.fields other.text (subst (IsLineBody delimiter is.fields) texts is.body) other_is.body in
     let parts : text_fields is.front ++ is.others ≡ text_fields other_is.front ++ other_is.others = sym is.parts.is ∙ fields ∙ other_is.parts.is in
@@ -24,7 +24,7 @@ same-line keys delimiter delimits kind line other is other_is texts =
     ap (λ (k : List ℕ). keyed k line.text) same ∙ ap (keyed other.key) texts
 
 -- two starts with a line are one
-same-start : (keys : KeyFields) (delimiter : ℕ) → IsDelimiter delimiter → (kind : Kind) (line other : KeyedLine) (rest behind : List ℕ) → IsKeyedLine keys delimiter kind line → IsKeyedLine keys delimiter kind other → line.text ++ 10 ∷ rest ≡ other.text ++ 10 ∷ behind → (line ≡ other) × (rest ≡ behind)
+same-start : (keys : KeyFields) (delimiter : ℕ) → IsDelimiter delimiter → (kind : InputKind) (line other : KeyedLine) (rest behind : List ℕ) → IsKeyedLine keys delimiter kind line → IsKeyedLine keys delimiter kind other → line.text ++ 10 ∷ rest ≡ other.text ++ 10 ∷ behind → (line ≡ other) × (rest ≡ behind)
 same-start keys delimiter delimits kind line other rest behind is other_is same =
     let texts = first-cut 10 line.text other.text rest behind (keyed-line_feed keys delimiter delimits kind line is) (keyed-line_feed keys delimiter delimits kind other other_is) same in
     let tails : 10 ∷ rest ≡ 10 ∷ behind = append_cancel_left other.text (10 ∷ rest) (10 ∷ behind) (ap (λ (t : List ℕ). t ++ 10 ∷ rest) (sym texts) ∙ same) in
@@ -38,7 +38,7 @@ front line lines rest = append_assoc (line.text ++ 10 ∷ []) (lines_text lines)
 abbrev GoesOn : List KeyedLine → List ℕ → List KeyedLine → List ℕ → Type 0
 GoesOn lines rest others behind = (more : List KeyedLine) × (lines ≡ others ++ more) × (behind ≡ lines_text more ++ rest)
 
-one-of : (keys : KeyFields) (delimiter : ℕ) → IsDelimiter delimiter → (kind : Kind) (lines others : List KeyedLine) (rest behind : List ℕ) → All (IsKeyedLine keys delimiter kind) lines → All (IsKeyedLine keys delimiter kind) others → lines_text lines ++ rest ≡ lines_text others ++ behind → GoesOn lines rest others behind ⊎ GoesOn others behind lines rest
+one-of : (keys : KeyFields) (delimiter : ℕ) → IsDelimiter delimiter → (kind : InputKind) (lines others : List KeyedLine) (rest behind : List ℕ) → All (IsKeyedLine keys delimiter kind) lines → All (IsKeyedLine keys delimiter kind) others → lines_text lines ++ rest ≡ lines_text others ++ behind → GoesOn lines rest others behind ⊎ GoesOn others behind lines rest
 one-of keys delimiter delimits kind lines [] rest behind all other_all same = inl (lines, refl, sym same)
 one-of keys delimiter delimits kind [] (other ∷ others) rest behind all other_all same = inr (other ∷ others, refl, same)
 one-of keys delimiter delimits kind (line ∷ lines) (other ∷ others) rest behind all other_all same =
@@ -51,7 +51,7 @@ one-of keys delimiter delimits kind (line ∷ lines) (other ∷ others) rest beh
       | inr on ↦ let more : others ≡ lines ++ on.0 = on.1 in let longer : other ∷ others ≡ line ∷ (lines ++ on.0) = cc in inr (on.0, longer, on.2)
     ]
 
-pub one-way : (keys : KeyFields) (delimiter : ℕ) → IsDelimiter delimiter → (kind : Kind) (lines others : List KeyedLine) → All (IsKeyedLine keys delimiter kind) lines → All (IsKeyedLine keys delimiter kind) others → lines_text lines ≡ lines_text others → lines ≡ others
+pub one-way : (keys : KeyFields) (delimiter : ℕ) → IsDelimiter delimiter → (kind : InputKind) (lines others : List KeyedLine) → All (IsKeyedLine keys delimiter kind) lines → All (IsKeyedLine keys delimiter kind) others → lines_text lines ≡ lines_text others → lines ≡ others
 one-way keys delimiter delimits kind [] [] all other_all same = refl
 one-way keys delimiter delimits kind [] (other ∷ others) all other_all same =
     absurd (omega (arith, ap length same, length-append (other.text ++ 10 ∷ []) (lines_text others), length-append other.text (10 ∷ [])))
@@ -66,7 +66,7 @@ one-way keys delimiter delimits kind (line ∷ lines) (other ∷ others) all oth
     cc
 
 -- a fault is of the line or of its key
-split : (keys : KeyFields) (delimiter : ℕ) (kind : Kind) (table : List KeyedLine) (bytes : List ℕ) (fault : ApplyFault) → IsFaultOf keys delimiter kind table bytes fault → fault ≢ Memory → ((line : ℕ) × (fault ≡ BadLine line) × HasBadLine keys delimiter kind table bytes line) ⊎ HasKeyFault keys delimiter kind table bytes fault
+split : (keys : KeyFields) (delimiter : ℕ) (kind : InputKind) (table : List KeyedLine) (bytes : List ℕ) (fault : ApplyFault) → IsFaultOf keys delimiter kind table bytes fault → fault ≢ Memory → ((line : ℕ) × (fault ≡ BadLine line) × HasBadLine keys delimiter kind table bytes line) ⊎ HasKeyFault keys delimiter kind table bytes fault
 split keys delimiter kind table bytes (BadLine line) is other = inl (line, refl, is)
 split keys delimiter kind table bytes (DoubleKey line) is other = inr is
 split keys delimiter kind table bytes (NoSuchKey line) is other = inr is
@@ -74,7 +74,7 @@ split keys delimiter kind table bytes (KeyExists line) is other = inr is
 split keys delimiter kind table bytes Memory is other = absurd (other refl)
 
 -- a key with no fault
-key-none : (kind : Kind) (table before : List KeyedLine) (key : List ℕ) (number : ℕ) (fault : ApplyFault) → IsKeyFault kind table before key number fault → fault ≢ Memory → has_key before key ≡ false → has_key table key ≡ wants_held kind → ⊥
+key-none : (kind : InputKind) (table before : List KeyedLine) (key : List ℕ) (number : ℕ) (fault : ApplyFault) → IsKeyFault kind table before key number fault → fault ≢ Memory → has_key before key ≡ false → has_key table key ≡ wants_held kind → ⊥
 key-none kind table before key number (BadLine line) is other free held = is
 key-none kind table before key number (DoubleKey line) is other free held = both_ways _ free is.1
 key-none kind table before key number (NoSuchKey line) is other free held = both_ways _ is.3 (held ∙ is.2)
@@ -82,7 +82,7 @@ key-none kind table before key number (KeyExists line) is other free held = both
 key-none kind table before key number Memory is other free held = other refl
 
 -- a key has one fault
-key-one : (kind : Kind) (table before : List KeyedLine) (key : List ℕ) (number : ℕ) (fault other : ApplyFault) → IsKeyFault kind table before key number fault → IsKeyFault kind table before key number other → fault ≢ Memory → other ≢ Memory → fault ≡ other
+key-one : (kind : InputKind) (table before : List KeyedLine) (key : List ℕ) (number : ℕ) (fault other : ApplyFault) → IsKeyFault kind table before key number fault → IsKeyFault kind table before key number other → fault ≢ Memory → other ≢ Memory → fault ≡ other
 key-one kind table before key number (BadLine line) other is other_is known other_known = absurd is
 key-one kind table before key number fault (BadLine line) is other_is known other_known = absurd other_is
 key-one kind table before key number Memory other is other_is known other_known = absurd (known refl)
@@ -98,14 +98,14 @@ key-one kind table before key number (KeyExists line) (NoSuchKey line') is other
 key-one kind table before key number (KeyExists line) (KeyExists line') is other_is known other_known = ap KeyExists (is.0 ∙ sym other_is.0)
 
 -- where a fault stands: behind lines without one, before a line that has one
-record Stop (keys : KeyFields) (delimiter : ℕ) (kind : Kind) (table : List KeyedLine) (bytes : List ℕ) : Type 0 where
+record Stop (keys : KeyFields) (delimiter : ℕ) (kind : InputKind) (table : List KeyedLine) (bytes : List ℕ) : Type 0 where
   before : List KeyedLine
   rest : List ℕ
   read : IsReadTo keys delimiter kind table bytes before rest
   more : 0 < length rest
   stops : (line : KeyedLine) (behind : List ℕ) → rest ≡ line.text ++ 10 ∷ behind → IsKeyedLine keys delimiter kind line → has_key before line.key ≡ false → has_key table line.key ≡ wants_held kind → ⊥
 
-stop-bad : (keys : KeyFields) (delimiter : ℕ) (kind : Kind) (table : List KeyedLine) (bytes : List ℕ) (line : ℕ) → HasBadLine keys delimiter kind table bytes line → Stop keys delimiter kind table bytes
+stop-bad : (keys : KeyFields) (delimiter : ℕ) (kind : InputKind) (table : List KeyedLine) (bytes : List ℕ) (line : ℕ) → HasBadLine keys delimiter kind table bytes line → Stop keys delimiter kind table bytes
 stop-bad keys delimiter kind table bytes line bad = record {
   before = bad.before;
   rest = bad.rest;
@@ -114,7 +114,7 @@ stop-bad keys delimiter kind table bytes line bad = record {
   stops = λ next behind is keyed_line _ _. bad.none next behind is keyed_line;
 }
 
-stop-key : (keys : KeyFields) (delimiter : ℕ) → IsDelimiter delimiter → (kind : Kind) (table : List KeyedLine) (bytes : List ℕ) (fault : ApplyFault) → HasKeyFault keys delimiter kind table bytes fault → fault ≢ Memory → Stop keys delimiter kind table bytes
+stop-key : (keys : KeyFields) (delimiter : ℕ) → IsDelimiter delimiter → (kind : InputKind) (table : List KeyedLine) (bytes : List ℕ) (fault : ApplyFault) → HasKeyFault keys delimiter kind table bytes fault → fault ≢ Memory → Stop keys delimiter kind table bytes
 stop-key keys delimiter delimits kind table bytes fault bad known = record {
   before = bad.before;
   rest = bad.line.text ++ 10 ∷ bad.rest;
@@ -126,7 +126,7 @@ stop-key keys delimiter delimits kind table bytes fault bad known = record {
 }
 
 -- lines that are read past such a place have no fault there
-passed : (keys : KeyFields) (delimiter : ℕ) (kind : Kind) (table : List KeyedLine) (bytes : List ℕ) (stop : Stop keys delimiter kind table bytes) (lines : List KeyedLine) (behind : List ℕ) → IsReadTo keys delimiter kind table bytes lines behind → (next : KeyedLine) (more : List KeyedLine) → lines ≡ stop.before ++ next ∷ more → stop.rest ≡ lines_text (next ∷ more) ++ behind → ⊥
+passed : (keys : KeyFields) (delimiter : ℕ) (kind : InputKind) (table : List KeyedLine) (bytes : List ℕ) (stop : Stop keys delimiter kind table bytes) (lines : List KeyedLine) (behind : List ℕ) → IsReadTo keys delimiter kind table bytes lines behind → (next : KeyedLine) (more : List KeyedLine) → lines ≡ stop.before ++ next ∷ more → stop.rest ≡ lines_text (next ∷ more) ++ behind → ⊥
 passed keys delimiter kind table bytes stop lines behind read next more is rest_is =
     let place : ℕ = length stop.before in
     let below : place < length lines = omega (arith, ap length is, length-append stop.before (next ∷ more)) in
@@ -140,7 +140,7 @@ passed keys delimiter kind table bytes stop lines behind read next more is rest_
     (subst (λ (l : KeyedLine). has_key table l.key ≡ wants_held kind) at (All-get_or (λ (l : KeyedLine). has_key table l.key ≡ wants_held kind) lines place next below read.lines_read.held))
 
 -- a stream that is read whole has no fault
-stop-none : (keys : KeyFields) (delimiter : ℕ) → IsDelimiter delimiter → (kind : Kind) (table : List KeyedLine) (bytes : List ℕ) (lines : List KeyedLine) → IsReadTo keys delimiter kind table bytes lines [] → ¬ Stop keys delimiter kind table bytes
+stop-none : (keys : KeyFields) (delimiter : ℕ) → IsDelimiter delimiter → (kind : InputKind) (table : List KeyedLine) (bytes : List ℕ) (lines : List KeyedLine) → IsReadTo keys delimiter kind table bytes lines [] → ¬ Stop keys delimiter kind table bytes
 stop-none keys delimiter delimits kind table bytes lines read stop =
     elim (one-of keys delimiter delimits kind lines stop.before [] stop.rest read.lines_read.keyed stop.read.lines_read.keyed (sym read.text ∙ stop.read.text)) [
       | inl on ↦ behind on.0 on.1 on.2
@@ -151,14 +151,14 @@ stop-none keys delimiter delimits kind table bytes lines read stop =
     behind [] is rest_is = omega (arith, stop.more, ap length rest_is)
     behind (next ∷ more) is rest_is = passed keys delimiter kind table bytes stop lines [] read next more is rest_is
 
-stop_of : (keys : KeyFields) (delimiter : ℕ) → IsDelimiter delimiter → (kind : Kind) (table : List KeyedLine) (bytes : List ℕ) (fault : ApplyFault) → IsFaultOf keys delimiter kind table bytes fault → fault ≢ Memory → Stop keys delimiter kind table bytes
+stop_of : (keys : KeyFields) (delimiter : ℕ) → IsDelimiter delimiter → (kind : InputKind) (table : List KeyedLine) (bytes : List ℕ) (fault : ApplyFault) → IsFaultOf keys delimiter kind table bytes fault → fault ≢ Memory → Stop keys delimiter kind table bytes
 stop_of keys delimiter delimits kind table bytes fault is known =
     elim (split keys delimiter kind table bytes fault is known) [
       | inl bad ↦ stop-bad keys delimiter kind table bytes bad.0 bad.2
       | inr bad ↦ stop-key keys delimiter delimits kind table bytes fault bad known
     ]
 
-pub read-no_fault : (keys : KeyFields) (delimiter : ℕ) (kind : Kind) (table : List KeyedLine) (bytes : List ℕ) (lines : List KeyedLine) (fault : ApplyFault) → IsDelimiter delimiter → IsStream keys delimiter kind table bytes lines → fault ≢ Memory → ¬ IsFaultOf keys delimiter kind table bytes fault
+pub read-no_fault : (keys : KeyFields) (delimiter : ℕ) (kind : InputKind) (table : List KeyedLine) (bytes : List ℕ) (lines : List KeyedLine) (fault : ApplyFault) → IsDelimiter delimiter → IsStream keys delimiter kind table bytes lines → fault ≢ Memory → ¬ IsFaultOf keys delimiter kind table bytes fault
 read-no_fault keys delimiter kind table bytes lines fault delimits stream known is =
     let read : IsReadTo keys delimiter kind table bytes lines [] = record {
       text = stream.text ∙ sym (append-nil (lines_text lines));
@@ -167,7 +167,7 @@ read-no_fault keys delimiter kind table bytes lines fault delimits stream known 
     stop-none keys delimiter delimits kind table bytes lines read (stop_of keys delimiter delimits kind table bytes fault is known)
 
 -- two faults stand at one place
-one-place : (keys : KeyFields) (delimiter : ℕ) → IsDelimiter delimiter → (kind : Kind) (table : List KeyedLine) (bytes : List ℕ) (stop other : Stop keys delimiter kind table bytes) → (stop.before ≡ other.before) × (stop.rest ≡ other.rest)
+one-place : (keys : KeyFields) (delimiter : ℕ) → IsDelimiter delimiter → (kind : InputKind) (table : List KeyedLine) (bytes : List ℕ) (stop other : Stop keys delimiter kind table bytes) → (stop.before ≡ other.before) × (stop.rest ≡ other.rest)
 one-place keys delimiter delimits kind table bytes stop other =
     elim (one-of keys delimiter delimits kind stop.before other.before stop.rest other.rest stop.read.lines_read.keyed other.read.lines_read.keyed (sym stop.read.text ∙ other.read.text)) [
       | inl on ↦ before on.0 on.1 on.2
@@ -183,21 +183,21 @@ one-place keys delimiter delimits kind table bytes stop other =
     behind (next ∷ more) is rest_is = absurd (passed keys delimiter kind table bytes stop other.before other.rest other.read next more is rest_is)
 
 -- a bad line and a line with a key at fault stand at two
-bad-or-key : (keys : KeyFields) (delimiter : ℕ) → IsDelimiter delimiter → (kind : Kind) (table : List KeyedLine) (bytes : List ℕ) (line : ℕ) (fault : ApplyFault) → HasBadLine keys delimiter kind table bytes line → HasKeyFault keys delimiter kind table bytes fault → fault ≢ Memory → ⊥
+bad-or-key : (keys : KeyFields) (delimiter : ℕ) → IsDelimiter delimiter → (kind : InputKind) (table : List KeyedLine) (bytes : List ℕ) (line : ℕ) (fault : ApplyFault) → HasBadLine keys delimiter kind table bytes line → HasKeyFault keys delimiter kind table bytes fault → fault ≢ Memory → ⊥
 unfolding stop-bad stop-key
 bad-or-key keys delimiter delimits kind table bytes line fault bad key known =
     let place = one-place keys delimiter delimits kind table bytes (stop-bad keys delimiter kind table bytes line bad) (stop-key keys delimiter delimits kind table bytes fault key known) in
     let rests : bad.rest ≡ key.line.text ++ 10 ∷ key.rest = place.1 in
     bad.none key.line key.rest rests key.keyed
 
-two-bad : (keys : KeyFields) (delimiter : ℕ) → IsDelimiter delimiter → (kind : Kind) (table : List KeyedLine) (bytes : List ℕ) (line other : ℕ) → HasBadLine keys delimiter kind table bytes line → HasBadLine keys delimiter kind table bytes other → line ≡ other
+two-bad : (keys : KeyFields) (delimiter : ℕ) → IsDelimiter delimiter → (kind : InputKind) (table : List KeyedLine) (bytes : List ℕ) (line other : ℕ) → HasBadLine keys delimiter kind table bytes line → HasBadLine keys delimiter kind table bytes other → line ≡ other
 unfolding stop-bad
 two-bad keys delimiter delimits kind table bytes line other bad other_bad =
     let place = one-place keys delimiter delimits kind table bytes (stop-bad keys delimiter kind table bytes line bad) (stop-bad keys delimiter kind table bytes other other_bad) in
     let befores : bad.before ≡ other_bad.before = place.0 in
     bad.number ∙ ap (λ (ls : List KeyedLine). length ls + 1) befores ∙ sym other_bad.number
 
-two-keys : (keys : KeyFields) (delimiter : ℕ) → IsDelimiter delimiter → (kind : Kind) (table : List KeyedLine) (bytes : List ℕ) (fault other : ApplyFault) → HasKeyFault keys delimiter kind table bytes fault → HasKeyFault keys delimiter kind table bytes other → fault ≢ Memory → other ≢ Memory → fault ≡ other
+two-keys : (keys : KeyFields) (delimiter : ℕ) → IsDelimiter delimiter → (kind : InputKind) (table : List KeyedLine) (bytes : List ℕ) (fault other : ApplyFault) → HasKeyFault keys delimiter kind table bytes fault → HasKeyFault keys delimiter kind table bytes other → fault ≢ Memory → other ≢ Memory → fault ≡ other
 unfolding stop-key
 two-keys keys delimiter delimits kind table bytes fault other bad other_bad known other_known =
     let place = one-place keys delimiter delimits kind table bytes (stop-key keys delimiter delimits kind table bytes fault bad known) (stop-key keys delimiter delimits kind table bytes other other_bad other_known) in
@@ -209,7 +209,7 @@ two-keys keys delimiter delimits kind table bytes fault other bad other_bad know
     (subst (λ (l : KeyedLine). IsKeyFault kind table bad.before l.key (length bad.before + 1) fault) lines bad.key))
     other_bad.key known other_known
 
-pub one-fault : (keys : KeyFields) (delimiter : ℕ) (kind : Kind) (table : List KeyedLine) (bytes : List ℕ) (fault other : ApplyFault) → IsDelimiter delimiter → IsFaultOf keys delimiter kind table bytes fault → IsFaultOf keys delimiter kind table bytes other → fault ≢ Memory → other ≢ Memory → fault ≡ other
+pub one-fault : (keys : KeyFields) (delimiter : ℕ) (kind : InputKind) (table : List KeyedLine) (bytes : List ℕ) (fault other : ApplyFault) → IsDelimiter delimiter → IsFaultOf keys delimiter kind table bytes fault → IsFaultOf keys delimiter kind table bytes other → fault ≢ Memory → other ≢ Memory → fault ≡ other
 one-fault keys delimiter kind table bytes fault other delimits is other_is known other_known =
     elim (split keys delimiter kind table bytes fault is known) [
       | inl bad ↦ elim (split keys delimiter kind table bytes other other_is other_known) [

@@ -8,7 +8,7 @@ use Rattle.std.proofs.lemmas.Bool.{cases_lt, true≢false}
 use Rattle.stream_apply.specs.KeyedLines.{KeyedLine, has_key, keyed, lines_text, put}
 use Rattle.stream_apply.specs.Streams.{IsKeyedLine, IsReadTo, IsStream, wants_held}
 use Rattle.stream_apply.specs.declared.key_fields.KeyFields.{KeyFields}
-use Rattle.stream_apply.specs.declared.kind.Kind.{Kind}
+use Rattle.stream_apply.specs.declared.kind.InputKind.{InputKind}
 
 -- a line with a new key goes behind the others
 pub put-absent : (lines : List KeyedLine) (line : KeyedLine) → has_key lines line.key ≡ false → put lines line ≡ lines ++ line ∷ []
@@ -27,7 +27,7 @@ lines_text-push lines line =
     ∙ ap (λ (t : List ℕ). lines_text lines ++ t) (append-nil (line.text ++ 10 ∷ []))
 
 -- before the first line
-pub read-none : (keys : KeyFields) (delimiter : ℕ) (kind : Kind) (table : List KeyedLine) (bytes : List ℕ) → IsReadTo keys delimiter kind table bytes [] bytes
+pub read-none : (keys : KeyFields) (delimiter : ℕ) (kind : InputKind) (table : List KeyedLine) (bytes : List ℕ) → IsReadTo keys delimiter kind table bytes [] bytes
 read-none keys delimiter kind table bytes = record {
   text = refl;
   lines_read = record {
@@ -53,7 +53,7 @@ apart-push lines line apart free i d below =
           ∙ free
     ]
 
-pub read-more : (keys : KeyFields) (delimiter : ℕ) (kind : Kind) (table lines now : List KeyedLine) (line : KeyedLine) (bytes rest behind : List ℕ) → IsReadTo keys delimiter kind table bytes lines rest → IsKeyedLine keys delimiter kind line → rest ≡ line.text ++ 10 ∷ behind → has_key lines line.key ≡ false → has_key table line.key ≡ wants_held kind → now ≡ put lines line → IsReadTo keys delimiter kind table bytes now behind
+pub read-more : (keys : KeyFields) (delimiter : ℕ) (kind : InputKind) (table lines now : List KeyedLine) (line : KeyedLine) (bytes rest behind : List ℕ) → IsReadTo keys delimiter kind table bytes lines rest → IsKeyedLine keys delimiter kind line → rest ≡ line.text ++ 10 ∷ behind → has_key lines line.key ≡ false → has_key table line.key ≡ wants_held kind → now ≡ put lines line → IsReadTo keys delimiter kind table bytes now behind
 read-more keys delimiter kind table lines now line bytes rest behind read keyed_line cut free held is =
     let pushed : now ≡ lines ++ line ∷ [] = is ∙ put-absent lines line free in
     let stream = read.lines_read in
@@ -73,7 +73,7 @@ read-more keys delimiter kind table lines now line bytes rest behind read keyed_
     })
 
 -- behind the last line
-pub read-all : (keys : KeyFields) (delimiter : ℕ) (kind : Kind) (table lines : List KeyedLine) (bytes rest : List ℕ) → IsReadTo keys delimiter kind table bytes lines rest → length rest ≡ 0 → IsStream keys delimiter kind table bytes lines
+pub read-all : (keys : KeyFields) (delimiter : ℕ) (kind : InputKind) (table lines : List KeyedLine) (bytes rest : List ℕ) → IsReadTo keys delimiter kind table bytes lines rest → length rest ≡ 0 → IsStream keys delimiter kind table bytes lines
 read-all keys delimiter kind table lines bytes rest read none =
     let all : lines_text lines ≡ bytes = sym (read.text ∙ ap (λ (t : List ℕ). lines_text lines ++ t) (nil_from_length rest none) ∙ append-nil (lines_text lines)) in
     subst (λ (t : List ℕ). IsStream keys delimiter kind table t lines) all read.lines_read
@@ -83,7 +83,7 @@ lines-within : (lines : List KeyedLine) → length lines ≤ length (lines_text 
 lines-within [] = omega arith
 lines-within (line ∷ lines) = omega (arith, lines-within lines, length-append (line.text ++ 10 ∷ []) (lines_text lines), length-append line.text (10 ∷ []))
 
-pub lines-below : (keys : KeyFields) (delimiter : ℕ) (kind : Kind) (table lines : List KeyedLine) (bytes rest : List ℕ) → IsReadTo keys delimiter kind table bytes lines rest → length lines + length rest ≤ length bytes
+pub lines-below : (keys : KeyFields) (delimiter : ℕ) (kind : InputKind) (table lines : List KeyedLine) (bytes rest : List ℕ) → IsReadTo keys delimiter kind table bytes lines rest → length lines + length rest ≤ length bytes
 lines-below keys delimiter kind table lines bytes rest read = omega (arith, lines-within lines, ap length read.text, length-append (lines_text lines) rest)
 
 -- what is not empty

@@ -7,8 +7,8 @@ use Rattle.stream_apply.specs.InTurn.{IsAppliedText, IsMadeInTurn, inputs_from}
 use Rattle.stream_apply.specs.KeyedLines.{KeyedLine, has_key, keyed, lines_text}
 use Rattle.stream_apply.specs.Streams.{IsKeyedLine, IsLoaded, IsStream, holds_keys_alone, key_count, text_fields, wants_held, with_each, without}
 use Rattle.stream_apply.specs.declared.key_fields.KeyFields.{KeyFields}
-use Rattle.stream_apply.specs.declared.kind.Kind.{Kind}
-use Rattle.stream_apply.specs.declared.kind.Kind.TheVariants.{Deletes, Inserts, Snapshot, Updates}
+use Rattle.stream_apply.specs.declared.kind.InputKind.{InputKind}
+use Rattle.stream_apply.specs.declared.kind.InputKind.TheVariants.{Deletes, Inserts, Snapshot, Updates}
 use Rattle.stream_apply.proofs.LineLemmas.{key_count-some}
 use Rattle.stream_apply.proofs.NumberedLineLemmas.{AreKeys, has_key-inside, has_key-outside, lines_in, lines_in-all, lines_in-apart, lines_in-append, with_each-lines_in, without-lines_in}
 
@@ -25,7 +25,7 @@ pub record IsKeyedText (keys : KeyFields) (delimiter : ℕ) (key text : List ℕ
   pub key_written : key ≡ line_text delimiter (text_fields front)
 
 -- it is a line of each stream but of one of keys alone
-pub keyed-whole : (keys : KeyFields) (delimiter : ℕ) (kind : Kind) (key text : List ℕ) → holds_keys_alone kind ≡ false → IsKeyedText keys delimiter key text →
+pub keyed-whole : (keys : KeyFields) (delimiter : ℕ) (kind : InputKind) (key text : List ℕ) → holds_keys_alone kind ≡ false → IsKeyedText keys delimiter key text →
     IsKeyedLine keys delimiter kind (keyed key text)
 keyed-whole keys delimiter kind key text whole is = record {
   fields = text_fields is.front ++ is.others;
@@ -52,7 +52,7 @@ keyed-alone keys delimiter key text is = record {
 
 module _ (keys : KeyFields) (delimiter : ℕ) (key : ℕ → List ℕ) (size : ℕ) (one_to_one : AreKeys key size) where
   -- lines of numbers are those of a stream
-  stream-lines_in : (kind : Kind) (table : List KeyedLine) (text : ℕ → List ℕ) (p : ℕ → Bool) (a n : ℕ) → a + n ≤ size →
+  stream-lines_in : (kind : InputKind) (table : List KeyedLine) (text : ℕ → List ℕ) (p : ℕ → Bool) (a n : ℕ) → a + n ≤ size →
       ((j : ℕ) → a ≤ j → j < a + n → p j ≡ true → IsKeyedLine keys delimiter kind (keyed (key j) (text j))) →
       ((j : ℕ) → a ≤ j → j < a + n → p j ≡ true → has_key table (key j) ≡ wants_held kind) →
       IsStream keys delimiter kind table (lines_text (lines_in key text p a n)) (lines_in key text p a n)

@@ -4,23 +4,23 @@ use Rattle.stream_apply.specs.KeyedLines.{KeyedLine, lines_text}
 use Rattle.stream_apply.specs.Streams.{IsFaultOf, IsStream, made_by}
 use Rattle.stream_apply.specs.declared.fault.ApplyFault.{ApplyFault}
 use Rattle.stream_apply.specs.declared.key_fields.KeyFields.{KeyFields}
-use Rattle.stream_apply.specs.declared.kind.Kind.{Kind}
-use Rattle.stream_apply.specs.declared.kind.Kind.TheVariants.{Deletes, Inserts, Snapshot, Updates}
+use Rattle.stream_apply.specs.declared.kind.InputKind.{InputKind}
+use Rattle.stream_apply.specs.declared.kind.InputKind.TheVariants.{Deletes, Inserts, Snapshot, Updates}
 
 -- bytes, and what they hold
 pub record Input : Type 0 where
-  pub kind : Kind
+  pub kind : InputKind
   pub bytes : List ℕ
 
 -- what is held behind: behind a table's text and behind what a unit inserts, what the next unit deletes, then what it updates and inserts
-abbrev pub next_kind : Kind → Kind
+abbrev pub next_kind : InputKind → InputKind
 next_kind Snapshot = Deletes
 next_kind Deletes = Updates
 next_kind Updates = Inserts
 next_kind Inserts = Deletes
 
 -- inputs by what they hold, of which the first holds this
-abbrev pub inputs_from : Kind → List (List ℕ) → List Input
+abbrev pub inputs_from : InputKind → List (List ℕ) → List Input
 inputs_from kind [] = []
 inputs_from kind (bytes ∷ rest) = record { kind = kind; bytes = bytes } ∷ inputs_from (next_kind kind) rest
 

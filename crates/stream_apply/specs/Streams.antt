@@ -6,18 +6,18 @@ use Rattle.stream_apply.specs.declared.fault.ApplyFault.{ApplyFault}
 use Rattle.stream_apply.specs.declared.fault.ApplyFault.TheVariants.{BadLine, DoubleKey, KeyExists, Memory, NoSuchKey}
 use Rattle.stream_apply.specs.declared.key_fields.KeyFields.{KeyFields}
 use Rattle.stream_apply.specs.declared.key_fields.KeyFields.TheVariants.{One, Two}
-use Rattle.stream_apply.specs.declared.kind.Kind.{Kind}
-use Rattle.stream_apply.specs.declared.kind.Kind.TheVariants.{Deletes, Inserts, Snapshot, Updates}
+use Rattle.stream_apply.specs.declared.kind.InputKind.{InputKind}
+use Rattle.stream_apply.specs.declared.kind.InputKind.TheVariants.{Deletes, Inserts, Snapshot, Updates}
 
 -- whether each line is a key alone
-abbrev pub holds_keys_alone : Kind → Bool
+abbrev pub holds_keys_alone : InputKind → Bool
 holds_keys_alone Snapshot = false
 holds_keys_alone Deletes = true
 holds_keys_alone Updates = false
 holds_keys_alone Inserts = false
 
 -- whether the table has to hold the key of each line; else it may hold none
-abbrev pub wants_held : Kind → Bool
+abbrev pub wants_held : InputKind → Bool
 wants_held Snapshot = false
 wants_held Deletes = true
 wants_held Updates = true
@@ -33,13 +33,13 @@ abbrev pub text_fields : List (List ℕ) → List (Option (List ℕ))
 text_fields texts = map (λ (text : List ℕ). Some text) texts
 
 -- the fields of a line: as many texts first as a key has, and others
-pub record IsFields (keys : KeyFields) (kind : Kind) (fields : List (Option (List ℕ))) (front : List (List ℕ)) (others : List (Option (List ℕ))) : Type 0 where
+pub record IsFields (keys : KeyFields) (kind : InputKind) (fields : List (Option (List ℕ))) (front : List (List ℕ)) (others : List (Option (List ℕ))) : Type 0 where
   pub count : length front ≡ key_count keys
   pub is : fields ≡ text_fields front ++ others
   pub alone : holds_keys_alone kind ≡ true → others ≡ []
 
 -- a line of a stream, with its key
-pub record IsKeyedLine (keys : KeyFields) (delimiter : ℕ) (kind : Kind) (line : KeyedLine) : Type 0 where
+pub record IsKeyedLine (keys : KeyFields) (delimiter : ℕ) (kind : InputKind) (line : KeyedLine) : Type 0 where
   pub fields : List (Option (List ℕ))
   pub front : List (List ℕ)
   pub others : List (Option (List ℕ))
@@ -48,23 +48,23 @@ pub record IsKeyedLine (keys : KeyFields) (delimiter : ℕ) (kind : Kind) (line 
   pub key : line.key ≡ line_text delimiter (text_fields front)
 
 -- bytes that start with no line of a stream
-abbrev pub StartsNone : KeyFields → ℕ → Kind → List ℕ → Type 0
+abbrev pub StartsNone : KeyFields → ℕ → InputKind → List ℕ → Type 0
 StartsNone keys delimiter kind bytes = (line : KeyedLine) (rest : List ℕ) → bytes ≡ line.text ++ 10 ∷ rest → ¬ IsKeyedLine keys delimiter kind line
 
 -- bytes that are the lines of a stream for a table, with no fault
-pub record IsStream (keys : KeyFields) (delimiter : ℕ) (kind : Kind) (table : List KeyedLine) (bytes : List ℕ) (lines : List KeyedLine) : Type 0 where
+pub record IsStream (keys : KeyFields) (delimiter : ℕ) (kind : InputKind) (table : List KeyedLine) (bytes : List ℕ) (lines : List KeyedLine) : Type 0 where
   pub text : bytes ≡ lines_text lines
   pub keyed : All (IsKeyedLine keys delimiter kind) lines
   pub apart : (i : ℕ) (d : KeyedLine) → i < length lines → has_key (take i lines) (get_or lines i d).key ≡ false
   pub held : All (λ (line : KeyedLine). has_key table line.key ≡ wants_held kind) lines
 
 -- a stream of which the first lines have no fault, and what is behind them
-pub record IsReadTo (keys : KeyFields) (delimiter : ℕ) (kind : Kind) (table : List KeyedLine) (bytes : List ℕ) (lines : List KeyedLine) (rest : List ℕ) : Type 0 where
+pub record IsReadTo (keys : KeyFields) (delimiter : ℕ) (kind : InputKind) (table : List KeyedLine) (bytes : List ℕ) (lines : List KeyedLine) (rest : List ℕ) : Type 0 where
   pub text : bytes ≡ lines_text lines ++ rest
   pub lines_read : IsStream keys delimiter kind table (lines_text lines) lines
 
 -- the fault of a key, at the line of a number, behind lines without a fault
-abbrev pub IsKeyFault : Kind → List KeyedLine → List KeyedLine → List ℕ → ℕ → ApplyFault → Type 0
+abbrev pub IsKeyFault : InputKind → List KeyedLine → List KeyedLine → List ℕ → ℕ → ApplyFault → Type 0
 IsKeyFault kind table before key number (BadLine line) = ⊥
 IsKeyFault kind table before key number (DoubleKey line) = (line ≡ number) × (has_key before key ≡ true)
 IsKeyFault kind table before key number (NoSuchKey line) = (line ≡ number) × (has_key before key ≡ false) × (wants_held kind ≡ true) × (has_key table key ≡ false)
@@ -72,7 +72,7 @@ IsKeyFault kind table before key number (KeyExists line) = (line ≡ number) × 
 IsKeyFault kind table before key number Memory = Unit {0}
 
 -- the line behind those without a fault is no line of the stream
-pub record HasBadLine (keys : KeyFields) (delimiter : ℕ) (kind : Kind) (table : List KeyedLine) (bytes : List ℕ) (line : ℕ) : Type 0 where
+pub record HasBadLine (keys : KeyFields) (delimiter : ℕ) (kind : InputKind) (table : List KeyedLine) (bytes : List ℕ) (line : ℕ) : Type 0 where
   pub before : List KeyedLine
   pub rest : List ℕ
   pub read : IsReadTo keys delimiter kind table bytes before rest
@@ -81,7 +81,7 @@ pub record HasBadLine (keys : KeyFields) (delimiter : ℕ) (kind : Kind) (table 
   pub none : StartsNone keys delimiter kind rest
 
 -- the line behind those without a fault has a key at fault
-pub record HasKeyFault (keys : KeyFields) (delimiter : ℕ) (kind : Kind) (table : List KeyedLine) (bytes : List ℕ) (fault : ApplyFault) : Type 0 where
+pub record HasKeyFault (keys : KeyFields) (delimiter : ℕ) (kind : InputKind) (table : List KeyedLine) (bytes : List ℕ) (fault : ApplyFault) : Type 0 where
   pub before : List KeyedLine
   pub line : KeyedLine
   pub rest : List ℕ
@@ -90,7 +90,7 @@ pub record HasKeyFault (keys : KeyFields) (delimiter : ℕ) (kind : Kind) (table
   pub key : IsKeyFault kind table before line.key (length before + 1) fault
 
 -- the first fault of a stream
-abbrev pub IsFaultOf : KeyFields → ℕ → Kind → List KeyedLine → List ℕ → ApplyFault → Type 0
+abbrev pub IsFaultOf : KeyFields → ℕ → InputKind → List KeyedLine → List ℕ → ApplyFault → Type 0
 IsFaultOf keys delimiter kind table bytes (BadLine line) = HasBadLine keys delimiter kind table bytes line
 IsFaultOf keys delimiter kind table bytes (DoubleKey line) = HasKeyFault keys delimiter kind table bytes (DoubleKey line)
 IsFaultOf keys delimiter kind table bytes (NoSuchKey line) = HasKeyFault keys delimiter kind table bytes (NoSuchKey line)
@@ -106,7 +106,7 @@ abbrev pub with_each : List KeyedLine → List KeyedLine → List KeyedLine
 with_each table lines = fold put table lines
 
 -- what the lines of a stream make of a table: dropped, replaced in place, or appended
-abbrev pub made_by : Kind → List KeyedLine → List KeyedLine → List KeyedLine
+abbrev pub made_by : InputKind → List KeyedLine → List KeyedLine → List KeyedLine
 made_by Snapshot table lines = lines
 made_by Deletes table lines = without table lines
 made_by Updates table lines = with_each table lines
@@ -125,7 +125,7 @@ pub record IsLoaded (bytes : List ℕ) (keys : KeyFields) (delimiter : ℕ) (tab
   pub read : IsStream keys delimiter Snapshot [] bytes table.lines
 
 -- a table before and after a stream of a kind: the lines of the stream have no fault, and what they make of the table's
-pub record IsApplied (kind : Kind) (bytes : List ℕ) (old new : Table) : Type 0 where
+pub record IsApplied (kind : InputKind) (bytes : List ℕ) (old new : Table) : Type 0 where
   pub lines : List KeyedLine
   pub known_by : new.keys ≡ old.keys
   pub delimits : new.delimiter ≡ old.delimiter

@@ -4,14 +4,14 @@ ghost use Rattle.std.specs.Prelude.{◌≡◌, [], IfErr, IfOk, OnOk, fold};
 ghost use Rattle.row_text.specs.Fields.{IsDelimiter};
 ghost use Rattle.stream_apply.specs.KeyedLines.{lines_text, put};
 ghost use Rattle.stream_apply.specs.Streams.{IsApplied, IsFaultOf, IsLoaded};
-ghost use Rattle.stream_apply.specs.declared.kind.Kind.TheVariants.{Deletes, Inserts, Snapshot, Updates};
+ghost use Rattle.stream_apply.specs.declared.kind.InputKind.TheVariants.{Deletes, Inserts, Snapshot, Updates};
 
 use crate::fault::ApplyFault;
 use crate::key_fields::KeyFields;
 use crate::key_table::KeyTable;
-use crate::kind::Kind;
+use crate::kind::InputKind;
 use crate::stream::{read_stream, read_table};
-use row_text::Memory;
+use out_of_memory::Memory;
 use std::alloc::Global;
 use std::marker::Model;
 
@@ -68,7 +68,7 @@ impl<'a> Applier<'a> {
             delimiter,
             mut table,
         } = self;
-        let dropped = read_stream(alloc, Kind::Deletes, &table, bytes, keys, delimiter)?;
+        let dropped = read_stream(alloc, InputKind::Deletes, &table, bytes, keys, delimiter)?;
         table.drop_all(&dropped);
         Ok(Applier {
             alloc,
@@ -89,7 +89,7 @@ impl<'a> Applier<'a> {
             delimiter,
             mut table,
         } = self;
-        let lines = read_stream(alloc, Kind::Updates, &table, bytes, keys, delimiter)?;
+        let lines = read_stream(alloc, InputKind::Updates, &table, bytes, keys, delimiter)?;
         put_all(&mut table, &lines)?;
         Ok(Applier {
             alloc,
@@ -110,7 +110,7 @@ impl<'a> Applier<'a> {
             delimiter,
             mut table,
         } = self;
-        let lines = read_stream(alloc, Kind::Inserts, &table, bytes, keys, delimiter)?;
+        let lines = read_stream(alloc, InputKind::Inserts, &table, bytes, keys, delimiter)?;
         put_all(&mut table, &lines)?;
         Ok(Applier {
             alloc,

@@ -2,7 +2,7 @@
 
 ghost use Rattle.std.specs.Prelude.{◌≡◌};
 
-use row_text::Memory;
+use out_of_memory::Memory;
 
 /// Why bytes aren't a table's text, or not a stream for a table: what is wrong with the first line at fault. `line` is the number of that
 /// line, from 1.

@@ -6,13 +6,13 @@ ghost use Rattle.stream_apply.specs.InTurn.{HasFaultAt, IsAppliedText, inputs_fr
 ghost use Rattle.stream_apply.specs.KeyedLines.{KeyedLine};
 ghost use Rattle.stream_apply.specs.Streams.{IsFaultOf, IsStream, made_by};
 ghost use Rattle.stream_apply.specs.declared.fault.ApplyFault.TheVariants.{Memory};
-ghost use Rattle.stream_apply.specs.declared.kind.Kind.TheVariants.{Snapshot};
+ghost use Rattle.stream_apply.specs.declared.kind.InputKind.TheVariants.{Snapshot};
 
 use crate::applier::put_all;
 use crate::fault::ApplyFault;
 use crate::key_fields::KeyFields;
 use crate::key_table::KeyTable;
-use crate::kind::Kind;
+use crate::kind::InputKind;
 use crate::stream::read_stream;
 use std::alloc::{AllocError, Global};
 
@@ -65,7 +65,7 @@ pub fn apply_slices(
     ensures place { IfErr result (λ told. told.place ≤ length inputs.now) }
 {
     let mut table = KeyTable::new(alloc);
-    let mut kind = Kind::Snapshot;
+    let mut kind = InputKind::Snapshot;
     for (place, input) in inputs.iter().enumerate() {
         table = match apply_input(alloc, kind, table, input, keys, delimiter) {
             Ok(made) => made,
@@ -96,7 +96,7 @@ fn slices_of(alloc: Global, inputs: &[Vec<u8>]) -> Result<Vec<&[u8]>, AllocError
 /// Returns the table that the bytes make of a table. Refuses the first line of the bytes at fault.
 fn apply_input<'a>(
     alloc: Global,
-    kind: Kind,
+    kind: InputKind,
     mut table: KeyTable<'a>,
     bytes: &'a [u8],
     keys: KeyFields,
@@ -109,12 +109,12 @@ fn apply_input<'a>(
 {
     let lines = read_stream(alloc, kind, &table, bytes, keys, delimiter)?;
     match kind {
-        Kind::Snapshot => Ok(lines),
-        Kind::Deletes => {
+        InputKind::Snapshot => Ok(lines),
+        InputKind::Deletes => {
             table.drop_all(&lines);
             Ok(table)
         }
-        Kind::Updates | Kind::Inserts => {
+        InputKind::Updates | InputKind::Inserts => {
             put_all(&mut table, &lines)?;
             Ok(table)
         }

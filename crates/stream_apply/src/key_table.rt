@@ -7,7 +7,7 @@ ghost use Rattle.std.specs.Str.{bytes_eq};
 ghost use Rattle.stream_apply.specs.KeyedLines.{has_key, keyed, lines_text, put};
 
 use indexmap::IndexMap;
-use row_text::Memory;
+use out_of_memory::Memory;
 use std::alloc::{AllocError, Global};
 use std::marker::Model;
 

@@ -8,8 +8,8 @@ ghost use Rattle.stream_apply.specs.Streams.{IsApplied, IsBehind, IsFaultOf, IsL
 ghost use Rattle.stream_apply.specs.declared.fault.ApplyFault.{ApplyFault};
 ghost use Rattle.stream_apply.specs.declared.fault.ApplyFault.TheVariants.{Memory};
 ghost use Rattle.stream_apply.specs.declared.key_fields.KeyFields.{KeyFields};
-ghost use Rattle.stream_apply.specs.declared.kind.Kind.{Kind};
-ghost use Rattle.stream_apply.specs.declared.kind.Kind.TheVariants.{Deletes, Inserts, Snapshot, Updates};
+ghost use Rattle.stream_apply.specs.declared.kind.InputKind.{InputKind};
+ghost use Rattle.stream_apply.specs.declared.kind.InputKind.TheVariants.{Deletes, Inserts, Snapshot, Updates};
 
 /// If a table is loaded and the streams of one unit are applied to it in turn, it holds what they make of its text.
 pub fn calls_in_turn_apply_a_unit()
@@ -21,15 +21,15 @@ pub fn calls_in_turn_apply_a_unit()
 
 /// A stream has one list of lines.
 pub fn stream_is_read_in_one_way()
-    ensures { (keys : KeyFields) (delimiter : ℕ) (kind : Kind) (table : List KeyedLine) (bytes : List ℕ) (lines others : List KeyedLine) → IsDelimiter delimiter →
+    ensures { (keys : KeyFields) (delimiter : ℕ) (kind : InputKind) (table : List KeyedLine) (bytes : List ℕ) (lines others : List KeyedLine) → IsDelimiter delimiter →
         IsStream keys delimiter kind table bytes lines → IsStream keys delimiter kind table bytes others → lines ≡ others }
 {}
 
 /// A stream that is read has no fault. One that isn't read has one first fault.
 pub fn stream_has_one_outcome()
-    ensures read { (keys : KeyFields) (delimiter : ℕ) (kind : Kind) (table : List KeyedLine) (bytes : List ℕ) (lines : List KeyedLine) (fault : ApplyFault) → IsDelimiter delimiter →
+    ensures read { (keys : KeyFields) (delimiter : ℕ) (kind : InputKind) (table : List KeyedLine) (bytes : List ℕ) (lines : List KeyedLine) (fault : ApplyFault) → IsDelimiter delimiter →
         IsStream keys delimiter kind table bytes lines → fault ≢ Memory → ¬ IsFaultOf keys delimiter kind table bytes fault }
-    ensures first { (keys : KeyFields) (delimiter : ℕ) (kind : Kind) (table : List KeyedLine) (bytes : List ℕ) (fault other : ApplyFault) → IsDelimiter delimiter →
+    ensures first { (keys : KeyFields) (delimiter : ℕ) (kind : InputKind) (table : List KeyedLine) (bytes : List ℕ) (fault other : ApplyFault) → IsDelimiter delimiter →
         IsFaultOf keys delimiter kind table bytes fault → IsFaultOf keys delimiter kind table bytes other → fault ≢ Memory → other ≢ Memory → fault ≡ other }
 {}
 

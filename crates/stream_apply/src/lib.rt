@@ -18,5 +18,5 @@ pub use fault::ApplyFault;
 pub use in_turn::{TurnFault, apply_in_turn, apply_slices};
 pub use key_fields::KeyFields;
 pub use key_table::KeyTable;
-pub use kind::Kind;
+pub use kind::InputKind;
 pub use stream::{key_size, read_table};

@@ -5,13 +5,14 @@ ghost use Rattle.row_text.specs.Fields.{IsDelimiter, escaped_text};
 ghost use Rattle.row_text.specs.Lines.{line_text};
 ghost use Rattle.stream_apply.specs.KeyedLines.{has_key, keyed};
 ghost use Rattle.stream_apply.specs.Streams.{IsFaultOf, IsFields, IsKeyFault, IsKeyedLine, IsStream, StartsNone, text_fields, wants_held};
-ghost use Rattle.stream_apply.specs.declared.kind.Kind.TheVariants.{Snapshot};
+ghost use Rattle.stream_apply.specs.declared.kind.InputKind.TheVariants.{Snapshot};
 
 use crate::fault::ApplyFault;
 use crate::key_fields::KeyFields;
 use crate::key_table::KeyTable;
-use crate::kind::Kind;
-use row_text::{Fields, LineFault, Memory, field_size, next_line, split_line};
+use crate::kind::InputKind;
+use out_of_memory::Memory;
+use row_text::{Fields, SplitFault, field_size, next_line, split_line};
 use std::alloc::Global;
 
 /// A line at the start of bytes, and the bytes after its line feed.
@@ -34,13 +35,13 @@ pub fn read_table<'a>(
     ensures fault { IfErr result (IsFaultOf keys delimiter Snapshot [] snapshot.now) }
 {
     let none = KeyTable::new(alloc);
-    read_stream(alloc, Kind::Snapshot, &none, snapshot, keys, delimiter)
+    read_stream(alloc, InputKind::Snapshot, &none, snapshot, keys, delimiter)
 }
 
 /// Reads the lines of a stream for a table, by their keys. Refuses the first line at fault.
 pub(crate) fn read_stream<'a>(
     alloc: Global,
-    kind: Kind,
+    kind: InputKind,
     table: &KeyTable,
     bytes: &'a [u8],
     keys: KeyFields,
@@ -68,7 +69,7 @@ pub(crate) fn read_stream<'a>(
 
 /// Checks the key of a line against the lines before it and the table.
 fn check_key(
-    kind: Kind,
+    kind: InputKind,
     table: &KeyTable,
     before: &KeyTable,
     key: &[u8],
@@ -91,7 +92,7 @@ fn check_key(
 /// Reads the line at the start of bytes; None if they start with no line of the kind.
 fn read_line<'a>(
     alloc: Global,
-    kind: Kind,
+    kind: InputKind,
     bytes: &'a [u8],
     keys: KeyFields,
     delimiter: u8,
@@ -127,7 +128,7 @@ fn cut_line(bytes: &[u8]) -> Option<(&[u8], &[u8])>
 /// Returns how many bytes of a line are its key; None if it is no line of the kind. The line comes without its line feed.
 pub fn key_size(
     alloc: Global,
-    kind: Kind,
+    kind: InputKind,
     text: &[u8],
     keys: KeyFields,
     delimiter: u8,
@@ -139,13 +140,13 @@ pub fn key_size(
 {
     match split_line(alloc, text, delimiter) {
         Ok(fields) => Ok(front_size(kind, &fields, keys, delimiter)),
-        Err(LineFault::BadAt { .. }) => Ok(None),
-        Err(LineFault::Memory) => Err(Memory),
+        Err(SplitFault::BadAt { .. }) => Ok(None),
+        Err(SplitFault::Memory) => Err(Memory),
     }
 }
 
 /// Returns how many bytes the fields of the key take when written; None if the fields are no line of the kind.
-fn front_size(kind: Kind, fields: &Fields, keys: KeyFields, delimiter: u8) -> Option<usize>
+fn front_size(kind: InputKind, fields: &Fields, keys: KeyFields, delimiter: u8) -> Option<usize>
     requires { length (line_text delimiter fields.now) < 2 ^ 63 }
     ensures { MatchOption result
         ((front : List (List ℕ)) (others : List (Option (List ℕ))) → ¬ IsFields keys kind fields.now front others)

@@ -12,7 +12,7 @@ use Rattle.std.proofs.lemmas.List.Elements.{All-head, All-nil, All-push, All-tai
 use Rattle.stream_apply.specs.KeyedLines.{KeyedLine, has_key, keyed, lines_text, put}
 use Rattle.stream_apply.specs.Streams.{IsKeyedLine, IsLoaded, without}
 use Rattle.stream_apply.specs.declared.key_fields.KeyFields.TheVariants.{One}
-use Rattle.stream_apply.specs.declared.kind.Kind.TheVariants.{Deletes, Inserts, Snapshot, Updates}
+use Rattle.stream_apply.specs.declared.kind.InputKind.TheVariants.{Deletes, Inserts, Snapshot, Updates}
 use Rattle.stream_apply.proofs.KeyedLineLemmas.{bytes_eq-apart, bytes_eq-same}
 use Rattle.stream_apply.proofs.NumberedLineLemmas.{AreKeys, has_key-outside, lines_in, lines_in-all, lines_in-apart, lines_in-append}
 use Rattle.undo_streams.specs.Reverting.{AreTaken, IsTaken, IsUndoneBy, UndoLine, Undoing, begun, behind, behind_all, rank_of, undo_line_text, undos_text}

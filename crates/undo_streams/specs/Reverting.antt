@@ -6,8 +6,8 @@ use Rattle.stream_apply.specs.Streams.{IsKeyedLine, Table, wants_held, without}
 use Rattle.stream_apply.specs.declared.fault.ApplyFault.{ApplyFault}
 use Rattle.stream_apply.specs.declared.fault.ApplyFault.TheVariants as applying
 use Rattle.stream_apply.specs.declared.key_fields.KeyFields.TheVariants.{One}
-use Rattle.stream_apply.specs.declared.kind.Kind.{Kind}
-use Rattle.stream_apply.specs.declared.kind.Kind.TheVariants.{Deletes, Inserts, Updates}
+use Rattle.stream_apply.specs.declared.kind.InputKind.{InputKind}
+use Rattle.stream_apply.specs.declared.kind.InputKind.TheVariants.{Deletes, Inserts, Updates}
 use Rattle.undo_streams.specs.declared.fault.RevertFault.{RevertFault}
 use Rattle.undo_streams.specs.declared.fault.RevertFault.TheVariants.{BadLine, BadPlace, DoubleKey, KeyExists, Memory, NoSuchKey}
 use Rattle.undo_streams.specs.declared.part.Part.{Part}
@@ -35,7 +35,7 @@ rank_of Sets = 1
 rank_of Adds = 2
 
 -- what such a line drops is told by its key alone, and what it sets or adds is a line of the table
-abbrev pub kind_of : Part → Kind
+abbrev pub kind_of : Part → InputKind
 kind_of Drops = Deletes
 kind_of Sets = Updates
 kind_of Adds = Inserts

@@ -2,7 +2,7 @@
 
 ghost use Rattle.std.specs.Prelude.{◌≡◌};
 
-use row_text::Memory;
+use out_of_memory::Memory;
 use stream_apply::ApplyFault;
 
 /// Why bytes aren't a table's text, or an undo text that applies to it: what is wrong with the first line at fault. `line` is the number of

@@ -4,7 +4,7 @@ ghost use Rattle.std.specs.Prelude.{◌≡◌, ◌≢◌, IfSome, MatchOption};
 ghost use Rattle.undo_streams.specs.Reverting.{kind_of, rank_of, word_of};
 ghost use Rattle.undo_streams.specs.declared.part.Part.{Part};
 
-use stream_apply::Kind;
+use stream_apply::InputKind;
 
 /// The parts of an undo text, in order: lines that are dropped, set and added.
 #[derive(Clone, Copy)]
@@ -42,13 +42,13 @@ impl Part {
     }
 
     /// Returns the kind of the part's lines after the word and the place.
-    pub(crate) fn kind(self) -> Kind
+    pub(crate) fn kind(self) -> InputKind
         ensures { result ≡ kind_of self }
     {
         match self {
-            Part::Drops => Kind::Deletes,
-            Part::Sets => Kind::Updates,
-            Part::Adds => Kind::Inserts,
+            Part::Drops => InputKind::Deletes,
+            Part::Sets => InputKind::Updates,
+            Part::Adds => InputKind::Inserts,
         }
     }
 }

@@ -10,7 +10,7 @@ ghost use Rattle.undo_streams.specs.Reverting.{IsLoadFault, IsUndoFault, IsUndon
 
 use crate::fault::RevertFault;
 use crate::weaver::undo_table;
-use row_text::Memory;
+use out_of_memory::Memory;
 use std::alloc::Global;
 use std::marker::Model;
 use stream_apply::{KeyFields, KeyTable, read_table};

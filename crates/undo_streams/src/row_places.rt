@@ -11,8 +11,8 @@ ghost use Rattle.life_intervals.specs.Generator.{generator_of, last_unit, table_
 ghost use Rattle.life_intervals.specs.Simulation.{holds_row, rows_at};
 ghost use Rattle.undo_streams.specs.Places.{AreBornAt, living_among, places_of};
 
-use crate::Memory;
 use life_intervals::{MOST_ROWS, Rows, Survival, birth, born, cohort, survival_at};
+use out_of_memory::Memory;
 use std::alloc::Global;
 use std::sync::ledger::Ledger;
 use step_count::Steps;

@@ -10,7 +10,7 @@ ghost use Rattle.undo_streams.specs.Reverting.{IsUndoLine, StartsNone, rank_of, 
 ghost use Rattle.undo_streams.specs.declared.part.Part.TheVariants.{Adds};
 
 use crate::part::Part;
-use row_text::Memory;
+use out_of_memory::Memory;
 use std::alloc::Global;
 use stream_apply::{KeyFields, key_size};
 

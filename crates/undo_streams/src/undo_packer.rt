@@ -13,10 +13,10 @@ ghost use Rattle.undo_streams.specs.Packages.{AreChanges, count_of, most_bytes, 
 ghost use Rattle.undo_streams.specs.Parts.{adding, adding_each, dropping, dropping_each, setting, setting_each, taken_by};
 ghost use Rattle.undo_streams.specs.UndoText.{undo_lines_of};
 
-use crate::Memory;
 use crate::changes::Changes;
 use life_intervals::Rows;
 use line_pages::{PageBuf, Piece};
+use out_of_memory::Memory;
 use range_workers::Packer;
 use row_lines::{RunBuf, RunLines, SpareBufs};
 use schema_plan::Plan;

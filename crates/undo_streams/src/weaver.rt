@@ -13,7 +13,7 @@ ghost use Rattle.undo_streams.specs.declared.part.Part.TheVariants.{Adds, Drops,
 use crate::fault::RevertFault;
 use crate::part::Part;
 use crate::undo_lines::{ReadUndo, read_undo};
-use row_text::Memory;
+use out_of_memory::Memory;
 use std::alloc::Global;
 use stream_apply::KeyTable;
 

@@ -8,6 +8,7 @@ ghost use Rattle.update_box.specs.UnitLists.{unit_lists};
 
 use life_intervals::Rows;
 use line_pages::{Digits, PageBuf};
+use out_of_memory::Memory;
 use range_workers::Packer;
 use row_lines::{RunLines, TableLines};
 use schema_check::check;
@@ -18,7 +19,7 @@ use std::marker::Brand;
 use std::process::Abort;
 use std::sync::ledger::{Blank, Ledger};
 use step_count::Steps;
-use undo_streams::{Changes, Memory, UndoPacker, places};
+use undo_streams::{Changes, UndoPacker, places};
 use update_box::{UnitRows, unit_rows};
 
 /// Customers and orders. One customer is born at each unit, lives three units and changes every two. An order is of the oldest customer of

@@ -12,9 +12,9 @@ ghost use Rattle.update_box.specs.Found.{HasDying, lies_within};
 ghost use Rattle.update_box.specs.Ordinals.{is_one_of};
 ghost use Rattle.life_intervals.specs.FoundAt.{AreAppended};
 
-use crate::Memory;
 use crate::table_rows::TableRows;
 use life_intervals::{Rows, born, cohort};
+use out_of_memory::Memory;
 use schema_model::OnDelete;
 use schema_plan::{Plan, ReadyKind, ReadyReference};
 use std::sync::ledger::Ledger;

@@ -13,7 +13,6 @@ mod deletions;
 mod fates;
 pub mod laws;
 mod list_packer;
-mod memory;
 mod names;
 mod needed;
 mod parts;
@@ -25,7 +24,6 @@ mod units;
 mod updates;
 
 pub use list_packer::ListPacker;
-pub use memory::Memory;
 pub use names::{push_ending, push_file_name};
 pub use parts::{Content, Job, Places, places_of};
 pub use prepared::PreparedTables;

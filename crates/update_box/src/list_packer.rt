@@ -15,7 +15,6 @@ ghost use Rattle.update_box.specs.Prepared.{AreChosen, ArePrepared, IsAmong};
 ghost use Rattle.update_box.specs.TableLists.{HasLists, HoldLists};
 ghost use Rattle.update_box.specs.UnitLists.{ordinals};
 
-use crate::Memory;
 use crate::names::marks_of;
 use crate::parts::{Content, Job, Places};
 use crate::prepared::PreparedTables;
@@ -23,6 +22,7 @@ use crate::shares::{Entries, KeptShare, Shares, cut};
 use crate::units::UnitRows;
 use life_intervals::{Rows, cohort};
 use line_pages::{Digits, PageBuf};
+use out_of_memory::Memory;
 use range_workers::{Marks, Packer};
 use row_lines::{KEY_LINE, RunBuf, RunLines, SpareBufs, put_keys};
 use schema_plan::Plan;

@@ -6,23 +6,14 @@ ghost use Rattle.update_box.specs.Kept.{HasPackages, kept_part, kept_share, pack
 ghost use Rattle.update_box.specs.Packages.{marks_from, marks_of, packages_in, share_path};
 ghost use Rattle.update_box.specs.Parts.{ending_of, name_at, path_of, standard_output};
 
-use crate::Memory;
 use crate::parts::Content;
 use crate::shares::{KeptShare, Shares};
 use itoa::Buffer;
+use out_of_memory::Memory;
 use range_workers::Marks;
 use schema_model::Text;
 use schema_plan::Plan;
 use std::alloc::Global;
-
-fn push(path: &mut Text, piece: &str) -> Result<(), Memory>
-    ensures { OnOk result (path.new ≡ path.old ++ piece.now) }
-{
-    match path.push(piece) {
-        Ok(()) => Ok(()),
-        Err(_) => Err(Memory),
-    }
-}
 
 /// Returns the name of a table.
 fn name_of(plan: &Plan, table: u32) -> &str
@@ -37,15 +28,15 @@ pub fn push_ending(path: &mut Text, unit: u64, content: Content) -> Result<(), M
     ensures { OnOk result (path.new ≡ path.old ++ ending_of unit content) }
 {
     let ending = match content {
-        Content::Snapshot => return push(path, ".tbl"),
+        Content::Snapshot => return path.push(".tbl"),
         Content::Deleted => ".del",
         Content::Updated => ".upd",
         Content::Inserted => ".ins",
     };
     let mut digits = Buffer::new();
-    push(path, ".")?;
-    push(path, digits.format(unit))?;
-    push(path, ending)
+    path.push(".")?;
+    path.push(digits.format(unit))?;
+    path.push(ending)
 }
 
 /// Appends the name of the file that holds only a content of a table at a unit, without a directory.
@@ -59,7 +50,7 @@ pub fn push_file_name(
     requires { table < length plan.now.schema.tables }
     ensures { OnOk result (path.new ≡ path.old ++ (name_at plan.now.schema table ++ ending_of unit content)) }
 {
-    push(path, name_of(plan, table))?;
+    path.push(name_of(plan, table))?;
     push_ending(path, unit, content)
 }
 
@@ -75,8 +66,8 @@ fn share_path(
     ensures { IfOk result (λ name. name ≡ path_of plan.now unit dir.now (kept_part share.now)) }
 {
     let mut path = Text::new(alloc);
-    push(&mut path, dir)?;
-    push(&mut path, "/")?;
+    path.push(dir)?;
+    path.push("/")?;
     push_file_name(&mut path, plan, share.place, unit, share.content)?;
     Ok(path)
 }
@@ -84,10 +75,7 @@ fn share_path(
 fn push_mark(marks: &mut Marks, first: u64, name: &str) -> Result<(), Memory>
     ensures { OnOk result (marks.new ≡ marks.old ++ record { first = first; name = name.now } ∷ []) }
 {
-    match marks.push(first, name) {
-        Ok(()) => Ok(()),
-        Err(_) => Err(Memory),
-    }
+    marks.push(first, name)
 }
 
 /// Returns the names of the files of some shares in a directory, each with the number of its share's first package.

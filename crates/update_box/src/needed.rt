@@ -5,7 +5,7 @@ ghost use Rattle.schema_plan.specs.References.{references_of};
 ghost use Rattle.life_intervals.specs.Generator.{table_of};
 ghost use Rattle.update_box.specs.Found.{AreNeeded, is_needed, refers_to};
 
-use crate::Memory;
+use out_of_memory::Memory;
 use schema_plan::{Plan, ReadyKind};
 use std::alloc::Global;
 

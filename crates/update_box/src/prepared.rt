@@ -6,10 +6,10 @@ ghost use Rattle.life_intervals.specs.JobOrders.{AreOrdersOf};
 ghost use Rattle.update_box.specs.Packages.{IsChoice};
 ghost use Rattle.update_box.specs.Prepared.{AreChosen, ArePrepared, IsAmong};
 
-use crate::Memory;
 use crate::parts::{Places, places_of};
 use life_intervals::{JobOrders, Rows};
 use line_pages::Digits;
+use out_of_memory::Memory;
 use row_lines::{RunLines, TableLines};
 use schema_plan::Plan;
 use std::alloc::Global;

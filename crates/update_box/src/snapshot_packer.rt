@@ -12,13 +12,13 @@ ghost use Rattle.update_box.specs.Packages.{IsJobOf, chosen_places, count_of, sh
 ghost use Rattle.update_box.specs.Parts.{parts_of, range_text, snapshot_contents};
 ghost use Rattle.update_box.specs.Prepared.{AreChosen, ArePrepared, IsAmong};
 
-use crate::Memory;
 use crate::names::marks_of;
 use crate::parts::{Content, Job, Places};
 use crate::prepared::PreparedTables;
 use crate::shares::{KeptShare, Shares, cut};
 use life_intervals::{Rows, born};
 use line_pages::PageBuf;
+use out_of_memory::Memory;
 use range_workers::{Marks, Packer};
 use row_lines::{RunBuf, SpareBufs};
 use schema_plan::Plan;

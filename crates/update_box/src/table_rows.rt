@@ -10,10 +10,10 @@ ghost use Rattle.update_box.specs.Found.{HasDying, deletions_alone};
 ghost use Rattle.update_box.specs.TableLists.{lists_of, no_lists};
 ghost use Rattle.update_box.specs.UnitLists.{table_lists};
 
-use crate::Memory;
 use crate::deletions::deletions;
 use crate::updates::updates;
 use life_intervals::{Cohort, Rows, cohort};
+use out_of_memory::Memory;
 use std::alloc::Global;
 use std::sync::ledger::Ledger;
 use step_count::Steps;

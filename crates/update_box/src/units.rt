@@ -12,10 +12,10 @@ ghost use Rattle.update_box.specs.TableLists.{HoldLists, chosen_lists, is_chosen
 ghost use Rattle.update_box.specs.UnitLists.{unit_lists};
 ghost use Rattle.update_box.specs.declared.table_rows.TableRows.{TableRows};
 
-use crate::Memory;
 use crate::needed::needed_tables;
 use crate::table_rows::TableRows;
 use life_intervals::{Cohort, JobOrders, Rows};
+use out_of_memory::Memory;
 use schema_plan::Plan;
 use std::alloc::Global;
 use std::marker::Model;
@@ -92,9 +92,7 @@ pub fn unit_rows<L: Ledger>(
     ensures lists { IfOk result (λ rows. rows ≡ unit_lists plan.now t) }
     ensures steps { steps.new ≤ steps.old + cost_of_unit plan.now t }
 {
-    let Ok(orders) = JobOrders::for_changes(alloc, plan, 0, plan.tables(), t) else {
-        return Err(Memory);
-    };
+    let orders = JobOrders::for_changes(alloc, plan, 0, plan.tables(), t)?;
     let rows = Rows::with(plan, &orders);
     rows_of_unit(alloc, &rows, None, t, steps)
 }

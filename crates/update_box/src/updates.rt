@@ -10,11 +10,11 @@ ghost use Rattle.update_box.specs.Candidates.{due, is_young, looked_at_to_update
 ghost use Rattle.update_box.specs.Found.{HasDying};
 ghost use Rattle.life_intervals.specs.FoundAt.{AreAppended};
 
-use crate::Memory;
 use crate::candidates::{push_losing_by, put_in_order};
 use crate::fates::{Fate, keep};
 use crate::table_rows::TableRows;
 use life_intervals::Rows;
+use out_of_memory::Memory;
 use schema_model::OnDelete;
 use schema_plan::Plan;
 use std::alloc::Global;

@@ -5,7 +5,7 @@ ghost use Rattle.weight_tables.specs.Weights.{Selects};
 ghost use Rattle.weight_tables.specs.PrefixSums.{ArePrefixSums, weights_of};
 ghost use Rattle.weight_tables.specs.Finders.{ArePassed, IsGuide, IsTable};
 
-use crate::Memory;
+use out_of_memory::Memory;
 use std::alloc::Global;
 
 /// The greatest total of weights for which a table has the groups of all numbers.

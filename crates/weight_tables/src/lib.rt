@@ -5,8 +5,6 @@
 
 mod finders;
 pub mod laws;
-mod memory;
 mod weights;
 
-pub use memory::Memory;
 pub use weights::{Weights, harmonic};

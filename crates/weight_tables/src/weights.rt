@@ -5,8 +5,8 @@ ghost use Rattle.weight_tables.specs.Weights.{Selects, prefix_sum, selected, wei
 ghost use Rattle.weight_tables.specs.PrefixSums.{prefix_sums};
 ghost use Rattle.weight_tables.specs.Harmonic.{harmonic_weight, harmonic_weights};
 
-use crate::Memory;
 use crate::finders::{first_groups, group_table, last_sum, search_from, slice_shift};
+use out_of_memory::Memory;
 use std::alloc::Global;
 use std::marker::Model;
 

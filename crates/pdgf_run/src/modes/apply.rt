@@ -18,6 +18,7 @@ use crate::asked::{chosen_table, is_past_last};
 use crate::job::Job;
 use crate::names::table_names;
 use crate::replay::{Replay, Way, replay_files};
+use out_of_memory::Memory;
 use pd_outside::Library;
 use refusals::JobFault;
 use request_words::{Format, OptionName, Request};
@@ -25,7 +26,7 @@ use schema_model::Sequence;
 use schema_plan::Plan;
 use std::alloc::Global;
 use stream_apply::KeyFields;
-use update_box::{Memory, Places, places_of};
+use update_box::{Places, places_of};
 
 /// Returns the job of a request. The inputs are read and applied before any file is written.
 pub(crate) fn plan_apply<L: Library>(

@@ -10,7 +10,7 @@ use crate::job::Job;
 use crate::names::name_of;
 use crate::numbers::push_number;
 use life_intervals::born;
-use line_pages::Memory;
+use out_of_memory::Memory;
 use refusals::JobFault;
 use schema_plan::Plan;
 use std::alloc::Global;

@@ -36,8 +36,9 @@ use crate::joined::Joined;
 use crate::names::put;
 use crate::replay::{paths_in, push_stream_names, text_name};
 use detail_plan::{Detail, DetailPlan};
-use detail_rows::{DetailPacker, Rows, parent_of};
+use detail_rows::{DetailPacker, ParentRows, parent_of};
 use life_intervals::JobOrders;
+use out_of_memory::Memory;
 use pd_outside::{Gate, Library, Shelf};
 use range_workers::{Marks, RunFault, run};
 use refusals::JobFault;
@@ -48,7 +49,7 @@ use std::alloc::Global;
 use std::sync::ledger::{Blank, Ledger};
 use std::thread::Threads;
 use step_count::Steps;
-use update_box::{Memory, UnitRows, rows_of_unit};
+use update_box::{UnitRows, rows_of_unit};
 
 /// Returns the job of a request. The declaration is read before any file is written.
 pub(crate) fn plan_details<B: Ledger, L: Library>(
@@ -322,7 +323,7 @@ fn push_lines<'a>(
     alloc: Global,
     packers: &mut Joined<DetailPacker<'a>>,
     job: &'a DetailsJob,
-    told: Rows<'a>,
+    told: ParentRows<'a>,
 ) -> Result<(), Memory>
     requires can { CanPackDetails job.now }
     requires told { AreTold job.now.plan job.now.detail told }
@@ -349,7 +350,7 @@ fn text_packers<'a>(alloc: Global, job: &'a DetailsJob) -> Result<Joined<DetailP
 {
     let _limits = job.plan.schema(); // a table has at most 2^40 rows
     let mut packers = Joined::new(alloc);
-    push_lines(alloc, &mut packers, job, Rows::All { unit: job.unit })?;
+    push_lines(alloc, &mut packers, job, ParentRows::All { unit: job.unit })?;
     Ok(packers)
 }
 
@@ -369,14 +370,19 @@ fn change_packers<'a>(
     let unit = job.unit;
     let mut packers = Joined::new(alloc);
     let deleted = changes.dels(parent);
-    push_lines(alloc, &mut packers, job, Rows::Keys { ordinals: deleted })?;
+    push_lines(
+        alloc,
+        &mut packers,
+        job,
+        ParentRows::Keys { ordinals: deleted },
+    )?;
     let updated = changes.upds(parent);
-    let lines = Rows::Lines {
+    let lines = ParentRows::Lines {
         ordinals: updated,
         unit,
     };
     push_lines(alloc, &mut packers, job, lines)?;
-    push_lines(alloc, &mut packers, job, Rows::Born { unit })?;
+    push_lines(alloc, &mut packers, job, ParentRows::Born { unit })?;
     Ok(packers)
 }
 

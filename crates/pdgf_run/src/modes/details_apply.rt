@@ -20,6 +20,7 @@ use crate::job::Job;
 use crate::names::{copy_of, put};
 use crate::replay::{Replay, Way, replay_files};
 use detail_plan::Detail;
+use out_of_memory::Memory;
 use pd_outside::Library;
 use refusals::JobFault;
 use request_words::{OptionName, Request};
@@ -27,7 +28,6 @@ use schema_model::Texts;
 use schema_plan::Plan;
 use std::alloc::Global;
 use stream_apply::KeyFields;
-use update_box::Memory;
 
 /// Returns the job of a request. The declaration and the inputs are read, and the streams applied, before any file is written.
 pub(crate) fn plan_details_apply<L: Library>(

@@ -15,7 +15,7 @@ use crate::job::{PlayJob, copied_text};
 use crate::names::name_of;
 use crate::numbers::push_number;
 use life_intervals::{JobOrders, Rows};
-use line_pages::Memory;
+use out_of_memory::Memory;
 use refusals::JobFault;
 use request_words::{OptionName, Request};
 use schema_plan::Plan;

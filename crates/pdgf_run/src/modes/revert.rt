@@ -17,12 +17,13 @@ use crate::asked::{chosen_table, is_past_last};
 use crate::job::Job;
 use crate::names::table_names;
 use crate::replay::{Replay, Way, replay_files};
+use out_of_memory::Memory;
 use pd_outside::Library;
 use refusals::JobFault;
 use request_words::{OptionName, Request};
 use schema_plan::Plan;
 use std::alloc::Global;
-use update_box::{Memory, places_of};
+use update_box::places_of;
 
 /// Returns the job of a request. The inputs are read and undone before any file is written.
 pub(crate) fn plan_revert<L: Library>(

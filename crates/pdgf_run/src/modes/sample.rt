@@ -21,6 +21,7 @@ use crate::modes::snapshot::write_snapshot;
 use crate::modes::unit::{found_job, write_unit};
 use crate::names::name_of;
 use crate::numbers::push_number;
+use out_of_memory::Memory;
 use pd_outside::{Files, Gate, MemShelf, ShelfFails};
 use plan_stages::Inputs;
 use refusals::JobFault;
@@ -33,7 +34,6 @@ use std::marker::Brand;
 use std::sync::ledger::Blank;
 use std::thread::Threads;
 use stream_apply::{ApplyFault, KeyFields, apply_in_turn};
-use update_box::Memory;
 
 /// How many lines the units delete, update and insert in a table.
 #[derive(Clone, Copy)]

@@ -23,6 +23,7 @@ use crate::joined::Joined;
 use crate::modes::unit::found_job;
 use crate::names::Directory;
 use life_intervals::Rows;
+use out_of_memory::Memory;
 use pd_outside::{Gate, Shelf};
 use range_workers::{Marks, RunFault, run};
 use refusals::JobFault;
@@ -34,7 +35,7 @@ use std::sync::ledger::{Blank, Ledger};
 use std::thread::Threads;
 use step_count::Steps;
 use undo_streams::{Changes, UndoPacker, WORD_AND_PLACE};
-use update_box::{Memory, Places, places_of};
+use update_box::{Places, places_of};
 
 /// The name of the standard output.
 const STANDARD_OUTPUT: &str = "-";

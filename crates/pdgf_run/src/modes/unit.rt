@@ -21,6 +21,7 @@ use crate::csv::csv_job;
 use crate::fill::name_of;
 use crate::job::{Job, TablesJob, UnitJob, copied, tables_job};
 use crate::text_shelf::TextShelf;
+use out_of_memory::Memory;
 use pd_outside::{Gate, Shelf};
 use range_workers::{RunFault, run};
 use refusals::JobFault;
@@ -31,7 +32,7 @@ use std::alloc::Global;
 use std::sync::ledger::{Blank, Ledger};
 use std::thread::Threads;
 use step_count::Steps;
-use update_box::{Content, ListPacker, Memory, UnitRows, rows_of_unit};
+use update_box::{Content, ListPacker, UnitRows, rows_of_unit};
 
 /// The contents of a unit's files, for each table.
 const CONTENTS: [Content; 3] = [Content::Deleted, Content::Updated, Content::Inserted];

@@ -9,12 +9,12 @@ ghost use Rattle.pdgf_run.specs.Replay.{AreReadAs, IsInOrder, IsUnreadRecord, fi
 use crate::csv::push_csv;
 use crate::replay::fault_at;
 use csv_face::{CsvFault, from_csv};
+use out_of_memory::Memory;
 use plan_stages::Inputs;
 use refusals::{InputCause, JobFault};
 use request_words::{Format, Request};
 use schema_model::Texts;
 use std::alloc::Global;
-use update_box::Memory;
 
 /// Appends the numbers of fields in the rows of a table's inputs: of its text, and of the streams of so many units.
 fn push_fields(fields: &mut Vec<u32>, columns: u32, units: u64) -> Result<(), Memory>

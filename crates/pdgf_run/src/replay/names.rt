@@ -7,10 +7,11 @@ ghost use Rattle.pdgf_run.specs.Replay.{AreUnitsOf, CanReplay, IsInOrder, format
 
 use crate::names::{push, push_ending_in, push_undo_name, put};
 use crate::replay::{Replay, Way};
+use out_of_memory::Memory;
 use request_words::{Format, Request};
 use schema_model::{Text, Texts};
 use std::alloc::Global;
-use update_box::{Content, Memory};
+use update_box::Content;
 
 /// Returns the name of the file of a content of a table at a unit.
 fn file_name(

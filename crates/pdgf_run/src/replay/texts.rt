@@ -13,6 +13,7 @@ use crate::job::{FilesJob, Job};
 use crate::replay::copies::written_in;
 use crate::replay::names::{paths_in, text_names};
 use crate::replay::{Replay, Way, fault_at};
+use out_of_memory::Memory;
 use plan_stages::Inputs;
 use refusals::{InputCause, JobFault, LineFault, LineReason};
 use request_words::{Format, Request};
@@ -20,7 +21,6 @@ use schema_model::Texts;
 use std::alloc::Global;
 use stream_apply::{ApplyFault, apply_in_turn};
 use undo_streams::{RevertFault, revert_in_turn};
-use update_box::Memory;
 
 /// Why the inputs of a table make no text.
 #[derive(Clone, Copy)]

@@ -2,7 +2,7 @@ use Rattle.std.proofs.Common.{◌-◌, ◌*◌, ◌^◌, ℕ, ap, arith, subst, 
 use Rattle.schema_plan.specs.declared.ready.ReadyColumn.{ReadyColumn}
 use Rattle.schema_plan.specs.Dictionaries.{Project}
 use Rattle.schema_plan.specs.References.{Reference, reference_at}
-use Rattle.life_intervals.specs.declared.window.Window.{Window}
+use Rattle.life_intervals.specs.declared.window.CandidateWindow.{CandidateWindow}
 use Rattle.life_intervals.specs.Children.{IsCandidate, child_block}
 use Rattle.life_intervals.specs.Generator.{table_of}
 use Rattle.life_intervals.proofs.ChildLemmas.{HasReference-some, IsRead-columns, child_block-cut}
@@ -24,7 +24,7 @@ overflow_sub-parent c =
     let read = IsRead-columns plan c.args.table c.args.column c.columns.result.now c.index-columns-column.result c.in-Reference.reference has.reference c.columns.ensures.columns c.index-columns-column.is
     (ap (λ (held : ReadyColumn). held.kind) c.index-columns-column.is ∙ c.in-Reference.is) has.is in
     let candidate = subst (λ (r : Reference). IsCandidate plan r c.args.unit c.args.parent) (sym read.same) (c.requires.parent has.reference has.is) in
-    omega (arith, candidate.begun, ap (λ (w : Window). w.first) c.of_cohort-window.ensures)
+    omega (arith, candidate.begun, ap (λ (w : CandidateWindow). w.first) c.of_cohort-window.ensures)
 
 pub block_below-requires-clause-spread : goal.block_below-requires-clause-spread
 block_below-requires-clause-spread c =

@@ -21,7 +21,7 @@ returns-in-Ok-read_in_turn-clause-within g c = λ before ended.
 
 pub returns-in-Ok-read_in_turn-clause-asked_told : goal.returns-in-Ok-read_in_turn-clause-asked_told
 returns-in-Ok-read_in_turn-clause-asked_told g c =
-    asked_all_told _ c.args.request.now c.args.replay.now c.in-Ok-paths_in.paths c.in-Ok-read_in_turn.inputs _ _ 
+    asked_all_told _ c.args.request.now c.args.replay.now c.in-Ok-paths_in.paths c.in-Ok-read_in_turn.inputs _ _
     (c.in-Ok-paths_in.ensures ∙ ap₂ (λ (directory : List ℕ) (names : List (List ℕ)). map (in_directory directory) names) c.as_str.ensures.value c.in-Ok.ensures)
     c.in-Ok-read_in_turn.ensures.inputs c.in-Ok-read_in_turn.ensures.asked
 

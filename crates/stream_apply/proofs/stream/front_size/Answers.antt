@@ -2,7 +2,7 @@ use Rattle.std.proofs.Common.{◌≡◌, ◌≤◌, [], ◌∷◌, true, length,
 use Rattle.std.proofs.lemmas.Bool.{both_ways, true≢false}
 use Rattle.row_text.specs.Lines.{line_text}
 use Rattle.stream_apply.specs.Streams.{holds_keys_alone, key_count, text_fields}
-use Rattle.stream_apply.specs.declared.kind.Kind.TheVariants.{Snapshot}
+use Rattle.stream_apply.specs.declared.kind.InputKind.TheVariants.{Snapshot}
 use Rattle.stream_apply.proofs.LineLemmas.{first_null-none, front-one, front-two, front-within, one-size, second_null-none, two-sizes}
 use Rattle.stream_apply.proofs.stream.front_size.Goals as goal
 use Rattle.stream_apply.proofs.stream.front_size.Goals.{else-holds_keys_alone-via-then-holds_keys_alone+else-len-count-2, else-holds_keys_alone-via-else-holds_keys_alone}

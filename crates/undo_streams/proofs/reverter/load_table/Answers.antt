@@ -5,7 +5,7 @@ use Rattle.stream_apply.specs.Streams.{IsFaultOf}
 use Rattle.stream_apply.specs.declared.fault.ApplyFault.{ApplyFault}
 use Rattle.stream_apply.specs.declared.fault.ApplyFault.TheVariants.{BadLine, DoubleKey, KeyExists, Memory, NoSuchKey}
 use Rattle.stream_apply.specs.declared.key_fields.KeyFields.TheVariants.{One}
-use Rattle.stream_apply.specs.declared.kind.Kind.TheVariants.{Snapshot}
+use Rattle.stream_apply.specs.declared.kind.InputKind.TheVariants.{Snapshot}
 use Rattle.undo_streams.specs.Reverting.{IsLoadFault, revert_fault_of}
 use Rattle.undo_streams.proofs.reverter.load_table.Goals as goal
 

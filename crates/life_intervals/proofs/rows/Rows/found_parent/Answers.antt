@@ -3,7 +3,7 @@ use Rattle.id_permutation.specs.Order.{Arrangement, place_in}
 use Rattle.cohort_sizes.specs.Births.{born_count}
 use Rattle.schema_plan.specs.Dictionaries.{Project}
 use Rattle.schema_plan.specs.Limits.{IsInLimits}
-use Rattle.life_intervals.specs.declared.window.Window.{Window}
+use Rattle.life_intervals.specs.declared.window.CandidateWindow.{CandidateWindow}
 use Rattle.life_intervals.specs.CohortOrders.{parent_order}
 use Rattle.life_intervals.specs.Generator.{table_of}
 use Rattle.life_intervals.specs.References.{choice}
@@ -19,13 +19,13 @@ pub parent-requires-clause-first : goal.parent-requires-clause-first
 parent-requires-clause-first g c =
     let limits : IsInLimits c.args.self.now = subst IsInLimits c.plan.ensures c.schema-limits.ensures.limits in
     let is = window_limited c.args.self.now limits c.args.table c.args.column c.args.row.born c.args.row.index c.args.reference.now c.requires.table c.requires.reference c.requires.row.born c.requires.row.index in
-    omega (arith, is.first, ap (λ (w : Window). w.first) c.window-window.ensures)
+    omega (arith, is.first, ap (λ (w : CandidateWindow). w.first) c.window-window.ensures)
 
 pub parent-requires-clause-count : goal.parent-requires-clause-count
 parent-requires-clause-count g c =
     let limits : IsInLimits c.args.self.now = subst IsInLimits c.plan.ensures c.schema-limits.ensures.limits in
     let is = window_limited c.args.self.now limits c.args.table c.args.column c.args.row.born c.args.row.index c.args.reference.now c.requires.table c.requires.reference c.requires.row.born c.requires.row.index in
-    omega (arith, is.count, ap (λ (w : Window). w.count) c.window-window.ensures)
+    omega (arith, is.count, ap (λ (w : CandidateWindow). w.count) c.window-window.ensures)
 
 pub parent-requires-clause-spread : goal.parent-requires-clause-spread
 parent-requires-clause-spread g c =
@@ -40,7 +40,7 @@ returns-clause-parent g c =
     let placed : c.place.result ≡ place_in (parent_order plan c.args.table c.args.column row.born) row.index =
     c.place.ensures.exact ∙ ap (λ (order : Arrangement). place_in order row.index) c.order-order.ensures in
     c.parent.ensures
-    ∙ ap₂ (λ (w : Window) (place : ℕ). w.first + choice c.args.reference.now.spread w.count place) c.window-window.ensures placed
+    ∙ ap₂ (λ (w : CandidateWindow) (place : ℕ). w.first + choice c.args.reference.now.spread w.count place) c.window-window.ensures placed
     ∙ parent_in-choice plan limits c.args.table c.args.column row.born row.index c.args.reference.now c.requires.table c.requires.reference c.requires.row.born c.requires.row.index
 
 pub returns-clause-born : goal.returns-clause-born

@@ -5,7 +5,7 @@ use Rattle.std.proofs.lemmas.List.{take_all}
 use Rattle.cohort_sizes.specs.Births.{cohort_size}
 use Rattle.schema_plan.specs.Dictionaries.{Project}
 use Rattle.schema_plan.specs.Limits.{IsInLimits}
-use Rattle.life_intervals.specs.declared.window.Window.{Window}
+use Rattle.life_intervals.specs.declared.window.CandidateWindow.{CandidateWindow}
 use Rattle.life_intervals.specs.Blocks.{places_of_parent}
 use Rattle.life_intervals.specs.Children.{child_at, children_of_each}
 use Rattle.life_intervals.specs.CohortParents.{reference_by}
@@ -24,7 +24,7 @@ push_places_of-requires-clause-count g c =
     omega (
       arith,
       window-count c.args.self.now (subst IsInLimits c.plan.ensures c.schema-limits.ensures.limits) c.args.table c.args.unit c.args.column c.args.reference.now c.requires.table c.requires.unit c.requires.reference,
-      ap (λ (w : Window). w.count) c.window-window.ensures,
+      ap (λ (w : CandidateWindow). w.count) c.window-window.ensures,
     )
 
 pub push_places_of-requires-clause-spread : goal.push_places_of-requires-clause-spread
@@ -34,7 +34,7 @@ push_places_of-requires-clause-spread g c =
 pub put_rows_from-requires-clause-below : goal.put_rows_from-requires-clause-below
 put_rows_from-requires-clause-below g c =
     let plan : Project = c.args.self.now in
-    let window : Window = c.window-window.result in
+    let window : CandidateWindow = c.window-window.result in
     let places : List ℕ → List ℕ = flat_map (places_of_parent c.args.reference.now.spread window.first window.count c.cohort-size.result.size) in
     let size_is : c.cohort-size.result.size ≡ cohort_size (table_of plan c.args.table).births c.args.unit =
     c.cohort-size.ensures.size ∙ ap (λ (p : Project). cohort_size (table_of p c.args.table).births c.args.unit) c.plan-2.ensures in
@@ -48,7 +48,7 @@ put_rows_from-requires-clause-below g c =
 pub returns-clause-children : goal.returns-clause-children
 returns-clause-children g c =
     let plan : Project = c.args.self.now in
-    let window : Window = c.window-window.result in
+    let window : CandidateWindow = c.window-window.result in
     let places : List ℕ → List ℕ = flat_map (places_of_parent c.args.reference.now.spread window.first window.count c.cohort-size.result.size) in
     let size_is : c.cohort-size.result.size ≡ cohort_size (table_of plan c.args.table).births c.args.unit =
     c.cohort-size.ensures.size ∙ ap (λ (p : Project). cohort_size (table_of p c.args.table).births c.args.unit) c.plan-2.ensures in
@@ -63,7 +63,7 @@ returns-clause-children g c =
 pub returns-clause-steps : goal.returns-clause-steps
 returns-clause-steps g c =
     let plan : Project = c.args.self.now in
-    let window : Window = c.window-window.result in
+    let window : CandidateWindow = c.window-window.result in
     let places : List ℕ → List ℕ = flat_map (places_of_parent c.args.reference.now.spread window.first window.count c.cohort-size.result.size) in
     let size_is : c.cohort-size.result.size ≡ cohort_size (table_of plan c.args.table).births c.args.unit =
     c.cohort-size.ensures.size ∙ ap (λ (p : Project). cohort_size (table_of p c.args.table).births c.args.unit) c.plan-2.ensures in

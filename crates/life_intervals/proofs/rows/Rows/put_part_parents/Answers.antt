@@ -6,7 +6,7 @@ use Rattle.cohort_sizes.specs.Births.{born_count}
 use Rattle.schema_plan.specs.Dictionaries.{Project}
 use Rattle.schema_plan.specs.Limits.{IsInLimits}
 use Rattle.life_intervals.specs.declared.orders.Purpose.TheVariants.{Parents}
-use Rattle.life_intervals.specs.declared.window.Window.{Window}
+use Rattle.life_intervals.specs.declared.window.CandidateWindow.{CandidateWindow}
 use Rattle.life_intervals.specs.CohortOrders.{place_for}
 use Rattle.life_intervals.specs.CohortParents.{reference_by, window_by}
 use Rattle.life_intervals.specs.Generator.{generator_of, last_unit, table_of}
@@ -35,7 +35,7 @@ put_parents-requires-clause-first g c =
     let j : ℕ = get_or c.args.ordinals.now 0 0 in
     let found = found-lies plan c.args.table c.args.born c.requires.unit j (c.requires.lie 0 0 (omega (arith, c.requires.some))) in
     let is = window_limited plan (subst IsInLimits c.plan.ensures c.schema-limits.ensures.limits) c.args.table c.args.column c.args.born _ c.args.reference.now c.requires.table c.requires.reference c.requires.unit found.index in
-    omega (arith, is.first, ap (λ (w : Window). w.first) c.window.ensures)
+    omega (arith, is.first, ap (λ (w : CandidateWindow). w.first) c.window.ensures)
 
 pub put_parents-requires-clause-count : goal.put_parents-requires-clause-count
 put_parents-requires-clause-count g c =
@@ -43,7 +43,7 @@ put_parents-requires-clause-count g c =
     let j : ℕ = get_or c.args.ordinals.now 0 0 in
     let found = found-lies plan c.args.table c.args.born c.requires.unit j (c.requires.lie 0 0 (omega (arith, c.requires.some))) in
     let is = window_limited plan (subst IsInLimits c.plan.ensures c.schema-limits.ensures.limits) c.args.table c.args.column c.args.born _ c.args.reference.now c.requires.table c.requires.reference c.requires.unit found.index in
-    omega (arith, is.count, ap (λ (w : Window). w.count) c.window.ensures)
+    omega (arith, is.count, ap (λ (w : CandidateWindow). w.count) c.window.ensures)
 
 pub put_parents-requires-clause-spread : goal.put_parents-requires-clause-spread
 put_parents-requires-clause-spread g c =
@@ -53,11 +53,11 @@ pub returns-clause-parents : goal.returns-clause-parents
 returns-clause-parents g c =
     let plan : Project = c.args.self.now in
     let limits : IsInLimits plan = subst IsInLimits c.plan.ensures c.schema-limits.ensures.limits in
-    let chosen : Window → ℕ → ℕ = λ w place. w.first + choice c.args.reference.now.spread w.count place in
-    let window : Window = window_by plan c.args.reference.now c.args.born in
+    let chosen : CandidateWindow → ℕ → ℕ = λ w place. w.first + choice c.args.reference.now.spread w.count place in
+    let window : CandidateWindow = window_by plan c.args.reference.now c.args.born in
     let place : ℕ → ℕ = place_for plan c.args.table (Parents c.args.column) c.args.born in
     c.put_parents.ensures
-    ∙ ap (λ (w : Window). map (chosen w) c.put_places.new.places) c.window.ensures
+    ∙ ap (λ (w : CandidateWindow). map (chosen w) c.put_places.new.places) c.window.ensures
     ∙ ap (map (chosen window)) c.put_places.ensures.places
     ∙ map-map (chosen window) place c.args.ordinals.now
     ∙ map-all (λ j. chosen window (place j)) (λ j. parent_of (generator_of plan) c.args.table (last_unit plan) j (reference_by c.args.column c.args.reference.now)) c.args.ordinals.now (λ k d inside.

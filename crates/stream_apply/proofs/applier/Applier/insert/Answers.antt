@@ -1,6 +1,6 @@
 use Rattle.std.proofs.Common.{◌++◌, ap, subst, ◌∙◌}
 use Rattle.stream_apply.specs.Streams.{IsStream, Table}
-use Rattle.stream_apply.specs.declared.kind.Kind.TheVariants.{Inserts}
+use Rattle.stream_apply.specs.declared.kind.InputKind.TheVariants.{Inserts}
 use Rattle.stream_apply.proofs.MadeLemmas.{insert-appends}
 use Rattle.stream_apply.proofs.applier.Applier.insert.Goals as goal
 

@@ -1,6 +1,6 @@
 use Rattle.std.proofs.Common.{◌≡◌, ◌≤◌, ◌+◌, ℕ, get_or, length, map, take}
 use Rattle.life_intervals.specs.References.{choice}
-use Rattle.life_intervals.proofs.window.Window.put_parents.Given as goal
+use Rattle.life_intervals.proofs.window.CandidateWindow.put_parents.Given as goal
 
 abbrev pub invariant-loop-i : goal.invariant-loop-i
 invariant-loop-i l = record {
