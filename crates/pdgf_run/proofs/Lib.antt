@@ -16,6 +16,7 @@ mod RowLemmas
 mod KeyedTextLemmas
 mod ChunkLemmas
 mod TextShelfLemmas
+mod CarriedLemmas
 mod AppliedLemmas
 mod DetailTextLemmas
 mod DetailFilesLemmas

@@ -1,14 +1,11 @@
 -- Inputs that a plain simulation gives make what it held earlier.
-use Rattle.std.proofs.Common.{◌≡◌, ◌≢◌, ◌<◌, ◌≤◌, ◌+◌, ◌-◌, ℕ, zero, suc, Bool, true, false, List, [], flat_map, get_or, length, map, Option, None, Some, Result, Ok, Err, ap, arith, refl, subst, sym, ◌∙◌}
+use Rattle.std.proofs.Common.{◌≡◌, ◌<◌, ◌≤◌, ◌+◌, ◌-◌, ℕ, zero, suc, List, [], flat_map, get_or, length, map, Option, None, Some, Result, Ok, Err, ap, arith, refl, subst, sym, ◌∙◌}
 use Rattle.std.specs.Prelude.{IfOk, IfSome, nat_lt}
-use Rattle.std.specs.Option.{option_map}
 use Rattle.std.proofs.lemmas.List.{get_or-map, length-map}
 use Rattle.pd_outside.specs.Files.{File}
-use Rattle.pd_outside.specs.Shelf.{Held, finish_files}
+use Rattle.pd_outside.specs.Shelf.{Held}
 use Rattle.plan_stages.specs.Inputs.{inputs_of}
 use Rattle.plan_stages.specs.Plans.{plan_in}
-use Rattle.refusals.specs.Messages.{message_of}
-use Rattle.refusals.specs.Statuses.{done_status, is_free, status_of}
 use Rattle.refusals.specs.declared.refusal.JobFault.{JobFault}
 use Rattle.refusals.specs.declared.refusal.JobFault.TheVariants as job
 use Rattle.refusals.specs.declared.refusal.PlanFault.{PlanFault}
@@ -18,7 +15,6 @@ use Rattle.request_words.specs.declared.usage.Mode.TheVariants.{Play, Revert}
 use Rattle.request_words.specs.declared.usage.Mode.{Mode}
 use Rattle.request_words.specs.declared.usage.OptionName.TheVariants as option
 use Rattle.request_words.specs.declared.usage.Request.{Request}
-use Rattle.request_words.specs.declared.usage.UsageFault.{UsageFault}
 use Rattle.row_lines.specs.Lines.{table_text}
 use Rattle.life_intervals.specs.Generator.{generator_of, last_unit}
 use Rattle.schema_plan.specs.Dictionaries.{Project}
@@ -29,24 +25,19 @@ use Rattle.update_box.specs.Packages.{chosen_places}
 use Rattle.update_box.specs.Parts.{name_at}
 use Rattle.request_words.specs.declared.usage.Format.TheVariants.{Copy}
 use Rattle.pdgf_run.specs.DueFiles.{chosen_table}
-use Rattle.pdgf_run.specs.Jobs.{due_of}
-use Rattle.pdgf_run.specs.Playing.{IsTaskOf, is_playing, task_due}
 use Rattle.pdgf_run.specs.ReadingList.{reads_schema}
 use Rattle.pdgf_run.specs.TopCall.{Carries, GivesEarlier}
 use Rattle.pdgf_run.specs.UndoLaws.{undo_texts}
-use Rattle.pdgf_run.specs.Verdict.{IsDecided, IsInMode, IsJobOver, IsPlanned, IsVerdict, plan_by}
-use Rattle.pdgf_run.specs.declared.job.Task.{Task}
+use Rattle.pdgf_run.specs.Verdict.{IsInMode, IsVerdict}
 use Rattle.pdgf_run.specs.declared.report.Report.{Report}
-use Rattle.pdgf_run.proofs.TaskLemmas.{plays_no_other}
 use Rattle.pdgf_run.specs.Formats.{made_files}
 use Rattle.pdgf_run.specs.Replay.{AreReplayed, IsMadeOf, input_paths, inputs_at, text_name}
 use Rattle.pdgf_run.specs.declared.replay.Replay.{Replay}
 use Rattle.pdgf_run.specs.declared.replay.Way.TheVariants as way
 use Rattle.pdgf_run.specs.modes.Revert.{AreEarlierFiles, HoldUndoInputs, IsRevertDue, revert_of, tables_reverted, undo_inputs}
-use Rattle.pdgf_run.proofs.AppliedLemmas.{all_read, choice_is, chosen_within, delimits, not_free, not_less, passes, place_within}
+use Rattle.pdgf_run.proofs.AppliedLemmas.{all_read, choice_is, chosen_within, delimits, not_less, passes, place_within}
 use Rattle.pdgf_run.proofs.ChunkLemmas.{chunk}
-use Rattle.pdgf_run.proofs.DecideLemmas.{of_words}
-use Rattle.pdgf_run.proofs.OutcomeLemmas.{one_verdict}
+use Rattle.pdgf_run.proofs.CarriedLemmas.{Carried, Gives, Refuses, carried_gives, due_carried, refused_gives}
 use Rattle.pdgf_run.proofs.ApplyLemmas.{due_asked}
 use Rattle.pdgf_run.proofs.ReplayLemmas.{read_and_made}
 use Rattle.pdgf_run.proofs.UndoLawLemmas.{units-reverted}
@@ -122,14 +113,8 @@ of_asked : (words : List (List ℕ)) (files : List File) (r : Request) (plan : P
 of_asked words files r plan (Err fault) verdict report before now given mode planned asked limits is carries = tt
 of_asked words files r plan (Ok table) verdict report before now given mode planned asked limits is carries = λ hold.
     let found = earlier_due plan r files table limits asked hold in
-    let answer : Result (List File) JobFault = Ok found.0 in
-    let due : IsInMode r.mode r plan files answer = subst (λ (m : Mode). IsInMode m r plan files answer) (sym mode) found.2 in
-    let reads : reads_schema r.mode ≡ true = ap reads_schema mode in
-    let over : IsJobOver r files answer =
-    subst (λ (b : Bool). IsPlanned r files (plan_by b r files) answer) (sym reads)
-    (subst (λ (made : Result Project PlanFault). IsPlanned r files made answer) (sym planned) due) in
-    let later : IsVerdict words files (Ok found.0) = of_words words files (Ok r) (Ok found.0) given (answer, over, refl) in
-    (found.0, found.1, subst (λ (v : Result (List File) Refusal). Carries v report before now) (one_verdict words files verdict (Ok found.0) delimits is later) carries)
+    let due : IsInMode r.mode r plan files (Ok found.0) = subst (λ (m : Mode). IsInMode m r plan files (Ok found.0)) (sym mode) found.2 in
+    (found.0, found.1, due_carried delimits words files r plan found.0 verdict report before now given (ap reads_schema mode) planned due is carries)
 
 of_plan : (words : List (List ℕ)) (files : List File) (r : Request) (made : Result Project PlanFault) (verdict : Result (List File) Refusal) (report : Report) (before now : Option Held) →
     request words ≡ Ok r → r.mode ≡ Revert → plan_in files r.schema ≡ made → IfOk made IsInLimits → IsVerdict words files verdict → Carries verdict report before now →
@@ -139,9 +124,7 @@ of_plan words files r (Err fault) verdict report before now given mode planned l
 of_plan words files r (Ok plan) verdict report before now given mode planned limits is carries =
     of_asked words files r plan (tables_reverted plan r) verdict report before now given mode planned refl limits is carries
 
-pub gives_earlier : (words : List (List ℕ)) (files : List File) (r : Request) (verdict : Result (List File) Refusal) (report : Report) (before now : Option Held) →
-    request words ≡ Ok r → r.mode ≡ Revert → IfOk (plan_in files r.schema) IsInLimits → IsVerdict words files verdict → Carries verdict report before now →
-    GivesEarlier r files report before now
+gives_earlier : Gives Revert GivesEarlier
 gives_earlier words files r verdict report before now given mode limits is carries =
     of_plan words files r (plan_in files r.schema) verdict report before now given mode refl limits is carries
 
@@ -150,35 +133,8 @@ gives_earlier words files r verdict report before now given mode limits is carri
 apart : Revert ≡ Play → ⊥
 apart is = cc
 
--- a request that is refused
-pub reverted_refused : (words : List (List ℕ)) (told : Option (List File)) (q : Result Request UsageFault) (r : Refusal) (report : Report) (before now : Option Held) → request words ≡ q →
-    IfOk q (λ asked. reads_schema asked.mode ≡ true → is_free (status_of r) ≡ false → IfSome told (λ files. IfOk (plan_in files asked.schema) IsInLimits)) →
-    IfSome told (λ files. IsDecided status_of due_of (IsVerdict words files) (Err r)) → report ≡ record { status = status_of r; message = message_of r } → now ≡ before →
-    report.status ≢ 5 → report.status ≢ 7 → IfOk q (λ asked. asked.mode ≡ Revert → IfSome told (λ files. GivesEarlier asked files report before now))
-reverted_refused words told (Err fault) r report before now given limits decided is same five seven = tt
-reverted_refused words None (Ok asked) r report before now given limits decided is same five seven = λ mode. tt
-reverted_refused words (Some files) (Ok asked) r report before now given limits decided is same five seven = λ mode.
-    let status : report.status ≡ status_of r = ap (λ (t : Report). t.status) is in
-    let free : is_free (status_of r) ≡ false = subst (λ (s : ℕ). is_free s ≡ false) status (not_free report.status five seven) in
-    gives_earlier words files asked (Err r) report before now given mode (limits (ap reads_schema mode) free) (decided free) (is, same)
+pub reverted_refused : Refuses Revert GivesEarlier
+reverted_refused = refused_gives Revert refl GivesEarlier gives_earlier
 
--- a request that is carried out
-pub reverted_done : (words : List (List ℕ)) (told : Option (List File)) (q : Result Request UsageFault) (made due : List File) (report : Report) (before now : Option Held) → request words ≡ q →
-    IfOk q (λ asked. reads_schema asked.mode ≡ true → is_free 0 ≡ false → IfSome told (λ files. IfOk (plan_in files asked.schema) IsInLimits)) →
-    IfSome told (λ files. IsVerdict words files (Ok due)) → made ≡ due → report ≡ record { status = done_status; message = [] } →
-    now ≡ option_map (finish_files made) before → IfOk q (λ asked. asked.mode ≡ Revert → IfSome told (λ files. GivesEarlier asked files report before now))
-reverted_done words told (Err fault) made due report before now given limits decided alike is same = tt
-reverted_done words None (Ok asked) made due report before now given limits decided alike is same = λ mode. tt
-reverted_done words (Some files) (Ok asked) made due report before now given limits decided alike is same = λ mode.
-    gives_earlier words files asked (Ok due) report before now given mode (limits (ap reads_schema mode) refl) decided
-    (is, same ∙ ap (λ (l : List File). option_map (finish_files l) before) alike)
-
-pub reverted_carried : (words : List (List ℕ)) (told : Option (List File)) (q : Result Request UsageFault) (t : Task) (report : Report) (before now : Option Held) → request words ≡ q →
-    IfOk q (λ asked. reads_schema asked.mode ≡ true → is_free 0 ≡ false → IfSome told (λ files. IfOk (plan_in files asked.schema) IsInLimits)) →
-    IfSome told (λ files. IsVerdict words files (Ok (task_due t))) → IfOk q (λ asked. IsTaskOf asked told t) → (is_playing t ≡ false → report.status ≢ 12) →
-    (report.status ≢ 6 → report.status ≢ 7 → report.status ≢ 12 → Carries (Ok (task_due t)) report before now) → report.status ≢ 6 → report.status ≢ 7 →
-    IfOk q (λ asked. asked.mode ≡ Revert → IfSome told (λ files. GivesEarlier asked files report before now))
-reverted_carried words told (Err fault) t report before now given limits decided of unfailed carries six seven = tt
-reverted_carried words told (Ok asked) t report before now given limits decided of unfailed carries six seven = λ mode.
-    let made = carries six seven (unfailed (plays_no_other asked told t of (λ plays. apart (sym mode ∙ plays)))) in
-    reverted_done words told (Ok asked) (task_due t) (task_due t) report before now given limits decided refl made.0 made.1 mode
+pub reverted_carried : Carried Revert GivesEarlier
+reverted_carried = carried_gives Revert refl apart GivesEarlier gives_earlier
