@@ -1,6 +1,6 @@
 //! Modes details and details-unit: the text of a detail table at a unit, and what a unit changes in the table.
 
-ghost use Rattle.std.specs.Prelude.{◌≡◌, ◌≢◌, ◌<◌, ◌≤◌, ◌+◌, ◌^◌, ◌⊎◌, ◌++◌, ◌∷◌, [], false, IfErr, IfOk, IfSome, IsErrOf, Ok, OnOk, Some, map, nat_lt};
+ghost use Rattle.std.specs.Prelude.{◌≡◌, ◌≢◌, ◌<◌, ◌≤◌, ◌+◌, ◌^◌, ◌⊎◌, ◌++◌, ◌∷◌, [], false, IfErr, IfOk, IfSome, IsErrOf, Ok, OnOk, Some, map, nat_lt, IsOk};
 ghost use Rattle.std.specs.List.{sum_by};
 ghost use Rattle.std.specs.Option.{option_map};
 ghost use Rattle.pd_outside.specs.Faults.{FailsAtLast, Rose};
@@ -95,6 +95,7 @@ fn declared_job<B: Ledger>(
     requires ranges { CanPackBy request.now }
     requires keeps { KeepsRules plan detail }
     ensures job { Decides job_status due_of result (details_of told plan request.now detail) }
+    ensures in_range { IfErr result (λ fault. job_status fault ≡ 7 → IsOk (details_asked told plan request.now detail)) }
     ensures refused { IfErr result (λ fault. (job_status fault ≡ 7) ⊎ (job_status fault ≡ 8)) }
     ensures can { IfOk result CanFill }
 {

@@ -1,6 +1,6 @@
 //! Mode play: plays units into a store.
 
-ghost use Rattle.std.specs.Prelude.{◌≡◌, ◌<◌, ◌≤◌, ◌++◌, ◌⊎◌, IfErr, IfOk, OnOk, codes, decimal, length};
+ghost use Rattle.std.specs.Prelude.{◌≡◌, ◌<◌, ◌≤◌, ◌++◌, ◌⊎◌, IfErr, IfOk, OnOk, codes, decimal, length, IsOk};
 ghost use Rattle.life_intervals.specs.Generator.{last_unit};
 ghost use Rattle.life_intervals.specs.JobOrders.{AreOrdersOf};
 ghost use Rattle.plan_stages.specs.Stages.{Decides};
@@ -35,6 +35,7 @@ pub(crate) fn plan_play<B: Ledger>(
     requires parts { blank.parts ≡ B.parts }
     requires some { 0 < blank.parts }
     ensures job { Decides job_status (λ (job : Played). text_files job.summary.items) result (play_due request.now plan) }
+    ensures in_range { IfErr result (λ fault. job_status fault ≡ 7 → IsOk (play_due request.now plan)) }
     ensures refused { IfErr result (λ fault. (job_status fault ≡ 7) ⊎ (job_status fault ≡ 8)) }
     ensures can { IfOk result CanPlay }
     ensures plan { IfOk result (λ job. job.plan ≡ plan) }

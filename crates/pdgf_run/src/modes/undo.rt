@@ -1,6 +1,6 @@
 //! Mode undo: the undo texts of tables at a unit. They take the texts back to the unit before.
 
-ghost use Rattle.std.specs.Prelude.{◌≡◌, ◌<◌, ◌≤◌, ◌-◌, ◌⊎◌, false, IfErr, IfOk, IsErrOf, None, Some, OnOk, length, map, slice_index_or};
+ghost use Rattle.std.specs.Prelude.{◌≡◌, ◌<◌, ◌≤◌, ◌-◌, ◌⊎◌, false, IfErr, IfOk, IsErrOf, None, Some, OnOk, length, map, slice_index_or, IsOk};
 ghost use Rattle.std.specs.List.{sum_by};
 ghost use Rattle.std.specs.Option.{option_map};
 ghost use Rattle.pd_outside.specs.Faults.{FailsAtLast, Rose};
@@ -94,6 +94,7 @@ fn undo_asked(plan: &Plan, request: &Request) -> Result<update_box::Job, JobFaul
 pub(crate) fn plan_undo(alloc: Global, plan: Plan, request: &Request) -> Result<Job, JobFault>
     requires ranges { CanPackBy request.now }
     ensures job { Decides job_status due_of result (undo_due request.now plan) }
+    ensures in_range { IfErr result (λ fault. job_status fault ≡ 7 → IsOk (undo_asked request.now plan)) }
     ensures refused { IfErr result (λ fault. (job_status fault ≡ 7) ⊎ (job_status fault ≡ 8)) }
     ensures can { IfOk result CanFill }
 {
