@@ -9,8 +9,8 @@ use Rattle.detail_plan.specs.declared.detail.Detail.{Detail}
 use Rattle.detail_plan.specs.Rules.{KeepsRules, reach_of}
 use Rattle.detail_rows.specs.declared.detail_lines.LineKind.{LineKind}
 use Rattle.detail_rows.specs.declared.detail_lines.LineKind.TheVariants.{Whole, KeysAlone}
-use Rattle.detail_rows.specs.declared.packer.ParentRows.{ParentRows}
-use Rattle.detail_rows.specs.declared.packer.ParentRows.TheVariants.{All, Born, Keys, Lines}
+use Rattle.detail_rows.specs.declared.packer.PackedRows.{PackedRows}
+use Rattle.detail_rows.specs.declared.packer.PackedRows.TheVariants.{All, Born, Keys, Lines}
 use Rattle.detail_rows.specs.Lines.{key_lines_of_row, lines_of_row, parent_place}
 
 -- ---- rows by their ordinals
@@ -47,18 +47,18 @@ living_from plan detail unit first count = filter (is_live (generator_of plan) (
 pub record Packages : Type 0 where
   pub plan : Project
   pub detail : Detail
-  pub rows : ParentRows
+  pub rows : PackedRows
   pub size : ℕ
 
 -- how many rows there are: all that are born by the unit, or those that are listed
-abbrev pub rows_in : Project → Detail → ParentRows → ℕ
+abbrev pub rows_in : Project → Detail → PackedRows → ℕ
 rows_in plan detail (All unit) = born_by plan detail unit
 rows_in plan detail (Keys ordinals) = length ordinals.now
 rows_in plan detail (Lines ordinals unit) = length ordinals.now
 rows_in plan detail (Born unit) = size_born plan detail unit
 
 -- the lines of the rows from a position up to another
-abbrev pub range_text : Project → Detail → ParentRows → ℕ → ℕ → List ℕ
+abbrev pub range_text : Project → Detail → PackedRows → ℕ → ℕ → List ℕ
 range_text plan detail (All unit) first end = listed_text plan detail Whole unit (living_from plan detail unit first (end - first))
 range_text plan detail (Keys ordinals) first end = listed_text plan detail KeysAlone (last_unit plan) (slice_range ordinals.now first end)
 range_text plan detail (Lines ordinals unit) first end = listed_text plan detail Whole unit (slice_range ordinals.now first end)
@@ -66,7 +66,7 @@ range_text plan detail (Born unit) first end =
     listed_text plan detail Whole unit (living_from plan detail unit (first_born plan detail unit + first) (end - first))
 
 -- the rows that are told are the parent's: born by the unit, or by the last one where their keys alone are told
-abbrev pub AreTold : Project → Detail → ParentRows → Type 0
+abbrev pub AreTold : Project → Detail → PackedRows → Type 0
 AreTold plan detail (All unit) = unit ≤ last_unit plan
 AreTold plan detail (Keys ordinals) = (i : ℕ) → i < length ordinals.now → get_or ordinals.now i 0 < born_by plan detail (last_unit plan)
 AreTold plan detail (Born unit) = unit ≤ last_unit plan

@@ -11,5 +11,5 @@ mod values;
 
 pub use applied::{DetailApplyFault, apply_details};
 pub use detail_lines::LineKind;
-pub use packer::{DetailPacker, ParentRows};
+pub use packer::{DetailPacker, PackedRows};
 pub use parent_lines::parent_of;

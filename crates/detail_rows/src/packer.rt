@@ -17,7 +17,7 @@ use step_count::Steps;
 
 /// Which lines are made, and of which rows of the parent.
 #[derive(Clone, Copy, Debug)]
-pub enum ParentRows<'a> {
+pub enum PackedRows<'a> {
     /// The lines of all rows that the parent holds at a unit.
     All { unit: u64 },
     /// Only the keys of the lines of the rows of these ordinals.
@@ -33,7 +33,7 @@ pub enum ParentRows<'a> {
 #[derive(Drop)]
 pub struct DetailPacker<'a> {
     lines: ParentLines<'a>,
-    told: ParentRows<'a>,
+    told: PackedRows<'a>,
     size: u64,
     many: u64,
     count: u64,
@@ -52,15 +52,15 @@ impl<'a> Model for DetailPacker<'a> {
 }
 
 /// Returns the number of rows: those born by the unit, those listed, or those born at the unit.
-fn rows_in(lines: &ParentLines<'_>, told: &ParentRows<'_>) -> u64
+fn rows_in(lines: &ParentLines<'_>, told: &PackedRows<'_>) -> u64
     requires { AreTold lines.now.plan lines.now.detail told.now }
     ensures many { result ≡ rows_in lines.now.plan lines.now.detail told.now }
     ensures few { result ≤ 2 ^ 60 }
 {
     match told {
-        ParentRows::All { unit } => lines.born(*unit),
-        ParentRows::Keys { ordinals } | ParentRows::Lines { ordinals, .. } => ordinals.len() as u64,
-        ParentRows::Born { unit } => lines.cohort(*unit).size,
+        PackedRows::All { unit } => lines.born(*unit),
+        PackedRows::Keys { ordinals } | PackedRows::Lines { ordinals, .. } => ordinals.len() as u64,
+        PackedRows::Born { unit } => lines.cohort(*unit).size,
     }
 }
 
@@ -78,7 +78,7 @@ fn package_count(size: u64, many: u64) -> u64
 /// Puts the lines of the rows from position `first` up to the one before `end` on an empty page.
 fn put_range<L: Ledger>(
     lines: &ParentLines<'_>,
-    told: &ParentRows<'_>,
+    told: &PackedRows<'_>,
     first: u64,
     end: u64,
     page: &mut PageBuf,
@@ -92,16 +92,16 @@ fn put_range<L: Ledger>(
     ensures { page.new ≡ record page.old { text = range_text lines.now.plan lines.now.detail told.now first end } }
 {
     match told {
-        ParentRows::All { unit } => lines.put_living(*unit, first, end - first, page, steps),
-        ParentRows::Keys { ordinals } => {
+        PackedRows::All { unit } => lines.put_living(*unit, first, end - first, page, steps),
+        PackedRows::Keys { ordinals } => {
             let listed = &ordinals[first as usize..end as usize];
             lines.put_listed(LineKind::KeysAlone, lines.last_unit(), listed, page, steps);
         }
-        ParentRows::Lines { ordinals, unit } => {
+        PackedRows::Lines { ordinals, unit } => {
             let listed = &ordinals[first as usize..end as usize];
             lines.put_listed(LineKind::Whole, *unit, listed, page, steps);
         }
-        ParentRows::Born { unit } => {
+        PackedRows::Born { unit } => {
             let born = lines.cohort(*unit).first;
             lines.put_living(*unit, born + first, end - first, page, steps);
         }
@@ -115,7 +115,7 @@ impl<'a> DetailPacker<'a> {
         alloc: Global,
         rows: life_intervals::Rows<'a>,
         detail: &'a DetailPlan,
-        told: ParentRows<'a>,
+        told: PackedRows<'a>,
         size: u64,
     ) -> Result<DetailPacker<'a>, Memory>
         requires keeps { KeepsRules rows detail.now }

@@ -8,7 +8,7 @@ ghost use Rattle.detail_rows.specs.Packages.{AreTold, born_by};
 
 use crate::fixtures::{SALES, plan_of};
 use detail_plan::{DetailPlan, check_detail, read_detail};
-use detail_rows::{DetailPacker, ParentRows, parent_of};
+use detail_rows::{DetailPacker, PackedRows, parent_of};
 use life_intervals::born;
 use line_pages::PageBuf;
 use range_workers::Packer;
@@ -45,14 +45,14 @@ fn are_born(plan: &Plan, detail: &DetailPlan, ordinals: &[u64], unit: u64) -> bo
 }
 
 /// Whether the rows of a packer are rows of the parent.
-fn are_told(plan: &Plan, detail: &DetailPlan, told: &ParentRows<'_>) -> bool
+fn are_told(plan: &Plan, detail: &DetailPlan, told: &PackedRows<'_>) -> bool
     requires { KeepsRules plan.now detail.now }
     ensures { result ≡ true → AreTold plan.now detail.now told.now }
 {
     match told {
-        ParentRows::All { unit } | ParentRows::Born { unit } => *unit <= plan.units(),
-        ParentRows::Keys { ordinals } => are_born(plan, detail, ordinals, plan.units()),
-        ParentRows::Lines { ordinals, unit } => {
+        PackedRows::All { unit } | PackedRows::Born { unit } => *unit <= plan.units(),
+        PackedRows::Keys { ordinals } => are_born(plan, detail, ordinals, plan.units()),
+        PackedRows::Lines { ordinals, unit } => {
             *unit <= plan.units() && are_born(plan, detail, ordinals, *unit)
         }
     }
@@ -79,7 +79,7 @@ fn text_by(
     alloc: Global,
     plan: &Plan,
     detail: &DetailPlan,
-    told: ParentRows<'_>,
+    told: PackedRows<'_>,
     size: u64,
 ) -> Option<Vec<u8>>
     requires keeps { KeepsRules plan.now detail.now }
@@ -100,7 +100,7 @@ fn text_by(
 struct Case<'a> {
     schema: &'a str,
     declaration: &'a str,
-    texts: &'a [(ParentRows<'a>, &'a [u8])],
+    texts: &'a [(PackedRows<'a>, &'a [u8])],
 }
 
 /// Two lines for each customer, each with the quantity 5.
@@ -183,23 +183,23 @@ const CASES: [Case<'static>; 4] = [
         declaration: ITEMS,
         texts: &[
             (
-                ParentRows::All { unit: 2 },
+                PackedRows::All { unit: 2 },
                 b"1\t1\t5\n1\t2\t5\n2\t1\t5\n2\t2\t5\n3\t1\t5\n3\t2\t5\n",
             ),
             (
-                ParentRows::All { unit: 3 },
+                PackedRows::All { unit: 3 },
                 b"2\t1\t5\n2\t2\t5\n3\t1\t5\n3\t2\t5\n4\t1\t5\n4\t2\t5\n",
             ),
-            (ParentRows::Keys { ordinals: &[0] }, b"1\t1\n1\t2\n"),
+            (PackedRows::Keys { ordinals: &[0] }, b"1\t1\n1\t2\n"),
             (
-                ParentRows::Lines {
+                PackedRows::Lines {
                     ordinals: &[2],
                     unit: 3,
                 },
                 b"3\t1\t5\n3\t2\t5\n",
             ),
-            (ParentRows::Born { unit: 3 }, b"4\t1\t5\n4\t2\t5\n"),
-            (ParentRows::Keys { ordinals: &[] }, b""),
+            (PackedRows::Born { unit: 3 }, b"4\t1\t5\n4\t2\t5\n"),
+            (PackedRows::Keys { ordinals: &[] }, b""),
         ],
     },
     Case {
@@ -207,18 +207,18 @@ const CASES: [Case<'static>; 4] = [
         declaration: NOTES,
         texts: &[
             (
-                ParentRows::All { unit: 3 },
+                PackedRows::All { unit: 3 },
                 b"3\t1\t0\t\t792\n3\t2\t5\ta\\tb\t110\n4\t1\t-7\tx|y\t947\n",
             ),
-            (ParentRows::Keys { ordinals: &[0] }, b"1\t1\n1\t2\n1\t3\n"),
+            (PackedRows::Keys { ordinals: &[0] }, b"1\t1\n1\t2\n1\t3\n"),
             (
-                ParentRows::Lines {
+                PackedRows::Lines {
                     ordinals: &[1, 2],
                     unit: 3,
                 },
                 b"3\t1\t0\t\t792\n3\t2\t5\ta\\tb\t110\n",
             ),
-            (ParentRows::Born { unit: 3 }, b"4\t1\t-7\tx|y\t947\n"),
+            (PackedRows::Born { unit: 3 }, b"4\t1\t-7\tx|y\t947\n"),
         ],
     },
     Case {
@@ -226,21 +226,21 @@ const CASES: [Case<'static>; 4] = [
         declaration: QUANTITIES,
         texts: &[
             (
-                ParentRows::Lines {
+                PackedRows::Lines {
                     ordinals: &[2, 7, 11],
                     unit: 4,
                 },
                 b"3\t1\t1074\n12\t1\t652\n",
             ),
             (
-                ParentRows::Lines {
+                PackedRows::Lines {
                     ordinals: &[1, 2, 3, 4, 5],
                     unit: 4,
                 },
                 b"2\t1\t1071\n2\t2\t793\n2\t3\t553\n3\t1\t1074\n5\t1\t432\n6\t1\t422\n",
             ),
             (
-                ParentRows::Born { unit: 4 },
+                PackedRows::Born { unit: 4 },
                 b"17\t1\t726\n18\t1\t129\n18\t2\t303\n20\t1\t891\n21\t1\t406\n21\t2\t213\n22\t1\t199\n22\t2\t179\n",
             ),
         ],
@@ -250,14 +250,14 @@ const CASES: [Case<'static>; 4] = [
         declaration: MARKS,
         texts: &[
             (
-                ParentRows::All { unit: 7 },
+                PackedRows::All { unit: 7 },
                 b"1003|1||\\\\\\\\\n1003|2|-1comma, quote\"|\n1004|1||\n1004|2||\\\\\\\\\n1004|3|\x01\x7f'|\n\
                 1005|1|-1comma, quote\"|\n1005|2||\\|\n1005|3||\n1007|1||\n1007|2||\n1007|3|\x01\x7f'|\n1008|1|\x01\x7f'|\n\
                 1006|1||\\\\\\\\\n1006|2||\n1014|1|-1comma, quote\"|\\\\\\\\\n1012|1|b|\n1009|1|-1comma, quote\"|\n1009|2||\n\
                 1009|3||\n1009|4|b|\n1013|1|b|\n1011|1|-1comma, quote\"|\n1010|1|\x01\x7f'|\n",
             ),
             (
-                ParentRows::Keys {
+                PackedRows::Keys {
                     ordinals: &[0, 1, 2],
                 },
                 b"1001|1\n1001|2\n1001|3\n1001|4\n1000|1\n1000|2\n1000|3\n1002|1\n1002|2\n1002|3\n",

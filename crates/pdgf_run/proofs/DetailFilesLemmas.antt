@@ -25,8 +25,8 @@ use Rattle.detail_plan.specs.Rules.{KeepsRules}
 use Rattle.detail_plan.specs.declared.detail.Detail.{Detail}
 use Rattle.detail_rows.specs.Lines.{detail_deleted_text, detail_inserted_text, detail_text, detail_updated_text, parent_place}
 use Rattle.detail_rows.specs.Packages.{Packages, born_by, count_of, range_text, rows_in, size_born, text_numbered}
-use Rattle.detail_rows.specs.declared.packer.ParentRows.{ParentRows}
-use Rattle.detail_rows.specs.declared.packer.ParentRows.TheVariants as rows
+use Rattle.detail_rows.specs.declared.packer.PackedRows.{PackedRows}
+use Rattle.detail_rows.specs.declared.packer.PackedRows.TheVariants as rows
 use Rattle.detail_rows.proofs.DeclaredLemmas.{parent-below}
 use Rattle.pdgf_run.proofs.DetailTextLemmas.{all-text, born-text, keys-whole, lines-whole, packages-whole}
 use Rattle.pdgf_run.specs.DueFiles.{text_files}
@@ -65,7 +65,7 @@ files-each files names list parts told some texts are =
 -- ---- one more packer
 
 -- with the packages of some rows, of so many rows each
-module _ (plan : Project) (detail : Detail) (told : ParentRows) (size : ℕ) (some : 1 ≤ size) where
+module _ (plan : Project) (detail : Detail) (told : PackedRows) (size : ℕ) (some : 1 ≤ size) where
   abbrev packages : Packages
   packages = record { plan = plan; detail = detail; rows = told; size = size }
 
@@ -148,7 +148,7 @@ module _ (plan : Project) (limits : IsInLimits plan) (detail : Detail) (keeps : 
         λ i inside. subst (λ (js : List ℕ). All (λ j. j < born_by plan detail unit) js) (sym (updated-are xs are)) (updated-born plan limits place below unit within) i 0 inside
 
     -- the three texts
-    pub changes-told : (gone changed : ParentRows) (xs ys : _) (p0 p1 p2 p3 : List Packages) → gone ≡ rows.Keys xs → changed ≡ rows.Lines ys unit →
+    pub changes-told : (gone changed : PackedRows) (xs ys : _) (p0 p1 p2 p3 : List Packages) → gone ≡ rows.Keys xs → changed ≡ rows.Lines ys unit →
         xs.now ≡ (table_lists_at lists place).deleted → ys.now ≡ (table_lists_at lists place).updated → p0 ≡ [] →
         map (whole_text count_of text_numbered) p1 ≡ map (whole_text count_of text_numbered) p0 ++ range_text plan detail gone 0 (rows_in plan detail gone) ∷ [] →
         map (whole_text count_of text_numbered) p2 ≡ map (whole_text count_of text_numbered) p1 ++ range_text plan detail changed 0 (rows_in plan detail changed) ∷ [] →

@@ -27,8 +27,8 @@ use Rattle.update_box.proofs.StreamTextLemmas.{newborn-alive}
 use Rattle.detail_plan.specs.declared.detail.Detail.{Detail}
 use Rattle.detail_rows.specs.declared.detail_lines.LineKind.{LineKind}
 use Rattle.detail_rows.specs.declared.detail_lines.LineKind.TheVariants.{Whole, KeysAlone}
-use Rattle.detail_rows.specs.declared.packer.ParentRows.{ParentRows}
-use Rattle.detail_rows.specs.declared.packer.ParentRows.TheVariants.{All, Born, Keys, Lines}
+use Rattle.detail_rows.specs.declared.packer.PackedRows.{PackedRows}
+use Rattle.detail_rows.specs.declared.packer.PackedRows.TheVariants.{All, Born, Keys, Lines}
 use Rattle.detail_rows.specs.Lines.{count_column, detail_deleted_text, detail_draw, detail_inserted_text, detail_text, detail_updated_text, key_lines_of_row, line_by, lines_of_draw, lines_of_row, parent_place}
 use Rattle.detail_rows.specs.Packages.{Packages, born_by, count_of, first_born, listed_text, living_from, range_text, row_text, rows_in, size_born, text_numbered}
 use Rattle.detail_rows.proofs.ParentLemmas.{living-more}
@@ -68,7 +68,7 @@ living-join plan detail unit start a b c first second =
     ∙ sym (living-more plan detail unit (start + a) (b - a) (c - b))
     ∙ ap (λ (n : ℕ). listed_text plan detail Whole unit (living_from plan detail unit (start + a) n)) size
 
-range_text-joined : (plan : Project) (detail : Detail) (rows : ParentRows) → AreJoined (range_text plan detail rows) (rows_in plan detail rows)
+range_text-joined : (plan : Project) (detail : Detail) (rows : PackedRows) → AreJoined (range_text plan detail rows) (rows_in plan detail rows)
 range_text-joined plan detail (All unit) = record {
   join = λ a b c first second within.
       let at : (n : ℕ) → 0 + n ≡ n = λ n. omega arith in
@@ -171,16 +171,16 @@ module _ (plan : Project) (limits : IsInLimits plan) (detail : Detail) (below : 
   whole-list : (xs : List ℕ) → slice_range xs 0 (length xs) ≡ xs
   whole-list xs = let all : length xs - 0 ≡ length xs = omega arith in ap (λ (n : ℕ). take n xs) all ∙ take_all (length xs) xs (omega arith)
 
-  pub keys-whole : (told : ParentRows) (xs : _) → told ≡ Keys xs → (unit : ℕ) → unit ≤ last_unit plan → xs.now ≡ ordinals (deleted generator place unit) →
+  pub keys-whole : (told : PackedRows) (xs : _) → told ≡ Keys xs → (unit : ℕ) → unit ≤ last_unit plan → xs.now ≡ ordinals (deleted generator place unit) →
       range_text plan detail told 0 (rows_in plan detail told) ≡ detail_deleted_text plan detail unit
   keys-whole told xs is unit within are =
-      ap (λ (r : ParentRows). range_text plan detail r 0 (rows_in plan detail r)) is
+      ap (λ (r : PackedRows). range_text plan detail r 0 (rows_in plan detail r)) is
       ∙ ap (listed_text plan detail KeysAlone (last_unit plan)) (whole-list xs.now)
       ∙ keys-text unit within xs.now are
 
-  pub lines-whole : (told : ParentRows) (xs : _) (unit : ℕ) → told ≡ Lines xs unit → unit ≤ last_unit plan → xs.now ≡ ordinals (updated generator place unit) →
+  pub lines-whole : (told : PackedRows) (xs : _) (unit : ℕ) → told ≡ Lines xs unit → unit ≤ last_unit plan → xs.now ≡ ordinals (updated generator place unit) →
       range_text plan detail told 0 (rows_in plan detail told) ≡ detail_updated_text plan detail unit
   lines-whole told xs unit is within are =
-      ap (λ (r : ParentRows). range_text plan detail r 0 (rows_in plan detail r)) is
+      ap (λ (r : PackedRows). range_text plan detail r 0 (rows_in plan detail r)) is
       ∙ ap (listed_text plan detail Whole unit) (whole-list xs.now)
       ∙ updated-text unit within xs.now are

@@ -36,7 +36,7 @@ use crate::joined::Joined;
 use crate::names::put;
 use crate::replay::{paths_in, push_stream_names, text_name};
 use detail_plan::{Detail, DetailPlan};
-use detail_rows::{DetailPacker, ParentRows, parent_of};
+use detail_rows::{DetailPacker, PackedRows, parent_of};
 use life_intervals::JobOrders;
 use out_of_memory::Memory;
 use pd_outside::{Gate, Library, Shelf};
@@ -324,7 +324,7 @@ fn push_lines<'a>(
     alloc: Global,
     packers: &mut Joined<DetailPacker<'a>>,
     job: &'a DetailsJob,
-    told: ParentRows<'a>,
+    told: PackedRows<'a>,
 ) -> Result<(), Memory>
     requires can { CanPackDetails job.now }
     requires told { AreTold job.now.plan job.now.detail told }
@@ -351,7 +351,7 @@ fn text_packers<'a>(alloc: Global, job: &'a DetailsJob) -> Result<Joined<DetailP
 {
     let _limits = job.plan.schema(); // a table has at most 2^40 rows
     let mut packers = Joined::new(alloc);
-    push_lines(alloc, &mut packers, job, ParentRows::All { unit: job.unit })?;
+    push_lines(alloc, &mut packers, job, PackedRows::All { unit: job.unit })?;
     Ok(packers)
 }
 
@@ -375,15 +375,15 @@ fn change_packers<'a>(
         alloc,
         &mut packers,
         job,
-        ParentRows::Keys { ordinals: deleted },
+        PackedRows::Keys { ordinals: deleted },
     )?;
     let updated = changes.upds(parent);
-    let lines = ParentRows::Lines {
+    let lines = PackedRows::Lines {
         ordinals: updated,
         unit,
     };
     push_lines(alloc, &mut packers, job, lines)?;
-    push_lines(alloc, &mut packers, job, ParentRows::Born { unit })?;
+    push_lines(alloc, &mut packers, job, PackedRows::Born { unit })?;
     Ok(packers)
 }
 
