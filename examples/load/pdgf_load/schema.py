@@ -40,6 +40,7 @@ class Table:
     columns: tuple
     references: tuple
     is_detail: bool = False
+    is_scrambled: bool = False  # whether keys of a unit come in another order than that of the births
 
     @property
     def key(self):
@@ -134,7 +135,7 @@ def read_table(table, earlier):
     for column in table["column"]:
         columns.append(read_column(column, table, columns, earlier))
     references = [reference_of(it, table) for it in table["column"] if it["kind"] == "ref"]
-    return Table(table["name"], tuple(columns), tuple(references))
+    return Table(table["name"], tuple(columns), tuple(references), is_scrambled=table["column"][0].get("scramble", False))
 
 
 def reference_of(column, table):
