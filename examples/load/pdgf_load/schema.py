@@ -2,7 +2,8 @@
 
 import dataclasses
 import functools
-import tomllib
+
+from . import toml
 
 
 class Unreadable(Exception):
@@ -75,10 +76,10 @@ WRONG = (KeyError, TypeError, ValueError, IndexError, AttributeError, StopIterat
 
 def read_toml(path):
     try:
-        with open(path, "rb") as file:
-            return tomllib.load(file)
-    except (tomllib.TOMLDecodeError, UnicodeDecodeError) as error:
-        raise Unreadable(f"{path} is no TOML 1.0, which this is read as: {error}") from None
+        with open(path, encoding="utf-8", newline="") as file:
+            return toml.loads(file.read())
+    except ValueError as error:
+        raise Unreadable(f"{path} is no TOML: {error}") from None
     except OSError as error:
         raise Unreadable(f"{path} can't be read: {error.strerror}") from None
 
