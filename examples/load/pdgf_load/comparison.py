@@ -267,6 +267,7 @@ def main(words):
         print(USAGE, end="")
         return 0
     end_by_signals()
+    sys.stdout.reconfigure(errors="backslashreplace")  # a field may be no UTF-8
     try:
         return compare(words)
     except Words:
