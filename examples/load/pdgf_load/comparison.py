@@ -24,7 +24,7 @@ path. SOURCE says where the tables are, whoever loaded them:
     postgres        the database that psql finds, by PGHOST, PGDATABASE and so on
     mariadb         the database that its client finds, by MYSQL_HOST and so on and its files of options; MYSQL_DATABASE names it
     sqlite [FILE]   the database in FILE, else in the file that the variable SQLITE_DATABASE names
-    play FILE       the store that `pdgf play` made
+    play FILE       the store that `pdgf play` made, which has no detail tables
     copy FILE       a file in the text format of PostgreSQL's COPY, with the schema's delimiter; `-` is the standard input
     csv FILE        a file of CSV
                     For copy and csv it may be a folder too, with NAME.tbl or NAME.csv for each table.
@@ -242,7 +242,9 @@ def say(text):
 
 def compare(words):
     request = Request(words)
-    path, details = schema_path(request.path), request.details or details_in(request.path)
+    path, details = schema_path(request.path), request.details
+    if not details and request.kind != "play":
+        details = details_in(request.path)
     program = Program(path, details)
     program.check()
     schema = read_schema(path, details)

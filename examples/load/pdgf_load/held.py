@@ -186,7 +186,7 @@ class InStore(InSqlite):
     @contextlib.contextmanager
     def lines(self, table, is_sorted):
         if table.is_detail:
-            raise Failed(f"a store has no detail tables, as {table.name} is one")
+            raise Failed(f"a store has no detail tables, and {table.name} is one")
         place = self.schema.tables.index(table)
         kept = self.execute(f"SELECT line FROM kept_row WHERE row_id BETWEEN {place} << 40 AND ({place + 1} << 40) - 1")
         yield (canonical(it.removesuffix(b"\n"), self.schema.delimiter) for (it,) in kept)
