@@ -278,6 +278,9 @@ def main(words):
     except Missing as error:
         print(f"compare: missing: {error}", file=sys.stderr)
         return 3
+    except BrokenPipeError:  # nobody reads what it tells
+        os.dup2(os.open(os.devnull, os.O_WRONLY), sys.stdout.fileno())
+        return 2
     except (Failed, Unreadable, OSError) as error:
         print(f"compare: {error}", file=sys.stderr)
         return 2
