@@ -20,9 +20,13 @@ def server_folders():
     return sorted(found, key=lambda it: float(it.split("/")[4]), reverse=True)
 
 
+def command_words():
+    return [program("psql"), "-X", "-q", "-At", "-F", "\t", "-v", "ON_ERROR_STOP=1", "-v", "VERBOSITY=terse"]
+
+
 def command(script, environment, **how):
-    words = [program("psql"), "-X", "-q", "-At", "-F", "\t", "-v", "ON_ERROR_STOP=1", "-v", "VERBOSITY=terse", "-f", script]
-    return subprocess.run(words, stdin=subprocess.DEVNULL, stdout=subprocess.PIPE, stderr=subprocess.PIPE, env=environment, errors="replace", **how)
+    outputs = {"stdin": subprocess.DEVNULL, "stdout": subprocess.PIPE, "stderr": subprocess.PIPE, "errors": "replace"}
+    return subprocess.run([*command_words(), "-f", script], env=environment, **outputs, **how)
 
 
 @contextlib.contextmanager

@@ -60,19 +60,30 @@ class Request:
             raise Words
         self.path, *self.command = words
 
-    def in_folder(self):
-        return sorted(glob.glob(f"{glob.escape(os.path.abspath(self.path))}/*.toml"))
-
     def schema_path(self):
-        if not os.path.isdir(self.path):
-            return os.path.abspath(self.path)
-        found = [it for it in self.in_folder() if not declares_details(it)]
-        if len(found) != 1:
-            raise Failed(f"{self.path} has no schema, or several")
-        return found[0]
+        return schema_path(self.path)
 
     def detail_paths(self):
-        return self.details or [it for it in self.in_folder() if declares_details(it)]
+        return self.details or details_in(self.path)
+
+
+def in_folder(path):
+    return sorted(glob.glob(f"{glob.escape(os.path.abspath(path))}/*.toml"))
+
+
+def schema_path(path):
+    """The schema that a path names, or the one of a folder."""
+    if not os.path.isdir(path):
+        return os.path.abspath(path)
+    found = [it for it in in_folder(path) if not declares_details(it)]
+    if len(found) != 1:
+        raise Failed(f"{path} has no schema, or several")
+    return found[0]
+
+
+def details_in(path):
+    """The files of a folder that declare detail tables; of a file none."""
+    return [it for it in in_folder(path) if declares_details(it)]
 
 
 class Program:
@@ -88,8 +99,11 @@ class Program:
         self.folder, self.name = os.path.split(path)
         self.details = details
 
+    def words(self, mode, *options):
+        return [self.program, mode, self.name, *options]
+
     def call(self, mode, *options):
-        ran = subprocess.run([self.program, mode, self.name, *options], cwd=self.folder, stdin=subprocess.DEVNULL, stdout=subprocess.DEVNULL)
+        ran = subprocess.run(self.words(mode, *options), cwd=self.folder, stdin=subprocess.DEVNULL, stdout=subprocess.DEVNULL)
         if ran.returncode != 0:
             raise Failed(f"pdgf {mode} {self.name} {' '.join(options)}: status {ran.returncode}")
 
@@ -99,6 +113,17 @@ class Program:
         built = f"{self.top}/crates/pdgf_main/out/pdgf_main"
         if self.program == f"{self.top}/pdgf" and os.access(built, os.X_OK):
             self.program = built
+
+    def row(self, table, key, unit):
+        """The life of a row as the mode `row` tells it, in one line."""
+        words = self.words("row", "--table", table, "--key", key, "--unit", unit)
+        ran = subprocess.run(words, cwd=self.folder, stdin=subprocess.DEVNULL, capture_output=True, text=True, errors="replace")
+        if ran.returncode != 0:
+            if ran.stderr.strip().endswith("--key"):
+                return "no row ever has this key"
+            raise Failed(ran.stderr.strip())
+        told = ran.stdout.split("\n")
+        return ", ".join(told[: 4 if "state live" in told[2] else 3])
 
     def texts(self, mode, unit, folder):
         """The folder, emptied, with what the mode, `snapshot` or `unit`, writes at a unit, and of the detail tables the mode that does the same."""

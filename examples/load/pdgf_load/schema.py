@@ -2,7 +2,8 @@
 
 import dataclasses
 import functools
-import tomllib
+
+from . import toml
 
 
 class Unreadable(Exception):
@@ -40,6 +41,7 @@ class Table:
     columns: tuple
     references: tuple
     is_detail: bool = False
+    is_scrambled: bool = False  # whether keys of a unit come in another order than that of the births
 
     @property
     def key(self):
@@ -74,10 +76,10 @@ WRONG = (KeyError, TypeError, ValueError, IndexError, AttributeError, StopIterat
 
 def read_toml(path):
     try:
-        with open(path, "rb") as file:
-            return tomllib.load(file)
-    except (tomllib.TOMLDecodeError, UnicodeDecodeError) as error:
-        raise Unreadable(f"{path} is no TOML 1.0, which this is read as: {error}") from None
+        with open(path, encoding="utf-8", newline="") as file:
+            return toml.loads(file.read())
+    except ValueError as error:
+        raise Unreadable(f"{path} is no TOML: {error}") from None
     except OSError as error:
         raise Unreadable(f"{path} can't be read: {error.strerror}") from None
 
@@ -134,7 +136,7 @@ def read_table(table, earlier):
     for column in table["column"]:
         columns.append(read_column(column, table, columns, earlier))
     references = [reference_of(it, table) for it in table["column"] if it["kind"] == "ref"]
-    return Table(table["name"], tuple(columns), tuple(references))
+    return Table(table["name"], tuple(columns), tuple(references), is_scrambled=table["column"][0].get("scramble", False))
 
 
 def reference_of(column, table):
