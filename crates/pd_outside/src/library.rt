@@ -3,7 +3,7 @@
 ghost use Rattle.std.specs.Prelude.{◌≡◌, ◌<◌, ◌≤◌, ◌+◌, ◌^◌, ℕ, List, Bool, Option, length, IsTrue, IfOk, IfSome, OnOk, OnErr, is_ok, is_some};
 ghost use Rattle.std.specs.Option.{option_map};
 ghost use Rattle.std.specs.Result.{result_unwrap_or};
-ghost use Rattle.pd_outside.specs.Faults.{Rose, faults_after};
+ghost use Rattle.pd_outside.specs.Faults.{CallMade, Counts};
 ghost use Rattle.pd_outside.specs.Library.{Content, left, start_file, take_bytes, stop, ReadsPrefix, ask, AskedAtMost};
 
 use crate::Failed;
@@ -25,8 +25,9 @@ pub trait Library {
     /// How many bytes were taken since the last `start`.
     ghost taken: { Self → ℕ };
 
-    /// How often a call failed: a count of 64 bits. It rises only when a call fails, and stops at the greatest number of its type.
-    ghost faults: { Self → ℕ };
+    /// What is told of failed calls: a count that rises whenever one fails and never falls. An implementation that counts exactly tells
+    /// how many failed, too.
+    ghost counts: { Self → Counts };
 
     /// Starts the first file of a name, at its first byte. If no file has the name, starts an empty file, or fails. At `Failed` no
     /// file is started.
@@ -37,10 +38,7 @@ pub trait Library {
         ensures asked { OnOk result (asked self.new ≡ ask name.now (asked self.old)) }
         ensures asked_at_most { AskedAtMost name.now (asked self.old) (asked self.new) }
         ensures taken { taken self.new ≡ 0 }
-        ensures never_falls { faults self.old ≤ faults self.new }
-        ensures cause { OnErr result (Rose (faults self.old) (faults self.new)) }
-        ensures no_fault { OnOk result (faults self.new ≡ faults self.old) }
-        ensures counted { faults self.new ≡ faults_after result (faults self.old) };
+        ensures counts { CallMade result (counts self.old) (counts self.new) };
 
     /// Takes bytes of the started file into the beginning of `into`, and returns how many: at least one, except at the end of the
     /// file. At `Failed` no file is started.
@@ -56,10 +54,7 @@ pub trait Library {
         ensures stopped { OnErr result (content self.new ≡ option_map stop (content self.old)) }
         ensures taken { taken self.new ≡ taken self.old + result_unwrap_or result 0 }
         ensures asked { asked self.new ≡ asked self.old }
-        ensures never_falls { faults self.old ≤ faults self.new }
-        ensures cause { OnErr result (Rose (faults self.old) (faults self.new)) }
-        ensures no_fault { OnOk result (faults self.new ≡ faults self.old) }
-        ensures counted { faults self.new ≡ faults_after result (faults self.old) };
+        ensures counts { CallMade result (counts self.old) (counts self.new) };
 
     /// `content` has a started file exactly if one is started.
     ghost told_alike: { (library : Self) → IfSome (content library) (λ c. is_some c.started ≡ is_started library) };

@@ -4,7 +4,7 @@ ghost use Rattle.std.specs.Prelude.{◌≡◌, ◌<◌, ◌≤◌, ◌+◌, ◌^
 ghost use Rattle.std.proofs.Common.{rules};
 ghost use Rattle.std.specs.Option.{option_map};
 ghost use Rattle.std.specs.Result.{result_unwrap_or};
-ghost use Rattle.pd_outside.specs.Faults.{Rose, counted, faults_after};
+ghost use Rattle.pd_outside.specs.Faults.{CallMade, counted, exact_count};
 ghost use Rattle.pd_outside.specs.Files.{file_named, file_at};
 ghost use Rattle.pd_outside.specs.Library.{left, start_file, take_bytes, stop, ReadsPrefix, ask, AskedAtMost};
 ghost use Rattle.pd_outside.specs.InMemory.{Reading, start_fails, read_fails};
@@ -137,7 +137,7 @@ impl Library for MemLibrary {
 
     ghost taken = { λ m. m.taken };
 
-    ghost faults = { λ m. m.faults };
+    ghost counts = { λ m. exact_count m.faults };
 
     ghost told_alike = { λ m. Prim.search rules };
 
@@ -148,10 +148,7 @@ impl Library for MemLibrary {
         ensures asked { OnOk result (Some self.new.asked ≡ ask name.now (Some self.old.asked)) }
         ensures asked_at_most { AskedAtMost name.now (Some self.old.asked) (Some self.new.asked) }
         ensures taken { self.new.taken ≡ 0 }
-        ensures never_falls { self.old.faults ≤ self.new.faults }
-        ensures cause { OnErr result (Rose self.old.faults self.new.faults) }
-        ensures no_fault { OnOk result (self.new.faults ≡ self.old.faults) }
-        ensures counted { self.new.faults ≡ faults_after result self.old.faults }
+        ensures counts { CallMade result (exact_count self.old.faults) (exact_count self.new.faults) }
 
         // It fails if a stated failure says so or the name is absent, and else only for want of memory.
         ensures stated { OnOk result (start_fails self.old name.now ≡ false) }
@@ -188,10 +185,7 @@ impl Library for MemLibrary {
         ensures stopped { OnErr result (Some self.new.content ≡ option_map stop (Some self.old.content)) }
         ensures taken { self.new.taken ≡ self.old.taken + result_unwrap_or result 0 }
         ensures asked { Some self.new.asked ≡ Some self.old.asked }
-        ensures never_falls { self.old.faults ≤ self.new.faults }
-        ensures cause { OnErr result (Rose self.old.faults self.new.faults) }
-        ensures no_fault { OnOk result (self.new.faults ≡ self.old.faults) }
-        ensures counted { self.new.faults ≡ faults_after result self.old.faults }
+        ensures counts { CallMade result (exact_count self.old.faults) (exact_count self.new.faults) }
 
         // It fails exactly if a stated failure says so, and takes all that fits.
         ensures stated { is_err result ≡ read_fails self.old }

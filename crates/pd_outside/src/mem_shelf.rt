@@ -3,7 +3,7 @@
 ghost use Rattle.std.specs.Prelude.{◌≡◌, ◌<◌, ◌≤◌, ◌+◌, [], None, Some, false, length, min, take, Contains, IsTrue, IsErr, IfOk, OnOk, OnErr, ◌++◌, IsSome, string_bytes, is_ok, is_err, is_some};
 ghost use Rattle.std.proofs.Common.{rules};
 ghost use Rattle.std.specs.Option.{option_map, option_to_list};
-ghost use Rattle.pd_outside.specs.Faults.{Rose, counted, faults_after};
+ghost use Rattle.pd_outside.specs.Faults.{CallMade, exact_counts, Rose, counted, faults_after};
 ghost use Rattle.pd_outside.specs.Entry.{file_of};
 ghost use Rattle.pd_outside.specs.Files.{File};
 ghost use Rattle.pd_outside.specs.InMemory.{IsCounted};
@@ -164,9 +164,7 @@ impl Shelf for MemShelf {
 
     ghost is_begun = { λ m. is_some m.held.begun };
 
-    ghost faults = { λ m. m.faults };
-
-    ghost last_failed = { λ m. m.last_failed };
+    ghost counts = { λ m. exact_counts m.faults m.last_failed };
 
     ghost told_alike = { λ m. Prim.search rules };
 
@@ -175,15 +173,11 @@ impl Shelf for MemShelf {
         ensures begun { is_some self.new.held.begun ≡ is_ok result }
         ensures held { OnOk result (Some self.new.held ≡ option_map (begin_file name.now) (Some self.old.held)) }
         ensures unchanged { OnErr result (Some self.new.held ≡ Some self.old.held) }
-        ensures never_falls { self.old.faults ≤ self.new.faults }
-        ensures cause { OnErr result (Rose self.old.faults self.new.faults) }
-        ensures no_fault { OnOk result (self.new.faults ≡ self.old.faults) }
-        ensures counted { self.new.faults ≡ faults_after result self.old.faults }
-        ensures last { self.new.last_failed ≡ is_err result }
+        ensures counts { CallMade result (exact_counts self.old.faults self.old.last_failed) (exact_counts self.new.faults self.new.last_failed) }
 
         // It fails if a stated failure says so, and else only for want of memory.
         ensures stated { Contains self.old.fails (fail.Begin (counted self.old.begins)) → IsErr result }
-        ensures counts { IsCounted result self.old self.new }
+        ensures counted { IsCounted result self.old self.new }
         ensures call { self.new.begins ≡ counted self.old.begins }
         ensures other_calls { (self.new.writes ≡ self.old.writes) × (self.new.ends ≡ self.old.ends) }
     {
@@ -209,16 +203,12 @@ impl Shelf for MemShelf {
         ensures held { IfOk result (λ n. Some self.new.held ≡ option_map (append_bytes (take n piece.now)) (Some self.old.held)) }
         ensures unchanged { OnErr result (Some self.new.held ≡ Some self.old.held) }
         ensures begun { IsTrue (is_some self.new.held.begun) }
-        ensures never_falls { self.old.faults ≤ self.new.faults }
-        ensures cause { OnErr result (Rose self.old.faults self.new.faults) }
-        ensures no_fault { OnOk result (self.new.faults ≡ self.old.faults) }
-        ensures counted { self.new.faults ≡ faults_after result self.old.faults }
-        ensures last { self.new.last_failed ≡ is_err result }
+        ensures counts { CallMade result (exact_counts self.old.faults self.old.last_failed) (exact_counts self.new.faults self.new.last_failed) }
 
         // It takes as much as its step allows. It fails if a stated failure says so, and else only for want of memory.
         ensures most { IfOk result (λ n. n ≡ min self.old.step (length piece.now)) }
         ensures stated { Contains self.old.fails (fail.Write (counted self.old.writes)) → IsErr result }
-        ensures counts { IsCounted result self.old self.new }
+        ensures counted { IsCounted result self.old self.new }
         ensures call { self.new.writes ≡ counted self.old.writes }
         ensures other_calls { (self.new.begins ≡ self.old.begins) × (self.new.ends ≡ self.old.ends) }
     {
@@ -240,15 +230,11 @@ impl Shelf for MemShelf {
         ensures begun { is_some self.new.held.begun ≡ is_err result }
         ensures held { OnOk result (Some self.new.held ≡ option_map end_file (Some self.old.held)) }
         ensures unchanged { OnErr result (Some self.new.held ≡ Some self.old.held) }
-        ensures never_falls { self.old.faults ≤ self.new.faults }
-        ensures cause { OnErr result (Rose self.old.faults self.new.faults) }
-        ensures no_fault { OnOk result (self.new.faults ≡ self.old.faults) }
-        ensures counted { self.new.faults ≡ faults_after result self.old.faults }
-        ensures last { self.new.last_failed ≡ is_err result }
+        ensures counts { CallMade result (exact_counts self.old.faults self.old.last_failed) (exact_counts self.new.faults self.new.last_failed) }
 
         // It fails if a stated failure says so, and else only for want of memory.
         ensures stated { Contains self.old.fails (fail.End (counted self.old.ends)) → IsErr result }
-        ensures counts { IsCounted result self.old self.new }
+        ensures counted { IsCounted result self.old self.new }
         ensures call { self.new.ends ≡ counted self.old.ends }
         ensures other_calls { (self.new.begins ≡ self.old.begins) × (self.new.writes ≡ self.old.writes) }
     {

@@ -2,7 +2,7 @@
 
 ghost use Rattle.std.specs.Prelude.{◌≡◌, ◌<◌, ◌≤◌, ℕ, Bool, true, false, Option, length, take, IsTrue, IfOk, IfSome, OnOk, OnErr, is_ok, is_err, is_some};
 ghost use Rattle.std.specs.Option.{option_map};
-ghost use Rattle.pd_outside.specs.Faults.{Rose, faults_after};
+ghost use Rattle.pd_outside.specs.Faults.{CallMade, Counts};
 ghost use Rattle.pd_outside.specs.Shelf.{Held, begin_file, append_bytes, end_file};
 
 use crate::Failed;
@@ -18,11 +18,9 @@ pub trait Shelf {
     /// Whether a file is begun.
     ghost is_begun: { Self → Bool };
 
-    /// How often a call failed: a count of 64 bits. It rises only when a call fails, and stops at the greatest number of its type.
-    ghost faults: { Self → ℕ };
-
-    /// Whether the last call failed; false if none was made.
-    ghost last_failed: { Self → Bool };
+    /// What is told of failed calls: a count that rises whenever one fails and never falls. An implementation that counts exactly tells
+    /// how many failed and whether the last call did, too.
+    ghost counts: { Self → Counts };
 
     /// Begins an empty file of a name. At `Failed` no file is begun.
     fn begin(&mut self, name: &str) -> Result<(), Failed>
@@ -30,11 +28,7 @@ pub trait Shelf {
         ensures begun { is_begun self.new ≡ is_ok result }
         ensures held { OnOk result (held self.new ≡ option_map (begin_file name.now) (held self.old)) }
         ensures unchanged { OnErr result (held self.new ≡ held self.old) }
-        ensures never_falls { faults self.old ≤ faults self.new }
-        ensures cause { OnErr result (Rose (faults self.old) (faults self.new)) }
-        ensures no_fault { OnOk result (faults self.new ≡ faults self.old) }
-        ensures counted { faults self.new ≡ faults_after result (faults self.old) }
-        ensures last { last_failed self.new ≡ is_err result };
+        ensures counts { CallMade result (counts self.old) (counts self.new) };
 
     /// Appends the first bytes of the piece to the begun file, and returns how many: at least one. At `Failed` the file is as
     /// before. The file stays begun in both cases.
@@ -47,11 +41,7 @@ pub trait Shelf {
         ensures held { IfOk result (λ n. held self.new ≡ option_map (append_bytes (take n piece.now)) (held self.old)) }
         ensures unchanged { OnErr result (held self.new ≡ held self.old) }
         ensures begun { IsTrue (is_begun self.new) }
-        ensures never_falls { faults self.old ≤ faults self.new }
-        ensures cause { OnErr result (Rose (faults self.old) (faults self.new)) }
-        ensures no_fault { OnOk result (faults self.new ≡ faults self.old) }
-        ensures counted { faults self.new ≡ faults_after result (faults self.old) }
-        ensures last { last_failed self.new ≡ is_err result };
+        ensures counts { CallMade result (counts self.old) (counts self.new) };
 
     /// Finishes the begun file. At `Failed` it stays begun, as it was.
     fn end(&mut self) -> Result<(), Failed>
@@ -59,11 +49,7 @@ pub trait Shelf {
         ensures begun { is_begun self.new ≡ is_err result }
         ensures held { OnOk result (held self.new ≡ option_map end_file (held self.old)) }
         ensures unchanged { OnErr result (held self.new ≡ held self.old) }
-        ensures never_falls { faults self.old ≤ faults self.new }
-        ensures cause { OnErr result (Rose (faults self.old) (faults self.new)) }
-        ensures no_fault { OnOk result (faults self.new ≡ faults self.old) }
-        ensures counted { faults self.new ≡ faults_after result (faults self.old) }
-        ensures last { last_failed self.new ≡ is_err result };
+        ensures counts { CallMade result (counts self.old) (counts self.new) };
 
     /// `held` has a begun file exactly if one is begun.
     ghost told_alike: { (shelf : Self) → IfSome (held shelf) (λ h. is_some h.begun ≡ is_begun shelf) };

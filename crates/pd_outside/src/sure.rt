@@ -2,6 +2,7 @@
 
 ghost use Rattle.std.specs.Prelude.{◌≡◌, ◌<◌, ◌+◌, ◌^◌, None, Some, false, is_some, length};
 ghost use Rattle.std.proofs.Common.{rules};
+ghost use Rattle.pd_outside.specs.Faults.{exact_count, exact_counts};
 ghost use Rattle.pd_outside.specs.Sure.{IsOpened, left_of};
 
 use crate::mem_library::{copy_prefix, number_of};
@@ -71,7 +72,7 @@ impl Library for SureLibrary {
 
     ghost taken = { λ m. m.taken };
 
-    ghost faults = { λ m. 0 };
+    ghost counts = { λ m. exact_count 0 };
 
     ghost told_alike = { λ m. Prim.search rules };
 
@@ -118,9 +119,7 @@ impl Shelf for SureShelf {
 
     ghost is_begun = { λ m. m.is_begun };
 
-    ghost faults = { λ m. 0 };
-
-    ghost last_failed = { λ m. false };
+    ghost counts = { λ m. exact_counts 0 false };
 
     ghost told_alike = { λ m. tt };
 

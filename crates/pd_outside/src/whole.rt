@@ -2,7 +2,7 @@
 
 ghost use Rattle.std.specs.Prelude.{◌≡◌, ◌<◌, ◌≤◌, ◌⊎◌, ◌+◌, ◌^◌, ◌↔◌, false, length, take, IsTrue, IfOk, IfSome, IsErrOf, IsOk, OnOk, OnErr, vec_len};
 ghost use Rattle.std.specs.Option.{option_map};
-ghost use Rattle.pd_outside.specs.Faults.{FailsAtLast, Rose, counted};
+ghost use Rattle.pd_outside.specs.Faults.{CallsMade, FailedAtLast, Unfailed};
 ghost use Rattle.pd_outside.specs.Files.{bytes_of};
 ghost use Rattle.pd_outside.specs.Library.{Content, read_out, ask, AskedAtMost};
 ghost use Rattle.pd_outside.specs.Shelf.{append_bytes, AppendedPrefixOf};
@@ -15,8 +15,8 @@ const CHUNK: usize = 65536;
 
 /// Reads the whole file of a name, if it has at most `limit` bytes.
 ///
-/// Returns `Failed` only if the library's count of faults rose, by one. Then no file is started. Any other result leaves the count
-/// as it was. Returns `TooLong` exactly if `limit` + 1 bytes of the file were taken; no more are ever taken. If the name isn't
+/// Returns `Failed` only if a call of the library failed, and none is made after it. Then no file is started. With any other result no
+/// call failed. Returns `TooLong` exactly if `limit` + 1 bytes of the file were taken; no more are ever taken. If the name isn't
 /// asked, no byte is taken.
 pub fn read_whole<L: Library>(
     alloc: Global,
@@ -34,7 +34,7 @@ pub fn read_whole<L: Library>(
 
     ensures too_long { IsErrOf result ReadFault.TooLong ↔ (L.taken library.new ≡ limit + 1) }
     ensures longer { IsErrOf result ReadFault.TooLong → IfSome (L.content library.old) (λ c. limit < length (bytes_of c.files name.now)) }
-    ensures cause { IsErrOf result ReadFault.Failed → Rose (L.faults library.old) (L.faults library.new) }
+    ensures failed { IsErrOf result ReadFault.Failed → FailedAtLast (L.counts library.old) (L.counts library.new) }
     ensures stopped { IsErrOf result ReadFault.Failed → L.is_started library.new ≡ false }
     ensures started { IsOk result ⊎ IsErrOf result ReadFault.TooLong → IsTrue (L.is_started library.new) }
 
@@ -42,9 +42,7 @@ pub fn read_whole<L: Library>(
     ensures asked_at_most { AskedAtMost name.now (L.asked library.old) (L.asked library.new) }
     ensures unasked { (L.asked library.new ≡ ask name.now (L.asked library.old)) ⊎ (L.taken library.new ≡ 0) }
     ensures files { option_map (λ (c : Content). c.files) (L.content library.new) ≡ option_map (λ (c : Content). c.files) (L.content library.old) }
-    ensures never_falls { L.faults library.old ≤ L.faults library.new }
-    ensures no_fault { IsErrOf result ReadFault.Failed ⊎ (L.faults library.new ≡ L.faults library.old) }
-    ensures once { IsErrOf result ReadFault.Failed → L.faults library.new ≡ counted (L.faults library.old) }
+    ensures unfailed { IsErrOf result ReadFault.Failed ⊎ Unfailed (L.counts library.old) (L.counts library.new) }
 {
     match library.start(name) {
         Ok(()) => {}
@@ -76,17 +74,14 @@ fn zeros(alloc: Global, n: usize) -> Result<Vec<u8>, AllocError>
     Vec::from_elem(alloc, 0, n)
 }
 
-/// Appends all the bytes to the begun file, which stays begun. Returns `WriteFailed` only if the shelf's count of faults rose. Then
-/// a prefix of the bytes was appended, and no call came after the failed write.
+/// Appends all the bytes to the begun file, which stays begun. Returns `WriteFailed` only if a call of the shelf failed. Then a prefix of
+/// the bytes was appended, and no call came after the failed write.
 pub fn write_all<S: Shelf>(shelf: &mut S, bytes: &[u8]) -> Result<(), WriteFailed>
     requires { IsTrue (S.is_begun shelf.old) }
     ensures all { OnOk result (S.held shelf.new ≡ option_map (append_bytes bytes.now) (S.held shelf.old)) }
     ensures prefix { OnErr result (AppendedPrefixOf bytes.now (S.held shelf.old) (S.held shelf.new)) }
-    ensures cause { OnErr result (Rose (S.faults shelf.old) (S.faults shelf.new)) }
     ensures begun { IsTrue (S.is_begun shelf.new) }
-    ensures never_falls { S.faults shelf.old ≤ S.faults shelf.new }
-    ensures no_fault { OnOk result (S.faults shelf.new ≡ S.faults shelf.old) }
-    ensures at_last { FailsAtLast result (S.faults shelf.old) (S.faults shelf.new) (S.last_failed shelf.new) }
+    ensures counts { CallsMade result (S.counts shelf.old) (S.counts shelf.new) }
 {
     let mut at = 0;
     while at < bytes.len() {

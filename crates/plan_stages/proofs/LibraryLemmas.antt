@@ -1,10 +1,11 @@
 -- What is left of the library, stage by stage.
-use Rattle.std.proofs.Common.{◌≡◌, ◌≢◌, ◌≤◌, ◌+◌, ℕ, Bool, false, List, Option, None, Some, Result, Ok, Err, inl, inr, refl, sym, subst, arith}
+use Rattle.std.proofs.Common.{◌≡◌, ◌≢◌, ◌≤◌, ◌+◌, ℕ, Bool, false, List, Option, None, Some, Result, Ok, Err, inl, inr, refl, sym, subst, arith, ◌∙◌}
 use Rattle.std.specs.Prelude.{◌⊎◌}
 use Rattle.std.specs.Option.{option_map}
 use Rattle.dictionaries.specs.declared.fault.DictFault.{DictFault}
 use Rattle.dictionaries.specs.declared.fault.DictFault.TheVariants as grammar
-use Rattle.pd_outside.specs.Faults.{counted}
+use Rattle.pd_outside.proofs.Counts.{failed_then, unfailed_same, unfailed_then}
+use Rattle.pd_outside.specs.Faults.{Counts, FailedAtLast, Unfailed}
 use Rattle.pd_outside.specs.Files.{File}
 use Rattle.pd_outside.specs.Library.{Content, read_out}
 use Rattle.pd_outside.specs.declared.faults.ReadFault.{ReadFault}
@@ -26,41 +27,39 @@ abbrev pub IsOfItself : ℕ → Type 0
 IsOfItself status = (status ≢ 5) × (status ≢ 10)
 
 -- nothing was done to the library behind what was read
-pub after_done : (status limit other : ℕ) (before : Option (List File)) (now : Option Content) (taken : ℕ) (is_started : Bool) (faults_before faults_now : ℕ) →
-    IsOfItself status → LibraryAfter 0 limit before now taken is_started faults_before faults_now →
-    LibraryAfter status other before now taken is_started faults_before faults_now
-after_done status limit other before now taken is_started faults_before faults_now of_itself done = record {
+pub after_done : (status limit other : ℕ) (before : Option (List File)) (now : Option Content) (taken : ℕ) (is_started : Bool) (counts_before counts_now : Counts) →
+    IsOfItself status → LibraryAfter 0 limit before now taken is_started counts_before counts_now →
+    LibraryAfter status other before now taken is_started counts_before counts_now
+after_done status limit other before now taken is_started counts_before counts_now of_itself done = record {
   files = done.files;
   read_out = λ zero. done.read_out refl;
   within = λ zero. done.within refl;
   too_long = λ ten. absurd (of_itself.1 ten);
-  failed_once = λ five. absurd (of_itself.0 five);
+  failed = λ five. absurd (of_itself.0 five);
   stopped = λ five. absurd (of_itself.0 five);
-  no_fault = λ five. done.no_fault (λ e. absurd (cc));
-  never_falls = done.never_falls;
+  unfailed = λ five. done.unfailed (λ e. absurd (cc));
 }
 
 -- what was read is read to its end
-pub all_read : (before : Option (List File)) (now : Option Content) (taken : ℕ) (is_started : Bool) (faults_before faults_now : ℕ) →
-    told_files now ≡ before → IsReadOut now → taken ≤ dictionary_limit → faults_now ≡ faults_before →
-    LibraryAfter 0 0 before now taken is_started faults_before faults_now
-all_read before now taken is_started faults_before faults_now files out within same = record {
+pub all_read : (before : Option (List File)) (now : Option Content) (taken : ℕ) (is_started : Bool) (counts_before counts_now : Counts) →
+    told_files now ≡ before → IsReadOut now → taken ≤ dictionary_limit → Unfailed counts_before counts_now →
+    LibraryAfter 0 0 before now taken is_started counts_before counts_now
+all_read before now taken is_started counts_before counts_now files out within same = record {
   files = files;
   read_out = λ zero. out;
   within = λ zero. within;
   too_long = λ ten. absurd (cc);
-  failed_once = λ five. absurd (cc);
+  failed = λ five. absurd (cc);
   stopped = λ five. absurd (cc);
-  no_fault = λ other. same;
-  never_falls = omega (arith, same);
+  unfailed = λ other. same;
 }
 
 -- nothing more was read
-pub untouched : (status limit : ℕ) (content : Option Content) (taken : ℕ) (is_started : Bool) (faults : ℕ) → IsOfItself status → IsReadOut content →
-    taken ≤ dictionary_limit → LibraryAfter status limit (told_files content) content taken is_started faults faults
-untouched status limit content taken is_started faults of_itself out within =
-    after_done status 0 limit (told_files content) content taken is_started faults faults of_itself
-    (all_read (told_files content) content taken is_started faults faults refl out within refl)
+pub untouched : (status limit : ℕ) (content : Option Content) (taken : ℕ) (is_started : Bool) (counts : Counts) → IsOfItself status → IsReadOut content →
+    taken ≤ dictionary_limit → LibraryAfter status limit (told_files content) content taken is_started counts counts
+untouched status limit content taken is_started counts of_itself out within =
+    after_done status 0 limit (told_files content) content taken is_started counts counts of_itself
+    (all_read (told_files content) content taken is_started counts counts refl out within (unfailed_same counts))
 
 -- ---- one file after what was read
 
@@ -68,69 +67,72 @@ read_out_is : (before now : Option Content) → now ≡ option_map read_out befo
 read_out_is None now is = subst IsReadOut (sym is) tt
 read_out_is (Some c) now is = subst IsReadOut (sym is) refl
 
-pub no_fault_on_ok : {A : Type 0} (items : A) (before now : ℕ) → (◌≡◌ {A = Result A ReadFault} (Ok items) (Err reading.Failed)) ⊎ (now ≡ before) → now ≡ before
-no_fault_on_ok items before now (inl failed) = absurd (cc)
-no_fault_on_ok items before now (inr same) = same
+pub unfailed_on_ok : {A : Type 0} (items : A) (before now : Counts) → (◌≡◌ {A = Result A ReadFault} (Ok items) (Err reading.Failed)) ⊎ Unfailed before now → Unfailed before now
+unfailed_on_ok items before now (inl failed) = absurd (cc)
+unfailed_on_ok items before now (inr same) = same
 
 -- a file was read to its end
-pub file_read : {A : Type 0} (items : A) (name : List ℕ) (before now : Option Content) (taken : ℕ) (is_started : Bool) (faults_before faults_now : ℕ) →
+pub file_read : {A : Type 0} (items : A) (name : List ℕ) (before now : Option Content) (taken : ℕ) (is_started : Bool) (counts_before counts_now : Counts) →
     told_files now ≡ told_files before → now ≡ option_map read_out before → taken ≤ dictionary_limit →
-    (◌≡◌ {A = Result A ReadFault} (Ok items) (Err reading.Failed)) ⊎ (faults_now ≡ faults_before) →
-    LibraryAfter 0 0 (told_files before) now taken is_started faults_before faults_now
-file_read items name before now taken is_started faults_before faults_now files out within same =
-    all_read (told_files before) now taken is_started faults_before faults_now files (read_out_is before now out) within
-    (no_fault_on_ok items faults_before faults_now same)
+    (◌≡◌ {A = Result A ReadFault} (Ok items) (Err reading.Failed)) ⊎ Unfailed counts_before counts_now →
+    LibraryAfter 0 0 (told_files before) now taken is_started counts_before counts_now
+file_read items name before now taken is_started counts_before counts_now files out within same =
+    all_read (told_files before) now taken is_started counts_before counts_now files (read_out_is before now out) within
+    (unfailed_on_ok items counts_before counts_now same)
 
-same_on_other : {A : Type 0} (fault : ReadFault) (before now : ℕ) → fault ≢ reading.Failed →
-    (◌≡◌ {A = Result A ReadFault} (Err fault) (Err reading.Failed)) ⊎ (now ≡ before) → now ≡ before
-same_on_other fault before now other (inl failed) = absurd (other (cc))
-same_on_other fault before now other (inr same) = same
+unfailed_on_other : {A : Type 0} (fault : ReadFault) (before now : Counts) → fault ≢ reading.Failed →
+    (◌≡◌ {A = Result A ReadFault} (Err fault) (Err reading.Failed)) ⊎ Unfailed before now → Unfailed before now
+unfailed_on_other fault before now other (inl failed) = absurd (other (cc))
+unfailed_on_other fault before now other (inr same) = same
 
 -- a file wasn't read
-pub file_unread : {A : Type 0} (fault : ReadFault) (limit : ℕ) (before : Option (List File)) (now : Option Content) (taken : ℕ) (is_started : Bool) (faults_before faults_now : ℕ) →
+pub file_unread : {A : Type 0} (fault : ReadFault) (limit : ℕ) (before : Option (List File)) (now : Option Content) (taken : ℕ) (is_started : Bool) (counts_before counts_now : Counts) →
     told_files now ≡ before → (◌≡◌ {A = Result A ReadFault} (Err fault) (Err reading.TooLong) → taken ≡ limit + 1) →
-    (◌≡◌ {A = Result A ReadFault} (Err fault) (Err reading.Failed) → faults_now ≡ counted faults_before) →
+    (◌≡◌ {A = Result A ReadFault} (Err fault) (Err reading.Failed) → FailedAtLast counts_before counts_now) →
     (◌≡◌ {A = Result A ReadFault} (Err fault) (Err reading.Failed) → is_started ≡ false) →
-    (◌≡◌ {A = Result A ReadFault} (Err fault) (Err reading.Failed)) ⊎ (faults_now ≡ faults_before) → faults_before ≤ faults_now →
-    LibraryAfter (reading_status fault) limit before now taken is_started faults_before faults_now
-file_unread reading.Failed limit before now taken is_started faults_before faults_now files long once stopped same rises = record {
+    (◌≡◌ {A = Result A ReadFault} (Err fault) (Err reading.Failed)) ⊎ Unfailed counts_before counts_now →
+    LibraryAfter (reading_status fault) limit before now taken is_started counts_before counts_now
+file_unread reading.Failed limit before now taken is_started counts_before counts_now files long failed stopped same = record {
   files = files;
   read_out = λ zero. absurd (cc);
   within = λ zero. absurd (cc);
   too_long = λ ten. absurd (cc);
-  failed_once = λ five. once refl;
+  failed = λ five. failed refl;
   stopped = λ five. stopped refl;
-  no_fault = λ other. absurd (other refl);
-  never_falls = rises;
+  unfailed = λ other. absurd (other refl);
 }
-file_unread reading.TooLong limit before now taken is_started faults_before faults_now files long once stopped same rises = record {
+file_unread reading.TooLong limit before now taken is_started counts_before counts_now files long failed stopped same = record {
   files = files;
   read_out = λ zero. absurd (cc);
   within = λ zero. absurd (cc);
   too_long = λ ten. long refl;
-  failed_once = λ five. absurd (cc);
+  failed = λ five. absurd (cc);
   stopped = λ five. absurd (cc);
-  no_fault = λ other. same_on_other reading.TooLong faults_before faults_now (λ e. absurd (cc)) same;
-  never_falls = rises;
+  unfailed = λ other. unfailed_on_other reading.TooLong counts_before counts_now (λ e. absurd (cc)) same;
 }
-file_unread reading.Memory limit before now taken is_started faults_before faults_now files long once stopped same rises = record {
+file_unread reading.Memory limit before now taken is_started counts_before counts_now files long failed stopped same = record {
   files = files;
   read_out = λ zero. absurd (cc);
   within = λ zero. absurd (cc);
   too_long = λ ten. absurd (cc);
-  failed_once = λ five. absurd (cc);
+  failed = λ five. absurd (cc);
   stopped = λ five. absurd (cc);
-  no_fault = λ other. same_on_other reading.Memory faults_before faults_now (λ e. absurd (cc)) same;
-  never_falls = rises;
+  unfailed = λ other. unfailed_on_other reading.Memory counts_before counts_now (λ e. absurd (cc)) same;
 }
 
--- what was read before left files and faults as they were
-pub after_step : (status limit : ℕ) (before mid : Option (List File)) (now : Option Content) (taken : ℕ) (is_started : Bool) (faults_before faults_mid faults_now : ℕ) →
-    mid ≡ before → faults_mid ≡ faults_before → LibraryAfter status limit mid now taken is_started faults_mid faults_now →
-    LibraryAfter status limit before now taken is_started faults_before faults_now
-after_step status limit before mid now taken is_started faults_before faults_mid faults_now files same after =
-    subst (λ (f : ℕ). LibraryAfter status limit before now taken is_started f faults_now) same
-    (subst (λ (b : Option (List File)). LibraryAfter status limit b now taken is_started faults_mid faults_now) files after)
+-- what was read before left the files as they were, and no call failed in it
+pub after_step : (status limit : ℕ) (before mid : Option (List File)) (now : Option Content) (taken : ℕ) (is_started : Bool) (counts_before counts_mid counts_now : Counts) →
+    mid ≡ before → Unfailed counts_before counts_mid → LibraryAfter status limit mid now taken is_started counts_mid counts_now →
+    LibraryAfter status limit before now taken is_started counts_before counts_now
+after_step status limit before mid now taken is_started counts_before counts_mid counts_now files sofar after = record {
+  files = after.files ∙ files;
+  read_out = after.read_out;
+  within = after.within;
+  too_long = after.too_long;
+  failed = λ five. failed_then counts_before counts_mid counts_now sofar (after.failed five);
+  stopped = after.stopped;
+  unfailed = λ other. unfailed_then counts_before counts_mid counts_now sofar (after.unfailed other);
+}
 
 -- ---- what tells nothing of the library
 

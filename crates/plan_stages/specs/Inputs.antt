@@ -1,6 +1,7 @@
 -- Files that are read one after the other, with a limit of the bytes of all.
 use Rattle.std.specs.Prelude.{◌≡◌, ◌<◌, ◌≤◌, ◌⊎◌, ℕ, ◌+◌, nat_lt, List, [], ◌∷◌, ◌++◌, length, map, sum_by, take, Bool, Option, Some, None, Result, Ok, Err, IfSome, if◌then◌else◌}
 use Rattle.std.specs.Option.{option_map}
+use Rattle.pd_outside.specs.Faults.{Counts, Unfailed}
 use Rattle.pd_outside.specs.Files.{File, bytes_of}
 use Rattle.pd_outside.specs.Library.{Content, read_out}
 use Rattle.pd_outside.specs.declared.faults.ReadFault.{ReadFault}
@@ -55,15 +56,15 @@ taken_of_last [] before = before
 taken_of_last (bytes ∷ rest) before = taken_of_last rest (length bytes)
 
 -- All files of these names were read, each to its end, and no call failed.
-pub record InputsRead (inputs names : List (List ℕ)) (limit : ℕ) (before now : Option Content) (taken_before taken_now faults_before faults_now : ℕ) : Type 0 where
+pub record InputsRead (inputs names : List (List ℕ)) (limit : ℕ) (before now : Option Content) (taken_before taken_now : ℕ) (counts_before counts_now : Counts) : Type 0 where
   pub count : length inputs ≡ length names
   pub within : total_length inputs ≤ limit
   pub read_out : now ≡ option_map (all_read_out names) before
   pub taken : taken_now ≡ taken_of_last inputs taken_before
-  pub no_fault : faults_now ≡ faults_before
+  pub unfailed : Unfailed counts_before counts_now
 
 -- One of the names' files wasn't read. It may have as many bytes as those before it leave of the limit.
-pub record InputUnread (fault : UnreadInput) (names : List (List ℕ)) (limit : ℕ) (before now : Option Content) (taken : ℕ) (is_started : Bool) (faults_before faults_now : ℕ) : Type 0 where
+pub record InputUnread (fault : UnreadInput) (names : List (List ℕ)) (limit : ℕ) (before now : Option Content) (taken : ℕ) (is_started : Bool) (counts_before counts_now : Counts) : Type 0 where
   pub number : fault.number < length names
   pub own_limit : ℕ
   pub within : own_limit ≤ limit
@@ -71,7 +72,7 @@ pub record InputUnread (fault : UnreadInput) (names : List (List ℕ)) (limit : 
   -- at most a byte more was taken of it, and that exactly where it is too long
   pub at_most : taken ≤ own_limit + 1
   pub only_too_long : taken ≡ own_limit + 1 → fault.cause ≡ TooLong
-  pub library : LibraryAfter (reading_status fault.cause) own_limit (told_files before) now taken is_started faults_before faults_now
+  pub library : LibraryAfter (reading_status fault.cause) own_limit (told_files before) now taken is_started counts_before counts_now
 
 -- ---- what was asked
 
@@ -87,11 +88,11 @@ pub record AskedToFault (fault : UnreadInput) (names : List (List ℕ)) (taken :
 -- ---- one file
 
 -- The file of a name was read to its end, and is put behind the inputs before it.
-pub record InputRead (inputs_before inputs_now : List (List ℕ)) (name : List ℕ) (limit : ℕ) (before now : Option Content) (taken_now faults_before faults_now : ℕ) : Type 0 where
+pub record InputRead (inputs_before inputs_now : List (List ℕ)) (name : List ℕ) (limit : ℕ) (before now : Option Content) (taken_now : ℕ) (counts_before counts_now : Counts) : Type 0 where
   pub bytes : List ℕ
   pub appended : inputs_now ≡ inputs_before ++ bytes ∷ []
   pub whole : IfSome before (λ (c : Content). bytes ≡ bytes_of c.files name)
   pub taken : taken_now ≡ length bytes
   pub within : length bytes ≤ limit
   pub read_out : now ≡ option_map read_out before
-  pub no_fault : faults_now ≡ faults_before
+  pub unfailed : Unfailed counts_before counts_now

@@ -1,7 +1,7 @@
 -- What the stages of a request answer, what a definition says that they are to, and what they leave of the library.
 use Rattle.std.specs.Prelude.{◌≡◌, ◌≢◌, ◌≤◌, ◌+◌, ℕ, false, Bool, List, [], Option, Result, Ok, Err, IfSome}
 use Rattle.std.specs.Option.{option_map}
-use Rattle.pd_outside.specs.Faults.{counted}
+use Rattle.pd_outside.specs.Faults.{Counts, FailedAtLast, Unfailed}
 use Rattle.pd_outside.specs.Files.{File}
 use Rattle.pd_outside.specs.Library.{Content, left}
 use Rattle.refusals.specs.Statuses.{done_status, is_free}
@@ -43,8 +43,8 @@ abbrev pub IsReadOut : Option Content → Type 0
 IsReadOut content = IfSome content (λ (c : Content). left c ≡ [])
 
 -- What a stage that ends with a status leaves of the library, where it read files of at most some limit: the files that are told,
--- what is now left, how many bytes were taken of the last file, whether one is started, and the count of faults.
-pub record LibraryAfter (status limit : ℕ) (before : Option (List File)) (now : Option Content) (taken : ℕ) (is_started : Bool) (faults_before faults_now : ℕ) : Type 0 where
+-- what is now left, how many bytes were taken of the last file, whether one is started, and what is told of failed calls.
+pub record LibraryAfter (status limit : ℕ) (before : Option (List File)) (now : Option Content) (taken : ℕ) (is_started : Bool) (counts_before counts_now : Counts) : Type 0 where
   -- files stay as they are
   pub files : told_files now ≡ before
   -- at the end of all that was read nothing is left, and no file was too long
@@ -53,7 +53,6 @@ pub record LibraryAfter (status limit : ℕ) (before : Option (List File)) (now 
   -- a file was too long: a byte more than its limit was taken
   pub too_long : status ≡ 10 → taken ≡ limit + 1
   -- a read failed: once, and no file is started then; and it is told nowhere else
-  pub failed_once : status ≡ 5 → faults_now ≡ counted faults_before
+  pub failed : status ≡ 5 → FailedAtLast counts_before counts_now
   pub stopped : status ≡ 5 → is_started ≡ false
-  pub no_fault : status ≢ 5 → faults_now ≡ faults_before
-  pub never_falls : faults_before ≤ faults_now
+  pub unfailed : status ≢ 5 → Unfailed counts_before counts_now

@@ -30,7 +30,7 @@ pub(crate) fn read_dictionaries<L: Library>(
     ensures read { IfSome (told_files (L.content library.old)) (λ files.
         Decides dictionaries_status (λ dictionaries. dictionaries) result (with_dictionaries files [] names.now)) }
     ensures after { LibraryAfter (ended dictionaries_status result) dictionary_limit (told_files (L.content library.old)) (L.content library.new)
-        (L.taken library.new) (L.is_started library.new) (L.faults library.old) (L.faults library.new) }
+        (L.taken library.new) (L.is_started library.new) (L.counts library.old) (L.counts library.new) }
     ensures longer { L.taken library.new ≡ dictionary_limit + 1 → ended dictionaries_status result ≡ 10 }
     ensures asked { AsksNames names.now (told_files (L.content library.old)) (L.asked library.old) (L.asked library.new) }
     ensures asked_all { OnOk result (L.asked library.new ≡ option_map (λ all. all ++ names.now) (L.asked library.old)) }
@@ -65,7 +65,7 @@ fn add_dictionary<L: Library>(
         IfErr result (λ cause. is_free (cause_status cause) ≡ false → with_dictionary files dictionaries.old name.now ≡ Err cause)) }
     ensures count { OnOk result (length dictionaries.new ≡ length dictionaries.old + 1) }
     ensures after { LibraryAfter (ended cause_status result) dictionary_limit (told_files (L.content library.old)) (L.content library.new)
-        (L.taken library.new) (L.is_started library.new) (L.faults library.old) (L.faults library.new) }
+        (L.taken library.new) (L.is_started library.new) (L.counts library.old) (L.counts library.new) }
     ensures longer { L.taken library.new ≡ dictionary_limit + 1 → ended cause_status result ≡ 10 }
     ensures asked { OnOk result (L.asked library.new ≡ ask name.now (L.asked library.old)) }
     ensures asked_at_most { AskedAtMost name.now (L.asked library.old) (L.asked library.new) }

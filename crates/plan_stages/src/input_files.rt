@@ -16,8 +16,8 @@ use std::alloc::Global;
 /// absent file is empty, or isn't read.
 ///
 /// All files together have at most `limit` bytes. `TooLong` comes at the first file with which they have more. By then one
-/// byte more was taken of it than the files before it leave. `Failed` comes only if the library's count of faults rose by
-/// one, and nothing is called after it. `Memory` tells neither. If the library doesn't tell its files, the clauses say only
+/// byte more was taken of it than the files before it leave. `Failed` comes only if one call of the library failed, and
+/// nothing is called after it. `Memory` tells neither. If the library doesn't tell its files, the clauses say only
 /// what can be said. For no names it asks nothing and returns no bytes.
 pub fn read_in_turn<L: Library>(
     alloc: Global,
@@ -29,9 +29,9 @@ pub fn read_in_turn<L: Library>(
 
     ensures inputs { IfSome (told_files (L.content library.old)) (λ files. Decides input_status (λ inputs. inputs) result (inputs_in files names.now limit)) }
     ensures read { IfOk result (λ inputs. InputsRead inputs names.now limit (L.content library.old) (L.content library.new)
-        (L.taken library.old) (L.taken library.new) (L.faults library.old) (L.faults library.new)) }
+        (L.taken library.old) (L.taken library.new) (L.counts library.old) (L.counts library.new)) }
     ensures unread { IfErr result (λ fault. InputUnread fault names.now limit (L.content library.old) (L.content library.new)
-        (L.taken library.new) (L.is_started library.new) (L.faults library.old) (L.faults library.new)) }
+        (L.taken library.new) (L.is_started library.new) (L.counts library.old) (L.counts library.new)) }
     ensures asked { OnOk result (AskedInTurn names.now (L.asked library.old) (L.asked library.new)) }
     ensures asked_to_fault { IfErr result (λ fault. AskedToFault fault names.now (L.taken library.new) (L.asked library.old) (L.asked library.new)) }
 {
@@ -63,13 +63,13 @@ fn add_input<L: Library>(
     requires { limit < 2 ^ 32 }
 
     ensures read { OnOk result (InputRead inputs.old inputs.new name.now limit (L.content library.old) (L.content library.new)
-        (L.taken library.new) (L.faults library.old) (L.faults library.new)) }
+        (L.taken library.new) (L.counts library.old) (L.counts library.new)) }
     ensures length { IfOk result (λ length. length ≡ L.taken library.new) }
     ensures at_most { L.taken library.new ≤ limit + 1 }
     ensures only_too_long { L.taken library.new ≡ limit + 1 → IsErrOf result ReadFault.TooLong }
     ensures longer { IsErrOf result ReadFault.TooLong → IfSome (L.content library.old) (λ c. limit < length (bytes_of c.files name.now)) }
     ensures unread { IfErr result (λ cause. LibraryAfter (reading_status cause) limit (told_files (L.content library.old)) (L.content library.new)
-        (L.taken library.new) (L.is_started library.new) (L.faults library.old) (L.faults library.new)) }
+        (L.taken library.new) (L.is_started library.new) (L.counts library.old) (L.counts library.new)) }
     ensures asked { IsOk result ⊎ IsErrOf result ReadFault.TooLong → L.asked library.new ≡ ask name.now (L.asked library.old) }
     ensures asked_at_most { AskedAtMost name.now (L.asked library.old) (L.asked library.new) }
     ensures unasked { (L.asked library.new ≡ ask name.now (L.asked library.old)) ⊎ (L.taken library.new ≡ 0) }

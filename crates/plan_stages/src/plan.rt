@@ -31,7 +31,7 @@ const SCHEMA_LIMIT: u64 = 1_048_576;
 pub fn plan_of<L: Library>(alloc: Global, library: &mut L, name: &str) -> Result<Plan, PlanFault>
     ensures plan { IfSome (told_files (L.content library.old)) (λ files. Decides plan_status (λ plan. plan) result (plan_in files name.now)) }
     ensures after { LibraryAfter (ended plan_status result) (limit_told limit_at result) (told_files (L.content library.old)) (L.content library.new)
-        (L.taken library.new) (L.is_started library.new) (L.faults library.old) (L.faults library.new) }
+        (L.taken library.new) (L.is_started library.new) (L.counts library.old) (L.counts library.new) }
 
     // The bytes taken tell which file was too long, and that the schema's file wasn't.
     ensures longer_schema { AskedAlone name.now (L.asked library.old) (L.asked library.new) →
@@ -56,7 +56,7 @@ fn plan_of_text<L: Library>(alloc: Global, library: &mut L, bytes: &[u8]) -> Res
     requires read_out { IsReadOut (L.content library.old) }
     ensures plan { IfSome (told_files (L.content library.old)) (λ files. Decides plan_status (λ plan. plan) result (plan_of_text files bytes.now)) }
     ensures after { LibraryAfter (ended plan_status result) (limit_told limit_at result) (told_files (L.content library.old)) (L.content library.new)
-        (L.taken library.new) (L.is_started library.new) (L.faults library.old) (L.faults library.new) }
+        (L.taken library.new) (L.is_started library.new) (L.counts library.old) (L.counts library.new) }
     ensures longer { L.taken library.new ≡ dictionary_limit + 1 → ended plan_status result ≡ 10 }
     ensures schema_read { ended plan_status result ≡ 3 → L.taken library.new ≤ schema_limit }
     ensures asked { AsksNames (cited_by_read (schema_of bytes.now)) (told_files (L.content library.old)) (L.asked library.old) (L.asked library.new) }
@@ -80,7 +80,7 @@ fn plan_of_schema<L: Library>(
     requires read_out { IsReadOut (L.content library.old) }
     ensures plan { IfSome (told_files (L.content library.old)) (λ files. Decides plan_status (λ plan. plan) result (planned files schema)) }
     ensures after { LibraryAfter (ended plan_status result) (limit_told limit_at result) (told_files (L.content library.old)) (L.content library.new)
-        (L.taken library.new) (L.is_started library.new) (L.faults library.old) (L.faults library.new) }
+        (L.taken library.new) (L.is_started library.new) (L.counts library.old) (L.counts library.new) }
     ensures longer { L.taken library.new ≡ dictionary_limit + 1 → ended plan_status result ≡ 10 }
     ensures is_schema { ended plan_status result ≢ 3 }
     ensures asked { AsksNames (cited_by schema) (told_files (L.content library.old)) (L.asked library.old) (L.asked library.new) }

@@ -1,6 +1,6 @@
 use Rattle.std.proofs.Common.{◌≡◌, ◌<◌, ◌≤◌, ◌+◌, ◌++◌, take, drop, length-append, List, [], ℕ, length, inl, inr, sym, ap, subst, arith, ◌∙◌}
 use Rattle.std.proofs.lemmas.List.{length-drop}
-use Rattle.pd_outside.proofs.Counts.{Rose-earlier}
+use Rattle.pd_outside.proofs.Counts.{failed_by, failed_then, unfailed_by, unfailed_then}
 use Rattle.pd_outside.proofs.Pieces.{HasRead, read_nothing, read_more, read_all, read_past, files_stay, files_stay_stopped, files_stay_taken, prefix_piece}
 use Rattle.pd_outside.proofs.whole.read_whole.Goals as goal
 
@@ -15,12 +15,12 @@ loop-n-init g c =
       started = c.in-Ok.ensures.started;
       taken = c.in-Ok.ensures.taken ∙ sym (ap length none);
       within = omega (arith, ap length none);
-      faults = c.in-Ok.ensures.no_fault;
+      unfailed = unfailed_by _ _ _ c.in-Ok.ensures.counts;
       chunk = omega (arith, c.as_mut_slice-chunk.ensures.len, c.in_ok-buffer.ensures);
     }
 
-pub returns-in-Err-read-clause-cause : goal.returns-in-Err-read-clause-cause
-returns-in-Err-read-clause-cause g c = λ _. Rose-earlier _ _ _ (omega (arith, c.loop-n.invariant.faults)) c.in-Err-read.ensures.cause
+pub returns-in-Err-read-clause-failed : goal.returns-in-Err-read-clause-failed
+returns-in-Err-read-clause-failed g c = λ _. failed_then _ _ _ c.loop-n.invariant.unfailed (failed_by _ _ _ c.in-Err-read.ensures.counts)
 
 pub returns-in-Err-read-clause-started : goal.returns-in-Err-read-clause-started
 returns-in-Err-read-clause-started g c = λ answer. elim answer [ inl ok ↦ absurd (cc) | inr other ↦ absurd (cc) ]
@@ -70,7 +70,7 @@ loop-n-preserved g c =
       started = c.in-Ok-read.ensures.started;
       taken = c.in-Ok-read.ensures.taken ∙ ap (λ (k : ℕ). k + c.in-Ok-read.n) inv.taken ∙ sym longer;
       within = omega (arith, longer);
-      faults = c.in-Ok-read.ensures.no_fault ∙ inv.faults;
+      unfailed = unfailed_then _ _ _ inv.unfailed (unfailed_by _ _ _ c.in-Ok-read.ensures.counts);
       chunk = omega (arith, length-append c.read.new.into (drop c.min-wanted.result c.loop-n.chunk), length-drop c.min-wanted.result c.loop-n.chunk, c.read.auto.into, inv.chunk);
     }
 
@@ -78,11 +78,14 @@ pub returns-in_err-extend_from_slice-clause-files : goal.returns-in_err-extend_f
 returns-in_err-extend_from_slice-clause-files g c =
     files_stay_taken _ _ _ _ (files_stay _ _ _ _ c.loop-n.invariant.read) c.in-Ok-read.ensures.content
 
-pub returns-then-n-eq0-clause-no_fault : goal.returns-then-n-eq0-clause-no_fault
-returns-then-n-eq0-clause-no_fault g c = inr (c.in-Ok-read.ensures.no_fault ∙ c.loop-n.invariant.faults)
+pub returns-then-n-eq0-clause-unfailed : goal.returns-then-n-eq0-clause-unfailed
+returns-then-n-eq0-clause-unfailed g c = inr (unfailed_then _ _ _ c.loop-n.invariant.unfailed (unfailed_by _ _ _ c.in-Ok-read.ensures.counts))
 
-pub returns-then-limit-len-clause-no_fault : goal.returns-then-limit-len-clause-no_fault
-returns-then-limit-len-clause-no_fault g c = inr (c.in-Ok-read.ensures.no_fault ∙ c.loop-n.invariant.faults)
+pub returns-then-limit-len-clause-unfailed : goal.returns-then-limit-len-clause-unfailed
+returns-then-limit-len-clause-unfailed g c = inr (unfailed_then _ _ _ c.loop-n.invariant.unfailed (unfailed_by _ _ _ c.in-Ok-read.ensures.counts))
 
-pub returns-in_err-extend_from_slice-clause-no_fault : goal.returns-in_err-extend_from_slice-clause-no_fault
-returns-in_err-extend_from_slice-clause-no_fault g c = inr (c.in-Ok-read.ensures.no_fault ∙ c.loop-n.invariant.faults)
+pub returns-in_err-extend_from_slice-clause-unfailed : goal.returns-in_err-extend_from_slice-clause-unfailed
+returns-in_err-extend_from_slice-clause-unfailed g c = inr (unfailed_then _ _ _ c.loop-n.invariant.unfailed (unfailed_by _ _ _ c.in-Ok-read.ensures.counts))
+
+pub returns-in-Err-clause-failed : goal.returns-in-Err-clause-failed
+returns-in-Err-clause-failed g c = λ _. failed_by _ _ _ c.in-Err.ensures.counts

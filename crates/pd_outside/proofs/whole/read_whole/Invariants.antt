@@ -1,4 +1,5 @@
 use Rattle.std.proofs.Common.{◌≡◌, ◌≤◌, ◌+◌, ◌-◌, true, length}
+use Rattle.pd_outside.specs.Faults.{Unfailed}
 use Rattle.pd_outside.specs.Library.{ask}
 use Rattle.pd_outside.proofs.Pieces.{HasRead}
 use Rattle.pd_outside.proofs.whole.read_whole.Given as goal
@@ -10,7 +11,7 @@ invariant-loop-n g l = record {
   started : g.L.Library.is_started l.library ≡ true;
   taken : g.L.Library.taken l.library ≡ length l.bytes.items;
   within : length l.bytes.items ≤ l.limit;
-  faults : g.L.Library.faults l.library ≡ g.L.Library.faults l.fn.library;
+  unfailed : Unfailed (g.L.Library.counts l.fn.library) (g.L.Library.counts l.library);
   chunk : length l.chunk ≡ 65536;
 }
 

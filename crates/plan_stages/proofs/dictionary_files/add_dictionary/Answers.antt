@@ -9,26 +9,26 @@ pub returns-in_err-bytes-clause-after : goal.returns-in_err-bytes-clause-after
 returns-in_err-bytes-clause-after g c =
     let made = err_from_is_err_and c.from_residual.result c.from_residual.ensures.1 in
     let read = c.in_err-bytes.ensures in
-    rw (made.1, made.2) (file_unread c.in_err-bytes.field-0.0 dictionary_limit _ _ _ _ _ _ read.files read.too_long.0 read.once read.stopped read.no_fault read.never_falls)
+    rw (made.1, made.2) (file_unread c.in_err-bytes.field-0.0 dictionary_limit _ _ _ _ _ _ read.files read.too_long.0 read.failed read.stopped read.unfailed)
 
 pub returns-in_err-words-clause-after : goal.returns-in_err-words-clause-after
 returns-in_err-words-clause-after g c =
     let made = err_from_is_err_and c.from_residual-in_err-words.result c.from_residual-in_err-words.ensures.1 in
     let read = c.in_ok-bytes.ensures in
     rw (made.1, made.2)
-    (after_done _ 0 dictionary_limit _ _ _ _ _ _ (grammar_of_itself c.in_err-words.field-0.0) (file_read c.in_ok-bytes.bytes c.args.name.now _ _ _ _ _ _ read.files read.read_out read.within read.no_fault))
+    (after_done _ 0 dictionary_limit _ _ _ _ _ _ (grammar_of_itself c.in_err-words.field-0.0) (file_read c.in_ok-bytes.bytes c.args.name.now _ _ _ _ _ _ read.files read.read_out read.within read.unfailed))
 
 pub returns-in_err-push-clause-after : goal.returns-in_err-push-clause-after
 returns-in_err-push-clause-after g c =
     let made = err_from_is_err_and c.from_residual-in_err-push.result c.from_residual-in_err-push.ensures.1 in
     let read = c.in_ok-bytes.ensures in
     rw (made.1, made.2)
-    (after_done _ 0 dictionary_limit _ _ _ _ _ _ memory_of_itself (file_read c.in_ok-bytes.bytes c.args.name.now _ _ _ _ _ _ read.files read.read_out read.within read.no_fault))
+    (after_done _ 0 dictionary_limit _ _ _ _ _ _ memory_of_itself (file_read c.in_ok-bytes.bytes c.args.name.now _ _ _ _ _ _ read.files read.read_out read.within read.unfailed))
 
 pub returns-clause-after : goal.returns-clause-after
 returns-clause-after g c =
     let read = c.in_ok-bytes.ensures in
-    after_done _ 0 dictionary_limit _ _ _ _ _ _ done_of_itself (file_read c.in_ok-bytes.bytes c.args.name.now _ _ _ _ _ _ read.files read.read_out read.within read.no_fault)
+    after_done _ 0 dictionary_limit _ _ _ _ _ _ done_of_itself (file_read c.in_ok-bytes.bytes c.args.name.now _ _ _ _ _ _ read.files read.read_out read.within read.unfailed)
 
 pub returns-in_err-bytes-clause-refused : goal.returns-in_err-bytes-clause-refused
 returns-in_err-bytes-clause-refused g c =

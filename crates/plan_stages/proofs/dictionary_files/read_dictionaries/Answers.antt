@@ -1,5 +1,6 @@
 use Rattle.std.proofs.Common.{arith, ◌≡◌, ◌+◌, ℕ, Some, ap, sym, ◌∙◌, refl, length}
 use Rattle.std.specs.Prelude.{slice_get}
+use Rattle.pd_outside.proofs.Counts.{unfailed_same, unfailed_then}
 use Rattle.plan_stages.specs.Limits.{dictionary_limit}
 use Rattle.plan_stages.proofs.DictionaryLemmas.{asked_at_end, asked_more, asks_at_most, none_asked, none_read, none_readable, readable_at_end, readable_more, read_more, read_to_fault, unasked_at_end, unasked_at_fault}
 use Rattle.plan_stages.proofs.LibraryLemmas.{after_done, after_step, all_read, done_of_itself}
@@ -15,7 +16,7 @@ loop-place-init g c = record {
   taken = c.requires.taken;
   still = λ _. refl;
   read_out = c.requires.read_out;
-  faults = refl;
+  unfailed = unfailed_same _;
 }
 
 pub loop-place-preserved : goal.loop-place-preserved
@@ -31,7 +32,7 @@ loop-place-preserved g c =
       taken = c.in-Ok.ensures.after.within refl;
       still = λ first. absurd (omega (arith, first));
       read_out = c.in-Ok.ensures.after.read_out refl;
-      faults = c.in-Ok.ensures.after.no_fault (λ e. absurd (cc)) ∙ inv.faults;
+      unfailed = unfailed_then _ _ _ inv.unfailed (c.in-Ok.ensures.after.unfailed (λ e. absurd (cc)));
     }
 
 pub returns-in-Err-clause-read : goal.returns-in-Err-clause-read
@@ -63,9 +64,9 @@ pub returns-clause-readable : goal.returns-clause-readable
 returns-clause-readable g c = readable_at_end _ c.args.names.now c.loop-place.place (omega arith) c.loop-place.invariant.readable
 
 pub returns-in-Err-clause-after : goal.returns-in-Err-clause-after
-returns-in-Err-clause-after g c = after_step _ _ _ _ _ _ _ _ _ _ c.loop-place.invariant.files c.loop-place.invariant.faults c.in-Err.ensures.after
+returns-in-Err-clause-after g c = after_step _ _ _ _ _ _ _ _ _ _ c.loop-place.invariant.files c.loop-place.invariant.unfailed c.in-Err.ensures.after
 
 pub returns-clause-after : goal.returns-clause-after
 returns-clause-after g c =
     let inv = c.loop-place.invariant in
-    after_done _ 0 dictionary_limit _ _ _ _ _ _ done_of_itself (all_read _ _ _ _ _ _ inv.files inv.read_out inv.taken inv.faults)
+    after_done _ 0 dictionary_limit _ _ _ _ _ _ done_of_itself (all_read _ _ _ _ _ _ inv.files inv.read_out inv.taken inv.unfailed)

@@ -1,6 +1,7 @@
 use Rattle.std.proofs.Common.{◌≡◌, ◌≤◌, ◌++◌, List, ℕ, length, take}
 use Rattle.std.specs.Prelude.{IfSome}
 use Rattle.std.specs.Option.{option_map}
+use Rattle.pd_outside.specs.Faults.{Unfailed}
 use Rattle.plan_stages.specs.Limits.{dictionary_limit}
 use Rattle.plan_stages.specs.Stages.{told_files, IsReadOut}
 use Rattle.plan_stages.proofs.DictionaryLemmas.{AreReadable, IsReadSoFar}
@@ -16,5 +17,5 @@ invariant-loop-place g l = record {
   taken : g.L.Library.taken l.library ≤ dictionary_limit;
   still : l.place ≡ 0 → g.L.Library.taken l.library ≡ g.L.Library.taken l.fn.library;
   read_out : IsReadOut (g.L.Library.content l.library);
-  faults : g.L.Library.faults l.library ≡ g.L.Library.faults l.fn.library;
+  unfailed : Unfailed (g.L.Library.counts l.fn.library) (g.L.Library.counts l.library);
 }

@@ -2,6 +2,7 @@ use Rattle.std.proofs.Common.{arith, ◌≡◌, ◌+◌, ◌++◌, ◌∙◌, Er
 use Rattle.std.specs.Prelude.{slice_get}
 use Rattle.std.specs.Option.{option_map}
 use Rattle.std.proofs.lemmas.List.{take_all}
+use Rattle.pd_outside.proofs.Counts.{unfailed_same, unfailed_then}
 use Rattle.plan_stages.specs.Inputs.{all_read_out, taken_of_last, total_length}
 use Rattle.plan_stages.proofs.DictionaryLemmas.{asked_more, none_asked}
 use Rattle.plan_stages.proofs.InputLemmas.{asked_to_fault, cause_of, files_stay, inputs_at_end, inputs_more, inputs_to_fault, limit_of_next, no_input, none_read_out, read_out_more, length_more, taken_more, total_more}
@@ -16,7 +17,7 @@ loop-place-init g c = record {
   asked = none_asked _;
   content = none_read_out _;
   taken = ap (λ (inputs : List (List ℕ)). taken_of_last inputs (g.L.Library.taken c.args.library.now)) (sym c.new-inputs.ensures);
-  faults = refl;
+  unfailed = unfailed_same _;
 }
 
 pub loop-place-preserved : goal.loop-place-preserved
@@ -33,7 +34,7 @@ loop-place-preserved g c =
       asked = asked_more _ c.loop-place.place c.as_str-name.result.now _ _ _ at inv.asked (c.in-Ok.ensures.asked (inl refl));
       content = read_out_more _ c.loop-place.place c.as_str-name.result.now _ _ _ at inv.content one.read_out;
       taken = one.taken ∙ sym (taken_more c.loop-place.inputs c.add_input.new.inputs one.bytes (g.L.Library.taken c.args.library.now) one.appended);
-      faults = one.no_fault ∙ inv.faults;
+      unfailed = unfailed_then _ _ _ inv.unfailed one.unfailed;
     }
 
 pub returns-in-Err-clause-inputs : goal.returns-in-Err-clause-inputs
@@ -53,7 +54,7 @@ returns-in-Err-clause-unread g c =
       limits = limit_of_next _ _ _ c.loop-place.left _ c.loop-place.place inv.limits inv.read;
       at_most = c.in-Err.ensures.at_most;
       only_too_long = λ more. cause_of c.in-Err.cause (c.in-Err.ensures.only_too_long more);
-      library = after_step _ _ _ _ _ _ _ _ _ _ (files_stay (take c.loop-place.place c.args.names.now) _ _ inv.content) inv.faults c.in-Err.ensures.unread;
+      library = after_step _ _ _ _ _ _ _ _ _ _ (files_stay (take c.loop-place.place c.args.names.now) _ _ inv.content) inv.unfailed c.in-Err.ensures.unread;
     }
 
 pub returns-in-Err-clause-asked_to_fault : goal.returns-in-Err-clause-asked_to_fault
@@ -75,7 +76,7 @@ returns-clause-read g c =
       within = omega (arith, inv.limits);
       read_out = inv.content ∙ ap (λ (names : List (List ℕ)). option_map (all_read_out names) (g.L.Library.content c.args.library.now)) all;
       taken = inv.taken;
-      no_fault = inv.faults;
+      unfailed = inv.unfailed;
     }
 
 pub returns-clause-asked : goal.returns-clause-asked

@@ -1,6 +1,7 @@
 use Rattle.std.proofs.Common.{◌≡◌, ◌+◌, ◌++◌, List, ℕ, length, take}
 use Rattle.std.specs.Prelude.{IfSome}
 use Rattle.std.specs.Option.{option_map}
+use Rattle.pd_outside.specs.Faults.{Unfailed}
 use Rattle.plan_stages.specs.Inputs.{all_read_out, taken_of_last, total_length}
 use Rattle.plan_stages.specs.Stages.{told_files}
 use Rattle.plan_stages.proofs.InputLemmas.{AreReadSoFar}
@@ -14,5 +15,5 @@ invariant-loop-place g l = record {
   asked : g.L.Library.asked l.library ≡ option_map (λ (names : List (List ℕ)). names ++ take l.place l.names) (g.L.Library.asked l.fn.library);
   content : g.L.Library.content l.library ≡ option_map (all_read_out (take l.place l.names)) (g.L.Library.content l.fn.library);
   taken : g.L.Library.taken l.library ≡ taken_of_last l.inputs (g.L.Library.taken l.fn.library);
-  faults : g.L.Library.faults l.library ≡ g.L.Library.faults l.fn.library;
+  unfailed : Unfailed (g.L.Library.counts l.fn.library) (g.L.Library.counts l.library);
 }

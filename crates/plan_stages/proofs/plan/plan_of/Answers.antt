@@ -1,7 +1,7 @@
 use Rattle.std.proofs.Common.{◌≤◌, arith, inl, length, refl}
 use Rattle.std.proofs.lemmas.Result.{err_from_is_err_and}
 use Rattle.plan_stages.specs.Limits.{schema_limit}
-use Rattle.plan_stages.proofs.LibraryLemmas.{after_step, file_unread, no_fault_on_ok}
+use Rattle.plan_stages.proofs.LibraryLemmas.{after_step, file_unread, unfailed_on_ok}
 use Rattle.plan_stages.proofs.PlanLemmas.{asks_schema_at_most, asks_then, decided_for_name, plan_read}
 use Rattle.plan_stages.proofs.plan.plan_of.Goals as goal
 
@@ -31,9 +31,9 @@ pub returns-in_err-bytes-clause-after : goal.returns-in_err-bytes-clause-after
 returns-in_err-bytes-clause-after g c =
     let made = err_from_is_err_and c.from_residual.result c.from_residual.ensures.1 in
     let read = c.in_err-bytes.ensures in
-    rw (made.1, made.2) (file_unread c.in_err-bytes.field-0.0 schema_limit _ _ _ _ _ _ read.files read.too_long.0 read.once read.stopped read.no_fault read.never_falls)
+    rw (made.1, made.2) (file_unread c.in_err-bytes.field-0.0 schema_limit _ _ _ _ _ _ read.files read.too_long.0 read.failed read.stopped read.unfailed)
 
 pub returns-clause-after : goal.returns-clause-after
 returns-clause-after g c =
     let read = c.in_ok-bytes.ensures in
-    after_step _ _ _ _ _ _ _ _ _ _ read.files (no_fault_on_ok c.in_ok-bytes.bytes _ _ read.no_fault) c.plan_of_text.ensures.after
+    after_step _ _ _ _ _ _ _ _ _ _ read.files (unfailed_on_ok c.in_ok-bytes.bytes _ _ read.unfailed) c.plan_of_text.ensures.after
