@@ -2,7 +2,7 @@
 use Rattle.std.specs.Prelude.{◌≡◌, ◌&&◌, ◌==◌, ℕ, Bool, List, Option, Result, Some, string_bytes}
 use Rattle.std.specs.HashMap.{get}
 use Rattle.std.specs.Option.{option_map}
-use Rattle.pd_outside.specs.Faults.{counted, faults_after}
+use Rattle.pd_outside.specs.Faults.{Counts, exact_counts, faults_after}
 use Rattle.keeper_play.specs.Kept.{KeptRow, KeptRows}
 use Rattle.keeper_play.specs.Store.{Store}
 use Rattle.keeper_play.specs.declared.map_keeper.Kept.{Kept}
@@ -23,6 +23,10 @@ pub record Keeping : Type 0 where
 abbrev pub store_of : Keeping → Store
 store_of keeping =
     record { rows = Some keeping.rows; name = Some keeping.name; is_open = keeping.is_open; done = keeping.done }
+
+-- what it tells of failed calls
+abbrev pub counts_of : Keeping → Counts
+counts_of keeping = exact_counts keeping.faults keeping.last_failed
 
 -- A call counts a fault where it fails, and leaves what is stated of calls.
 pub record IsCounted {T E : Type 0} (result : Result T E) (before now : Keeping) : Type 0 where

@@ -1,7 +1,7 @@
 //! A store of rows and of the references between them.
 
 ghost use Rattle.std.specs.Prelude.{◌≡◌, ◌≤◌, ℕ, Bool, true, false, IsTrue, OnOk, OnErr, Some, None, is_err};
-ghost use Rattle.pd_outside.specs.Faults.{Rose, faults_after};
+ghost use Rattle.pd_outside.specs.Faults.{CallMade, Counts};
 ghost use Rattle.keeper_play.specs.Kept.{put_row, drop_row};
 ghost use Rattle.keeper_play.specs.Store.{Store, finish_store, perform, start_store};
 
@@ -16,7 +16,7 @@ pub struct RefTo {
     pub key: u64,
 }
 
-/// A call of a `Keeper` failed. Its count of faults rose, and what it keeps stays as it was.
+/// A call of a `Keeper` failed. What it keeps stays as it was.
 #[derive(Clone, Copy, Debug, PartialEq, Eq)]
 pub struct KeepFailed;
 
@@ -29,21 +29,16 @@ pub trait Keeper {
     /// started.
     ghost store: { Self → Store };
 
-    /// How often a call failed: a count of 64 bits. It rises only if a call fails, and stops at the end of its type.
-    ghost faults: { Self → ℕ };
-
-    /// Whether the last call failed. It is false before the first call.
-    ghost last_failed: { Self → Bool };
+    /// What is told of failed calls: a count that rises whenever one fails and never falls. An implementation that counts exactly tells
+    /// how many failed and whether the last call did, too.
+    ghost counts: { Self → Counts };
 
     /// Opens the store of a name, which then has no rows. At `KeepFailed` nothing changes.
     fn start(&mut self, name: &str) -> Result<(), KeepFailed>
         requires { (store self.old).is_open ≡ false }
         ensures started { OnOk result (store self.new ≡ start_store name.now (store self.old)) }
         ensures unchanged { OnErr result (store self.new ≡ store self.old) }
-        ensures never_falls { faults self.old ≤ faults self.new }
-        ensures cause { OnErr result (Rose (faults self.old) (faults self.new)) }
-        ensures counted { faults self.new ≡ faults_after result (faults self.old) }
-        ensures last { last_failed self.new ≡ is_err result };
+        ensures counts { CallMade result (counts self.old) (counts self.new) };
 
     /// Puts the row of a table with a key: its references, and its line with its line feed. Replaces a row with the same key. At `KeepFailed`
     /// nothing changes.
@@ -51,28 +46,19 @@ pub trait Keeper {
         requires { IsTrue (store self.old).is_open }
         ensures made { OnOk result (store self.new ≡ perform (put_row table key (record { refs = refs.now; line = line.now })) (store self.old)) }
         ensures unchanged { OnErr result (store self.new ≡ store self.old) }
-        ensures never_falls { faults self.old ≤ faults self.new }
-        ensures cause { OnErr result (Rose (faults self.old) (faults self.new)) }
-        ensures counted { faults self.new ≡ faults_after result (faults self.old) }
-        ensures last { last_failed self.new ≡ is_err result };
+        ensures counts { CallMade result (counts self.old) (counts self.new) };
 
     /// Drops the row of a table with a key. Does nothing if there is none. At `KeepFailed` nothing changes.
     fn drop_row(&mut self, table: u32, key: u64) -> Result<(), KeepFailed>
         requires { IsTrue (store self.old).is_open }
         ensures made { OnOk result (store self.new ≡ perform (drop_row table key) (store self.old)) }
         ensures unchanged { OnErr result (store self.new ≡ store self.old) }
-        ensures never_falls { faults self.old ≤ faults self.new }
-        ensures cause { OnErr result (Rose (faults self.old) (faults self.new)) }
-        ensures counted { faults self.new ≡ faults_after result (faults self.old) }
-        ensures last { last_failed self.new ≡ is_err result };
+        ensures counts { CallMade result (counts self.old) (counts self.new) };
 
     /// Closes the store, which keeps what was put. At `KeepFailed` it stays open, as it was.
     fn finish(&mut self) -> Result<(), KeepFailed>
         requires { IsTrue (store self.old).is_open }
         ensures finished { OnOk result (store self.new ≡ finish_store (store self.old)) }
         ensures unchanged { OnErr result (store self.new ≡ store self.old) }
-        ensures never_falls { faults self.old ≤ faults self.new }
-        ensures cause { OnErr result (Rose (faults self.old) (faults self.new)) }
-        ensures counted { faults self.new ≡ faults_after result (faults self.old) }
-        ensures last { last_failed self.new ≡ is_err result };
+        ensures counts { CallMade result (counts self.old) (counts self.new) };
 }

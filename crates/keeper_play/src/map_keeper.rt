@@ -237,21 +237,16 @@ impl MapKeeper {
 impl Keeper for MapKeeper {
     ghost store = { λ m. store_of (keeping_of m) };
 
-    ghost faults = { λ m. (keeping_of m).faults };
-
-    ghost last_failed = { λ m. (keeping_of m).last_failed };
+    ghost counts = { λ m. counts_of (keeping_of m) };
 
     fn start(&mut self, name: &str) -> Result<(), KeepFailed>
         requires { (store_of (keeping_of self.old)).is_open ≡ false }
         ensures started { OnOk result (store_of (keeping_of self.new) ≡ start_store name.now (store_of (keeping_of self.old))) }
         ensures unchanged { OnErr result (store_of (keeping_of self.new) ≡ store_of (keeping_of self.old)) }
-        ensures never_falls { (keeping_of self.old).faults ≤ (keeping_of self.new).faults }
-        ensures cause { OnErr result (Rose (keeping_of self.old).faults (keeping_of self.new).faults) }
-        ensures counted { (keeping_of self.new).faults ≡ faults_after result (keeping_of self.old).faults }
-        ensures last { (keeping_of self.new).last_failed ≡ is_err result }
+        ensures counts { CallMade result (counts_of (keeping_of self.old)) (counts_of (keeping_of self.new)) }
 
         // It fails only if memory runs out.
-        ensures counts { IsCounted result (keeping_of self.old) (keeping_of self.new) }
+        ensures counted { IsCounted result (keeping_of self.old) (keeping_of self.new) }
         ensures calls { (keeping_of self.new).calls ≡ (keeping_of self.old).calls }
     {
         match String::from_str(self.alloc, name) {
@@ -271,14 +266,11 @@ impl Keeper for MapKeeper {
         requires { IsTrue (store_of (keeping_of self.old)).is_open }
         ensures made { OnOk result (store_of (keeping_of self.new) ≡ perform (put_row table key (record { refs = refs.now; line = line.now })) (store_of (keeping_of self.old))) }
         ensures unchanged { OnErr result (store_of (keeping_of self.new) ≡ store_of (keeping_of self.old)) }
-        ensures never_falls { (keeping_of self.old).faults ≤ (keeping_of self.new).faults }
-        ensures cause { OnErr result (Rose (keeping_of self.old).faults (keeping_of self.new).faults) }
-        ensures counted { (keeping_of self.new).faults ≡ faults_after result (keeping_of self.old).faults }
-        ensures last { (keeping_of self.new).last_failed ≡ is_err result }
+        ensures counts { CallMade result (counts_of (keeping_of self.old)) (counts_of (keeping_of self.new)) }
 
         // It fails if it is stated to. Otherwise it fails only if memory, or a number for its statement, runs out.
         ensures stated { Contains (keeping_of self.old).fails (counted (keeping_of self.old).calls) → IsErr result }
-        ensures counts { IsCounted result (keeping_of self.old) (keeping_of self.new) }
+        ensures counted { IsCounted result (keeping_of self.old) (keeping_of self.new) }
         ensures calls { (keeping_of self.new).calls ≡ counted (keeping_of self.old).calls }
     {
         if self.may_call() && self.insert(table, key, refs, line).is_ok() {
@@ -292,15 +284,12 @@ impl Keeper for MapKeeper {
         requires { IsTrue (store_of (keeping_of self.old)).is_open }
         ensures made { OnOk result (store_of (keeping_of self.new) ≡ perform (drop_row table key) (store_of (keeping_of self.old))) }
         ensures unchanged { OnErr result (store_of (keeping_of self.new) ≡ store_of (keeping_of self.old)) }
-        ensures never_falls { (keeping_of self.old).faults ≤ (keeping_of self.new).faults }
-        ensures cause { OnErr result (Rose (keeping_of self.old).faults (keeping_of self.new).faults) }
-        ensures counted { (keeping_of self.new).faults ≡ faults_after result (keeping_of self.old).faults }
-        ensures last { (keeping_of self.new).last_failed ≡ is_err result }
+        ensures counts { CallMade result (counts_of (keeping_of self.old)) (counts_of (keeping_of self.new)) }
 
         // It fails if it is stated to. Otherwise it fails only if no number for its statement is left.
         ensures stated { Contains (keeping_of self.old).fails (counted (keeping_of self.old).calls) → IsErr result }
         ensures unstated { (keeping_of self.old).done < last_count → OnErr result (Contains (keeping_of self.old).fails (counted (keeping_of self.old).calls)) }
-        ensures counts { IsCounted result (keeping_of self.old) (keeping_of self.new) }
+        ensures counted { IsCounted result (keeping_of self.old) (keeping_of self.new) }
         ensures calls { (keeping_of self.new).calls ≡ counted (keeping_of self.old).calls }
     {
         if self.may_call() {
@@ -315,14 +304,11 @@ impl Keeper for MapKeeper {
         requires { IsTrue (store_of (keeping_of self.old)).is_open }
         ensures finished { OnOk result (store_of (keeping_of self.new) ≡ finish_store (store_of (keeping_of self.old))) }
         ensures unchanged { OnErr result (store_of (keeping_of self.new) ≡ store_of (keeping_of self.old)) }
-        ensures never_falls { (keeping_of self.old).faults ≤ (keeping_of self.new).faults }
-        ensures cause { OnErr result (Rose (keeping_of self.old).faults (keeping_of self.new).faults) }
-        ensures counted { (keeping_of self.new).faults ≡ faults_after result (keeping_of self.old).faults }
-        ensures last { (keeping_of self.new).last_failed ≡ is_err result }
+        ensures counts { CallMade result (counts_of (keeping_of self.old)) (counts_of (keeping_of self.new)) }
 
         // It never fails.
         ensures sure { IsOk result }
-        ensures counts { IsCounted result (keeping_of self.old) (keeping_of self.new) }
+        ensures counted { IsCounted result (keeping_of self.old) (keeping_of self.new) }
         ensures calls { (keeping_of self.new).calls ≡ (keeping_of self.old).calls }
     {
         self.is_open = false;

@@ -3,7 +3,7 @@
 ghost use Rattle.std.specs.Prelude.{◌≡◌, ◌<◌, ◌≤◌, ◌∷◌, [], All, IsTrue, flat_map, length, map, reverse, OnErr, OnOk, true};
 ghost use Rattle.std.specs.List.{range_with_len};
 ghost use Rattle.cohort_sizes.specs.Births.{born_count};
-ghost use Rattle.pd_outside.specs.Faults.{FailsAtLast, Rose};
+ghost use Rattle.pd_outside.specs.Faults.{CallsMade};
 ghost use Rattle.schema_plan.specs.Layout.{layout_of};
 ghost use Rattle.schema_plan.specs.TableFacts.{reach};
 ghost use Rattle.life_intervals.specs.CohortKeys.{IsCohort};
@@ -44,8 +44,7 @@ pub fn play_unit<K: Keeper, U: UnitSource, L: Ledger>(
     requires room { reach (layout_of plan.now) ≤ buf.old.room }
     ensures made { OnOk result (K.store keeper.new ≡ perform_all (unit_statements (generator_of plan.now) unit) (K.store keeper.old)) }
     ensures stopped { OnErr result (StoppedIn (unit_statements (generator_of plan.now) unit) (K.store keeper.old) (K.store keeper.new)) }
-    ensures at_last { FailsAtLast result (K.faults keeper.old) (K.faults keeper.new) (K.last_failed keeper.new) }
-    ensures cause { OnErr result (Rose (K.faults keeper.old) (K.faults keeper.new)) }
+    ensures counts { CallsMade result (K.counts keeper.old) (K.counts keeper.new) }
     ensures page { buf.new ≡ buf.old }
 {
     play_rows(&Rows::of(plan), unit, source, keeper, buf, steps)
@@ -67,8 +66,7 @@ pub fn play_rows<K: Keeper, U: UnitSource, L: Ledger>(
     requires room { reach (layout_of rows.now) ≤ buf.old.room }
     ensures made { OnOk result (K.store keeper.new ≡ perform_all (unit_statements (generator_of rows.now) unit) (K.store keeper.old)) }
     ensures stopped { OnErr result (StoppedIn (unit_statements (generator_of rows.now) unit) (K.store keeper.old) (K.store keeper.new)) }
-    ensures at_last { FailsAtLast result (K.faults keeper.old) (K.faults keeper.new) (K.last_failed keeper.new) }
-    ensures cause { OnErr result (Rose (K.faults keeper.old) (K.faults keeper.new)) }
+    ensures counts { CallsMade result (K.counts keeper.old) (K.counts keeper.new) }
     ensures page { buf.new ≡ buf.old }
 {
     let _limits = rows.plan().schema(); // so the rows of unit 0 are its insertions
@@ -93,7 +91,7 @@ fn put_updates<K: Keeper, U: UnitSource, L: Ledger>(
     requires room { reach (layout_of rows.now) ≤ buf.old.room }
     ensures made { OnOk result (K.store keeper.new ≡ perform_all (flat_map (updates (generator_of rows.now) unit) (places (generator_of rows.now))) (K.store keeper.old)) }
     ensures stopped { OnErr result (StoppedIn (flat_map (updates (generator_of rows.now) unit) (places (generator_of rows.now))) (K.store keeper.old) (K.store keeper.new)) }
-    ensures at_last { FailsAtLast result (K.faults keeper.old) (K.faults keeper.new) (K.last_failed keeper.new) }
+    ensures counts { CallsMade result (K.counts keeper.old) (K.counts keeper.new) }
     ensures page { buf.new ≡ buf.old }
 {
     let _limits = rows.plan().schema(); // so the rows that it updates are alive
@@ -116,7 +114,7 @@ fn drop_deletions<K: Keeper, U: UnitSource, L: Ledger>(
     requires is_open { IsTrue (K.store keeper.old).is_open }
     ensures made { OnOk result (K.store keeper.new ≡ perform_all (flat_map (deletions (generator_of rows.now) unit) (reverse (places (generator_of rows.now)))) (K.store keeper.old)) }
     ensures stopped { OnErr result (StoppedIn (flat_map (deletions (generator_of rows.now) unit) (reverse (places (generator_of rows.now)))) (K.store keeper.old) (K.store keeper.new)) }
-    ensures at_last { FailsAtLast result (K.faults keeper.old) (K.faults keeper.new) (K.last_failed keeper.new) }
+    ensures counts { CallsMade result (K.counts keeper.old) (K.counts keeper.new) }
 {
     let _limits = rows.plan().schema(); // so the rows that it deletes are born
     let tables = rows.plan().tables();
@@ -143,7 +141,7 @@ fn put_insertions<K: Keeper, U: UnitSource, L: Ledger>(
     requires room { reach (layout_of rows.now) ≤ buf.old.room }
     ensures made { OnOk result (K.store keeper.new ≡ perform_all (flat_map (insertions (generator_of rows.now) unit) (places (generator_of rows.now))) (K.store keeper.old)) }
     ensures stopped { OnErr result (StoppedIn (flat_map (insertions (generator_of rows.now) unit) (places (generator_of rows.now))) (K.store keeper.old) (K.store keeper.new)) }
-    ensures at_last { FailsAtLast result (K.faults keeper.old) (K.faults keeper.new) (K.last_failed keeper.new) }
+    ensures counts { CallsMade result (K.counts keeper.old) (K.counts keeper.new) }
     ensures page { buf.new ≡ buf.old }
 {
     let _limits = rows.plan().schema(); // so the rows that it inserts are alive
@@ -172,7 +170,7 @@ fn put_listed<K: Keeper, L: Ledger>(
     requires room { reach (layout_of rows.now) ≤ buf.old.room }
     ensures made { OnOk result (K.store keeper.new ≡ perform_all (map (put_at rows.now unit table) ordinals.now) (K.store keeper.old)) }
     ensures stopped { OnErr result (StoppedIn (map (put_at rows.now unit table) ordinals.now) (K.store keeper.old) (K.store keeper.new)) }
-    ensures at_last { FailsAtLast result (K.faults keeper.old) (K.faults keeper.new) (K.last_failed keeper.new) }
+    ensures counts { CallsMade result (K.counts keeper.old) (K.counts keeper.new) }
     ensures page { buf.new ≡ buf.old }
 {
     let mut refs = NO_REFS;
@@ -204,7 +202,7 @@ fn put_cohort<K: Keeper, L: Ledger>(
     requires room { reach (layout_of rows.now) ≤ buf.old.room }
     ensures made { OnOk result (K.store keeper.new ≡ perform_all (map (put_at rows.now unit table) (range_with_len cohort.first cohort.size)) (K.store keeper.old)) }
     ensures stopped { OnErr result (StoppedIn (map (put_at rows.now unit table) (range_with_len cohort.first cohort.size)) (K.store keeper.old) (K.store keeper.new)) }
-    ensures at_last { FailsAtLast result (K.faults keeper.old) (K.faults keeper.new) (K.last_failed keeper.new) }
+    ensures counts { CallsMade result (K.counts keeper.old) (K.counts keeper.new) }
     ensures page { buf.new ≡ buf.old }
 {
     let _limits = rows.plan().schema(); // so its rows are alive
@@ -236,7 +234,7 @@ fn drop_listed<K: Keeper, L: Ledger>(
     requires is_open { IsTrue (K.store keeper.old).is_open }
     ensures made { OnOk result (K.store keeper.new ≡ perform_all (map (drop_at rows.now table) ordinals.now) (K.store keeper.old)) }
     ensures stopped { OnErr result (StoppedIn (map (drop_at rows.now table) ordinals.now) (K.store keeper.old) (K.store keeper.new)) }
-    ensures at_last { FailsAtLast result (K.faults keeper.old) (K.faults keeper.new) (K.last_failed keeper.new) }
+    ensures counts { CallsMade result (K.counts keeper.old) (K.counts keeper.new) }
 {
     for j in ordinals {
         let key = rows.key(table, *j, steps);
@@ -270,7 +268,7 @@ fn put_row<K: Keeper, L: Ledger>(
     requires room { reach (layout_of rows.now) ≤ buf.old.room }
     ensures made { OnOk result (K.store keeper.new ≡ perform_all (put_at rows.now unit table row.ordinal ∷ []) (K.store keeper.old)) }
     ensures stopped { OnErr result (StoppedIn (put_at rows.now unit table row.ordinal ∷ []) (K.store keeper.old) (K.store keeper.new)) }
-    ensures at_last { FailsAtLast result (K.faults keeper.old) (K.faults keeper.new) (K.last_failed keeper.new) }
+    ensures counts { CallsMade result (K.counts keeper.old) (K.counts keeper.new) }
     ensures page { buf.new ≡ buf.old }
 {
     let _limits = rows.plan().schema(); // so each line is within the reach

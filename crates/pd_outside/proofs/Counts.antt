@@ -1,6 +1,6 @@
 -- What is told of failed calls, call after call.
-use Rattle.std.proofs.Common.{◌≤◌, ℕ, Ok, Err, inl, inr, refl, ap, arith, ◌∙◌}
-use Rattle.pd_outside.specs.Faults.{CallMade, Counts, FailedAtLast, Rose, Unfailed, one_more}
+use Rattle.std.proofs.Common.{◌≤◌, ℕ, Result, Ok, Err, inl, inr, refl, ap, arith, ◌∙◌}
+use Rattle.pd_outside.specs.Faults.{CallMade, CallsMade, Counts, FailedAtLast, Rose, Unfailed, one_more}
 
 -- what rose later rose since
 pub Rose-earlier : (before mid now : ℕ) → before ≤ mid → Rose mid now → Rose before now
@@ -36,3 +36,13 @@ failed_by fault before now made = record {
   failed = made.failed;
   last = made.last;
 }
+
+-- some calls more
+pub made_then : {T E : Type 0} (result : Result T E) (before mid now : Counts) → Unfailed before mid → CallsMade result mid now → CallsMade result before now
+made_then (Ok value) before mid now sofar made = record { unfailed = unfailed_then before mid now sofar made.unfailed; failed = tt }
+made_then (Err fault) before mid now sofar made = record { unfailed = tt; failed = failed_then before mid now sofar made.failed }
+
+-- one call alone
+pub made_by : {T E : Type 0} (result : Result T E) (before now : Counts) → CallMade result before now → CallsMade result before now
+made_by (Ok value) before now made = record { unfailed = unfailed_by value before now made; failed = tt }
+made_by (Err fault) before now made = record { unfailed = tt; failed = failed_by fault before now made }

@@ -3,7 +3,8 @@ use Rattle.std.proofs.Common.{◌≡◌, ◌≢◌, ℕ, Bool, false, true, List
 use Rattle.std.specs.Prelude.{◌⊎◌, IfErr, IfOk, IfSome, IsErr, OnOk, if◌then◌else◌, ◌↔◌}
 use Rattle.std.specs.Option.{option_map}
 use Rattle.std.proofs.lemmas.List.{take-append-drop}
-use Rattle.pd_outside.specs.Faults.{Rose, counted}
+use Rattle.pd_outside.proofs.Counts.{failed_then, unfailed_same, unfailed_then}
+use Rattle.pd_outside.specs.Faults.{Counts, Unfailed}
 use Rattle.pd_outside.specs.Files.{File}
 use Rattle.pd_outside.specs.Library.{AskedPrefixOf, Content, left}
 use Rattle.plan_stages.specs.PlanNames.{AskedAlone, AsksForPlan, PlanRead, plan_names, possible_names}
@@ -70,24 +71,23 @@ words_status (usage.EmptyDirectory name) = inl refl
 words_status usage.Format = inl refl
 
 -- nothing was done to the library
-pub untouched : (reads : Bool) (status : ℕ) (IsLimit : ℕ → Type 0) (content : Option Content) (taken : ℕ) (is_started : Bool) (faults : ℕ) →
-    (reads ≡ true → status ≢ 0) → status ≢ 5 → status ≢ 10 → LibraryDone reads status IsLimit (told_files content) content taken is_started faults faults
-untouched reads status IsLimit content taken is_started faults undone read short = record {
+pub untouched : (reads : Bool) (status : ℕ) (IsLimit : ℕ → Type 0) (content : Option Content) (taken : ℕ) (is_started : Bool) (counts : Counts) →
+    (reads ≡ true → status ≢ 0) → status ≢ 5 → status ≢ 10 → LibraryDone reads status IsLimit (told_files content) content taken is_started counts counts
+untouched reads status IsLimit content taken is_started counts undone read short = record {
   files = refl;
   read_out = λ yes zero. absurd (undone yes zero);
   too_long = λ ten. absurd (short ten);
-  failed_once = λ five. absurd (read five);
+  failed = λ five. absurd (read five);
   stopped = λ five. absurd (read five);
-  no_fault = λ other. refl;
-  never_falls = omega arith;
+  unfailed = λ other. unfailed_same counts;
 }
 
-pub left_by_words : (reads : Bool) (fault : UsageFault) (IsLimit : ℕ → Type 0) (content : Option Content) (taken : ℕ) (is_started : Bool) (faults : ℕ) →
-    LibraryDone reads (status_of (refusal.Words fault)) IsLimit (told_files content) content taken is_started faults faults
-left_by_words reads fault IsLimit content taken is_started faults =
+pub left_by_words : (reads : Bool) (fault : UsageFault) (IsLimit : ℕ → Type 0) (content : Option Content) (taken : ℕ) (is_started : Bool) (counts : Counts) →
+    LibraryDone reads (status_of (refusal.Words fault)) IsLimit (told_files content) content taken is_started counts counts
+left_by_words reads fault IsLimit content taken is_started counts =
     let status : ℕ = status_of (refusal.Words fault) in
     let known : (status ≡ 2) ⊎ (status ≡ 7) = words_status fault in
-    untouched reads status IsLimit content taken is_started faults (λ yes zero. none 0 known zero (omega arith) (omega arith)) (λ five. none 5 known five (omega arith) (omega arith))
+    untouched reads status IsLimit content taken is_started counts (λ yes zero. none 0 known zero (omega arith) (omega arith)) (λ five. none 5 known five (omega arith) (omega arith))
     (λ ten. none 10 known ten (omega arith) (omega arith))
   where
     none : {status : ℕ} (other : ℕ) → (status ≡ 2) ⊎ (status ≡ 7) → status ≡ other → other ≢ 2 → other ≢ 7 → ⊥
@@ -106,18 +106,18 @@ decided_for_request words (Some files) r (Ok job) is decided =
 decided_for_request words (Some files) r (Err fault) is decided = λ not_free.
     of_words words files (Ok r) (Err (refusal.Job fault)) is (Err fault, decided not_free, refl)
 
-in_job : (reads : Bool) (made : Result Task JobFault) (before : Option (List File)) (now : Option Content) (taken : ℕ) (is_started : Bool) (faults_before faults_now : ℕ) →
-    LibraryDone reads (ended job_status made) (IsLimitTold made) before now taken is_started faults_before faults_now →
-    LibraryDone reads (ended status_of (in_stage refusal.Job made)) (IsLimitRefused (in_stage refusal.Job made)) before now taken is_started faults_before faults_now
-in_job reads (Ok job) before now taken is_started faults_before faults_now left = left
-in_job reads (Err fault) before now taken is_started faults_before faults_now left = left
+in_job : (reads : Bool) (made : Result Task JobFault) (before : Option (List File)) (now : Option Content) (taken : ℕ) (is_started : Bool) (counts_before counts_now : Counts) →
+    LibraryDone reads (ended job_status made) (IsLimitTold made) before now taken is_started counts_before counts_now →
+    LibraryDone reads (ended status_of (in_stage refusal.Job made)) (IsLimitRefused (in_stage refusal.Job made)) before now taken is_started counts_before counts_now
+in_job reads (Ok job) before now taken is_started counts_before counts_now left = left
+in_job reads (Err fault) before now taken is_started counts_before counts_now left = left
 
-pub left_by_request : (words : List (List ℕ)) (r : Request) (made : Result Task JobFault) (before : Option (List File)) (now : Option Content) (taken : ℕ) (is_started : Bool) (faults_before faults_now : ℕ) →
-    request words ≡ Ok r → LibraryDone (reads_schema r.mode) (ended job_status made) (IsLimitTold made) before now taken is_started faults_before faults_now →
-    LibraryDone (reads_for (request words)) (ended status_of (in_stage refusal.Job made)) (IsLimitRefused (in_stage refusal.Job made)) before now taken is_started faults_before faults_now
-left_by_request words r made before now taken is_started faults_before faults_now is left =
-    subst (λ (q : Result Request UsageFault). LibraryDone (reads_for q) (ended status_of (in_stage refusal.Job made)) (IsLimitRefused (in_stage refusal.Job made)) before now taken is_started faults_before faults_now)
-    (sym is) (in_job (reads_schema r.mode) made before now taken is_started faults_before faults_now left)
+pub left_by_request : (words : List (List ℕ)) (r : Request) (made : Result Task JobFault) (before : Option (List File)) (now : Option Content) (taken : ℕ) (is_started : Bool) (counts_before counts_now : Counts) →
+    request words ≡ Ok r → LibraryDone (reads_schema r.mode) (ended job_status made) (IsLimitTold made) before now taken is_started counts_before counts_now →
+    LibraryDone (reads_for (request words)) (ended status_of (in_stage refusal.Job made)) (IsLimitRefused (in_stage refusal.Job made)) before now taken is_started counts_before counts_now
+left_by_request words r made before now taken is_started counts_before counts_now is left =
+    subst (λ (q : Result Request UsageFault). LibraryDone (reads_for q) (ended status_of (in_stage refusal.Job made)) (IsLimitRefused (in_stage refusal.Job made)) before now taken is_started counts_before counts_now)
+    (sym is) (in_job (reads_schema r.mode) made before now taken is_started counts_before counts_now left)
 
 -- what is decided of a request that reads a schema, or of a sample
 pub reads-other : (mode : Mode) → mode ≢ Sample → reads_schema mode ≡ true
@@ -182,25 +182,31 @@ limits_of_words words told r status is limits =
 
 -- ---- what the library leaves
 
-pub left_without_plan : (fault : PlanFault) (before : Option (List File)) (now : Option Content) (taken : ℕ) (is_started : Bool) (faults_before faults_now : ℕ) →
-    LibraryAfter (plan_status fault) (limit_at fault) before now taken is_started faults_before faults_now →
-    LibraryLeft (plan_status fault) (IsLimitOf (job.Plan fault)) before now taken is_started faults_before faults_now
-left_without_plan fault before now taken is_started faults_before faults_now after = record {
+pub left_without_plan : (fault : PlanFault) (before : Option (List File)) (now : Option Content) (taken : ℕ) (is_started : Bool) (counts_before counts_now : Counts) →
+    LibraryAfter (plan_status fault) (limit_at fault) before now taken is_started counts_before counts_now →
+    LibraryLeft (plan_status fault) (IsLimitOf (job.Plan fault)) before now taken is_started counts_before counts_now
+left_without_plan fault before now taken is_started counts_before counts_now after = record {
   files = after.files;
   read_out = λ yes. after.read_out;
   too_long = λ ten. (limit_at fault, refl, after.too_long ten);
-  failed_once = after.failed_once;
+  failed = after.failed;
   stopped = after.stopped;
-  no_fault = after.no_fault;
-  never_falls = after.never_falls;
+  unfailed = after.unfailed;
 }
 
-pub left_with_plan : (status : ℕ) (IsLimit : ℕ → Type 0) (limit : ℕ) (before : Option (List File)) (mid now : Option Content) (taken_mid taken : ℕ) (started_mid is_started : Bool) (faults_before faults_mid faults_now : ℕ) →
-    LibraryAfter 0 limit before mid taken_mid started_mid faults_before faults_mid →
-    LibraryLeft status IsLimit (told_files mid) now taken is_started faults_mid faults_now → LibraryLeft status IsLimit before now taken is_started faults_before faults_now
-left_with_plan status IsLimit limit before mid now taken_mid taken started_mid is_started faults_before faults_mid faults_now after left =
-    subst (λ (faults : ℕ). LibraryLeft status IsLimit before now taken is_started faults faults_now) (after.no_fault (λ e. absurd (cc)))
-    (subst (λ (told : Option (List File)). LibraryLeft status IsLimit told now taken is_started faults_mid faults_now) after.files left)
+pub left_with_plan : (status : ℕ) (IsLimit : ℕ → Type 0) (limit : ℕ) (before : Option (List File)) (mid now : Option Content) (taken_mid taken : ℕ) (started_mid is_started : Bool) (counts_before counts_mid counts_now : Counts) →
+    LibraryAfter 0 limit before mid taken_mid started_mid counts_before counts_mid →
+    LibraryLeft status IsLimit (told_files mid) now taken is_started counts_mid counts_now → LibraryLeft status IsLimit before now taken is_started counts_before counts_now
+left_with_plan status IsLimit limit before mid now taken_mid taken started_mid is_started counts_before counts_mid counts_now after left =
+    let sofar : Unfailed counts_before counts_mid = after.unfailed (λ e. absurd (cc)) in
+    record {
+      files = left.files ∙ after.files;
+      read_out = left.read_out;
+      too_long = left.too_long;
+      failed = λ five. failed_then counts_before counts_mid counts_now sofar (left.failed five);
+      stopped = left.stopped;
+      unfailed = λ other. unfailed_then counts_before counts_mid counts_now sofar (left.unfailed other);
+    }
 
 -- ---- the names that are asked
 
@@ -355,10 +361,6 @@ pub refused-usage : (words : List (List ℕ)) (r : Refusal) → IfErr (request w
 refused-usage words r no_memory told other = usage_status (request words) r no_memory told other
 
 -- ---- what the library leaves
-
--- a count that was counted up rose
-pub rose : (before now : ℕ) → now ≡ counted before → Rose before now
-rose before now is = grind (arith)
 
 -- what was read is read to its end
 pub read_to_the_end : (before now : Option Content) → told_files now ≡ told_files before → IsReadOut now → option_map left now ≡ option_map (λ (c : Content). []) before

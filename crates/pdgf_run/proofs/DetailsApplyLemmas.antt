@@ -2,6 +2,7 @@
 use Rattle.std.proofs.Common.{◌≡◌, ◌≤◌, ◌+◌, ℕ, Bool, List, [], ◌∷◌, ◌++◌, length, length-append, take, Option, None, Some, Result, Ok, Err, inl, inr, refl, ap, sym, subst, ◌∙◌, arith}
 use Rattle.std.specs.Prelude.{◌⊎◌, IfSome}
 use Rattle.std.specs.Option.{option_map}
+use Rattle.pd_outside.specs.Faults.{Counts}
 use Rattle.pd_outside.specs.Files.{File}
 use Rattle.pd_outside.specs.Library.{AskedAtMost, AskedPrefixOf, Content, ask}
 use Rattle.plan_stages.specs.Limits.{schema_limit}
@@ -54,17 +55,16 @@ declared_decided (Some files) mid plan r name detail answer is declared same dec
     (IfSome-same (λ (f : List File). IsDecided job_status due_of (AreDetailsOf plan r f detail) answer) mid (Some files) same decided)
 
 -- what is left of the library where it isn't declared
-pub left_undeclared : (cause : DetailsCause) (before : Option (List File)) (now : Option Content) (taken : ℕ) (is_started : Bool) (faults_before faults_now : ℕ) →
-    LibraryAfter (details_status cause) schema_limit before now taken is_started faults_before faults_now →
-    LibraryLeft (details_status cause) (IsLimitOf (job.Details cause)) before now taken is_started faults_before faults_now
-left_undeclared cause before now taken is_started faults_before faults_now after = record {
+pub left_undeclared : (cause : DetailsCause) (before : Option (List File)) (now : Option Content) (taken : ℕ) (is_started : Bool) (counts_before counts_now : Counts) →
+    LibraryAfter (details_status cause) schema_limit before now taken is_started counts_before counts_now →
+    LibraryLeft (details_status cause) (IsLimitOf (job.Details cause)) before now taken is_started counts_before counts_now
+left_undeclared cause before now taken is_started counts_before counts_now after = record {
   files = after.files;
   read_out = λ yes. after.read_out;
   too_long = λ ten. (schema_limit, refl, after.too_long ten);
-  failed_once = after.failed_once;
+  failed = after.failed;
   stopped = after.stopped;
-  no_fault = after.no_fault;
-  never_falls = after.never_falls;
+  unfailed = after.unfailed;
 }
 
 -- the declaration's name was asked at most

@@ -1,6 +1,7 @@
 -- What a mode comes to that asks nothing of the library.
 use Rattle.std.proofs.Common.{◌≡◌, ◌≢◌, ℕ, Bool, List, [], ◌∷◌, Option, None, Some, Result, Ok, Err, inl, inr, refl, sym, subst, arith}
 use Rattle.std.specs.Prelude.{◌⊎◌, IfErr, IfSome}
+use Rattle.pd_outside.specs.Faults.{Counts}
 use Rattle.pd_outside.specs.Files.{File}
 use Rattle.pd_outside.specs.Library.{AskedPrefixOf, Content}
 use Rattle.plan_stages.specs.Stages.{Decides, IsReadOut, ended, told_files}
@@ -81,12 +82,12 @@ status_others answer refused = go (ended job_status answer) (status_is answer re
 
 -- ---- what it leaves of the library, and asks
 
-pub left_untouched : (answer : Result Job JobFault) (content : Option Content) (taken : ℕ) (is_started : Bool) (faults : ℕ) →
+pub left_untouched : (answer : Result Job JobFault) (content : Option Content) (taken : ℕ) (is_started : Bool) (counts : Counts) →
     IfErr answer (λ fault. (job_status fault ≡ 7) ⊎ (job_status fault ≡ 8)) → IsReadOut content →
-    LibraryLeft (ended job_status answer) (IsLimitTold answer) (told_files content) content taken is_started faults faults
-left_untouched answer content taken is_started faults refused out =
+    LibraryLeft (ended job_status answer) (IsLimitTold answer) (told_files content) content taken is_started counts counts
+left_untouched answer content taken is_started counts refused out =
     let others = status_others answer refused in
-    left_alone (ended job_status answer) (IsLimitTold answer) content taken is_started faults others.2 others.3 out
+    left_alone (ended job_status answer) (IsLimitTold answer) content taken is_started counts others.2 others.3 out
 
 pub asks_nothing : (r : Request) (plan : Project) (told : Option (List File)) (before : Option (List (List ℕ))) → AsksInMode r plan told before before
 asks_nothing r plan None before = record { told = tt; details = []; untold = record { count = 0; asked = none_asked before } }

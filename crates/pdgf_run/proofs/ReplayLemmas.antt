@@ -6,6 +6,8 @@ use Rattle.std.proofs.Math.Seq.{take-add}
 use Rattle.std.proofs.lemmas.Bool.{cases_lt, le-ltb, lt-ltb}
 use Rattle.std.proofs.lemmas.List.{length-append, length-take-le, take-map}
 use Rattle.std.proofs.lemmas.List.Sums.{sum_by-append}
+use Rattle.pd_outside.proofs.Counts.{unfailed_same}
+use Rattle.pd_outside.specs.Faults.{Counts}
 use Rattle.pd_outside.specs.Files.{File, bytes_of}
 use Rattle.pd_outside.specs.Library.{AskedPrefixOf, Content, left, read_out}
 use Rattle.pd_outside.specs.declared.faults.ReadFault.{ReadFault}
@@ -70,16 +72,15 @@ made_decided (Some files) delimiter r replay paths inputs (Err fault) are decide
 -- ---- what is left of the library
 
 -- nothing was read
-pub left_alone : (status : ℕ) (IsLimit : ℕ → Type 0) (content : Option Content) (taken : ℕ) (is_started : Bool) (faults : ℕ) → status ≢ 5 → status ≢ 10 → IsReadOut content →
-    LibraryLeft status IsLimit (told_files content) content taken is_started faults faults
-left_alone status IsLimit content taken is_started faults other long out = record {
+pub left_alone : (status : ℕ) (IsLimit : ℕ → Type 0) (content : Option Content) (taken : ℕ) (is_started : Bool) (counts : Counts) → status ≢ 5 → status ≢ 10 → IsReadOut content →
+    LibraryLeft status IsLimit (told_files content) content taken is_started counts counts
+left_alone status IsLimit content taken is_started counts other long out = record {
   files = refl;
   read_out = λ yes zero. out;
   too_long = λ ten. absurd (long ten);
-  failed_once = λ five. absurd (other five);
+  failed = λ five. absurd (other five);
   stopped = λ five. absurd (other five);
-  no_fault = λ five. refl;
-  never_falls = omega arith;
+  unfailed = λ five. unfailed_same counts;
 }
 
 -- inputs were read, each to its end
@@ -91,33 +92,31 @@ all_out_told : (names : List (List ℕ)) (before now : Option Content) → IsRea
 all_out_told names None now out is = subst IsReadOut (sym is) tt
 all_out_told names (Some content) now out is = subst IsReadOut (sym is) (all_out names content out)
 
-pub left_by_inputs : (status : ℕ) (IsLimit : ℕ → Type 0) (inputs names : List (List ℕ)) (limit : ℕ) (before now : Option Content) (taken_before taken_now : ℕ) (is_started : Bool) (faults_before faults_now : ℕ) →
-    status ≢ 5 → status ≢ 10 → IsReadOut before → InputsRead inputs names limit before now taken_before taken_now faults_before faults_now →
-    LibraryLeft status IsLimit (told_files before) now taken_now is_started faults_before faults_now
-left_by_inputs status IsLimit inputs names limit before now taken_before taken_now is_started faults_before faults_now other long out read = record {
+pub left_by_inputs : (status : ℕ) (IsLimit : ℕ → Type 0) (inputs names : List (List ℕ)) (limit : ℕ) (before now : Option Content) (taken_before taken_now : ℕ) (is_started : Bool) (counts_before counts_now : Counts) →
+    status ≢ 5 → status ≢ 10 → IsReadOut before → InputsRead inputs names limit before now taken_before taken_now counts_before counts_now →
+    LibraryLeft status IsLimit (told_files before) now taken_now is_started counts_before counts_now
+left_by_inputs status IsLimit inputs names limit before now taken_before taken_now is_started counts_before counts_now other long out read = record {
   files = files_stay names before now read.read_out;
   read_out = λ yes zero. all_out_told names before now out read.read_out;
   too_long = λ ten. absurd (long ten);
-  failed_once = λ five. absurd (other five);
+  failed = λ five. absurd (other five);
   stopped = λ five. absurd (other five);
-  no_fault = λ five. read.no_fault;
-  never_falls = omega (arith, read.no_fault);
+  unfailed = λ five. read.unfailed;
 }
 
 -- an input isn't read
-pub left_by_unread : (fault : UnreadInput) (refused : JobFault) (names paths : List (List ℕ)) (before now : Option Content) (taken : ℕ) (is_started : Bool) (faults_before faults_now : ℕ) →
+pub left_by_unread : (fault : UnreadInput) (refused : JobFault) (names paths : List (List ℕ)) (before now : Option Content) (taken : ℕ) (is_started : Bool) (counts_before counts_now : Counts) →
     refused ≡ named_fault names fault.number (Reading fault.cause) →
-    InputUnread fault paths input_limit before now taken is_started faults_before faults_now →
-    LibraryLeft (job_status refused) (IsLimitOf refused) (told_files before) now taken is_started faults_before faults_now
-left_by_unread fault refused names paths before now taken is_started faults_before faults_now is of =
-    subst (λ (r : JobFault). LibraryLeft (job_status r) (IsLimitOf r) (told_files before) now taken is_started faults_before faults_now) (sym is) (record {
+    InputUnread fault paths input_limit before now taken is_started counts_before counts_now →
+    LibraryLeft (job_status refused) (IsLimitOf refused) (told_files before) now taken is_started counts_before counts_now
+left_by_unread fault refused names paths before now taken is_started counts_before counts_now is of =
+    subst (λ (r : JobFault). LibraryLeft (job_status r) (IsLimitOf r) (told_files before) now taken is_started counts_before counts_now) (sym is) (record {
       files = of.library.files;
       read_out = λ yes. of.library.read_out;
       too_long = λ ten. (of.own_limit, of.within, of.library.too_long ten);
-      failed_once = of.library.failed_once;
+      failed = of.library.failed;
       stopped = of.library.stopped;
-      no_fault = of.library.no_fault;
-      never_falls = of.library.never_falls;
+      unfailed = of.library.unfailed;
     })
 
 -- its status is that of the read

@@ -1,7 +1,7 @@
 -- What the top call promises of its report and of the shelf.
 use Rattle.std.specs.Prelude.{◌≡◌, ◌≢◌, ◌≤◌, ◌⊎◌, ℕ, ◌+◌, Bool, false, true, List, [], IfOk, Option, Result, Ok, Err}
 use Rattle.std.specs.Option.{option_map}
-use Rattle.pd_outside.specs.Faults.{counted}
+use Rattle.pd_outside.specs.Faults.{Counts, FailedAtLast, Unfailed}
 use Rattle.pd_outside.specs.Files.{File}
 use Rattle.pd_outside.specs.Library.{Content}
 use Rattle.pd_outside.specs.Shelf.{Held, finish_files}
@@ -60,8 +60,8 @@ IsPastLimit message taken =
     ⊎ ((message ≡ text.details_too_long_text) × (taken ≡ schema_limit + 1))))
 
 -- What a request that ends with a status leaves of the library, where it reads a schema or none: the files that are told, what is now left, how many bytes were taken of
--- the last file, whether one is started, and the count of faults.
-pub record LibraryDone (reads : Bool) (status : ℕ) (IsLimit : ℕ → Type 0) (before : Option (List File)) (now : Option Content) (taken : ℕ) (is_started : Bool) (faults_before faults_now : ℕ) : Type 0 where
+-- the last file, whether one is started, and what is told of failed calls.
+pub record LibraryDone (reads : Bool) (status : ℕ) (IsLimit : ℕ → Type 0) (before : Option (List File)) (now : Option Content) (taken : ℕ) (is_started : Bool) (counts_before counts_now : Counts) : Type 0 where
   -- files stay as they are
   pub files : told_files now ≡ before
   -- at the end of all that was read nothing is left
@@ -69,15 +69,14 @@ pub record LibraryDone (reads : Bool) (status : ℕ) (IsLimit : ℕ → Type 0) 
   -- a file was too long: a byte more than its limit was taken
   pub too_long : status ≡ 10 → (limit : ℕ) × IsLimit limit × (taken ≡ limit + 1)
   -- a read failed: once, and no file is started then; and it is told nowhere else
-  pub failed_once : status ≡ 5 → faults_now ≡ counted faults_before
+  pub failed : status ≡ 5 → FailedAtLast counts_before counts_now
   pub stopped : status ≡ 5 → is_started ≡ false
-  pub no_fault : status ≢ 5 → faults_now ≡ faults_before
-  pub never_falls : faults_before ≤ faults_now
+  pub unfailed : status ≢ 5 → Unfailed counts_before counts_now
 
 -- the same where it reads one
-abbrev pub LibraryLeft : ℕ → (ℕ → Type 0) → Option (List File) → Option Content → ℕ → Bool → ℕ → ℕ → Type 0
-LibraryLeft status IsLimit before now taken is_started faults_before faults_now =
-    LibraryDone true status IsLimit before now taken is_started faults_before faults_now
+abbrev pub LibraryLeft : ℕ → (ℕ → Type 0) → Option (List File) → Option Content → ℕ → Bool → Counts → Counts → Type 0
+LibraryLeft status IsLimit before now taken is_started counts_before counts_now =
+    LibraryDone true status IsLimit before now taken is_started counts_before counts_now
 
 -- whether words ask for a schema that is read
 abbrev pub reads_for : Result Request UsageFault → Bool

@@ -1,7 +1,7 @@
 //! Carrying out a task.
 
 ghost use Rattle.std.specs.Prelude.{◌≡◌, ◌≢◌, ◌≤◌, ◌⊎◌, false, true, IfSome, IsTrue, Ok};
-ghost use Rattle.pd_outside.specs.Faults.{Rose, counted};
+ghost use Rattle.pd_outside.specs.Faults.{FailedAtLast, Unfailed};
 ghost use Rattle.pd_outside.specs.Shelf.{HoldsPrefixOf};
 ghost use Rattle.refusals.specs.Messages.{fixed_text};
 ghost use Rattle.refusals.specs.Statuses.{is_status};
@@ -47,13 +47,10 @@ pub(crate) fn carry_out<R: Threads + Sync, S: Shelf, G: Gate + Sync, K: Keeper>(
 
     // At 6 one write failed, the last one, and a prefix of the due files stands. At 7 and 12 the shelf is as it was.
     ensures prefix { result.status ≡ 6 → HoldsPrefixOf (task_due task) (S.held shelf.old) (S.held shelf.new) }
-    ensures write_failed { result.status ≡ 6 → Rose (S.faults shelf.old) (S.faults shelf.new) }
-    ensures write_failed_once { result.status ≡ 6 → S.faults shelf.new ≡ counted (S.faults shelf.old) }
-    ensures write_failed_last { result.status ≡ 6 → IsTrue (S.last_failed shelf.new) }
-    ensures shelf_faults { result.status ≢ 6 → S.faults shelf.new ≡ S.faults shelf.old }
+    ensures write_failed { result.status ≡ 6 → FailedAtLast (S.counts shelf.old) (S.counts shelf.new) }
+    ensures write_unfailed { result.status ≢ 6 → Unfailed (S.counts shelf.old) (S.counts shelf.new) }
     ensures held { result.status ≢ 0 → result.status ≢ 6 → S.held shelf.new ≡ S.held shelf.old }
     ensures none_begun { result.status ≢ 6 → S.is_begun shelf.new ≡ false }
-    ensures shelf_never_falls { S.faults shelf.old ≤ S.faults shelf.new }
 
     // A task that plays no units leaves the keeper as it was.
     ensures unplayed { is_playing task ≡ false → keeper.new ≡ keeper.old }
@@ -65,10 +62,8 @@ pub(crate) fn carry_out<R: Threads + Sync, S: Shelf, G: Gate + Sync, K: Keeper>(
     ensures broken_off { (K.store keeper.new).is_open ≡ true → HasBrokenOff task (K.store keeper.old) (K.store keeper.new) }
     ensures left_open { (K.store keeper.new).is_open ≡ true → (result.status ≡ 7) ⊎ (result.status ≡ 12) }
     ensures not_opened { (result.status ≡ 7) ⊎ (result.status ≡ 12) → (K.store keeper.new).is_open ≡ false → K.store keeper.new ≡ K.store keeper.old }
-    ensures keeper_failed { result.status ≡ 12 → Rose (K.faults keeper.old) (K.faults keeper.new) }
-    ensures keeper_failed_once { result.status ≡ 12 → K.faults keeper.new ≡ counted (K.faults keeper.old) }
-    ensures keeper_failed_last { result.status ≡ 12 → IsTrue (K.last_failed keeper.new) }
-    ensures keeper_faults { result.status ≢ 12 → K.faults keeper.new ≡ K.faults keeper.old }
+    ensures keeper_failed { result.status ≡ 12 → FailedAtLast (K.counts keeper.old) (K.counts keeper.new) }
+    ensures keeper_unfailed { result.status ≢ 12 → Unfailed (K.counts keeper.old) (K.counts keeper.new) }
 {
     match played(alloc, task, keeper) {
         Ok(job) => written(rt, alloc, job, shelf, gate),
@@ -92,13 +87,10 @@ fn written<R: Threads + Sync, S: Shelf, G: Gate + Sync>(
     ensures message { IfSome (fixed_text result.status) (λ text. result.message ≡ text) }
     ensures text { is_text job ≡ true → result.status ≢ 7 }
     ensures prefix { result.status ≡ 6 → HoldsPrefixOf (due_of job) (S.held shelf.old) (S.held shelf.new) }
-    ensures failed { result.status ≡ 6 → Rose (S.faults shelf.old) (S.faults shelf.new) }
-    ensures failed_once { result.status ≡ 6 → S.faults shelf.new ≡ counted (S.faults shelf.old) }
-    ensures failed_last { result.status ≡ 6 → IsTrue (S.last_failed shelf.new) }
-    ensures faults { result.status ≢ 6 → S.faults shelf.new ≡ S.faults shelf.old }
+    ensures failed { result.status ≡ 6 → FailedAtLast (S.counts shelf.old) (S.counts shelf.new) }
+    ensures unfailed { result.status ≢ 6 → Unfailed (S.counts shelf.old) (S.counts shelf.new) }
     ensures held { result.status ≢ 0 → result.status ≢ 6 → S.held shelf.new ≡ S.held shelf.old }
     ensures none_begun { result.status ≢ 6 → S.is_begun shelf.new ≡ false }
-    ensures never_falls { S.faults shelf.old ≤ S.faults shelf.new }
 {
     match fill(rt, alloc, &job, shelf, gate) {
         Ok(()) => done(),

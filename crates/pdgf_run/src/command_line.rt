@@ -3,7 +3,7 @@
 ghost use Rattle.std.specs.Prelude.{◌≡◌, ◌≢◌, ◌≤◌, ◌+◌, ◌⊎◌, ◌↔◌, [], false, true, map, string_bytes, IfErr, IfOk, IfSome, IsErr, IsOk, IsOkAnd, IsTrue, OnErr};
 ghost use Rattle.std.specs.IoError.{error_kind};
 ghost use Rattle.std.specs.Option.{option_map};
-ghost use Rattle.pd_outside.specs.Faults.{Rose, counted};
+ghost use Rattle.pd_outside.specs.Faults.{FailedAtLast, Unfailed};
 ghost use Rattle.pd_outside.specs.Library.{Content, left};
 ghost use Rattle.pd_outside.specs.Shelf.{HoldsPrefixOf};
 ghost use Rattle.plan_stages.specs.Limits.{dictionary_limit, schema_limit};
@@ -82,16 +82,11 @@ pub fn run_program<R: Threads + Sync, L: Library, S: Shelf, K: Keeper>(
     ensures read_within { IfOk words (λ words. IfOk (request (map string_bytes words.items)) (λ asked. reads_schema asked.mode ≡ true →
         (result.status ≡ 0) ⊎ (result.status ≡ 9) → L.taken library.new ≤ input_limit)) }
     ensures schema_read { result.status ≡ 3 → L.taken library.new ≤ schema_limit }
-    ensures read_failed { result.status ≡ 5 → Rose (L.faults library.old) (L.faults library.new) }
+    ensures read_failed { result.status ≡ 5 → FailedAtLast (L.counts library.old) (L.counts library.new) }
+    ensures read_unfailed { result.status ≢ 5 → Unfailed (L.counts library.old) (L.counts library.new) }
     ensures stopped { result.status ≡ 5 → L.is_started library.new ≡ false }
-    ensures write_failed { result.status ≡ 6 → Rose (S.faults shelf.old) (S.faults shelf.new) }
-
-    // At 5 and at 6 exactly one call failed. It was the last: no call came after it.
-    ensures read_failed_once { result.status ≡ 5 → L.faults library.new ≡ counted (L.faults library.old) }
-    ensures write_failed_once { result.status ≡ 6 → S.faults shelf.new ≡ counted (S.faults shelf.old) }
-    ensures write_failed_last { result.status ≡ 6 → IsTrue (S.last_failed shelf.new) }
-    ensures library_faults { result.status ≢ 5 → L.faults library.new ≡ L.faults library.old }
-    ensures shelf_faults { result.status ≢ 6 → S.faults shelf.new ≡ S.faults shelf.old }
+    ensures write_failed { result.status ≡ 6 → FailedAtLast (S.counts shelf.old) (S.counts shelf.new) }
+    ensures write_unfailed { result.status ≢ 6 → Unfailed (S.counts shelf.old) (S.counts shelf.new) }
 
     // After a failed write a prefix of the due files stands, and the verdict is these due files.
     ensures prefix { IfOk words (λ words. result.status ≡ 6 → WhereTold (map string_bytes words.items) (L.content library.old)
@@ -109,8 +104,6 @@ pub fn run_program<R: Threads + Sync, L: Library, S: Shelf, K: Keeper>(
     ensures read_out { IfOk words (λ words. IfOk (request (map string_bytes words.items)) (λ asked. reads_schema asked.mode ≡ true → result.status ≡ 0 →
         option_map left (L.content library.new) ≡ option_map (λ (c : Content). []) (L.content library.old))) }
     ensures files { told_files (L.content library.new) ≡ told_files (L.content library.old) }
-    ensures library_never_falls { L.faults library.old ≤ L.faults library.new }
-    ensures shelf_never_falls { S.faults shelf.old ≤ S.faults shelf.new }
 
     // Only mode play touches the keeper, and only if the request isn't refused.
     ensures unplayed { IfOk words (λ words. plays_for (request (map string_bytes words.items)) ≡ false → keeper.new ≡ keeper.old) }
@@ -127,10 +120,8 @@ pub fn run_program<R: Threads + Sync, L: Library, S: Shelf, K: Keeper>(
         IsBrokenOff plan asked.to asked.store (K.store keeper.old) (K.store keeper.new))))) }
     ensures left_open { (K.store keeper.new).is_open ≡ true → (result.status ≡ 7) ⊎ (result.status ≡ 12) }
     ensures not_opened { (result.status ≡ 7) ⊎ (result.status ≡ 12) → (K.store keeper.new).is_open ≡ false → K.store keeper.new ≡ K.store keeper.old }
-    ensures keeper_failed { result.status ≡ 12 → Rose (K.faults keeper.old) (K.faults keeper.new) }
-    ensures keeper_failed_once { result.status ≡ 12 → K.faults keeper.new ≡ counted (K.faults keeper.old) }
-    ensures keeper_failed_last { result.status ≡ 12 → IsTrue (K.last_failed keeper.new) }
-    ensures keeper_faults { result.status ≢ 12 → K.faults keeper.new ≡ K.faults keeper.old }
+    ensures keeper_failed { result.status ≡ 12 → FailedAtLast (K.counts keeper.old) (K.counts keeper.new) }
+    ensures keeper_unfailed { result.status ≢ 12 → Unfailed (K.counts keeper.old) (K.counts keeper.new) }
     ensures keeper_due { IfOk words (λ words. result.status ≡ 12 → WhereTold (map string_bytes words.items) (L.content library.old) IsOk) }
 {
     match words {

@@ -45,7 +45,7 @@ pub(crate) fn decide<R: Threads + Sync, L: Library, G: Gate + Sync>(
     ensures no_memory { IfErr (request (map string_bytes words.now)) (λ fault. fault ≢ UsageFault.Memory) }
     ensures no_usage { OnOk (request (map string_bytes words.now)) (ended status_of result ≢ 2) }
     ensures left { LibraryDone (reads_for (request (map string_bytes words.now))) (ended status_of result) (IsLimitRefused result) (told_files (L.content library.old))
-        (L.content library.new) (L.taken library.new) (L.is_started library.new) (L.faults library.old) (L.faults library.new) }
+        (L.content library.new) (L.taken library.new) (L.is_started library.new) (L.counts library.old) (L.counts library.new) }
     ensures unread { reads_for (request (map string_bytes words.now)) ≡ false → library.new ≡ library.old }
     ensures longer_schema { IfOk (request (map string_bytes words.now)) (λ request. AskedAlone request.schema (L.asked library.old) (L.asked library.new) →
         (L.taken library.new ≤ schema_limit) ⊎ (ended status_of result ≡ 10)) }
@@ -75,7 +75,7 @@ fn job_of_request<R: Threads + Sync, L: Library, G: Gate + Sync>(
     ensures can { IfOk result CanDo }
     ensures task { IfOk result (IsTaskOf request.now (told_files (L.content library.old))) }
     ensures left { LibraryDone (reads_schema request.now.mode) (ended job_status result) (IsLimitTold result) (told_files (L.content library.old)) (L.content library.new)
-        (L.taken library.new) (L.is_started library.new) (L.faults library.old) (L.faults library.new) }
+        (L.taken library.new) (L.is_started library.new) (L.counts library.old) (L.counts library.new) }
     ensures unread { reads_schema request.now.mode ≡ false → library.new ≡ library.old }
     ensures longer_schema { AskedAlone request.now.schema (L.asked library.old) (L.asked library.new) →
         (L.taken library.new ≤ schema_limit) ⊎ (ended job_status result ≡ 10) }
@@ -108,7 +108,7 @@ fn planned_job<R: Threads + Sync, L: Library, G: Gate + Sync>(
     ensures can { IfOk result CanDo }
     ensures task { IfOk result (IsTaskOf request.now (told_files (L.content library.old))) }
     ensures left { LibraryLeft (ended job_status result) (IsLimitTold result) (told_files (L.content library.old)) (L.content library.new)
-        (L.taken library.new) (L.is_started library.new) (L.faults library.old) (L.faults library.new) }
+        (L.taken library.new) (L.is_started library.new) (L.counts library.old) (L.counts library.new) }
     ensures longer_schema { AskedAlone request.now.schema (L.asked library.old) (L.asked library.new) →
         (L.taken library.new ≤ schema_limit) ⊎ (ended job_status result ≡ 10) }
     ensures longer_dictionary { reads_on request.now.mode ≡ false → L.taken library.new ≡ dictionary_limit + 1 → ended job_status result ≡ 10 }
@@ -140,7 +140,7 @@ fn task_of<R: Threads + Sync, L: Library, G: Gate + Sync>(
     ensures can { IfOk result CanDo }
     ensures task { IfOk result (IsTaskOver request.now plan) }
     ensures left { LibraryLeft (ended job_status result) (IsLimitTold result) (told_files (L.content library.old)) (L.content library.new)
-        (L.taken library.new) (L.is_started library.new) (L.faults library.old) (L.faults library.new) }
+        (L.taken library.new) (L.is_started library.new) (L.counts library.old) (L.counts library.new) }
     ensures usable { ended job_status result ≢ 2 }
     ensures schema_read { ended job_status result ≡ 3 → L.taken library.new ≤ schema_limit }
     ensures unread { reads_on request.now.mode ≡ false → library.new ≡ library.old }

@@ -29,7 +29,7 @@ pub(crate) fn read_details<L: Library>(
     ensures keeps { IfOk result (KeepsRules plan.now) }
     ensures declared { IfOk result (λ detail. (bytes : List ℕ) × (detail_of_text plan.now bytes ≡ Ok detail)) }
     ensures after { LibraryAfter (ended details_status result) schema_limit (told_files (L.content library.old)) (L.content library.new)
-        (L.taken library.new) (L.is_started library.new) (L.faults library.old) (L.faults library.new) }
+        (L.taken library.new) (L.is_started library.new) (L.counts library.old) (L.counts library.new) }
     ensures short { ended details_status result ≢ 10 → L.taken library.new ≤ schema_limit }
     ensures asked { OnOk result (L.asked library.new ≡ ask name.now (L.asked library.old)) }
     ensures asked_at_most { AskedAtMost name.now (L.asked library.old) (L.asked library.new) }

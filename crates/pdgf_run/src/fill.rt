@@ -2,7 +2,7 @@
 
 ghost use Rattle.std.specs.Prelude.{◌≡◌, ◌≤◌, ◌⊎◌, [], ◌∷◌, false, true, length, IsErrOf, OnErr, OnOk};
 ghost use Rattle.std.specs.Option.{option_copied, option_map};
-ghost use Rattle.pd_outside.specs.Faults.{FailsAtLast, Rose};
+ghost use Rattle.pd_outside.specs.Faults.{FailedAtLast, Unfailed};
 ghost use Rattle.pd_outside.specs.Shelf.{HoldsPrefixOf, finish_files};
 ghost use Rattle.pdgf_run.specs.Jobs.{due_of, is_text, CanFill};
 ghost use Rattle.pdgf_run.specs.Formats.{named_files};
@@ -33,11 +33,9 @@ fn write_file<S: Shelf>(shelf: &mut S, name: &str, bytes: &[u8]) -> Result<(), R
     requires none_begun { S.is_begun shelf.old ≡ false }
     ensures files { OnOk result (S.held shelf.new ≡ option_map (finish_files (record { name = name.now; bytes = bytes.now } ∷ [])) (S.held shelf.old)) }
     ensures prefix { OnErr result (HoldsPrefixOf (record { name = name.now; bytes = bytes.now } ∷ []) (S.held shelf.old) (S.held shelf.new)) }
-    ensures cause { OnErr result (Rose (S.faults shelf.old) (S.faults shelf.new)) }
     ensures write { OnErr result (IsErrOf result RunFault.Write) }
-    ensures no_fault { OnOk result (S.faults shelf.new ≡ S.faults shelf.old) }
-    ensures at_last { FailsAtLast result (S.faults shelf.old) (S.faults shelf.new) (S.last_failed shelf.new) }
-    ensures never_falls { S.faults shelf.old ≤ S.faults shelf.new }
+    ensures unfailed { OnOk result (Unfailed (S.counts shelf.old) (S.counts shelf.new)) }
+    ensures failed { OnErr result (FailedAtLast (S.counts shelf.old) (S.counts shelf.new)) }
     ensures none_begun { OnOk result (S.is_begun shelf.new ≡ false) }
 {
     match shelf.begin(name) {
@@ -60,11 +58,9 @@ fn write_files<S: Shelf>(shelf: &mut S, job: &FilesJob) -> Result<(), RunFault>
     requires none_begun { S.is_begun shelf.old ≡ false }
     ensures files { OnOk result (S.held shelf.new ≡ option_map (finish_files (named_files job.now.names job.now.texts)) (S.held shelf.old)) }
     ensures prefix { OnErr result (HoldsPrefixOf (named_files job.now.names job.now.texts) (S.held shelf.old) (S.held shelf.new)) }
-    ensures cause { OnErr result (Rose (S.faults shelf.old) (S.faults shelf.new)) }
     ensures write { OnErr result (IsErrOf result RunFault.Write) }
-    ensures no_fault { OnOk result (S.faults shelf.new ≡ S.faults shelf.old) }
-    ensures at_last { FailsAtLast result (S.faults shelf.old) (S.faults shelf.new) (S.last_failed shelf.new) }
-    ensures never_falls { S.faults shelf.old ≤ S.faults shelf.new }
+    ensures unfailed { OnOk result (Unfailed (S.counts shelf.old) (S.counts shelf.new)) }
+    ensures failed { OnErr result (FailedAtLast (S.counts shelf.old) (S.counts shelf.new)) }
     ensures none_begun { OnOk result (S.is_begun shelf.new ≡ false) }
 {
     for place in 0..job.texts.len() {
@@ -86,12 +82,10 @@ pub(crate) fn fill<R: Threads + Sync, S: Shelf, G: Gate + Sync>(
     requires none_begun { S.is_begun shelf.old ≡ false }
     ensures files { OnOk result (S.held shelf.new ≡ option_map (finish_files (due_of job.now)) (S.held shelf.old)) }
     ensures prefix { IsErrOf result RunFault.Write → HoldsPrefixOf (due_of job.now) (S.held shelf.old) (S.held shelf.new) }
-    ensures cause { IsErrOf result RunFault.Write → Rose (S.faults shelf.old) (S.faults shelf.new) }
+    ensures failed { IsErrOf result RunFault.Write → FailedAtLast (S.counts shelf.old) (S.counts shelf.new) }
     ensures memory { IsErrOf result RunFault.Memory → shelf.new ≡ shelf.old }
     ensures text { is_text job.now ≡ true → OnErr result (IsErrOf result RunFault.Write) }
-    ensures no_fault { OnOk result (S.faults shelf.new ≡ S.faults shelf.old) }
-    ensures at_last { IsErrOf result RunFault.Memory ⊎ FailsAtLast result (S.faults shelf.old) (S.faults shelf.new) (S.last_failed shelf.new) }
-    ensures never_falls { S.faults shelf.old ≤ S.faults shelf.new }
+    ensures unfailed { OnOk result (Unfailed (S.counts shelf.old) (S.counts shelf.new)) }
     ensures none_begun { OnOk result (S.is_begun shelf.new ≡ false) }
 {
     match job {

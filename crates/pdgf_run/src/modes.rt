@@ -53,7 +53,7 @@ pub(crate) fn job_of<R: Threads + Sync, L: Library, G: Gate + Sync>(
     ensures job { IfSome (told_files (L.content library.old)) (λ files. IsDecided job_status due_of (IsInMode request.now.mode request.now plan files) result) }
     ensures can { IfOk result CanFill }
     ensures left { LibraryLeft (ended job_status result) (IsLimitTold result) (told_files (L.content library.old)) (L.content library.new)
-        (L.taken library.new) (L.is_started library.new) (L.faults library.old) (L.faults library.new) }
+        (L.taken library.new) (L.is_started library.new) (L.counts library.old) (L.counts library.new) }
     ensures usable { ended job_status result ≢ 2 }
     ensures schema_read { ended job_status result ≡ 3 → L.taken library.new ≤ schema_limit }
     ensures unread { reads_on request.now.mode ≡ false → library.new ≡ library.old }

@@ -1,7 +1,7 @@
 //! Units played into a store.
 
 ghost use Rattle.std.specs.Prelude.{◌≡◌, ◌<◌, ◌≤◌, [], false, true, IfOk, IsErrOf, IsTrue, OnErr, OnOk};
-ghost use Rattle.pd_outside.specs.Faults.{FailsAtLast};
+ghost use Rattle.pd_outside.specs.Faults.{FailedAtLast, Unfailed};
 ghost use Rattle.keeper_play.specs.Statements.{statements_to, unit_statements};
 ghost use Rattle.keeper_play.specs.Store.{perform_all};
 ghost use Rattle.life_intervals.specs.Generator.{generator_of, last_unit};
@@ -54,9 +54,9 @@ pub(crate) fn play<K: Keeper>(alloc: Global, job: &PlayJob, keeper: &mut K) -> R
     requires can { CanPlay job.now }
     requires closed { (K.store keeper.old).is_open ≡ false }
     ensures plays { DoesPlay job.now result (K.store keeper.old) (K.store keeper.new) }
-    ensures no_fault { OnOk result (K.faults keeper.new ≡ K.faults keeper.old) }
-    ensures memory { IsErrOf result fault.Memory → K.faults keeper.new ≡ K.faults keeper.old }
-    ensures failed { IsErrOf result fault.Keeper → FailsAtLast result (K.faults keeper.old) (K.faults keeper.new) (K.last_failed keeper.new) }
+    ensures unfailed { OnOk result (Unfailed (K.counts keeper.old) (K.counts keeper.new)) }
+    ensures memory { IsErrOf result fault.Memory → Unfailed (K.counts keeper.old) (K.counts keeper.new) }
+    ensures failed { IsErrOf result fault.Keeper → FailedAtLast (K.counts keeper.old) (K.counts keeper.new) }
 {
     let plan = &job.plan;
     let _limits = plan.schema(); // a line has at most 65,536 bytes
@@ -86,9 +86,9 @@ fn play_units<K: Keeper, B: Ledger>(
     requires room { reach (layout_of rows.now) ≤ page.old.room }
     ensures made { OnOk result (K.store keeper.new ≡ perform_all (statements_to (generator_of rows.now) to) (K.store keeper.old)) }
     ensures some { OnErr result (AreMade (statements_to (generator_of rows.now) to) (K.store keeper.old) (K.store keeper.new)) }
-    ensures no_fault { OnOk result (K.faults keeper.new ≡ K.faults keeper.old) }
-    ensures memory { IsErrOf result fault.Memory → K.faults keeper.new ≡ K.faults keeper.old }
-    ensures failed { IsErrOf result fault.Keeper → FailsAtLast result (K.faults keeper.old) (K.faults keeper.new) (K.last_failed keeper.new) }
+    ensures unfailed { OnOk result (Unfailed (K.counts keeper.old) (K.counts keeper.new)) }
+    ensures memory { IsErrOf result fault.Memory → Unfailed (K.counts keeper.old) (K.counts keeper.new) }
+    ensures failed { IsErrOf result fault.Keeper → FailedAtLast (K.counts keeper.old) (K.counts keeper.new) }
 {
     let mut steps = Steps::<B>::new(blank);
     let births = Births { plan: rows.plan() };
@@ -115,9 +115,9 @@ fn play_changes<K: Keeper, L: Ledger>(
     requires room { reach (layout_of rows.now) ≤ page.old.room }
     ensures made { OnOk result (K.store keeper.new ≡ perform_all (unit_statements (generator_of rows.now) unit) (K.store keeper.old)) }
     ensures some { OnErr result (AreMade (unit_statements (generator_of rows.now) unit) (K.store keeper.old) (K.store keeper.new)) }
-    ensures no_fault { OnOk result (K.faults keeper.new ≡ K.faults keeper.old) }
-    ensures memory { IsErrOf result fault.Memory → K.faults keeper.new ≡ K.faults keeper.old }
-    ensures failed { IsErrOf result fault.Keeper → FailsAtLast result (K.faults keeper.old) (K.faults keeper.new) (K.last_failed keeper.new) }
+    ensures unfailed { OnOk result (Unfailed (K.counts keeper.old) (K.counts keeper.new)) }
+    ensures memory { IsErrOf result fault.Memory → Unfailed (K.counts keeper.old) (K.counts keeper.new) }
+    ensures failed { IsErrOf result fault.Keeper → FailedAtLast (K.counts keeper.old) (K.counts keeper.new) }
     ensures page { page.new ≡ page.old }
 {
     let changed = unit_rows(alloc, rows.plan(), unit, steps)?;
@@ -134,9 +134,9 @@ pub(crate) fn played<K: Keeper>(alloc: Global, task: Task, keeper: &mut K) -> Re
     ensures text { is_playing task ≡ true → IfOk result (λ job. is_text job ≡ true) }
     ensures does { DoesTask task result (K.store keeper.old) (K.store keeper.new) }
     ensures kept { is_playing task ≡ false → keeper.new ≡ keeper.old }
-    ensures no_fault { OnOk result (K.faults keeper.new ≡ K.faults keeper.old) }
-    ensures memory { IsErrOf result fault.Memory → K.faults keeper.new ≡ K.faults keeper.old }
-    ensures failed { IsErrOf result fault.Keeper → FailsAtLast result (K.faults keeper.old) (K.faults keeper.new) (K.last_failed keeper.new) }
+    ensures unfailed { OnOk result (Unfailed (K.counts keeper.old) (K.counts keeper.new)) }
+    ensures memory { IsErrOf result fault.Memory → Unfailed (K.counts keeper.old) (K.counts keeper.new) }
+    ensures failed { IsErrOf result fault.Keeper → FailedAtLast (K.counts keeper.old) (K.counts keeper.new) }
 {
     match task {
         Task::Write(job) => Ok(job),

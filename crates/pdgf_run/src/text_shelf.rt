@@ -86,9 +86,7 @@ impl Shelf for TextShelf {
 
     ghost is_begun = { λ m. is_some m.shelf.held.begun };
 
-    ghost faults = { λ m. m.faults };
-
-    ghost last_failed = { λ m. m.last_failed };
+    ghost counts = { λ m. exact_counts m.faults m.last_failed };
 
     ghost told_alike = { λ m. Prim.search rules };
 

@@ -2,7 +2,7 @@
 
 ghost use Rattle.std.specs.Prelude.{◌≡◌, ◌⊎◌, ◌<◌, ◌≤◌, ◌+◌, ◌∷◌, [], false, IsErrOf, IsTrue, OnErr, OnOk};
 ghost use Rattle.std.specs.Option.{option_map};
-ghost use Rattle.pd_outside.specs.Faults.{FailsAtLast, Rose};
+ghost use Rattle.pd_outside.specs.Faults.{CallsMade, FailedAtLast, Unfailed};
 ghost use Rattle.pd_outside.specs.Shelf.{AppendedPrefixOf, HoldsPrefixOf, append_bytes, finish_files};
 ghost use Rattle.range_workers.specs.Makers.{IsReadyToMake};
 ghost use Rattle.range_workers.specs.Marks.{AreMarksOf, due_files, texts};
@@ -28,10 +28,7 @@ fn write_package<R: Threads + Sync, P: Packer + Sync, S: Shelf, G: Gate + Sync>(
     requires ready { IsReadyToMake (P.text packer.now) (P.count packer.now) (P.room packer.now) n makers.old }
     ensures text { OnOk result (S.held shelf.new ≡ option_map (append_bytes (P.text packer.now n)) (S.held shelf.old)) }
     ensures prefix { OnErr result (AppendedPrefixOf (P.text packer.now n) (S.held shelf.old) (S.held shelf.new)) }
-    ensures cause { OnErr result (Rose (S.faults shelf.old) (S.faults shelf.new)) }
-    ensures no_fault { OnOk result (S.faults shelf.new ≡ S.faults shelf.old) }
-    ensures at_last { FailsAtLast result (S.faults shelf.old) (S.faults shelf.new) (S.last_failed shelf.new) }
-    ensures never_falls { S.faults shelf.old ≤ S.faults shelf.new }
+    ensures counts { CallsMade result (S.counts shelf.old) (S.counts shelf.new) }
     ensures begun { IsTrue (S.is_begun shelf.new) }
     ensures ready { IsReadyToMake (P.text packer.now) (P.count packer.now) (P.room packer.now) (n + 1) makers.new }
 {
@@ -58,10 +55,7 @@ fn write_packages<R: Threads + Sync, P: Packer + Sync, S: Shelf, G: Gate + Sync>
     requires ready { IsReadyToMake (P.text packer.now) (P.count packer.now) (P.room packer.now) first makers.old }
     ensures text { OnOk result (S.held shelf.new ≡ option_map (append_bytes (texts (P.text packer.now) first end)) (S.held shelf.old)) }
     ensures prefix { OnErr result (AppendedPrefixOf (texts (P.text packer.now) first end) (S.held shelf.old) (S.held shelf.new)) }
-    ensures cause { OnErr result (Rose (S.faults shelf.old) (S.faults shelf.new)) }
-    ensures no_fault { OnOk result (S.faults shelf.new ≡ S.faults shelf.old) }
-    ensures at_last { FailsAtLast result (S.faults shelf.old) (S.faults shelf.new) (S.last_failed shelf.new) }
-    ensures never_falls { S.faults shelf.old ≤ S.faults shelf.new }
+    ensures counts { CallsMade result (S.counts shelf.old) (S.counts shelf.new) }
     ensures begun { IsTrue (S.is_begun shelf.new) }
     ensures ready { OnOk result (IsReadyToMake (P.text packer.now) (P.count packer.now) (P.room packer.now) end makers.new) }
 {
@@ -93,10 +87,7 @@ fn write_file<R: Threads + Sync, P: Packer + Sync, S: Shelf, G: Gate + Sync>(
     requires ready { IsReadyToMake (P.text packer.now) (P.count packer.now) (P.room packer.now) first makers.old }
     ensures file { OnOk result (S.held shelf.new ≡ option_map (finish_files (record { name = name.now; bytes = texts (P.text packer.now) first end } ∷ [])) (S.held shelf.old)) }
     ensures prefix { OnErr result (HoldsPrefixOf (record { name = name.now; bytes = texts (P.text packer.now) first end } ∷ []) (S.held shelf.old) (S.held shelf.new)) }
-    ensures cause { OnErr result (Rose (S.faults shelf.old) (S.faults shelf.new)) }
-    ensures no_fault { OnOk result (S.faults shelf.new ≡ S.faults shelf.old) }
-    ensures at_last { FailsAtLast result (S.faults shelf.old) (S.faults shelf.new) (S.last_failed shelf.new) }
-    ensures never_falls { S.faults shelf.old ≤ S.faults shelf.new }
+    ensures counts { CallsMade result (S.counts shelf.old) (S.counts shelf.new) }
     ensures none_begun { OnOk result (S.is_begun shelf.new ≡ false) }
     ensures ready { OnOk result (IsReadyToMake (P.text packer.now) (P.count packer.now) (P.room packer.now) end makers.new) }
 {
@@ -128,10 +119,7 @@ fn write_files<R: Threads + Sync, P: Packer + Sync, S: Shelf, G: Gate + Sync>(
     requires ready { IsReadyToMake (P.text packer.now) (P.count packer.now) (P.room packer.now) 0 makers.old }
     ensures files { OnOk result (S.held shelf.new ≡ option_map (finish_files (due_files (P.text packer.now) (P.count packer.now) marks.now)) (S.held shelf.old)) }
     ensures prefix { OnErr result (HoldsPrefixOf (due_files (P.text packer.now) (P.count packer.now) marks.now) (S.held shelf.old) (S.held shelf.new)) }
-    ensures cause { OnErr result (Rose (S.faults shelf.old) (S.faults shelf.new)) }
-    ensures no_fault { OnOk result (S.faults shelf.new ≡ S.faults shelf.old) }
-    ensures at_last { FailsAtLast result (S.faults shelf.old) (S.faults shelf.new) (S.last_failed shelf.new) }
-    ensures never_falls { S.faults shelf.old ≤ S.faults shelf.new }
+    ensures counts { CallsMade result (S.counts shelf.old) (S.counts shelf.new) }
     ensures none_begun { OnOk result (S.is_begun shelf.new ≡ false) }
 {
     let count = packer.count();
@@ -161,7 +149,7 @@ fn write_files<R: Threads + Sync, P: Packer + Sync, S: Shelf, G: Gate + Sync>(
 /// One worker is the caller itself. Several workers claim the packages in threads, in rounds of four packages for each worker. None of them
 /// computes while a round is written.
 ///
-/// Returns `Write` only if the shelf's count of faults rose; the shelf then holds a prefix of the due files. Returns `Memory` only before the
+/// Returns `Write` only if one call of the shelf failed, the last one; the shelf then holds a prefix of the due files. Returns `Memory` only before the
 /// first file is begun.
 pub fn run<R: Threads + Sync, P: Packer + Sync, S: Shelf, G: Gate + Sync>(
     rt: &R,
@@ -178,11 +166,9 @@ pub fn run<R: Threads + Sync, P: Packer + Sync, S: Shelf, G: Gate + Sync>(
     requires none_begun { S.is_begun shelf.old ≡ false }
     ensures files { OnOk result (S.held shelf.new ≡ option_map (finish_files (due_files (P.text packer.now) (P.count packer.now) marks.now)) (S.held shelf.old)) }
     ensures prefix { IsErrOf result RunFault.Write → HoldsPrefixOf (due_files (P.text packer.now) (P.count packer.now) marks.now) (S.held shelf.old) (S.held shelf.new) }
-    ensures cause { IsErrOf result RunFault.Write → Rose (S.faults shelf.old) (S.faults shelf.new) }
+    ensures failed { IsErrOf result RunFault.Write → FailedAtLast (S.counts shelf.old) (S.counts shelf.new) }
     ensures memory { IsErrOf result RunFault.Memory → shelf.new ≡ shelf.old }
-    ensures no_fault { OnOk result (S.faults shelf.new ≡ S.faults shelf.old) }
-    ensures at_last { IsErrOf result RunFault.Memory ⊎ FailsAtLast result (S.faults shelf.old) (S.faults shelf.new) (S.last_failed shelf.new) }
-    ensures never_falls { S.faults shelf.old ≤ S.faults shelf.new }
+    ensures unfailed { OnOk result (Unfailed (S.counts shelf.old) (S.counts shelf.new)) }
     ensures none_begun { OnOk result (S.is_begun shelf.new ≡ false) }
 {
     let mut makers = match Makers::new(alloc, workers, packer.room()) {

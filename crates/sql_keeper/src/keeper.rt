@@ -1,7 +1,7 @@
 //! A store in a database of SQLite.
 
 ghost use Rattle.std.specs.Prelude.{◌≡◌, ◌≤◌, ◌+◌, None, false, true, IsErr, IsTrue, OnErr, OnOk, is_err, is_ok, is_some};
-ghost use Rattle.pd_outside.specs.Faults.{Rose, counted, faults_after};
+ghost use Rattle.pd_outside.specs.Faults.{counted, exact_counts, faults_after};
 
 use crate::{Databases, Refused, RowTables};
 use keeper_play::{KeepFailed, Keeper, RefTo};
@@ -157,9 +157,7 @@ impl<D: Databases + Drop> SqlKeeper<D> {
 impl<D: Databases + Drop> Keeper for SqlKeeper<D> {
     ghost store = { λ m. record { rows = None; name = None; is_open = is_some m.tables; done = m.done } };
 
-    ghost faults = { λ m. m.faults };
-
-    ghost last_failed = { λ m. m.last_failed };
+    ghost counts = { λ m. exact_counts m.faults m.last_failed };
 
     fn start(&mut self, name: &str) -> Result<(), KeepFailed> {
         match self.databases.open(name) {

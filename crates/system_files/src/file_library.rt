@@ -1,6 +1,7 @@
 //! The files of the system that are read.
 
 ghost use Rattle.std.specs.Prelude.{◌≡◌, false, None, is_some};
+ghost use Rattle.pd_outside.specs.Faults.{exact_count};
 
 use crate::reading::Reading;
 use pd_outside::{Failed, Library};
@@ -40,7 +41,7 @@ impl<R: Files> Library for FileLibrary<R> {
 
     ghost taken = { λ library. library.reading.taken };
 
-    ghost faults = { λ library. library.reading.faults };
+    ghost counts = { λ library. exact_count library.reading.faults };
 
     ghost told_alike = { λ _. tt };
 

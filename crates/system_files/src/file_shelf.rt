@@ -1,6 +1,7 @@
 //! The files of the system that are written, and the standard output.
 
 ghost use Rattle.std.specs.Prelude.{◌≡◌, false, None, is_some};
+ghost use Rattle.pd_outside.specs.Faults.{exact_counts};
 
 use crate::Syncing;
 use crate::output::Output;
@@ -59,9 +60,7 @@ impl<R: Files> Shelf for FileShelf<R> {
 
     ghost is_begun = { λ shelf. is_some shelf.writing.begun };
 
-    ghost faults = { λ shelf. shelf.writing.faults };
-
-    ghost last_failed = { λ shelf. shelf.writing.last_failed };
+    ghost counts = { λ shelf. exact_counts shelf.writing.faults shelf.writing.last_failed };
 
     ghost told_alike = { λ _. tt };
 

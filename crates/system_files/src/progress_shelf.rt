@@ -33,9 +33,7 @@ impl<S: Shelf + Drop, C: Clock + Drop, W: Write + Drop> Shelf for ProgressShelf<
 
     ghost is_begun = { λ it. S.is_begun it.shelf };
 
-    ghost faults = { λ it. S.faults it.shelf };
-
-    ghost last_failed = { λ it. S.last_failed it.shelf };
+    ghost counts = { λ it. S.counts it.shelf };
 
     ghost told_alike = { λ it. S.told_alike it.shelf };
 

@@ -39,7 +39,7 @@ pub(crate) fn plan_apply<L: Library>(
     ensures job { IfSome (told_files (L.content library.old)) (λ files. IsDecided job_status due_of (IsApplyDue plan.now request.now files) result) }
     ensures can { IfOk result CanFill }
     ensures left { LibraryLeft (ended job_status result) (IsLimitTold result) (told_files (L.content library.old)) (L.content library.new)
-        (L.taken library.new) (L.is_started library.new) (L.faults library.old) (L.faults library.new) }
+        (L.taken library.new) (L.is_started library.new) (L.counts library.old) (L.counts library.new) }
     ensures usable { ended job_status result ≢ 2 }
     ensures is_schema { ended job_status result ≢ 3 }
     ensures within { L.taken library.old ≤ input_limit → (ended job_status result ≡ 0) ⊎ (ended job_status result ≡ 9) → L.taken library.new ≤ input_limit }

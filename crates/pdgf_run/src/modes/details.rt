@@ -3,7 +3,7 @@
 ghost use Rattle.std.specs.Prelude.{◌≡◌, ◌≢◌, ◌<◌, ◌≤◌, ◌+◌, ◌^◌, ◌⊎◌, ◌++◌, ◌∷◌, [], false, IfErr, IfOk, IfSome, IsErrOf, Ok, OnOk, Some, map, nat_lt, IsOk};
 ghost use Rattle.std.specs.List.{sum_by};
 ghost use Rattle.std.specs.Option.{option_map};
-ghost use Rattle.pd_outside.specs.Faults.{FailsAtLast, Rose};
+ghost use Rattle.pd_outside.specs.Faults.{FailedAtLast, Unfailed};
 ghost use Rattle.pd_outside.specs.Library.{AskedPrefixOf};
 ghost use Rattle.pd_outside.specs.Shelf.{HoldsPrefixOf, finish_files};
 ghost use Rattle.plan_stages.specs.Limits.{schema_limit};
@@ -67,7 +67,7 @@ pub(crate) fn plan_details<B: Ledger, L: Library>(
     ensures job { IfSome (told_files (L.content library.old)) (λ files. IsDecided job_status due_of (λ answer. answer ≡ details_due told plan request.now files) result) }
     ensures can { IfOk result CanFill }
     ensures left { LibraryLeft (ended job_status result) (IsLimitTold result) (told_files (L.content library.old)) (L.content library.new)
-        (L.taken library.new) (L.is_started library.new) (L.faults library.old) (L.faults library.new) }
+        (L.taken library.new) (L.is_started library.new) (L.counts library.old) (L.counts library.new) }
     ensures usable { ended job_status result ≢ 2 }
     ensures schema_read { ended job_status result ≡ 3 → L.taken library.new ≤ schema_limit }
     ensures within { (ended job_status result ≡ 0) ⊎ (ended job_status result ≡ 9) → L.taken library.new ≤ input_limit }
@@ -437,11 +437,9 @@ pub(crate) fn write_details<R: Threads + Sync, S: Shelf, G: Gate + Sync>(
         ≡ option_map (finish_files (files_by job.now.names (told_texts (told_by job.now.changes) job.now.plan job.now.detail job.now.unit))) (S.held shelf.old)) }
     ensures prefix { IsErrOf result RunFault.Write →
         HoldsPrefixOf (files_by job.now.names (told_texts (told_by job.now.changes) job.now.plan job.now.detail job.now.unit)) (S.held shelf.old) (S.held shelf.new) }
-    ensures cause { IsErrOf result RunFault.Write → Rose (S.faults shelf.old) (S.faults shelf.new) }
+    ensures failed { IsErrOf result RunFault.Write → FailedAtLast (S.counts shelf.old) (S.counts shelf.new) }
     ensures memory { IsErrOf result RunFault.Memory → shelf.new ≡ shelf.old }
-    ensures no_fault { OnOk result (S.faults shelf.new ≡ S.faults shelf.old) }
-    ensures at_last { IsErrOf result RunFault.Memory ⊎ FailsAtLast result (S.faults shelf.old) (S.faults shelf.new) (S.last_failed shelf.new) }
-    ensures never_falls { S.faults shelf.old ≤ S.faults shelf.new }
+    ensures unfailed { OnOk result (Unfailed (S.counts shelf.old) (S.counts shelf.new)) }
     ensures none_begun { OnOk result (S.is_begun shelf.new ≡ false) }
 {
     let packers = match packers_of(alloc, job) {

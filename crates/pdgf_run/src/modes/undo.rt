@@ -3,7 +3,7 @@
 ghost use Rattle.std.specs.Prelude.{◌≡◌, ◌<◌, ◌≤◌, ◌-◌, ◌⊎◌, false, IfErr, IfOk, IsErrOf, None, Some, OnOk, length, map, slice_index_or, IsOk};
 ghost use Rattle.std.specs.List.{sum_by};
 ghost use Rattle.std.specs.Option.{option_map};
-ghost use Rattle.pd_outside.specs.Faults.{FailsAtLast, Rose};
+ghost use Rattle.pd_outside.specs.Faults.{FailedAtLast, Unfailed};
 ghost use Rattle.pd_outside.specs.Shelf.{HoldsPrefixOf, finish_files};
 ghost use Rattle.range_workers.specs.Marks.{AreMarksOf, due_files};
 ghost use Rattle.plan_stages.specs.Stages.{Decides};
@@ -303,11 +303,9 @@ pub(crate) fn write_undo<R: Threads + Sync, S: Shelf, G: Gate + Sync>(
     requires none_begun { S.is_begun shelf.old ≡ false }
     ensures files { OnOk result (S.held shelf.new ≡ option_map (finish_files (undo_files job.now.of.of.plan job.now.of.of.out job.now.of.of.asked)) (S.held shelf.old)) }
     ensures prefix { IsErrOf result RunFault.Write → HoldsPrefixOf (undo_files job.now.of.of.plan job.now.of.of.out job.now.of.of.asked) (S.held shelf.old) (S.held shelf.new) }
-    ensures cause { IsErrOf result RunFault.Write → Rose (S.faults shelf.old) (S.faults shelf.new) }
+    ensures failed { IsErrOf result RunFault.Write → FailedAtLast (S.counts shelf.old) (S.counts shelf.new) }
     ensures memory { IsErrOf result RunFault.Memory → shelf.new ≡ shelf.old }
-    ensures no_fault { OnOk result (S.faults shelf.new ≡ S.faults shelf.old) }
-    ensures at_last { IsErrOf result RunFault.Memory ⊎ FailsAtLast result (S.faults shelf.old) (S.faults shelf.new) (S.last_failed shelf.new) }
-    ensures never_falls { S.faults shelf.old ≤ S.faults shelf.new }
+    ensures unfailed { OnOk result (Unfailed (S.counts shelf.old) (S.counts shelf.new)) }
     ensures none_begun { OnOk result (S.is_begun shelf.new ≡ false) }
 {
     let of = &job.of.of;

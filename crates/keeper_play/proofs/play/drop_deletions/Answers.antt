@@ -1,6 +1,7 @@
 use Rattle.std.proofs.Common.{◌≡◌, ◌<◌, ◌≤◌, ℕ, suc, ◌+◌, ◌-◌, ◌∷◌, [], true, List, length, map, take, drop, get_or, reverse, ap, ap₂, arith, subst, sym, ◌∙◌}
 use Rattle.std.specs.Prelude.{All, OnOk, OnErr, ◌++◌}
 use Rattle.std.proofs.lemmas.List.{append-nil, append_assoc}
+use Rattle.pd_outside.proofs.Counts.{failed_then, unfailed_then}
 use Rattle.std.specs.List.{flat_map, range_with_len}
 use Rattle.std.proofs.lemmas.Result.{err_from_is_err_and}
 use Rattle.schema_plan.specs.Dictionaries.{Project}
@@ -68,5 +69,10 @@ loop-behind-preserved g c =
           made-more (flat_map at (reverse (range_with_len (n - i) i))) (at (n - 1 - i)) _ _ _ c.loop-behind.invariant.made
           (c.in_ok-drop_listed.ensures.made ∙ ap (λ (statements : List Statement). perform_all statements (g.K.Keeper.store c.loop-behind.keeper)) (is ∙ here))
           ∙ ap (λ (statements : List Statement). perform_all statements (g.K.Keeper.store c.args.keeper.now)) (sym (backwards-more at i n (omega (arith, c.loop-behind-test.true, count))));
-      faults = c.in_ok-drop_listed.ensures.at_last.once ∙ c.loop-behind.invariant.faults;
+      unfailed = unfailed_then _ _ _ c.loop-behind.invariant.unfailed c.in_ok-drop_listed.ensures.counts.unfailed;
     }
+
+pub returns-in_err-drop_listed-clause-counts : goal.returns-in_err-drop_listed-clause-counts
+returns-in_err-drop_listed-clause-counts g c =
+    let made = err_from_is_err_and c.from_residual.result c.from_residual.ensures.1 in
+    rw made.1 (record { unfailed = tt; failed = failed_then _ _ _ c.loop-behind.invariant.unfailed c.in_err-drop_listed.ensures.counts.failed })

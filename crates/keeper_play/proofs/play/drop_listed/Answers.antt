@@ -1,5 +1,6 @@
 use Rattle.std.proofs.Common.{◌≡◌, ◌<◌, ◌≤◌, ℕ, suc, ◌+◌, ◌-◌, ◌∷◌, [], true, List, length, map, take, drop, get_or, reverse, ap, ap₂, arith, subst, sym, ◌∙◌}
 use Rattle.std.specs.Prelude.{All}
+use Rattle.pd_outside.proofs.Counts.{failed_by, failed_then, unfailed_by, unfailed_then}
 use Rattle.std.specs.List.{flat_map, range_with_len}
 use Rattle.std.proofs.lemmas.Result.{err_from_is_err_and}
 use Rattle.schema_plan.specs.Dictionaries.{Project}
@@ -29,3 +30,8 @@ returns-in_err-drop_row-clause-stopped g c =
     (stopped-behind (map dropped ordinals) (map dropped (take i ordinals)) (dropped (get_or ordinals i 0) ∷ []) (map dropped (drop (suc i) ordinals)) _ _ _
     (items-at dropped ordinals i 0 c.loop-j-test.true) c.loop-j.invariant.made
     (stopped-one (dropped (get_or ordinals i 0)) _ _ c.in_err-drop_row.ensures.unchanged))
+
+pub returns-in_err-drop_row-clause-counts : goal.returns-in_err-drop_row-clause-counts
+returns-in_err-drop_row-clause-counts g c =
+    let made = err_from_is_err_and c.from_residual.result c.from_residual.ensures.1 in
+    rw made.1 (record { unfailed = tt; failed = failed_then _ _ _ c.loop-j.invariant.unfailed (failed_by _ _ _ c.in_err-drop_row.ensures.counts) })

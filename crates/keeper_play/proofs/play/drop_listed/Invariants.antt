@@ -1,4 +1,5 @@
 use Rattle.std.proofs.Common.{◌≡◌, map, take}
+use Rattle.pd_outside.specs.Faults.{Unfailed}
 use Rattle.keeper_play.specs.Played.{drop_at}
 use Rattle.keeper_play.specs.Store.{perform_all}
 use Rattle.keeper_play.proofs.play.drop_listed.Given as goal
@@ -7,5 +8,5 @@ use Rattle.keeper_play.proofs.play.drop_listed.Given as goal
 abbrev pub invariant-loop-j : goal.invariant-loop-j
 invariant-loop-j g l = record {
   made : g.K.Keeper.store l.keeper ≡ perform_all (map (drop_at l.rows l.table) (take l.j-index l.ordinals)) (g.K.Keeper.store l.fn.keeper);
-  faults : g.K.Keeper.faults l.keeper ≡ g.K.Keeper.faults l.fn.keeper;
+  unfailed : Unfailed (g.K.Keeper.counts l.fn.keeper) (g.K.Keeper.counts l.keeper);
 }

@@ -1,6 +1,7 @@
 use Rattle.std.proofs.Common.{◌≡◌, ◌<◌, ◌≤◌, ℕ, suc, ◌+◌, ◌-◌, ◌∷◌, [], true, List, length, map, take, drop, get_or, reverse, ap, ap₂, arith, subst, sym, ◌∙◌}
 use Rattle.std.specs.Prelude.{All, OnOk, OnErr, ◌++◌}
 use Rattle.std.proofs.lemmas.List.{append-nil, append_assoc}
+use Rattle.pd_outside.proofs.Counts.{failed_then, made_then, unfailed_then}
 use Rattle.std.specs.List.{flat_map, range_with_len}
 use Rattle.std.proofs.lemmas.Result.{err_from_is_err_and}
 use Rattle.schema_plan.specs.Dictionaries.{Project}
@@ -80,3 +81,21 @@ returns-clause-stopped g c =
     ∙ ap (λ (last : List Statement). updates_in rows unit ++ deletions_in rows unit ++ last) (sym (append-nil (insertions_in rows unit))))
     (made-more (updates_in rows unit) (deletions_in rows unit) _ _ _ c.in_ok-put_updates.ensures.made c.in_ok-drop_deletions.ensures.made) last)
     c.put_insertions.ensures.stopped
+
+pub returns-in_err-put_updates-clause-counts : goal.returns-in_err-put_updates-clause-counts
+returns-in_err-put_updates-clause-counts g c =
+    let made = err_from_is_err_and c.from_residual.result c.from_residual.ensures.1 in
+    rw made.1 (record { unfailed = tt; failed = c.in_err-put_updates.ensures.counts.failed })
+
+pub returns-in_err-drop_deletions-clause-counts : goal.returns-in_err-drop_deletions-clause-counts
+returns-in_err-drop_deletions-clause-counts g c =
+    let made = err_from_is_err_and c.from_residual-in_err-drop_deletions.result c.from_residual-in_err-drop_deletions.ensures.1 in
+    rw made.1 (record {
+      unfailed = tt;
+      failed = failed_then _ _ _ c.in_ok-put_updates.ensures.counts.unfailed c.in_err-drop_deletions.ensures.counts.failed;
+    })
+
+pub returns-clause-counts : goal.returns-clause-counts
+returns-clause-counts g c =
+    made_then c.put_insertions.result _ _ _ (unfailed_then _ _ _ c.in_ok-put_updates.ensures.counts.unfailed c.in_ok-drop_deletions.ensures.counts.unfailed)
+    c.put_insertions.ensures.counts

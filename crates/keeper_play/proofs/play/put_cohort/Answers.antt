@@ -1,5 +1,6 @@
 use Rattle.std.proofs.Common.{◌≡◌, ◌<◌, ◌≤◌, ℕ, suc, ◌+◌, ◌-◌, ◌∷◌, [], true, List, length, map, take, drop, get_or, reverse, ap, ap₂, arith, subst, sym, ◌∙◌}
 use Rattle.std.specs.Prelude.{All}
+use Rattle.pd_outside.proofs.Counts.{failed_then, unfailed_then}
 use Rattle.std.specs.List.{flat_map, range_with_len}
 use Rattle.std.proofs.lemmas.Result.{err_from_is_err_and}
 use Rattle.schema_plan.specs.Dictionaries.{Project}
@@ -55,6 +56,11 @@ loop-index-preserved g c =
       made =
           made-more (map put (range_with_len first i)) (put (first + i) ∷ []) _ _ _ c.loop-index.invariant.made c.in_ok-put_row.ensures.made
           ∙ ap (λ (statements : List Statement). perform_all statements (g.K.Keeper.store c.args.keeper.now)) (sym (numbers-more put first i));
-      faults = c.in_ok-put_row.ensures.at_last.once ∙ c.loop-index.invariant.faults;
+      unfailed = unfailed_then _ _ _ c.loop-index.invariant.unfailed c.in_ok-put_row.ensures.counts.unfailed;
       page = c.in_ok-put_row.ensures.page ∙ c.loop-index.invariant.page;
     }
+
+pub returns-in_err-put_row-clause-counts : goal.returns-in_err-put_row-clause-counts
+returns-in_err-put_row-clause-counts g c =
+    let made = err_from_is_err_and c.from_residual.result c.from_residual.ensures.1 in
+    rw made.1 (record { unfailed = tt; failed = failed_then _ _ _ c.loop-index.invariant.unfailed c.in_err-put_row.ensures.counts.failed })

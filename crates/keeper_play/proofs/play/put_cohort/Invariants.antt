@@ -1,5 +1,6 @@
 use Rattle.std.proofs.Common.{◌≡◌, ◌≤◌, length, map}
 use Rattle.std.specs.List.{range_with_len}
+use Rattle.pd_outside.specs.Faults.{Unfailed}
 use Rattle.keeper_play.specs.Played.{put_at}
 use Rattle.keeper_play.specs.Store.{perform_all}
 use Rattle.keeper_play.proofs.play.put_cohort.Given as goal
@@ -8,6 +9,6 @@ use Rattle.keeper_play.proofs.play.put_cohort.Given as goal
 abbrev pub invariant-loop-index : goal.invariant-loop-index
 invariant-loop-index g l = record {
   made : g.K.Keeper.store l.keeper ≡ perform_all (map (put_at l.rows l.unit l.table) (range_with_len l.cohort.first l.index)) (g.K.Keeper.store l.fn.keeper);
-  faults : g.K.Keeper.faults l.keeper ≡ g.K.Keeper.faults l.fn.keeper;
+  unfailed : Unfailed (g.K.Keeper.counts l.fn.keeper) (g.K.Keeper.counts l.keeper);
   page : l.buf ≡ l.fn.buf;
 }

@@ -3,6 +3,7 @@ use Rattle.std.specs.Prelude.{All, ◌++◌}
 use Rattle.cohort_sizes.proofs.CohortLemmas.{born_count-le}
 use Rattle.life_intervals.specs.Found.{IsFound}
 use Rattle.life_intervals.proofs.FoundLemmas.{found-early}
+use Rattle.pd_outside.proofs.Counts.{failed_then, unfailed_then}
 use Rattle.std.specs.List.{flat_map, range_with_len}
 use Rattle.std.proofs.lemmas.Result.{err_from_is_err_and}
 use Rattle.schema_plan.specs.Dictionaries.{Project}
@@ -62,6 +63,11 @@ loop-j-preserved g c =
           made-more (map put (take i ordinals)) (put c.find-row.result.ordinal ∷ []) _ _ _ c.loop-j.invariant.made c.in_ok-put_row.ensures.made
           ∙ ap (λ (j : ℕ). perform_all (map put (take i ordinals) ++ put j ∷ []) (g.K.Keeper.store c.args.keeper.now)) c.find-row.ensures.ordinal
           ∙ ap (λ (statements : List Statement). perform_all statements (g.K.Keeper.store c.args.keeper.now)) (sym (items-more put ordinals i 0 c.loop-j-test.true));
-      faults = c.in_ok-put_row.ensures.at_last.once ∙ c.loop-j.invariant.faults;
+      unfailed = unfailed_then _ _ _ c.loop-j.invariant.unfailed c.in_ok-put_row.ensures.counts.unfailed;
       page = c.in_ok-put_row.ensures.page ∙ c.loop-j.invariant.page;
     }
+
+pub returns-in_err-put_row-clause-counts : goal.returns-in_err-put_row-clause-counts
+returns-in_err-put_row-clause-counts g c =
+    let made = err_from_is_err_and c.from_residual.result c.from_residual.ensures.1 in
+    rw made.1 (record { unfailed = tt; failed = failed_then _ _ _ c.loop-j.invariant.unfailed c.in_err-put_row.ensures.counts.failed })

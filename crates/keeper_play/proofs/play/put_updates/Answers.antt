@@ -1,6 +1,7 @@
 use Rattle.std.proofs.Common.{◌≡◌, ◌<◌, ◌≤◌, ℕ, suc, ◌+◌, ◌-◌, ◌∷◌, [], true, List, length, map, take, drop, get_or, reverse, ap, ap₂, arith, subst, sym, ◌∙◌}
 use Rattle.std.specs.Prelude.{All, OnOk, OnErr, ◌++◌}
 use Rattle.std.proofs.lemmas.List.{append-nil, append_assoc}
+use Rattle.pd_outside.proofs.Counts.{failed_then, unfailed_then}
 use Rattle.std.specs.List.{flat_map, range_with_len}
 use Rattle.std.proofs.lemmas.Result.{err_from_is_err_and}
 use Rattle.schema_plan.specs.Dictionaries.{Project}
@@ -68,6 +69,11 @@ loop-table-preserved g c =
           made-more (flat_map at (range_with_len 0 table)) (at table) _ _ _ c.loop-table.invariant.made
           (c.in_ok-put_listed.ensures.made ∙ ap (λ (statements : List Statement). perform_all statements (g.K.Keeper.store c.loop-table.keeper)) is)
           ∙ ap (λ (statements : List Statement). perform_all statements (g.K.Keeper.store c.args.keeper.now)) (sym (flat_map-range_with_len_more at table));
-      faults = c.in_ok-put_listed.ensures.at_last.once ∙ c.loop-table.invariant.faults;
+      unfailed = unfailed_then _ _ _ c.loop-table.invariant.unfailed c.in_ok-put_listed.ensures.counts.unfailed;
       page = c.in_ok-put_listed.ensures.page ∙ c.loop-table.invariant.page;
     }
+
+pub returns-in_err-put_listed-clause-counts : goal.returns-in_err-put_listed-clause-counts
+returns-in_err-put_listed-clause-counts g c =
+    let made = err_from_is_err_and c.from_residual.result c.from_residual.ensures.1 in
+    rw made.1 (record { unfailed = tt; failed = failed_then _ _ _ c.loop-table.invariant.unfailed c.in_err-put_listed.ensures.counts.failed })

@@ -21,21 +21,6 @@ returns-in-Ok-clause-stopped g c = c.pdgf.ensures.stopped
 pub returns-in-Ok-clause-write_failed : goal.returns-in-Ok-clause-write_failed
 returns-in-Ok-clause-write_failed g c = c.pdgf.ensures.write_failed
 
-pub returns-in-Ok-clause-read_failed_once : goal.returns-in-Ok-clause-read_failed_once
-returns-in-Ok-clause-read_failed_once g c = c.pdgf.ensures.read_failed_once
-
-pub returns-in-Ok-clause-write_failed_once : goal.returns-in-Ok-clause-write_failed_once
-returns-in-Ok-clause-write_failed_once g c = c.pdgf.ensures.write_failed_once
-
-pub returns-in-Ok-clause-write_failed_last : goal.returns-in-Ok-clause-write_failed_last
-returns-in-Ok-clause-write_failed_last g c = c.pdgf.ensures.write_failed_last
-
-pub returns-in-Ok-clause-library_faults : goal.returns-in-Ok-clause-library_faults
-returns-in-Ok-clause-library_faults g c = c.pdgf.ensures.library_faults
-
-pub returns-in-Ok-clause-shelf_faults : goal.returns-in-Ok-clause-shelf_faults
-returns-in-Ok-clause-shelf_faults g c = c.pdgf.ensures.shelf_faults
-
 pub returns-in-Ok-clause-held : goal.returns-in-Ok-clause-held
 returns-in-Ok-clause-held g c = c.pdgf.ensures.held
 
@@ -44,12 +29,6 @@ returns-in-Ok-clause-none_begun g c = c.pdgf.ensures.none_begun
 
 pub returns-in-Ok-clause-files : goal.returns-in-Ok-clause-files
 returns-in-Ok-clause-files g c = c.pdgf.ensures.files
-
-pub returns-in-Ok-clause-library_never_falls : goal.returns-in-Ok-clause-library_never_falls
-returns-in-Ok-clause-library_never_falls g c = c.pdgf.ensures.library_never_falls
-
-pub returns-in-Ok-clause-shelf_never_falls : goal.returns-in-Ok-clause-shelf_never_falls
-returns-in-Ok-clause-shelf_never_falls g c = c.pdgf.ensures.shelf_never_falls
 
 pub returns-in-Ok-clause-keeper_kept : goal.returns-in-Ok-clause-keeper_kept
 returns-in-Ok-clause-keeper_kept g c = c.pdgf.ensures.keeper_kept
@@ -63,11 +42,11 @@ returns-in-Ok-clause-not_opened g c = c.pdgf.ensures.not_opened
 pub returns-in-Ok-clause-keeper_failed : goal.returns-in-Ok-clause-keeper_failed
 returns-in-Ok-clause-keeper_failed g c = c.pdgf.ensures.keeper_failed
 
-pub returns-in-Ok-clause-keeper_failed_once : goal.returns-in-Ok-clause-keeper_failed_once
-returns-in-Ok-clause-keeper_failed_once g c = c.pdgf.ensures.keeper_failed_once
+pub returns-in-Ok-clause-read_unfailed : goal.returns-in-Ok-clause-read_unfailed
+returns-in-Ok-clause-read_unfailed g c = c.pdgf.ensures.read_unfailed
 
-pub returns-in-Ok-clause-keeper_failed_last : goal.returns-in-Ok-clause-keeper_failed_last
-returns-in-Ok-clause-keeper_failed_last g c = c.pdgf.ensures.keeper_failed_last
+pub returns-in-Ok-clause-write_unfailed : goal.returns-in-Ok-clause-write_unfailed
+returns-in-Ok-clause-write_unfailed g c = c.pdgf.ensures.write_unfailed
 
-pub returns-in-Ok-clause-keeper_faults : goal.returns-in-Ok-clause-keeper_faults
-returns-in-Ok-clause-keeper_faults g c = c.pdgf.ensures.keeper_faults
+pub returns-in-Ok-clause-keeper_unfailed : goal.returns-in-Ok-clause-keeper_unfailed
+returns-in-Ok-clause-keeper_unfailed g c = c.pdgf.ensures.keeper_unfailed

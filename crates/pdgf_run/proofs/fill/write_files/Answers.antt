@@ -1,12 +1,13 @@
 use Rattle.std.proofs.Common.{Some, arith, refl, sym, ap, ◌∙◌}
 use Rattle.std.proofs.lemmas.Result.{err_from_is_err_and}
+use Rattle.pd_outside.proofs.Counts.{failed_then, unfailed_same, unfailed_then}
 use Rattle.pdgf_run.proofs.FileLemmas.{all_finished, next_finished, next_partly, none_finished}
 use Rattle.pdgf_run.proofs.fill.write_files.Goals as goal
 
 pub loop-place-init : goal.loop-place-init
 loop-place-init g c = record {
   held = none_finished c.args.job.now.names c.args.job.now.texts _ _ (g.met.S.Shelf.told_alike c.args.shelf.now) c.requires.none_begun;
-  faults = refl;
+  unfailed = unfailed_same _;
   none_begun = c.requires.none_begun;
 }
 
@@ -17,7 +18,7 @@ loop-place-preserved g c =
       held =
           next_finished c.args.job.now.names c.args.job.now.texts c.loop-place.place c.as_str.result.now c.get-in-loop-place.result.now _ _ _
           (c.get.ensures ∙ ap Some (sym c.as_str.ensures.value)) c.get-in-loop-place.ensures inv.held c.in_ok-write_file.ensures.files;
-      faults = c.in_ok-write_file.ensures.no_fault ∙ inv.faults;
+      unfailed = unfailed_then _ _ _ inv.unfailed c.in_ok-write_file.ensures.unfailed;
       none_begun = c.in_ok-write_file.ensures.none_begun;
     }
 
@@ -32,3 +33,8 @@ pub returns-clause-files : goal.returns-clause-files
 returns-clause-files g c =
     all_finished c.args.job.now.names c.args.job.now.texts c.loop-place.place _ _ (omega (arith, c.loop-place-test.false, c.len-place-end.ensures))
     c.loop-place.invariant.held
+
+pub returns-in_err-write_file-clause-failed : goal.returns-in_err-write_file-clause-failed
+returns-in_err-write_file-clause-failed g c =
+    let made = err_from_is_err_and c.from_residual.result c.from_residual.ensures.1 in
+    rw made.1 (failed_then _ _ _ c.loop-place.invariant.unfailed c.in_err-write_file.ensures.failed)

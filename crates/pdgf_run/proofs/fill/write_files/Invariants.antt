@@ -1,5 +1,6 @@
 use Rattle.std.proofs.Common.{◌≡◌, false, take}
 use Rattle.std.specs.Option.{option_map}
+use Rattle.pd_outside.specs.Faults.{Unfailed}
 use Rattle.pd_outside.specs.Shelf.{finish_files}
 use Rattle.pdgf_run.specs.Formats.{named_files}
 use Rattle.pdgf_run.proofs.fill.write_files.Given as goal
@@ -7,6 +8,6 @@ use Rattle.pdgf_run.proofs.fill.write_files.Given as goal
 abbrev pub invariant-loop-place : goal.invariant-loop-place
 invariant-loop-place g l = record {
   held : g.S.Shelf.held l.shelf ≡ option_map (finish_files (take l.place (named_files l.job.names l.job.texts))) (g.S.Shelf.held l.fn.shelf);
-  faults : g.S.Shelf.faults l.shelf ≡ g.S.Shelf.faults l.fn.shelf;
+  unfailed : Unfailed (g.S.Shelf.counts l.fn.shelf) (g.S.Shelf.counts l.shelf);
   none_begun : g.S.Shelf.is_begun l.shelf ≡ false;
 }

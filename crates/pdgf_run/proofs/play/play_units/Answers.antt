@@ -1,6 +1,7 @@
 use Rattle.std.proofs.Common.{◌≡◌, ◌<◌, ℕ, suc, ◌+◌, ◌-◌, List, [], length, ap, arith, subst, sym, ◌∙◌}
 use Rattle.std.specs.List.{flat_map, range_with_len}
 use Rattle.std.proofs.lemmas.Result.{err_from_is_err_and}
+use Rattle.pd_outside.proofs.Counts.{failed_then, unfailed_same, unfailed_then}
 use Rattle.schema_plan.specs.Dictionaries.{Project}
 use Rattle.cohort_sizes.specs.Births.{cohort_size, first_ordinal}
 use Rattle.life_intervals.specs.Generator.{generator_of, table_of}
@@ -45,6 +46,6 @@ loop-before-preserved g c =
       made =
           made-more (flat_map unit (range_with_len 0 at)) (unit at) _ _ _ c.loop-before.invariant.made c.in_ok-play_changes.ensures.made
           ∙ ap (λ (statements : List Statement). perform_all statements (g.K.Keeper.store c.args.keeper.now)) (sym (flat_map-range_with_len_more unit at));
-      faults = c.in_ok-play_changes.ensures.no_fault ∙ c.loop-before.invariant.faults;
+      unfailed = unfailed_then _ _ _ c.loop-before.invariant.unfailed c.in_ok-play_changes.ensures.unfailed;
       page = c.in_ok-play_changes.ensures.page ∙ c.loop-before.invariant.page;
     }

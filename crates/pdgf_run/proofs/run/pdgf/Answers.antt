@@ -1,12 +1,13 @@
 use Rattle.std.proofs.Common.{◌≡◌, ◌≢◌, refl, sym, subst, map, string_bytes, false}
 use Rattle.std.specs.Prelude.{IsErr, ◌↔◌}
-use Rattle.pd_outside.specs.Faults.{Rose, counted}
+use Rattle.pd_outside.proofs.Counts.{unfailed_same}
+use Rattle.pd_outside.specs.Faults.{FailedAtLast, Unfailed}
 use Rattle.plan_stages.specs.Stages.{told_files}
 use Rattle.request_words.specs.Words.{request}
 use Rattle.pdgf_run.specs.declared.report.Report.{Report}
 use Rattle.pdgf_run.specs.TopCall.{IsPastLimit}
 use Rattle.pdgf_run.proofs.AppliedLemmas.{applied_carried, applied_refused}
-use Rattle.pdgf_run.proofs.DecideLemmas.{refused-usage, rose}
+use Rattle.pdgf_run.proofs.DecideLemmas.{refused-usage}
 use Rattle.pdgf_run.proofs.RevertedLemmas.{reverted_carried, reverted_refused}
 use Rattle.pdgf_run.proofs.ReportLemmas.{past_limit}
 use Rattle.pdgf_run.proofs.TaskLemmas.{broken_where_asked, played_where_asked, plays_not}
@@ -24,22 +25,26 @@ returns-in-Err-clause-too_long g c =
 
 pub returns-in-Err-clause-read_failed : goal.returns-in-Err-clause-read_failed
 returns-in-Err-clause-read_failed g c =
-    subst (λ (report : Report). report.status ≡ 5 → Rose (g.L.Library.faults c.args.library.now) (g.L.Library.faults c.decide.new.library)) (sym c.refused.ensures)
-    (λ five. rose _ _ (c.in-Err.ensures.left.failed_once five))
+    subst (λ (report : Report). report.status ≡ 5 → FailedAtLast (g.L.Library.counts c.args.library.now) (g.L.Library.counts c.decide.new.library)) (sym c.refused.ensures)
+    c.in-Err.ensures.left.failed
+
+pub returns-in-Err-clause-read_unfailed : goal.returns-in-Err-clause-read_unfailed
+returns-in-Err-clause-read_unfailed g c =
+    subst (λ (report : Report). report.status ≢ 5 → Unfailed (g.L.Library.counts c.args.library.now) (g.L.Library.counts c.decide.new.library)) (sym c.refused.ensures)
+    c.in-Err.ensures.left.unfailed
+
+pub returns-in-Ok-clause-read_unfailed : goal.returns-in-Ok-clause-read_unfailed
+returns-in-Ok-clause-read_unfailed g c = λ other. c.in-Ok.ensures.left.unfailed (λ e. absurd (cc))
+
+pub returns-in-Err-clause-write_unfailed : goal.returns-in-Err-clause-write_unfailed
+returns-in-Err-clause-write_unfailed g c = λ other. unfailed_same _
+
+pub returns-in-Err-clause-keeper_unfailed : goal.returns-in-Err-clause-keeper_unfailed
+returns-in-Err-clause-keeper_unfailed g c = λ other. unfailed_same _
 
 pub returns-in-Err-clause-stopped : goal.returns-in-Err-clause-stopped
 returns-in-Err-clause-stopped g c =
     subst (λ (report : Report). report.status ≡ 5 → g.L.Library.is_started c.decide.new.library ≡ false) (sym c.refused.ensures) c.in-Err.ensures.left.stopped
-
-pub returns-in-Err-clause-read_failed_once : goal.returns-in-Err-clause-read_failed_once
-returns-in-Err-clause-read_failed_once g c =
-    subst (λ (report : Report). report.status ≡ 5 → g.L.Library.faults c.decide.new.library ≡ counted (g.L.Library.faults c.args.library.now)) (sym c.refused.ensures)
-    c.in-Err.ensures.left.failed_once
-
-pub returns-in-Err-clause-library_faults : goal.returns-in-Err-clause-library_faults
-returns-in-Err-clause-library_faults g c =
-    subst (λ (report : Report). report.status ≢ 5 → g.L.Library.faults c.decide.new.library ≡ g.L.Library.faults c.args.library.now) (sym c.refused.ensures)
-    c.in-Err.ensures.left.no_fault
 
 pub returns-in-Err-clause-applied : goal.returns-in-Err-clause-applied
 returns-in-Err-clause-applied g c = λ five six seven.

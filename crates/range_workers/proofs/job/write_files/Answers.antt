@@ -1,5 +1,6 @@
 use Rattle.std.proofs.Common.{rules, ◌≡◌, ◌+◌, ◌<◌, ℕ, List, [], ◌∷◌, arith, drop, length, refl, subst, sym, ◌∙◌}
 use Rattle.std.specs.Option.{option_map}
+use Rattle.pd_outside.proofs.Counts.{failed_then, unfailed_same, unfailed_then}
 use Rattle.pd_outside.specs.Files.{File}
 use Rattle.pd_outside.specs.Shelf.{HoldsPrefixOf, finish_files}
 use Rattle.range_workers.specs.Makers.{IsReadyToMake}
@@ -44,7 +45,7 @@ loop-i-preserved g c =
           finished_then _ _ _ _ _ _ (due_files-onto text count c.loop-i.i marks below) c.loop-i.invariant.files
           (subst (λ (it : File). g.S.Shelf.held c.write_file.new.shelf ≡ option_map (finish_files (it ∷ [])) (g.S.Shelf.held c.loop-i.shelf)) file c.in-Ok.ensures.file);
       none_begun = c.in-Ok.ensures.none_begun;
-      no_fault = c.in-Ok.ensures.no_fault ∙ c.loop-i.invariant.no_fault;
+      unfailed = unfailed_then _ _ _ c.loop-i.invariant.unfailed c.in-Ok.ensures.counts.unfailed;
       ready = subst (λ (n : ℕ). IsReadyToMake text count (g.P.Packer.room c.args.packer.now) n c.write_file.new.makers) end c.in-Ok.ensures.ready;
     }
 
@@ -62,7 +63,7 @@ loop-i-init g c =
     record {
       files = search rules;
       none_begun = c.requires.none_begun;
-      no_fault = refl;
+      unfailed = unfailed_same _;
       ready =
           subst (λ (n : ℕ). IsReadyToMake text count (g.P.Packer.room c.args.packer.now) n c.args.makers.now) (sym (starts_at_0 count c.args.marks.now c.requires.marks)) c.requires.ready;
     }
@@ -74,3 +75,9 @@ write_file-requires-clause-ready g c = λ lifetimes outlive.
     let below : c.loop-i.i < length c.args.marks.now = omega (arith, c.loop-i-test.true, c.len-i-end.ensures) in
     subst (λ (n : ℕ). IsReadyToMake text count (g.P.Packer.room c.args.packer.now) n c.loop-i.makers)
     (end_before_mark count c.loop-i.i c.args.marks.now below ∙ sym c.first.ensures) c.loop-i.invariant.ready
+
+pub returns-in-Err-clause-counts : goal.returns-in-Err-clause-counts
+returns-in-Err-clause-counts g c = record {
+  unfailed = tt;
+  failed = failed_then _ _ _ c.loop-i.invariant.unfailed c.in-Err.ensures.counts.failed;
+}
