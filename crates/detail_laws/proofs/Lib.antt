@@ -1,3 +1,3 @@
 mod NumberedRowLemmas
-mod ApplyLawLemmas
+pub mod ApplyLawLemmas
 mod NameLemmas

@@ -59,9 +59,9 @@ use Rattle.pdgf_run.proofs.CarriedLemmas.{Carried, Gives, Refuses, carried_gives
 
 -- ---- what is asked is within the plan
 
-pub passes : (test : Bool) (fault : JobFault) (rest : Result (Option ℕ) JobFault) (table : Option ℕ) → (if test then Err fault else rest) ≡ Ok table → (test ≡ false) × (rest ≡ Ok table)
-passes true fault rest table is = absurd (cc)
-passes false fault rest table is = (refl, is)
+pub passes : {A : Type 0} (test : Bool) (fault : JobFault) (rest : Result A JobFault) (asked : A) → (if test then Err fault else rest) ≡ Ok asked → (test ≡ false) × (rest ≡ Ok asked)
+passes true fault rest asked is = absurd (cc)
+passes false fault rest asked is = (refl, is)
 
 pub not_less : (a b : ℕ) → nat_lt a b ≡ false → b ≤ a
 not_less a b is = elim (cases_lt a b) [

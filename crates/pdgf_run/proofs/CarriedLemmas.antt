@@ -1,5 +1,5 @@
 -- Facts of the due files that hold where the verdict is carried out.
-use Rattle.std.proofs.Common.{◌≡◌, ◌≢◌, ◌-◌, ℕ, Bool, true, false, List, Option, None, Some, Result, Ok, Err, inl, inr, ap, refl, subst, sym, ◌∙◌}
+use Rattle.std.proofs.Common.{◌≡◌, ◌≢◌, ◌-◌, ℕ, Bool, true, false, List, [], Option, None, Some, Result, Ok, Err, inl, inr, ap, refl, subst, sym, ◌∙◌}
 use Rattle.std.specs.Prelude.{IfOk, IfSome}
 use Rattle.std.proofs.lemmas.Bool.{cases_eq, ne_eqb}
 use Rattle.pd_outside.specs.Files.{File}
@@ -23,7 +23,7 @@ use Rattle.pdgf_run.specs.Jobs.{due_of}
 use Rattle.pdgf_run.specs.Playing.{IsTaskOf, is_playing, task_due}
 use Rattle.pdgf_run.specs.ReadingList.{reads_schema}
 use Rattle.pdgf_run.specs.TopCall.{Carries}
-use Rattle.pdgf_run.specs.Verdict.{IsDecided, IsInMode, IsJobOver, IsPlanned, IsVerdict, plan_by}
+use Rattle.pdgf_run.specs.Verdict.{IsDecided, IsInMode, IsJobOver, IsPlanned, IsVerdict, WhereUnread, plan_by}
 use Rattle.pdgf_run.specs.declared.job.Task.{Task}
 use Rattle.pdgf_run.specs.declared.report.Report.{Report}
 use Rattle.pdgf_run.proofs.TaskLemmas.{plays_no_other}
@@ -85,6 +85,15 @@ refused_gives mode reads Given gives words (Some files) (Ok asked) r report befo
     let status : report.status ≡ status_of r = ap (λ (t : Report). t.status) is in
     let free : is_free (status_of r) ≡ false = subst (λ (s : ℕ). is_free s ≡ false) status (not_free report.status five seven) in
     gives words files asked (Err r) report before now given own (limits (ap reads_schema own ∙ reads) free) (decided free) (is, same)
+
+-- what reads no file is refused whatever is told
+pub refused_unread : (words : List (List ℕ)) (r : Refusal) (report : Report) (before now : Option Held) → IsDecided status_of due_of (IsVerdict words []) (Err r) →
+    report ≡ record { status = status_of r; message = message_of r } → now ≡ before → report.status ≢ 5 → report.status ≢ 7 →
+    WhereUnread words (λ verdict. Carries verdict report before now)
+refused_unread words r report before now decided is same five seven =
+    let status : report.status ≡ status_of r = ap (λ (t : Report). t.status) is in
+    let free : is_free (status_of r) ≡ false = subst (λ (s : ℕ). is_free s ≡ false) status (not_free report.status five seven) in
+    (Err r, decided free, is, same)
 
 -- ---- a request that is carried out
 

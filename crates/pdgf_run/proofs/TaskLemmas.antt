@@ -1,6 +1,7 @@
 -- What is known of a store once a task is done.
-use Rattle.std.proofs.Common.{◌≡◌, ◌≢◌, true, false, List, Option, None, Some, Result, Ok, Err, refl, sym, subst, ap, ◌∙◌}
+use Rattle.std.proofs.Common.{◌≡◌, ◌≢◌, ℕ, true, false, List, Option, None, Some, Result, Ok, Err, refl, sym, subst, ap, ◌∙◌}
 use Rattle.std.specs.Prelude.{IfErr, IfOk, IfSome}
+use Rattle.std.specs.Option.{option_map}
 use Rattle.std.proofs.lemmas.Bool.{true≢false}
 use Rattle.pd_outside.specs.Files.{File}
 use Rattle.plan_stages.specs.Plans.{plan_in}
@@ -70,3 +71,16 @@ plays_not (Ok asked) told (task.Play job) given of is = absurd (true≢false (sy
 pub plays_no_other : (asked : Request) (told : Option (List File)) (t : Task) → IsTaskOf asked told t → asked.mode ≢ mode.Play → is_playing t ≡ false
 plays_no_other asked told (task.Write job) of other = refl
 plays_no_other asked told (task.Play job) of other = absurd (other of.mode)
+
+named_of : (asked : Request) (told : Option (List File)) (t : Task) (before now : Store) → IsTaskOf asked told t → HasPlayed t before now → is_play asked.mode ≡ true →
+    now.name ≡ option_map (λ (last : List ℕ). asked.store) before.name
+named_of asked told (task.Write job) before now of played plays = absurd (of (is_mode asked.mode plays))
+named_of asked told (task.Play job) before now of played plays =
+    ap (λ (store : Store). store.name) played ∙ ap (λ (name : List ℕ). option_map (λ (last : List ℕ). name) before.name) of.store
+
+-- a store that was played into has the name that was asked for, whatever is told
+pub named_where_asked : (q : Result Request UsageFault) (told : Option (List File)) (t : Task) (before now : Store) →
+    IfOk q (λ asked. IsTaskOf asked told t) → HasPlayed t before now →
+    IfOk q (λ asked. is_play asked.mode ≡ true → now.name ≡ option_map (λ (last : List ℕ). asked.store) before.name)
+named_where_asked (Err fault) told t before now of played = tt
+named_where_asked (Ok asked) told t before now of played = λ plays. named_of asked told t before now of played plays

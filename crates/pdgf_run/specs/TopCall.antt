@@ -17,10 +17,13 @@ use Rattle.refusals.specs.declared.refusal.Refusal.TheVariants as refusal
 use Rattle.request_words.specs.declared.usage.Request.{Request}
 use Rattle.request_words.specs.declared.usage.UsageFault.{UsageFault}
 use Rattle.schema_plan.specs.Dictionaries.{Project}
+use Rattle.detail_plan.specs.declared.detail.Detail.{Detail}
 use Rattle.pdgf_run.specs.declared.report.Report.{Report}
+use Rattle.pdgf_run.specs.Details.{detail_in}
 use Rattle.pdgf_run.specs.ReadingList.{reads_schema}
 use Rattle.pdgf_run.specs.Replay.{input_limit}
 use Rattle.pdgf_run.specs.modes.Apply.{AreLaterFiles, HoldInputs, tables_asked}
+use Rattle.pdgf_run.specs.modes.DetailsApply.{AreLaterDetails, HoldDetailInputs, detail_asked}
 use Rattle.pdgf_run.specs.modes.Revert.{AreEarlierFiles, HoldUndoInputs, tables_reverted}
 
 -- The report is the verdict's: the due files were finished, in order, and none is begun; or the shelf is as it was.
@@ -90,6 +93,14 @@ GivesLater request files report before now =
     IfOk (plan_in files request.schema) (λ (plan : Project). IfOk (tables_asked plan request) (λ (table : Option ℕ).
     HoldInputs plan request table files →
     (due : List File) × AreLaterFiles plan request table due × Carries (Ok due) report before now))
+
+-- The same of a detail table, which a file declares.
+abbrev pub GivesLaterDetails : Request → List File → Report → Option Held → Option Held → Type 0
+GivesLaterDetails request files report before now =
+    IfOk (plan_in files request.schema) (λ (plan : Project). IfOk (detail_in plan files request.spec) (λ (declared : Detail).
+    IfOk (detail_asked plan request declared) (λ (detail : Detail).
+    HoldDetailInputs plan request detail files →
+    (due : List File) × AreLaterDetails plan request detail due × Carries (Ok due) report before now)))
 
 -- Where files hold what a plain simulation gives as the texts at a unit and the undo texts back to an earlier one, all is done, and what the tables
 -- hold at the earlier unit is finished.

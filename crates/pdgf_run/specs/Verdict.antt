@@ -1,5 +1,5 @@
 -- What words and files come to: the due files, or a refusal.
-use Rattle.std.specs.Prelude.{◌≡◌, ℕ, List, Option, Result, Ok, Err, IfSome, Bool, true, false}
+use Rattle.std.specs.Prelude.{◌≡◌, ℕ, List, [], Option, Result, Ok, Err, IfSome, Bool, true, false}
 use Rattle.pd_outside.specs.Files.{File}
 use Rattle.pd_outside.specs.Library.{Content}
 use Rattle.plan_stages.specs.Plans.{plan_in}
@@ -75,6 +75,10 @@ IsVerdict words files verdict = IsOfRequest files (request words) verdict
 abbrev pub WhereTold : List (List ℕ) → Option Content → (Result (List File) Refusal → Type 0) → Type 0
 WhereTold words content Fact =
     IfSome (told_files content) (λ (files : List File). (verdict : Result (List File) Refusal) × IsVerdict words files verdict × Fact verdict)
+
+-- a fact of the verdict of words that read no file, which no file changes
+abbrev pub WhereUnread : List (List ℕ) → (Result (List File) Refusal → Type 0) → Type 0
+WhereUnread words Fact = (verdict : Result (List File) Refusal) × IsVerdict words [] verdict × Fact verdict
 
 -- an answer's value is what things come to, and its fault is, unless its status is one that no definition gives
 abbrev pub IsDecided : {A B F : Type 0} → (F → ℕ) → (A → B) → (Result B F → Type 0) → Result A F → Type 0

@@ -49,7 +49,7 @@ pub(crate) fn carry_out<R: Threads + Sync, S: Shelf, G: Gate + Sync, K: Keeper>(
     ensures prefix { result.status ≡ 6 → HoldsPrefixOf (task_due task) (S.held shelf.old) (S.held shelf.new) }
     ensures write_failed { result.status ≡ 6 → FailedAtLast (S.counts shelf.old) (S.counts shelf.new) }
     ensures write_unfailed { result.status ≢ 6 → Unfailed (S.counts shelf.old) (S.counts shelf.new) }
-    ensures held { result.status ≢ 0 → result.status ≢ 6 → S.held shelf.new ≡ S.held shelf.old }
+    ensures unwritten { result.status ≢ 0 → result.status ≢ 6 → shelf.new ≡ shelf.old }
     ensures none_begun { result.status ≢ 6 → S.is_begun shelf.new ≡ false }
 
     // A task that plays no units leaves the keeper as it was.
@@ -89,7 +89,7 @@ fn written<R: Threads + Sync, S: Shelf, G: Gate + Sync>(
     ensures prefix { result.status ≡ 6 → HoldsPrefixOf (due_of job) (S.held shelf.old) (S.held shelf.new) }
     ensures failed { result.status ≡ 6 → FailedAtLast (S.counts shelf.old) (S.counts shelf.new) }
     ensures unfailed { result.status ≢ 6 → Unfailed (S.counts shelf.old) (S.counts shelf.new) }
-    ensures held { result.status ≢ 0 → result.status ≢ 6 → S.held shelf.new ≡ S.held shelf.old }
+    ensures unwritten { result.status ≢ 0 → result.status ≢ 6 → shelf.new ≡ shelf.old }
     ensures none_begun { result.status ≢ 6 → S.is_begun shelf.new ≡ false }
 {
     match fill(rt, alloc, &job, shelf, gate) {

@@ -1,6 +1,6 @@
 //! The program's run: from the words as the system gives them to the report.
 
-ghost use Rattle.std.specs.Prelude.{◌≡◌, ◌≢◌, ◌≤◌, ◌+◌, ◌⊎◌, ◌↔◌, [], false, true, map, string_bytes, IfErr, IfOk, IfSome, IsErr, IsOk, IsOkAnd, IsTrue, OnErr};
+ghost use Rattle.std.specs.Prelude.{◌≡◌, ◌≢◌, ◌≤◌, ◌+◌, ◌⊎◌, ◌↔◌, ℕ, List, [], false, true, map, string_bytes, IfErr, IfOk, IfSome, IsErr, IsOk, IsOkAnd, IsTrue, OnErr};
 ghost use Rattle.std.specs.IoError.{error_kind};
 ghost use Rattle.std.specs.Option.{option_map};
 ghost use Rattle.pd_outside.specs.Faults.{FailedAtLast, Unfailed};
@@ -13,11 +13,11 @@ ghost use Rattle.plan_stages.specs.Stages.{told_files};
 ghost use Rattle.refusals.specs.Messages.{fixed_text, message_of};
 ghost use Rattle.refusals.specs.Statuses.{is_status};
 ghost use Rattle.request_words.specs.Words.{request};
-ghost use Rattle.request_words.specs.declared.usage.Mode.TheVariants.{Apply, Revert};
+ghost use Rattle.request_words.specs.declared.usage.Mode.TheVariants.{Apply, DetailsApply, Revert};
 ghost use Rattle.pdgf_run.specs.Playing.{IsBrokenOff, is_play, played_store, plays_for};
 ghost use Rattle.pdgf_run.specs.ReadingList.{AsksInTurn, reads_on, reads_schema};
-ghost use Rattle.pdgf_run.specs.TopCall.{Carries, GivesEarlier, GivesLater, IsPastLimit, reads_for};
-ghost use Rattle.pdgf_run.specs.Verdict.{WhereTold};
+ghost use Rattle.pdgf_run.specs.TopCall.{Carries, GivesEarlier, GivesLater, GivesLaterDetails, IsPastLimit, reads_for};
+ghost use Rattle.pdgf_run.specs.Verdict.{WhereTold, WhereUnread};
 ghost use Rattle.pdgf_run.specs.Replay.{input_limit};
 
 use crate::report::refused;
@@ -58,10 +58,20 @@ pub fn run_program<R: Threads + Sync, L: Library, S: Shelf, K: Keeper>(
         WhereTold (map string_bytes words.items) (L.content library.old)
         (λ verdict. Carries verdict result (S.held shelf.old) (S.held shelf.new))) }
 
+    // What reads no file, as bad words and a sample, comes to the same whatever the library tells.
+    ensures verdict_unread { IfOk words (λ words. result.status ≢ 5 → result.status ≢ 6 → result.status ≢ 7 → result.status ≢ 12 →
+        reads_for (request (map string_bytes words.items)) ≡ false →
+        WhereUnread (map string_bytes words.items) (λ verdict. Carries verdict result (S.held shelf.old) (S.held shelf.new))) }
+
     // If the files that mode apply reads hold what the simulation gives, the finished files hold what it gives at the later unit.
     ensures applied { IfOk words (λ words. result.status ≢ 5 → result.status ≢ 6 → result.status ≢ 7 →
         IfOk (request (map string_bytes words.items)) (λ asked. asked.mode ≡ Apply →
         IfSome (told_files (L.content library.old)) (λ files. GivesLater asked files result (S.held shelf.old) (S.held shelf.new)))) }
+
+    // The same for mode details-apply and a detail table.
+    ensures details_applied { IfOk words (λ words. result.status ≢ 5 → result.status ≢ 6 → result.status ≢ 7 →
+        IfOk (request (map string_bytes words.items)) (λ asked. asked.mode ≡ DetailsApply →
+        IfSome (told_files (L.content library.old)) (λ files. GivesLaterDetails asked files result (S.held shelf.old) (S.held shelf.new)))) }
 
     // If the files that mode revert reads hold what the simulation gives and the undo texts back to an earlier unit, the finished
     // files hold what it gives at that unit.
@@ -93,7 +103,7 @@ pub fn run_program<R: Threads + Sync, L: Library, S: Shelf, K: Keeper>(
         (λ verdict. IsOkAnd verdict (λ due. HoldsPrefixOf due (S.held shelf.old) (S.held shelf.new)))) }
 
     // Any status but 0 and 6 leaves the shelf as it was.
-    ensures held { result.status ≢ 0 → result.status ≢ 6 → S.held shelf.new ≡ S.held shelf.old }
+    ensures unwritten { result.status ≢ 0 → result.status ≢ 6 → shelf.new ≡ shelf.old }
     ensures none_begun { result.status ≢ 6 → S.is_begun shelf.new ≡ false }
 
     // The library stays as it was if the words give no request, or ask for a sample, which has a schema of its own.
@@ -113,6 +123,8 @@ pub fn run_program<R: Threads + Sync, L: Library, S: Shelf, K: Keeper>(
     ensures played { (result.status ≡ 0) ⊎ (result.status ≡ 6) → IfOk words (λ words. IfOk (request (map string_bytes words.items)) (λ asked. is_play asked.mode ≡ true →
         IfSome (told_files (L.content library.old)) (λ files. IfOk (plan_in files asked.schema) (λ plan.
         K.store keeper.new ≡ played_store plan asked.to asked.store (K.store keeper.old))))) }
+    ensures named { (result.status ≡ 0) ⊎ (result.status ≡ 6) → IfOk words (λ words. IfOk (request (map string_bytes words.items)) (λ asked. is_play asked.mode ≡ true →
+        (K.store keeper.new).name ≡ option_map (λ (last : List ℕ). asked.store) (K.store keeper.old).name)) }
 
     // If a call of the keeper failed, or memory ran out, the keeper stays open after some statements, or is as it was.
     ensures broken_off { (K.store keeper.new).is_open ≡ true → IfOk words (λ words. IfOk (request (map string_bytes words.items)) (λ asked.

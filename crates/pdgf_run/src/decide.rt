@@ -1,6 +1,6 @@
 //! From the words to a task, stage by stage. Nothing is read later, and no output is touched here.
 
-ghost use Rattle.std.specs.Prelude.{◌≡◌, ◌≢◌, ◌≤◌, ◌+◌, ◌⊎◌, false, true, map, string_bytes, Err, IfErr, IfOk, IfSome, Ok, OnOk};
+ghost use Rattle.std.specs.Prelude.{◌≡◌, ◌≢◌, ◌≤◌, ◌+◌, ◌⊎◌, [], false, true, map, string_bytes, Err, IfErr, IfOk, IfSome, Ok, OnOk};
 ghost use Rattle.plan_stages.specs.Limits.{dictionary_limit, schema_limit};
 ghost use Rattle.plan_stages.specs.PlanNames.{AskedAlone, AskedNone};
 ghost use Rattle.plan_stages.specs.Plans.{plan_in};
@@ -39,6 +39,7 @@ pub(crate) fn decide<R: Threads + Sync, L: Library, G: Gate + Sync>(
 ) -> Result<Task, Refusal>
     ensures verdict { IfSome (told_files (L.content library.old)) (λ files.
         IsDecided status_of task_due (IsVerdict (map string_bytes words.now) files) result) }
+    ensures sampled { reads_for (request (map string_bytes words.now)) ≡ false → IsDecided status_of task_due (IsVerdict (map string_bytes words.now) []) result }
     ensures can { IfOk result CanDo }
     ensures task { IfOk (request (map string_bytes words.now)) (λ asked. IfOk result (IsTaskOf asked (told_files (L.content library.old)))) }
     ensures usage { IfErr (request (map string_bytes words.now)) (λ fault. result ≡ Err (Refusal.Words fault)) }
@@ -72,6 +73,7 @@ fn job_of_request<R: Threads + Sync, L: Library, G: Gate + Sync>(
 ) -> Result<Task, JobFault>
     requires { AreWithinRanges request.now }
     ensures job { IfSome (told_files (L.content library.old)) (λ files. IsDecided job_status task_due (IsJobOver request.now files) result) }
+    ensures sampled { reads_schema request.now.mode ≡ false → IsDecided job_status task_due (IsJobOver request.now []) result }
     ensures can { IfOk result CanDo }
     ensures task { IfOk result (IsTaskOf request.now (told_files (L.content library.old))) }
     ensures left { LibraryDone (reads_schema request.now.mode) (ended job_status result) (IsLimitTold result) (told_files (L.content library.old)) (L.content library.new)

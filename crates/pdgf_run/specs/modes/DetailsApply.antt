@@ -1,6 +1,8 @@
 -- Mode details-apply: the text of a detail table at a unit and the streams of later units, read from files, and the text that they make.
-use Rattle.std.specs.Prelude.{◌≡◌, ℕ, nat_lt, List, [], ◌∷◌, None, Result, Ok, Err, if◌then◌else◌}
+use Rattle.std.specs.Prelude.{◌≡◌, ◌≤◌, ℕ, ◌+◌, ◌-◌, nat_lt, List, [], ◌∷◌, flat_map, None, Result, Ok, Err, if◌then◌else◌}
+use Rattle.std.specs.List.{range_with_len}
 use Rattle.pd_outside.specs.Files.{File}
+use Rattle.plan_stages.specs.Inputs.{inputs_of, total_length}
 use Rattle.refusals.specs.declared.refusal.DetailsCause.{DetailsCause}
 use Rattle.refusals.specs.declared.refusal.JobFault.{JobFault}
 use Rattle.refusals.specs.declared.refusal.JobFault.TheVariants as job
@@ -10,8 +12,10 @@ use Rattle.schema_plan.specs.Dictionaries.{Project}
 use Rattle.schema_plan.specs.Layout.{layout_of}
 use Rattle.stream_apply.specs.declared.key_fields.KeyFields.TheVariants.{Two}
 use Rattle.detail_plan.specs.declared.detail.Detail.{Detail}
+use Rattle.detail_rows.specs.Applying.{detail_streams}
+use Rattle.detail_rows.specs.Lines.{detail_text}
 use Rattle.pdgf_run.specs.Details.{detail_in, detail_of_text}
-use Rattle.pdgf_run.specs.Replay.{IsReplayOf, paths_of, possible_of}
+use Rattle.pdgf_run.specs.Replay.{AreDueFor, IsReplayOf, input_limit, input_paths, paths_of, possible_of}
 use Rattle.pdgf_run.specs.declared.replay.Replay.{Replay}
 use Rattle.pdgf_run.specs.declared.replay.Way.TheVariants as way
 
@@ -40,6 +44,22 @@ AreDeclared plan request files (Err cause) answer = answer ≡ Err (job.Details 
 -- last one past the plan's; and then what the replay refuses
 abbrev pub IsDetailsApplyDue : Project → Request → List File → Result (List File) JobFault → Type 0
 IsDetailsApplyDue plan request files answer = AreDeclared plan request files (detail_in plan files request.spec) answer
+
+-- ---- inputs that a simulation gives
+
+-- what a detail table holds at a unit and what each unit after it changes, as many as `count`, in the order of the inputs
+abbrev pub detail_inputs : Project → Detail → ℕ → ℕ → List (List ℕ)
+detail_inputs plan detail from count = detail_text plan detail from ∷ flat_map (detail_streams plan detail) (range_with_len (from + 1) count)
+
+-- files hold these as the inputs of a request
+pub record HoldDetailInputs (plan : Project) (request : Request) (detail : Detail) (files : List File) : Type 0 where
+  pub texts : inputs_of files (input_paths request (apply_of_detail detail)) ≡ detail_inputs plan detail request.from (request.to - request.from)
+  pub within : total_length (inputs_of files (input_paths request (apply_of_detail detail))) ≤ input_limit
+
+-- files are that of what the detail table holds at the last unit that is asked for
+abbrev pub AreLaterDetails : Project → Request → Detail → List File → Type 0
+AreLaterDetails plan request detail due =
+    AreDueFor (layout_of plan).delimiter request (apply_of_detail detail) (detail_text plan detail request.to ∷ []) due
 
 -- ---- the names that are asked
 

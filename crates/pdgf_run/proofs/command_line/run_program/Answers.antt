@@ -21,8 +21,8 @@ returns-in-Ok-clause-stopped g c = c.pdgf.ensures.stopped
 pub returns-in-Ok-clause-write_failed : goal.returns-in-Ok-clause-write_failed
 returns-in-Ok-clause-write_failed g c = c.pdgf.ensures.write_failed
 
-pub returns-in-Ok-clause-held : goal.returns-in-Ok-clause-held
-returns-in-Ok-clause-held g c = c.pdgf.ensures.held
+pub returns-in-Ok-clause-unwritten : goal.returns-in-Ok-clause-unwritten
+returns-in-Ok-clause-unwritten g c = c.pdgf.ensures.unwritten
 
 pub returns-in-Ok-clause-none_begun : goal.returns-in-Ok-clause-none_begun
 returns-in-Ok-clause-none_begun g c = c.pdgf.ensures.none_begun

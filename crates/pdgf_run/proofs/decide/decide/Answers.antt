@@ -1,7 +1,8 @@
-use Rattle.std.proofs.Common.{Ok, Err}
+use Rattle.std.proofs.Common.{[], Some, Ok, Err, ap, sym, ◌∙◌}
 use Rattle.std.proofs.lemmas.Result.{err_from_is_err_and}
 use Rattle.plan_stages.specs.Stages.{told_files}
 use Rattle.refusals.specs.Statuses.{done_status, job_status}
+use Rattle.pdgf_run.specs.TopCall.{reads_for}
 use Rattle.pdgf_run.proofs.DecideLemmas.{asks_of_words, decided_for_request, decided_for_words, left_by_request, left_by_words, limits_of_words}
 use Rattle.pdgf_run.proofs.decide.decide.Goals as goal
 
@@ -45,3 +46,20 @@ returns-in_err-job_of_request-clause-limits g c =
 
 pub returns-clause-limits : goal.returns-clause-limits
 returns-clause-limits g c = limits_of_words _ (told_files (g.L.Library.content c.args.library.now)) c.in_ok-request.request done_status c.in_ok-request.ensures.read c.in_ok-job_of_request.ensures.limits
+
+pub returns-in_err-request-clause-sampled : goal.returns-in_err-request-clause-sampled
+returns-in_err-request-clause-sampled g c =
+    let made = err_from_is_err_and c.from_residual.result c.from_residual.ensures.1 in
+    rw (made.1, made.2) (λ unread. decided_for_words _ (Some []) _ c.in_err-request.ensures.refused)
+
+pub returns-in_err-job_of_request-clause-sampled : goal.returns-in_err-job_of_request-clause-sampled
+returns-in_err-job_of_request-clause-sampled g c =
+    let made = err_from_is_err_and c.from_residual-in_err-job_of_request.result c.from_residual-in_err-job_of_request.ensures.1 in
+    rw (made.1, made.2)
+    (λ unread. decided_for_request _ (Some []) c.in_ok-request.request (Err c.in_err-job_of_request.field-0.0) c.in_ok-request.ensures.read
+    (c.in_err-job_of_request.ensures.sampled (sym (ap reads_for c.in_ok-request.ensures.read) ∙ unread)))
+
+pub returns-clause-sampled : goal.returns-clause-sampled
+returns-clause-sampled g c = λ unread.
+    decided_for_request _ (Some []) c.in_ok-request.request (Ok c.in_ok-job_of_request.field-0) c.in_ok-request.ensures.read
+    (c.in_ok-job_of_request.ensures.sampled (sym (ap reads_for c.in_ok-request.ensures.read) ∙ unread))

@@ -1,16 +1,19 @@
-use Rattle.std.proofs.Common.{◌≡◌, ◌≢◌, refl, sym, subst, map, string_bytes, false}
+use Rattle.std.proofs.Common.{◌≡◌, ◌≢◌, Ok, refl, sym, subst, map, string_bytes, false}
 use Rattle.std.specs.Prelude.{IsErr, ◌↔◌}
 use Rattle.pd_outside.proofs.Counts.{unfailed_same}
 use Rattle.pd_outside.specs.Faults.{FailedAtLast, Unfailed}
 use Rattle.plan_stages.specs.Stages.{told_files}
 use Rattle.request_words.specs.Words.{request}
 use Rattle.pdgf_run.specs.declared.report.Report.{Report}
+use Rattle.pdgf_run.specs.Playing.{task_due}
 use Rattle.pdgf_run.specs.TopCall.{IsPastLimit}
 use Rattle.pdgf_run.proofs.AppliedLemmas.{applied_carried, applied_refused}
+use Rattle.pdgf_run.proofs.CarriedLemmas.{refused_unread}
 use Rattle.pdgf_run.proofs.DecideLemmas.{refused-usage}
+use Rattle.pdgf_run.proofs.DetailsAppliedLemmas.{details_applied_carried, details_applied_refused}
 use Rattle.pdgf_run.proofs.RevertedLemmas.{reverted_carried, reverted_refused}
 use Rattle.pdgf_run.proofs.ReportLemmas.{past_limit}
-use Rattle.pdgf_run.proofs.TaskLemmas.{broken_where_asked, played_where_asked, plays_not}
+use Rattle.pdgf_run.proofs.TaskLemmas.{broken_where_asked, named_where_asked, played_where_asked, plays_not}
 use Rattle.pdgf_run.proofs.run.pdgf.Goals as goal
 
 pub returns-in-Err-clause-usage : goal.returns-in-Err-clause-usage
@@ -80,3 +83,26 @@ pub returns-in-Ok-clause-unplayed : goal.returns-in-Ok-clause-unplayed
 returns-in-Ok-clause-unplayed g c = λ is.
     c.carry_out.ensures.unplayed
     (plays_not (request (map string_bytes c.args.words.now)) (told_files (g.L.Library.content c.args.library.now)) c.in-Ok.task c.in-Ok.ensures.usage c.in-Ok.ensures.task is)
+
+pub returns-in-Ok-clause-named : goal.returns-in-Ok-clause-named
+returns-in-Ok-clause-named g c = λ ended.
+    named_where_asked (request (map string_bytes c.args.words.now)) (told_files (g.L.Library.content c.args.library.now)) c.in-Ok.task _ _
+    c.in-Ok.ensures.task (c.carry_out.ensures.played ended)
+
+pub returns-in-Err-clause-verdict_unread : goal.returns-in-Err-clause-verdict_unread
+returns-in-Err-clause-verdict_unread g c = λ five six seven twelve unread.
+    refused_unread (map string_bytes c.args.words.now) c.in-Err.refusal c.refused.result _ _ (c.in-Err.ensures.sampled unread) c.refused.ensures refl five seven
+
+pub returns-in-Ok-clause-verdict_unread : goal.returns-in-Ok-clause-verdict_unread
+returns-in-Ok-clause-verdict_unread g c = λ five six seven twelve unread.
+    (Ok (task_due c.in-Ok.task), c.in-Ok.ensures.sampled unread, c.carry_out.ensures.carries six seven twelve)
+
+pub returns-in-Err-clause-details_applied : goal.returns-in-Err-clause-details_applied
+returns-in-Err-clause-details_applied g c = λ five six seven.
+    details_applied_refused (map string_bytes c.args.words.now) (told_files (g.L.Library.content c.args.library.now)) (request (map string_bytes c.args.words.now)) c.in-Err.refusal
+    c.refused.result _ _ refl c.in-Err.ensures.limits c.in-Err.ensures.verdict c.refused.ensures refl five seven
+
+pub returns-in-Ok-clause-details_applied : goal.returns-in-Ok-clause-details_applied
+returns-in-Ok-clause-details_applied g c = λ five six seven.
+    details_applied_carried (map string_bytes c.args.words.now) (told_files (g.L.Library.content c.args.library.now)) (request (map string_bytes c.args.words.now)) c.in-Ok.task c.carry_out.result _ _
+    refl c.in-Ok.ensures.limits c.in-Ok.ensures.verdict c.in-Ok.ensures.task c.carry_out.ensures.unfailed c.carry_out.ensures.carries six seven
