@@ -3,6 +3,7 @@ pub mod DecideLemmas
 pub mod ReportLemmas
 mod ReplayLemmas
 mod ApplyLemmas
+mod DetailsAppliedLemmas
 mod ModeLemmas
 mod JoinedLemmas
 mod ReplayedLemmas
