@@ -3,3 +3,4 @@ pub mod FieldLemmas
 pub mod RecordLemmas
 pub mod RowLemmas
 pub mod BackLemmas
+pub mod JoinLemmas

@@ -1,6 +1,6 @@
 //! The laws of CSV. Each law is the contract of a function that does nothing.
 
-ghost use Rattle.std.specs.Prelude.{◌≡◌, ℕ, List};
+ghost use Rattle.std.specs.Prelude.{◌≡◌, ◌++◌, ℕ, List};
 ghost use Rattle.row_text.specs.Fields.{IsDelimiter};
 ghost use Rattle.csv_face.specs.Csv.{BeginsWithDigit, IsCopyText, IsCsvOf, Row, csv_text};
 ghost use Rattle.csv_face.specs.Reading.{HasBadRecord, IsReadAs};
@@ -26,4 +26,12 @@ pub fn one_record_is_the_first_bad_one()
 pub fn a_text_has_one_csv()
     ensures { (delimiter : ℕ) (text csv other : List ℕ) → IsDelimiter delimiter →
         IsCsvOf delimiter text csv → IsCsvOf delimiter text other → csv ≡ other }
+{}
+
+/// The CSV of two texts with rows of as many fields, one after the other, is the CSV of the texts, one after the other. So shares that are
+/// written as CSV are joined as they are.
+pub fn joined_csv_is_the_csv_of_the_joined()
+    ensures copy { (delimiter fields : ℕ) (rows others : List Row) (text other : List ℕ) →
+        IsCopyText delimiter fields rows text → IsCopyText delimiter fields others other → IsCopyText delimiter fields (rows ++ others) (text ++ other) }
+    ensures csv { (rows others : List Row) → csv_text (rows ++ others) ≡ csv_text rows ++ csv_text others }
 {}
