@@ -24,7 +24,7 @@ impl Library for Drip {
 
     ghost taken = { λ d. ⟦<MemLibrary as Library>⟧.taken d.inner };
 
-    ghost faults = { λ d. ⟦<MemLibrary as Library>⟧.faults d.inner };
+    ghost counts = { λ d. ⟦<MemLibrary as Library>⟧.counts d.inner };
 
     ghost told_alike = { λ _. tt };
 
