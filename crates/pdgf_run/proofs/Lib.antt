@@ -4,6 +4,7 @@ pub mod ReportLemmas
 mod ReplayLemmas
 mod ApplyLemmas
 mod DetailsAppliedLemmas
+mod RevertAfterLemmas
 mod ModeLemmas
 mod JoinedLemmas
 mod ReplayedLemmas

@@ -8,9 +8,12 @@ ghost use Rattle.schema_plan.specs.Layout.{layout_of};
 ghost use Rattle.schema_plan.specs.Limits.{IsInLimits};
 ghost use Rattle.life_intervals.specs.Generator.{generator_of, last_unit};
 ghost use Rattle.row_lines.specs.Lines.{table_text};
+ghost use Rattle.stream_apply.specs.InTurn.{IsAppliedText};
+ghost use Rattle.stream_apply.specs.declared.key_fields.KeyFields.TheVariants.{One};
 ghost use Rattle.undo_streams.specs.InTurn.{IsRevertedText};
 ghost use Rattle.pdgf_run.specs.UndoLaws.{undo_texts};
 ghost use Rattle.pdgf_run.specs.Verdict.{IsVerdict};
+ghost use Rattle.pdgf_run.specs.modes.Apply.{table_inputs};
 
 /// Words and files come to only one verdict.
 pub fn words_and_files_have_one_verdict()
@@ -26,4 +29,12 @@ pub fn undo_texts_give_the_earlier_text()
         IsRevertedText (layout_of plan).delimiter
         (table_text (generator_of plan) (to + count) place ∷ undo_texts plan place to count)
         (table_text (generator_of plan) to place) }
+{}
+
+/// What the streams of some units make of a table's text, the undo texts of these units take back to the text that was.
+pub fn reverting_after_applying_gives_the_text_that_was()
+    ensures { (plan : Project) → IsInLimits plan → (place : ℕ) → place < length plan.schema.tables →
+        (from count : ℕ) → from + count ≤ last_unit plan → (made : List ℕ) →
+        IsAppliedText One (layout_of plan).delimiter (table_inputs plan from count place) made →
+        IsRevertedText (layout_of plan).delimiter (made ∷ undo_texts plan place from count) (table_text (generator_of plan) from place) }
 {}
