@@ -1,9 +1,10 @@
 -- What a line holds in a reference is the key field of one line of the parent's text, or null.
-use Rattle.std.proofs.Common.{◌≡◌, ℕ, ◌^◌, ◌<◌, ◌≤◌, All, Bool, true, false, not, List, [], codes, count_by, decimal, length, map, Option, Some, None, zero-add, refl, ap, arith, subst, sym, ◌∙◌}
-use Rattle.std.specs.Prelude.{IfSome, IsSome, MatchOption, if◌then◌else◌, slice_index_or}
+use Rattle.std.proofs.Common.{◌≡◌, ℕ, ◌^◌, ◌<◌, ◌≤◌, All, Bool, true, false, inl, inr, not, List, [], codes, count_by, decimal, length, map, Option, Some, None, zero-add, refl, ap, arith, subst, sym, ◌∙◌}
+use Rattle.std.specs.Prelude.{IfSome, IsSome, MatchOption, if◌then◌else◌, is_some, slice_index_or}
 use Rattle.std.specs.Option.{option_map}
 use Rattle.std.specs.List.{range_with_len}
 use Rattle.std.specs.Str.{bytes_eq}
+use Rattle.std.proofs.lemmas.Bool.{cases_Bool, cases_lt, true≢false}
 use Rattle.std.proofs.lemmas.Fmt.{decimal_injective}
 use Rattle.std.proofs.lemmas.List.{get_or-map, length-map}
 use Rattle.std.proofs.lemmas.List.Elements.{All-filter, filter_passes}
@@ -16,7 +17,7 @@ use Rattle.schema_plan.specs.Dictionaries.{Project}
 use Rattle.schema_plan.specs.Layout.{layout_of, no_table, table_at}
 use Rattle.schema_plan.specs.Limits.{IsInLimits, IsTableInLimits}
 use Rattle.schema_plan.specs.References.{IsReferenceInLimits, Reference, cascades_of, reference_at, references_of}
-use Rattle.life_intervals.specs.Generator.{Generator, generator_of, last_unit, table_of}
+use Rattle.life_intervals.specs.Generator.{Generator, generator_of, last_unit, rows_in_all, table_of}
 use Rattle.life_intervals.specs.Intervals.{held_parent, is_after, is_live, living, loss_of, parent_of, row_at}
 use Rattle.life_intervals.specs.Keys.{key_of}
 use Rattle.life_intervals.specs.Rows.{Row}
@@ -31,13 +32,15 @@ use Rattle.life_intervals.proofs.LiveLemmas.{holds_row-live}
 use Rattle.life_intervals.proofs.ReferenceLemmas.{at_column, reference_at-within}
 use Rattle.life_intervals.proofs.SimulationLemmas.{rows_at-rows_of}
 use Rattle.stream_apply.proofs.KeyedLineLemmas.{bytes_eq-apart}
-use Rattle.row_lines.specs.Lines.{field, parent_of_row}
+use Rattle.row_lines.specs.Lines.{field, held_row, parent_of_row}
 use Rattle.row_lines.proofs.FieldLemmas.{field-key}
+use Rattle.row_lines.proofs.HeldRowLemmas.{held_row-live, held_row-none, held_row-unborn}
+use Rattle.row_lines.proofs.LineLemmas.{key_of-by}
 use Rattle.life_intervals.proofs.HeldParentLemmas.{held_parent-cascades}
 use Rattle.row_lines.proofs.ReferenceFieldLemmas.{field-reference, parent_of_row-by, parents-held_parent}
 use Rattle.update_box.proofs.OrdinalLemmas.{not-true}
 use Rattle.update_box.specs.TextLaws.{field_of_line, lines_with_key}
-use Rattle.update_box.proofs.RangeLemmas.{count_by-filter_one, count_by-map}
+use Rattle.update_box.proofs.RangeLemmas.{count_by-filter_no_kept, count_by-filter_one, count_by-map}
 
 -- what a line holds in a column of its table
 field_of_line-is : (generator : Generator) (unit place column : ℕ) (row : Row) → column < length (table_at generator.tables place).columns →
@@ -104,6 +107,50 @@ module _ (plan : Project) (limits : IsInLimits plan) (unit : ℕ) (within : unit
       ∙ count_by-filter_one (is_live generator place unit) (λ j. has_key (row_at generator place unit j)) 0 (born_by place) ordinal (omega arith) (omega (arith, born)) alive
       ((bytes_eq-Decides (field_of_line generator unit place 0 (row_at generator place unit ordinal)) key).1 (key-field place below ordinal born))
       (λ j low high apart. key-field_apart place below j ordinal (omega (arith, high)) born apart)
+
+  -- no line has a key that no living row has
+  lines_with_key-none : (place : ℕ) → place < length plan.schema.tables → (key : ℕ) → key < 2 ^ 64 →
+      ((j : ℕ) → j < born_by place → is_live generator place unit j ≡ true → key_of generator place unit j ≡ key → ⊥) →
+      lines_with_key generator unit place (decimal key) ≡ 0
+  lines_with_key-none place below key small apart =
+      let has_key : Row → Bool = λ row. bytes_eq (field_of_line generator unit place 0 row) (decimal key) in
+      ap (count_by has_key) (rows_at-rows_of (last_unit plan) generator place unit sound within)
+      ∙ count_by-map has_key (row_at generator place unit) (living generator place unit)
+      ∙ count_by-filter_no_kept (is_live generator place unit) (λ j. has_key (row_at generator place unit j)) 0 (born_by place)
+      (λ j low high alive. bytes_eq-apart (field_of_line generator unit place 0 (row_at generator place unit j)) (decimal key) (λ same.
+      apart j (omega (arith, high)) alive (decimal_injective (key_of generator place unit j) key (key-small place below j (omega (arith, high))) small
+      (sym (key-field place below j (omega (arith, high))) ∙ same))))
+
+  -- a row that is told as live has one line with its key, and any other has none
+  pub lines_with_key-held : (place : ℕ) → place < length plan.schema.tables → (ordinal : ℕ) → ordinal < rows_in_all plan place →
+      lines_with_key generator unit place (decimal (key_of generator place (last_unit plan) ordinal)) ≡ (if is_some (held_row generator place unit ordinal) then 1 else 0)
+  lines_with_key-held place below ordinal inside =
+      let last : ℕ = last_unit plan in
+      let orders = OrdersCohorts-generator_of plan place in
+      let table : IsTableInLimits last (table_of plan place) = own place below in
+      let number : Option Row → ℕ = λ held. if is_some held then 1 else 0 in
+      let small : key_of generator place last ordinal < 2 ^ 64 =
+      omega (arith, key_of-within generator place orders last ordinal inside, table.base_limit, table.births.row_limit) in
+      let by : (j : ℕ) → j < born_by place → key_of generator place last j ≡ key_of generator place unit j = λ j born. key_of-by generator last unit place j within born in
+      let later : (j : ℕ) → j < born_by place → j < rows_in_all plan place = λ j born. omega (arith, born, born_count-le (table_of plan place).births unit last within) in
+      elim (cases_lt ordinal (born_by place)) [
+        | inl born ↦ elim (cases_Bool (is_live generator place unit ordinal)) [
+          | inl alive ↦
+              ap (λ (key : ℕ). lines_with_key generator unit place (decimal key)) (by ordinal born)
+              ∙ lines_with_key-live place below ordinal born alive
+              ∙ sym (ap number (held_row-live last generator place unit ordinal sound within born alive))
+          | inr dead ↦
+              lines_with_key-none place below (key_of generator place last ordinal) small
+              (λ j born_j alive same. true≢false (sym alive ∙ ap (is_live generator place unit)
+              (key_of-one_to_one generator place orders last j ordinal (later j born_j) inside (by j born_j ∙ same)) ∙ dead))
+              ∙ sym (ap number (held_row-none last generator place unit ordinal sound within dead))
+        ]
+        | inr unborn ↦
+            lines_with_key-none place below (key_of generator place last ordinal) small
+            (λ j born_j alive same.
+            omega (arith, born_j, unborn, key_of-one_to_one generator place orders last j ordinal (later j born_j) inside (by j born_j ∙ same)))
+            ∙ sym (ap number (held_row-unborn last generator place unit ordinal sound within unborn))
+      ]
 
   -- ---- the line that a reference names
 

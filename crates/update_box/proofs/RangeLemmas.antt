@@ -93,6 +93,17 @@ count_by-filter_none p q a (suc n) fails =
     count_by-first q (p a) a (filter p (range_with_len (a + 1) n)) (fails a (omega arith) (omega arith))
     ∙ count_by-filter_none p q (a + 1) n (λ j low high. fails j (omega (arith, low)) (omega (arith, high)))
 
+-- or where each that passes the first test fails the second
+pub count_by-filter_no_kept : (p q : ℕ → Bool) (a n : ℕ) → ((j : ℕ) → a ≤ j → j < a + n → p j ≡ true → q j ≡ false) → count_by q (filter p (range_with_len a n)) ≡ 0
+count_by-filter_no_kept p q a zero fails = refl
+count_by-filter_no_kept p q a (suc n) fails =
+    let rest : List ℕ = filter p (range_with_len (a + 1) n) in
+    let none : count_by q rest ≡ 0 = count_by-filter_no_kept p q (a + 1) n (λ j low high. fails j (omega (arith, low)) (omega (arith, high))) in
+    elim (cases_Bool (p a)) [
+      | inl kept ↦ count_by-first q (p a) a rest (fails a (omega arith) (omega arith) kept) ∙ none
+      | inr dropped ↦ ap (λ (b : Bool). count_by q (if b then a ∷ rest else rest)) dropped ∙ none
+    ]
+
 -- and one is where one of those that pass the first test passes the second, and each other fails it
 pub count_by-filter_one : (p q : ℕ → Bool) (a n one : ℕ) → a ≤ one → one < a + n → p one ≡ true → q one ≡ true →
     ((j : ℕ) → a ≤ j → j < a + n → (j ≡ one → ⊥) → q j ≡ false) → count_by q (filter p (range_with_len a n)) ≡ 1

@@ -3,7 +3,7 @@
 //!
 //! A table is named by its place in the schema, and a row by its ordinal. Both count from 0.
 
-ghost use Rattle.std.specs.Prelude.{◌≡◌, ℕ, ℤ, ◌+◌, ◌-◌, ◌*◌, ◌<◌, ◌≤◌, ◌==◌, ◌&&◌, [], ◌∷◌, All, IfSome, IsSome, MatchOption, Some, codes, false, filter, flat_map, length, not, slice_index_or, true};
+ghost use Rattle.std.specs.Prelude.{◌≡◌, ℕ, ℤ, ◌+◌, ◌-◌, ◌*◌, ◌<◌, ◌≤◌, ◌==◌, ◌&&◌, [], ◌∷◌, All, IfSome, IsSome, MatchOption, Some, codes, decimal, false, filter, flat_map, if◌then◌else◌, is_some, length, not, slice_index_or, true};
 ghost use Rattle.std.specs.List.{range_with_len};
 ghost use Rattle.cohort_sizes.specs.Births.{first_ordinal};
 ghost use Rattle.schema_plan.specs.Dictionaries.{Project};
@@ -11,12 +11,13 @@ ghost use Rattle.schema_plan.specs.Layout.{layout_of};
 ghost use Rattle.schema_plan.specs.Limits.{IsInLimits};
 ghost use Rattle.schema_plan.specs.References.{Reference, cascades_of, reference_at, references_of};
 ghost use Rattle.schema_plan.specs.TableFacts.{reach};
-ghost use Rattle.life_intervals.specs.Generator.{generator_of, last_unit, table_of};
+ghost use Rattle.life_intervals.specs.Generator.{generator_of, last_unit, rows_in_all, table_of};
 ghost use Rattle.life_intervals.specs.Intervals.{change_unit, held_parent, is_live, parent_of};
+ghost use Rattle.life_intervals.specs.Keys.{key_of};
 ghost use Rattle.life_intervals.specs.Rows.{Row};
 ghost use Rattle.life_intervals.specs.Simulation.{holds_row, rows_at, simulation};
 ghost use Rattle.life_intervals.specs.Streams.{deleted, inserted, updated};
-ghost use Rattle.row_lines.specs.Lines.{key_line_of, line, parent_of_row, table_text};
+ghost use Rattle.row_lines.specs.Lines.{held_row, key_line_of, line, parent_of_row, table_text};
 ghost use Rattle.stream_apply.specs.InTurn.{IsAppliedText};
 ghost use Rattle.stream_apply.specs.declared.key_fields.KeyFields.TheVariants.{One};
 ghost use Rattle.update_box.specs.Packages.{IsJobOf, package_text, packages_in, packages_of, room_of, share_of, share_text};
@@ -72,6 +73,15 @@ pub fn references_name_one_line_each()
         (i : ℕ) (d : Row) → i < length (rows_at (generator_of plan) place unit) →
         (column : ℕ) (reference : Reference) → reference_at (table_of plan place) column ≡ Some reference → reference.nulls ≡ false →
         IsSome (parent_of_row (table_of plan place) (slice_index_or (rows_at (generator_of plan) place unit) i d) column) }
+{}
+
+/// The text at a unit has one line with the key of a row that the report on it tells as live at the unit. It has none with the key of a row
+/// that is told as dead or unborn. So the unit at which a row is gone is the first one after its birth whose text hasn't its line.
+pub fn the_text_has_the_line_of_a_row_that_is_told_live()
+    ensures { (plan : Project) → IsInLimits plan →
+        (place : ℕ) → place < length plan.schema.tables → (unit : ℕ) → unit ≤ last_unit plan → (ordinal : ℕ) → ordinal < rows_in_all plan place →
+        lines_with_key (generator_of plan) unit place (decimal (key_of (generator_of plan) place (last_unit plan) ordinal))
+        ≡ (if is_some (held_row (generator_of plan) place unit ordinal) then 1 else 0) }
 {}
 
 /// A unit doesn't depend on later units. If two accepted schemas differ only in their last unit, they have the same states, texts and changes
