@@ -2,9 +2,9 @@
 
 ghost use Rattle.std.specs.Prelude.{◌≡◌, ◌<◌, ◌≤◌, ◌+◌, [], ◌∷◌, ◌++◌, ◌↔◌, None, Some, false, true, Contains, IsErr, IsOk, IfOk, IsTrue, OnOk, OnErr, is_err};
 ghost use Rattle.std.specs.Option.{option_map};
-ghost use Rattle.pd_outside.specs.Faults.{Rose, counted, faults_after, last_count};
+ghost use Rattle.pd_outside.specs.Faults.{CallMade, counted, last_count};
 ghost use Rattle.keeper_play.specs.Kept.{KeptRow, no_rows, put_row, drop_row, with_row};
-ghost use Rattle.keeper_play.specs.MapKeeper.{IsCounted, keeping_of, row_of, store_of};
+ghost use Rattle.keeper_play.specs.MapKeeper.{IsCounted, counts_of, keeping_of, row_of, store_of};
 ghost use Rattle.keeper_play.specs.Store.{finish_store, perform, start_store};
 
 use crate::{KeepFailed, Keeper, RefTo};

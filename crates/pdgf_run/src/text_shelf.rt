@@ -1,7 +1,7 @@
 //! Files that are written into memory, up to a limit.
 
 ghost use Rattle.std.specs.Prelude.{◌≡◌, ◌≤◌, ◌+◌, Some, is_some};
-ghost use Rattle.pd_outside.specs.Faults.{Rose, counted, faults_after};
+ghost use Rattle.pd_outside.specs.Faults.{Rose, counted, exact_counts};
 ghost use Rattle.pdgf_run.specs.InMemory.{bytes_held, no_files};
 
 use pd_outside::{Failed, Files, MemShelf, Shelf, ShelfFails};
