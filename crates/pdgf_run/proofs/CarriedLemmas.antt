@@ -93,7 +93,7 @@ pub refused_unread : (words : List (List ℕ)) (r : Refusal) (report : Report) (
 refused_unread words r report before now decided is same five seven =
     let status : report.status ≡ status_of r = ap (λ (t : Report). t.status) is in
     let free : is_free (status_of r) ≡ false = subst (λ (s : ℕ). is_free s ≡ false) status (not_free report.status five seven) in
-    (Err r, decided free, is, same)
+    (Err r, decided free, (is, same))
 
 -- ---- a request that is carried out
 

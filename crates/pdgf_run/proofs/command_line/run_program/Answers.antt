@@ -1,3 +1,4 @@
+use Rattle.std.proofs.Common.{sym}
 use Rattle.pdgf_run.proofs.command_line.run_program.Goals as goal
 
 pub returns-in-Ok-clause-known : goal.returns-in-Ok-clause-known
@@ -50,3 +51,9 @@ returns-in-Ok-clause-write_unfailed g c = c.pdgf.ensures.write_unfailed
 
 pub returns-in-Ok-clause-keeper_unfailed : goal.returns-in-Ok-clause-keeper_unfailed
 returns-in-Ok-clause-keeper_unfailed g c = c.pdgf.ensures.keeper_unfailed
+
+pub returns-in-Ok-clause-verdict_unread : goal.returns-in-Ok-clause-verdict_unread
+returns-in-Ok-clause-verdict_unread g c = rw (c.in-Ok.is, sym c.as_slice.ensures.value) c.pdgf.ensures.verdict_unread
+
+pub returns-in-Ok-clause-longer_schema : goal.returns-in-Ok-clause-longer_schema
+returns-in-Ok-clause-longer_schema g c = rw (c.in-Ok.is, sym c.as_slice.ensures.value) c.pdgf.ensures.longer_schema
