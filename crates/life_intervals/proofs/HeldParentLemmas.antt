@@ -108,6 +108,17 @@ held_parent-cascades generator place unit ordinal reference cascades =
     parent_death_by generator.order (take place (known_tables generator)) (birth births unit ordinal) (index_at births unit ordinal) reference in
     ap (λ (nulls : Bool). held_until (if nulls then death else None) unit (parent_of generator place unit ordinal reference)) cascades
 
+-- a parent that a row still has is held with it
+pub held_parent-held : (plan : Project) → IsInLimits plan → (place : ℕ) → place < length plan.schema.tables → (column : ℕ) (reference : Reference) →
+    reference_at (table_of plan place) column ≡ Some reference → (unit ordinal : ℕ) → unit ≤ last_unit plan → holds_row (rows_at (generator_of plan) place unit) ordinal ≡ true →
+    IfSome (held_parent (generator_of plan) place unit ordinal reference) (λ parent. holds_row (rows_at (generator_of plan) reference.parent unit) parent ≡ true)
+held_parent-held plan limits place below column reference is unit ordinal within held =
+    let generator : Generator = generator_of plan in
+    let IsHeld : Reference → Type 0 = λ to. IfSome (held_parent generator place unit ordinal to) (λ parent. holds_row (rows_at generator to.parent unit) parent ≡ true) in
+    at_column IsHeld (table_of plan place)
+    (parents-held (last_unit plan) generator (AreSound-accepted plan limits) place (place-below plan place below) unit ordinal within held)
+    column reference (reference_at-within (table_of plan place) column reference is) is
+
 -- a parent with whom its rows are deleted is held as long as they are
 pub parent-held : (plan : Project) → IsInLimits plan → (place : ℕ) → place < length plan.schema.tables → (column : ℕ) (reference : Reference) → reference_at (table_of plan place) column ≡ Some reference →
     reference.nulls ≡ false → (unit ordinal : ℕ) → unit ≤ last_unit plan → holds_row (rows_at (generator_of plan) place unit) ordinal ≡ true →
@@ -115,10 +126,8 @@ pub parent-held : (plan : Project) → IsInLimits plan → (place : ℕ) → pla
 parent-held plan limits place below column reference is takes_along unit ordinal within held =
     let generator : Generator = generator_of plan in
     let sound : AreSound (last_unit plan) generator.tables = AreSound-accepted plan limits in
-    let IsHeld : Reference → Type 0 = λ to. IfSome (held_parent generator place unit ordinal to) (λ parent. holds_row (rows_at generator to.parent unit) parent ≡ true) in
-    let is_there : IsHeld reference =
-    at_column IsHeld (table_of plan place) (parents-held (last_unit plan) generator sound place (place-below plan place below) unit ordinal within held)
-    column reference (reference_at-within (table_of plan place) column reference is) is in
+    let is_there : IfSome (held_parent generator place unit ordinal reference) (λ parent. holds_row (rows_at generator reference.parent unit) parent ≡ true) =
+    held_parent-held plan limits place below column reference is unit ordinal within held in
     let at_unit : holds_row (rows_at generator reference.parent unit) (parent_of generator place unit ordinal reference) ≡ true =
     subst (λ (parent : Option ℕ). IfSome parent (λ p. holds_row (rows_at generator reference.parent unit) p ≡ true))
     (held_parent-cascades generator place unit ordinal reference takes_along) is_there in

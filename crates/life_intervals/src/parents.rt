@@ -378,11 +378,15 @@ pub fn held_parent<L: Ledger>(
     requires reference { is_some (reference_at (table_of plan.now table) column) ≡ true }
     ensures held { (reference : Reference) → reference_at (table_of plan.now table) column ≡ Some reference →
         result ≡ held_parent (generator_of plan.now) table t j reference }
+    ensures alive { (reference : Reference) → reference_at (table_of plan.now table) column ≡ Some reference →
+        holds_row (rows_at (generator_of plan.now) table t) j ≡ true →
+        IfSome result (λ parent. holds_row (rows_at (generator_of plan.now) reference.parent t) parent ≡ true) }
     ensures within { (reference : Reference) → reference_at (table_of plan.now table) column ≡ Some reference →
         IfSome result (λ parent. parent < rows_in_all plan.now reference.parent) }
     ensures steps { (reference : Reference) → reference_at (table_of plan.now table) column ≡ Some reference →
         steps.new ≤ steps.old + held_cost (layout_of plan.now).tables reference }
 {
+    let _sound = plan.schema(); // so it is there as long as the row is
     Rows::of(plan).held_parent(table, j, column, t, steps)
 }
 
