@@ -2,6 +2,7 @@
 
 ghost use Rattle.std.specs.Prelude.{◌≡◌, false, None, is_some};
 
+use crate::last_fault::{FileName, LastFault};
 use crate::reading::Reading;
 use pd_outside::{Failed, Library};
 use std::fs::File;
@@ -15,6 +16,7 @@ use std::rt::Files;
 pub struct FileLibrary<R: Files> {
     rt: R,
     reading: Reading<R::File>,
+    name: FileName,
 }
 
 impl<R: Files> FileLibrary<R> {
@@ -27,7 +29,15 @@ impl<R: Files> FileLibrary<R> {
         FileLibrary {
             rt,
             reading: Reading::new(),
+            name: FileName::new(),
         }
+    }
+
+    /// Returns the file of the last call that failed, and the system's reason. Returns None if no call failed.
+    pub fn last_fault(&self) -> Option<LastFault<'_>> {
+        let reason = self.reading.reason()?;
+        let name = self.name.text();
+        Some(LastFault { name, reason })
     }
 }
 
@@ -45,6 +55,7 @@ impl<R: Files> Library for FileLibrary<R> {
     ghost told_alike = { λ _. tt };
 
     fn start(&mut self, name: &str) -> Result<(), Failed> {
+        self.name.set(name);
         self.reading.start(File::open(&self.rt, name))
     }
 

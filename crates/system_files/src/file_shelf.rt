@@ -3,6 +3,7 @@
 ghost use Rattle.std.specs.Prelude.{◌≡◌, false, None, is_some};
 
 use crate::Syncing;
+use crate::last_fault::{FileName, LastFault};
 use crate::output::Output;
 use crate::places::Places;
 use crate::writing::Writing;
@@ -29,6 +30,7 @@ use std::rt::Files;
 pub struct FileShelf<R: Files> {
     places: Places<R>,
     writing: Writing<Output<R::File>>,
+    name: FileName,
 }
 
 impl<R: Files> FileShelf<R> {
@@ -50,7 +52,15 @@ impl<R: Files> FileShelf<R> {
         FileShelf {
             places: Places::new(rt, alloc, stdout, syncing),
             writing: Writing::new(),
+            name: FileName::new(),
         }
+    }
+
+    /// Returns the file of the last call that failed, and the system's reason. Returns None if no call failed.
+    pub fn last_fault(&self) -> Option<LastFault<'_>> {
+        let reason = self.writing.reason()?;
+        let name = self.name.text();
+        Some(LastFault { name, reason })
     }
 }
 
@@ -66,6 +76,7 @@ impl<R: Files> Shelf for FileShelf<R> {
     ghost told_alike = { λ _. tt };
 
     fn begin(&mut self, name: &str) -> Result<(), Failed> {
+        self.name.set(name);
         let opened = self.places.open(name);
         self.writing.begin(opened)
     }
