@@ -34,10 +34,8 @@ impl<R: Files> FileLibrary<R> {
     }
 
     /// Returns the file of the last call that failed, and the system's reason. Returns None if no call failed.
-    pub fn last_fault(&self) -> Option<LastFault<'_>> {
-        let reason = self.reading.reason()?;
-        let name = self.name.text();
-        Some(LastFault { name, reason })
+    pub fn last_fault(&self) -> Option<LastFault> {
+        Some(LastFault::new(self.name, self.reading.reason()?))
     }
 }
 

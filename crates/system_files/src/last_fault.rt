@@ -1,49 +1,64 @@
 //! Which file a call failed on last, and why.
 
 use std::io;
-use std::io::{Cursor, Write};
 
 /// The most bytes of a name that are kept.
 const NAME_ROOM: usize = 1024;
 
 /// The file of the call that failed last, and the system's reason.
 #[derive(Clone, Copy)]
-pub struct LastFault<'a> {
-    /// The name that the call was given; None if it is too long to be kept.
-    pub name: Option<&'a str>,
-    /// Why the call failed.
-    pub reason: io::Error,
+pub struct LastFault {
+    file: FileName,
+    reason: io::Error,
+}
+
+impl LastFault {
+    /// Joins a file's name and a reason.
+    pub(crate) fn new(file: FileName, reason: io::Error) -> LastFault {
+        LastFault { file, reason }
+    }
+
+    /// Returns the name that the call was given, or None if the name is too long to be kept.
+    pub fn name(&self) -> Option<&str> {
+        self.file.text()
+    }
+
+    /// Returns why the call failed.
+    pub fn reason(&self) -> io::Error {
+        self.reason
+    }
 }
 
 /// The name of the file that is read or written, kept without memory.
-#[derive(Drop)]
+#[derive(Clone, Copy)]
 pub(crate) struct FileName {
-    bytes: Cursor<[u8; NAME_ROOM]>,
-    is_whole: bool,
+    bytes: [u8; NAME_ROOM],
+    len: Option<usize>,
 }
 
 impl FileName {
     /// Returns no name.
     pub(crate) fn new() -> FileName {
         FileName {
-            bytes: Cursor::new([0; NAME_ROOM]),
-            is_whole: false,
+            bytes: [0; NAME_ROOM],
+            len: None,
         }
     }
 
     /// Keeps a name in place of the one before.
     pub(crate) fn set(&mut self, name: &str) {
-        self.bytes.set_position(0);
-        self.is_whole = self.bytes.write_all(name.as_bytes()).is_ok();
+        let len = name.len();
+        if len <= NAME_ROOM {
+            self.bytes[..len].copy_from_slice(name.as_bytes());
+            self.len = Some(len);
+        } else {
+            self.len = None;
+        }
     }
 
-    /// Returns the name, or None if there is none or it wasn't kept whole.
-    pub(crate) fn text(&self) -> Option<&str> {
-        if !self.is_whole {
-            return None;
-        }
-        let bytes = self.bytes.get_ref().as_slice();
-        let len = (self.bytes.position() as usize).min(bytes.len());
-        std::str::from_utf8(&bytes[..len]).ok()
+    /// Returns the name, or None if there is none or it wasn't kept.
+    fn text(&self) -> Option<&str> {
+        let bytes = self.bytes.get(..self.len?)?;
+        std::str::from_utf8(bytes).ok()
     }
 }
