@@ -93,7 +93,7 @@ fn put_numbers_of_column(
     match &column.kind {
         Kind::Key { base, .. } if broken.number == 5 => writeln!(hints, "hint: base {base}"),
         Kind::Leaf(leaf) if 9 <= broken.number && broken.number <= 14 => put_leaf(leaf, hints),
-        Kind::Template { parts } if broken.number == 15 => {
+        Kind::Template { parts } if broken.number == 15 && !is_one_to_32(parts.len()) => {
             writeln!(hints, "hint: {} parts", parts.len())
         }
         Kind::Case { branches, .. } if broken.number == 16 => {
@@ -117,6 +117,11 @@ fn put_numbers_of_column(
         }
         _ => Ok(()),
     }
+}
+
+/// Whether a template can have so many parts.
+fn is_one_to_32(parts: usize) -> bool {
+    1 <= parts && parts <= 32
 }
 
 /// Appends the numbers of a leaf.
@@ -190,12 +195,15 @@ fn put_orphan(
     match first_orphan(table, parent, window, last_of(broken.schema)) {
         Some(unit) => {
             match window {
-                Window::Units(units) => write!(hints, "hint: window {units}, ")?,
+                Window::Units(units) => write!(hints, "hint: window {units}: ")?,
                 Window::All => hints.push_str("hint: ")?,
             }
-            write!(hints, "rows are born at unit {unit}, and none of ")?;
+            write!(
+                hints,
+                "at unit {unit} rows are born, and the window has none of "
+            )?;
             put_name(name, hints)?;
-            hints.push_str(" in its window\n")
+            hints.push_str("\n")
         }
         None => Ok(()),
     }
