@@ -1,5 +1,5 @@
 -- Whether hints are shown.
-use Rattle.std.specs.Prelude.{ℕ, Bool, List, Option, Some, None, codes, if◌then◌else◌}
+use Rattle.std.specs.Prelude.{ℕ, Bool, List, codes, if◌then◌else◌}
 use Rattle.std.specs.Str.{bytes_eq}
 use Rattle.hints.specs.declared.shown.Setting.{Setting}
 use Rattle.hints.specs.declared.shown.Setting.TheVariants.{Shown, Hidden, OnTerminal}
