@@ -3,6 +3,7 @@
 ghost use Rattle.std.specs.Prelude.{◌≡◌, false, None, is_some};
 ghost use Rattle.pd_outside.specs.Faults.{exact_count};
 
+use crate::last_fault::{FileName, LastFault};
 use crate::reading::Reading;
 use pd_outside::{Failed, Library};
 use std::fs::File;
@@ -16,6 +17,7 @@ use std::rt::Files;
 pub struct FileLibrary<R: Files> {
     rt: R,
     reading: Reading<R::File>,
+    name: FileName,
 }
 
 impl<R: Files> FileLibrary<R> {
@@ -28,7 +30,13 @@ impl<R: Files> FileLibrary<R> {
         FileLibrary {
             rt,
             reading: Reading::new(),
+            name: FileName::new(),
         }
+    }
+
+    /// Returns the file of the last call that failed, and the system's reason. Returns None if no call failed.
+    pub fn last_fault(&self) -> Option<LastFault> {
+        Some(LastFault::new(self.name, self.reading.reason()?))
     }
 }
 
@@ -46,6 +54,7 @@ impl<R: Files> Library for FileLibrary<R> {
     ghost told_alike = { λ _. tt };
 
     fn start(&mut self, name: &str) -> Result<(), Failed> {
+        self.name.set(name);
         self.reading.start(File::open(&self.rt, name))
     }
 

@@ -4,6 +4,7 @@ ghost use Rattle.std.specs.Prelude.{◌≡◌, false, None, is_some};
 ghost use Rattle.pd_outside.specs.Faults.{exact_counts};
 
 use crate::Syncing;
+use crate::last_fault::{FileName, LastFault};
 use crate::output::Output;
 use crate::places::Places;
 use crate::writing::Writing;
@@ -30,6 +31,7 @@ use std::rt::Files;
 pub struct FileShelf<R: Files> {
     places: Places<R>,
     writing: Writing<Output<R::File>>,
+    name: FileName,
 }
 
 impl<R: Files> FileShelf<R> {
@@ -51,7 +53,13 @@ impl<R: Files> FileShelf<R> {
         FileShelf {
             places: Places::new(rt, alloc, stdout, syncing),
             writing: Writing::new(),
+            name: FileName::new(),
         }
+    }
+
+    /// Returns the file of the last call that failed, and the system's reason. Returns None if no call failed.
+    pub fn last_fault(&self) -> Option<LastFault> {
+        Some(LastFault::new(self.name, self.writing.reason()?))
     }
 }
 
@@ -65,6 +73,7 @@ impl<R: Files> Shelf for FileShelf<R> {
     ghost told_alike = { λ _. tt };
 
     fn begin(&mut self, name: &str) -> Result<(), Failed> {
+        self.name.set(name);
         let opened = self.places.open(name);
         self.writing.begin(opened)
     }

@@ -3,6 +3,7 @@
 
 mod file_library;
 mod file_shelf;
+mod last_fault;
 mod output;
 mod places;
 mod progress;
@@ -13,5 +14,6 @@ mod writing;
 
 pub use file_library::FileLibrary;
 pub use file_shelf::FileShelf;
+pub use last_fault::LastFault;
 pub use progress_shelf::ProgressShelf;
 pub use syncing::Syncing;

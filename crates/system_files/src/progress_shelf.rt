@@ -26,6 +26,13 @@ impl<S: Shelf + Drop, C: Clock + Drop, W: Write + Drop> ProgressShelf<S, C, W> {
             progress: Progress::new(clock, to, shares_output),
         }
     }
+
+    /// Returns the shelf itself.
+    pub fn shelf(&self) -> &S
+        ensures { result.now ≡ self.now.shelf }
+    {
+        &self.shelf
+    }
 }
 
 impl<S: Shelf + Drop, C: Clock + Drop, W: Write + Drop> Shelf for ProgressShelf<S, C, W> {

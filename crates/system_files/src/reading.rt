@@ -20,6 +20,8 @@ pub(crate) struct Reading<F> {
     taken: u64,
     /// How many calls failed.
     faults: u64,
+    /// Why the call failed that failed last.
+    reason: Option<io::Error>,
 }
 
 impl<F: Read + Drop> Reading<F> {
@@ -33,6 +35,7 @@ impl<F: Read + Drop> Reading<F> {
             started: None,
             taken: 0,
             faults: 0,
+            reason: None,
         }
     }
 
@@ -51,7 +54,7 @@ impl<F: Read + Drop> Reading<F> {
                 self.started = Some(file);
                 Ok(())
             }
-            Err(_) => Err(self.fail()),
+            Err(error) => Err(self.fail(error)),
         }
     }
 
@@ -76,11 +79,16 @@ impl<F: Read + Drop> Reading<F> {
                 self.taken += n as u64;
                 Ok(n)
             }
-            Err(_) => Err(self.fail()),
+            Err(error) => Err(self.fail(error)),
         }
     }
 
-    fn fail(&mut self) -> Failed
+    /// Returns why the call failed that failed last, or None if none did.
+    pub(crate) fn reason(&self) -> Option<io::Error> {
+        self.reason
+    }
+
+    fn fail(&mut self, reason: io::Error) -> Failed
         ensures stopped { is_some self.new.started ≡ false }
         ensures taken { self.new.taken ≡ self.old.taken }
         ensures counted { self.new.faults ≡ counted self.old.faults }
@@ -88,6 +96,7 @@ impl<F: Read + Drop> Reading<F> {
     {
         self.started = None;
         self.faults = self.faults.saturating_add(1);
+        self.reason = Some(reason);
         Failed
     }
 }

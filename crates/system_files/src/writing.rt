@@ -7,7 +7,7 @@ ghost use Rattle.pd_outside.specs.Faults.{counted, faults_after};
 
 use pd_outside::Failed;
 use std::io;
-use std::io::{BufWriter, Write};
+use std::io::{BufWriter, ErrorKind, Write};
 
 /// What is left to do for an output after all its bytes are handed to it.
 pub(crate) trait Finish<W> {
@@ -25,6 +25,8 @@ pub(crate) struct Writing<W: Write + Drop> {
     faults: u64,
     /// Whether the last call failed.
     last_failed: bool,
+    /// Why the call failed that failed last.
+    reason: Option<io::Error>,
 }
 
 impl<W: Write + Drop> Writing<W> {
@@ -38,6 +40,7 @@ impl<W: Write + Drop> Writing<W> {
             begun: None,
             faults: 0,
             last_failed: false,
+            reason: None,
         }
     }
 
@@ -57,7 +60,7 @@ impl<W: Write + Drop> Writing<W> {
                 self.begun = Some(output);
                 Ok(())
             }
-            Err(_) => Err(self.fail()),
+            Err(error) => Err(self.fail(error)),
         }
     }
 
@@ -80,7 +83,8 @@ impl<W: Write + Drop> Writing<W> {
         };
         match output.write(bytes) {
             Ok(n) if n > 0 => Ok(n),
-            _ => Err(self.fail()),
+            Ok(_) => Err(self.fail(ErrorKind::WriteZero.into())),
+            Err(error) => Err(self.fail(error)),
         }
     }
 
@@ -106,11 +110,16 @@ impl<W: Write + Drop> Writing<W> {
                 self.begun = None;
                 Ok(())
             }
-            Err(_) => Err(self.fail()),
+            Err(error) => Err(self.fail(error)),
         }
     }
 
-    fn fail(&mut self) -> Failed
+    /// Returns why the call failed that failed last, or None if none did.
+    pub(crate) fn reason(&self) -> Option<io::Error> {
+        self.reason
+    }
+
+    fn fail(&mut self, reason: io::Error) -> Failed
         ensures begun { self.new.begun ≡ self.old.begun }
         ensures counted { self.new.faults ≡ counted self.old.faults }
         ensures never_falls { self.old.faults ≤ self.new.faults }
@@ -118,6 +127,7 @@ impl<W: Write + Drop> Writing<W> {
     {
         self.last_failed = true;
         self.faults = self.faults.saturating_add(1);
+        self.reason = Some(reason);
         Failed
     }
 }

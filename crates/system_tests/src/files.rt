@@ -5,8 +5,9 @@ ghost use Rattle.std.specs.Prelude.{◌≡◌, false, OnOk};
 use pd_outside::{Library, ReadFault, Shelf, read_whole, write_all};
 use std::alloc::{AllocError, Global};
 use std::fs;
+use std::io::ErrorKind;
 use std::test::Fail;
-use system_files::{FileLibrary, FileShelf};
+use system_files::{FileLibrary, FileShelf, LastFault};
 
 // Returns a path of more than 300 bytes to the file of this name here.
 fn long_path(alloc: Global, name: &str) -> Result<String, AllocError> {
@@ -115,5 +116,30 @@ fn a_full_device_is_told(rt: HostRuntime) -> Result<(), Fail> {
     write_all(&mut shelf, b"gathered")?;
     let at_the_end = shelf.end().is_err();
     assert!(rt; at_the_end);
+    Ok(())
+}
+
+fn is_fault(fault: Option<LastFault>, name: &str, kind: ErrorKind) -> bool {
+    match fault {
+        Some(fault) => fault.name() == Some(name) && fault.reason().kind() == kind,
+        None => false,
+    }
+}
+
+// The file and the reason of the call that failed last are kept: of an absent file, of a folder that is read, and of a full device.
+#[test]
+fn the_last_fault_is_kept(rt: HostRuntime) -> Result<(), Fail> {
+    let mut library = FileLibrary::new(rt);
+    assert!(rt; library.last_fault().is_none(), "no call failed");
+    let absent = read_whole(rt.alloc(), &mut library, "absent_test.txt", 100).is_err();
+    assert!(rt; absent && is_fault(library.last_fault(), "absent_test.txt", ErrorKind::NotFound));
+    let folder = read_whole(rt.alloc(), &mut library, ".", 100).is_err();
+    assert!(rt; folder && is_fault(library.last_fault(), ".", ErrorKind::IsADirectory));
+    let mut shelf = FileShelf::new(rt, rt.alloc(), rt.stdout());
+    assert!(rt; shelf.last_fault().is_none(), "no call failed");
+    shelf.begin("/dev/full")?;
+    write_all(&mut shelf, b"gathered")?;
+    let full = shelf.end().is_err();
+    assert!(rt; full && is_fault(shelf.last_fault(), "/dev/full", ErrorKind::StorageFull));
     Ok(())
 }
