@@ -49,7 +49,9 @@ pub struct MemoryDatabases {
 
 impl MemoryDatabases {
     /// Returns databases in this memory.
-    pub fn new(alloc: Global) -> Self {
+    pub fn new(alloc: Global) -> Self
+        ensures { result.alloc ≡ alloc }
+    {
         MemoryDatabases { alloc }
     }
 }

@@ -35,7 +35,9 @@ pub struct SystemDatabases<'a> {
 
 impl<'a> SystemDatabases<'a> {
     /// Returns the databases in the system's files and memory.
-    pub fn new(rt: &'a HostRuntime) -> Self {
+    pub fn new(rt: &'a HostRuntime) -> Self
+        ensures { result.rt ≡ rt.entry }
+    {
         SystemDatabases { rt }
     }
 }
