@@ -94,10 +94,7 @@ impl<D: Databases + Drop> SqlKeeper<D> {
                 self.last_failed = false;
                 Ok(())
             }
-            _ => {
-                self.is_sound = false;
-                self.fail()
-            }
+            _ => self.stop(),
         }
     }
 
@@ -110,6 +107,16 @@ impl<D: Databases + Drop> SqlKeeper<D> {
         self.faults = self.faults.saturating_add(1);
         self.last_failed = true;
         Err(KeepFailed)
+    }
+
+    /// Counts a failed call as a fault, after which each further one is refused.
+    fn stop(&mut self) -> Result<(), KeepFailed>
+        ensures failed { IsErr result }
+        ensures never_falls { self.old.faults ≤ self.new.faults }
+        ensures rest { self.new ≡ record self.old { is_sound = false; faults = counted self.old.faults; last_failed = true } }
+    {
+        self.is_sound = false;
+        self.fail()
     }
 
     /// Puts a row, if the store is open and no statement was refused.
@@ -171,10 +178,7 @@ impl<D: Databases + Drop> SqlKeeper<D> {
                 self.last_failed = false;
                 Ok(())
             }
-            Err(Refused) => {
-                self.is_sound = false;
-                self.fail()
-            }
+            Err(Refused) => self.stop(),
         }
     }
 
