@@ -1,13 +1,11 @@
 //! Which calls a store hands on to its database, and how a refused one ends.
 
-ghost use Rattle.std.specs.Prelude.{◌≡◌, ◌&&◌, false, is_ok};
+ghost use Rattle.std.specs.Prelude.{◌≡◌, IsTrue};
 
 use crate::tables::to_customer;
 use keeper_play::{Keeper, RefTo};
 use sql_keeper::{Databases, Refused, RowTables, SqlKeeper};
 use std::cell::Cell;
-use std::process::Abort;
-use std::test::Fail;
 
 // How often each call was handed on, and what the last put was: its table, its key, how many references and how many bytes.
 #[derive(Drop)]
@@ -119,60 +117,77 @@ impl RowTables for CountedTables<'_> {
     }
 }
 
-// Makes these statements in a store, finishes it twice, and returns which of the calls were made: all statements, and each finish.
-fn play(rt: &impl Abort, calls: &Calls, refusing: Refusing, puts: u64) -> (bool, bool) {
+// What came of a store: whether all statements were made, whether it was finished, and whether any call was made after that was refused.
+#[derive(Clone, Copy, PartialEq, Eq)]
+struct Played {
+    is_made: bool,
+    is_finished: bool,
+    goes_on: bool,
+}
+
+// Puts so many rows, drops one, and finishes the store. If that is refused, tries all again.
+fn play(calls: &Calls, refusing: Refusing, puts: u64) -> Option<Played> {
     let mut keeper = SqlKeeper::new(Counted { calls, refusing });
-    if keeper.start("").is_err() {
-        panic!(rt; "it starts");
-    }
-    let mut is_made = true;
-    for key in 1..=puts {
-        is_made &= keeper.put(1, key, &[to_customer(key)], b"1\t1\n").is_ok();
-    }
-    is_made &= keeper.drop_row(0, 1).is_ok();
+    keeper.start("").ok()?;
+    let is_put = are_put(&mut keeper, puts);
+    let is_dropped = keeper.drop_row(0, 1).is_ok();
     let is_finished = keeper.finish().is_ok();
-    if !is_finished {
-        // What was refused isn't tried again.
-        let again = keeper.put(1, 1, &[], b"1\t1\n").is_ok()
+    let goes_on = !is_finished
+        && (keeper.put(1, 1, &[], b"1\t1\n").is_ok()
             || keeper.drop_row(0, 1).is_ok()
-            || keeper.finish().is_ok();
-        assert!(rt; !again);
-    }
-    (is_made, is_finished)
+            || keeper.finish().is_ok());
+    Some(Played {
+        is_made: is_put && is_dropped,
+        is_finished,
+        goes_on,
+    })
+}
+
+// Puts the rows with the keys from 1 on, and tells whether all were put.
+fn are_put<K: Keeper>(keeper: &mut K, puts: u64) -> bool
+    requires { IsTrue (K.store keeper.old).is_open }
+    ensures { IsTrue (K.store keeper.new).is_open }
+{
+    puts == 0
+        || are_put(keeper, puts - 1) && keeper.put(1, puts, &[to_customer(puts)], b"1\t1\n").is_ok()
+}
+
+fn is(played: Option<Played>, is_made: bool, is_finished: bool) -> bool {
+    played
+        == Some(Played {
+            is_made,
+            is_finished,
+            goes_on: false,
+        })
 }
 
 // Each call is handed on once, as it is, and then the store is committed and closed, whether it has one statement or more.
 #[test]
-fn each_call_is_handed_on_once(rt: HostRuntime) -> Result<(), Fail> {
-    for puts in [0, 1, 5] {
-        let calls = Calls::none();
-        let made = play(&rt, &calls, Refusing::Nothing, puts);
-        assert_eq!(rt; made, (true, true));
-        assert_eq!(rt; calls.counts(), (puts as u32, 1, 1, 1));
-        if puts > 0 {
-            assert_eq!(rt; calls.last.get(), (1, puts, 1, 4));
-        }
-    }
-    Ok(())
+fn each_call_is_handed_on_once(rt: HostRuntime) {
+    let calls = Calls::none();
+    let one = play(&calls, Refusing::Nothing, 0);
+    assert!(rt; is(one, true, true) && calls.counts() == (0, 1, 1, 1));
+    let calls = Calls::none();
+    let many = play(&calls, Refusing::Nothing, 5);
+    assert!(rt; is(many, true, true) && calls.counts() == (5, 1, 1, 1));
+    assert!(rt; calls.last.get() == (1, 5, 1, 4));
 }
 
 // After a refused statement no other call is handed on, and nothing is committed or closed.
 #[test]
-fn nothing_is_handed_on_after_a_refused_statement(rt: HostRuntime) -> Result<(), Fail> {
+fn nothing_is_handed_on_after_a_refused_statement(rt: HostRuntime) {
     let calls = Calls::none();
-    assert_eq!(rt; play(&rt, &calls, Refusing::Put, 5), (false, false));
-    assert_eq!(rt; calls.counts(), (1, 0, 0, 0));
+    let put = play(&calls, Refusing::Put, 5);
+    assert!(rt; is(put, false, false) && calls.counts() == (1, 0, 0, 0));
     let calls = Calls::none();
-    assert_eq!(rt; play(&rt, &calls, Refusing::Drop, 5), (false, false));
-    assert_eq!(rt; calls.counts(), (5, 1, 0, 0));
-    Ok(())
+    let dropped = play(&calls, Refusing::Drop, 5);
+    assert!(rt; is(dropped, false, false) && calls.counts() == (5, 1, 0, 0));
 }
 
 // A refused commit is told, though a second would be made. The store isn't closed, and nothing more is handed on.
 #[test]
-fn a_refused_commit_is_told(rt: HostRuntime) -> Result<(), Fail> {
+fn a_refused_commit_is_told(rt: HostRuntime) {
     let calls = Calls::none();
-    assert_eq!(rt; play(&rt, &calls, Refusing::Commit, 5), (true, false));
-    assert_eq!(rt; calls.counts(), (5, 1, 1, 0));
-    Ok(())
+    let committed = play(&calls, Refusing::Commit, 5);
+    assert!(rt; is(committed, true, false) && calls.counts() == (5, 1, 1, 0));
 }
