@@ -1,5 +1,7 @@
 //! Where databases are opened.
 
+ghost use Rattle.std.specs.Prelude.{◌≡◌, Bool, IfOk, false, is_ok};
+
 use crate::Refused;
 use crate::tables::Tables;
 use keeper_play::RefTo;
@@ -10,14 +12,20 @@ use std::alloc::Global;
 ///
 /// A row that is put can wait, so that one statement puts many. If it is refused, a later call tells so, `commit` at the latest.
 pub trait RowTables {
+    /// Whether the last `commit` was made. It is false before the first.
+    ghost is_committed: { Self → Bool };
+
     /// Puts a row with its references. Replaces a row with the same key.
-    fn put(&mut self, table: u32, key: u64, refs: &[RefTo], line: &[u8]) -> Result<(), Refused>;
+    fn put(&mut self, table: u32, key: u64, refs: &[RefTo], line: &[u8]) -> Result<(), Refused>
+        ensures committed { is_committed self.new ≡ is_committed self.old };
 
     /// Drops a row with its references.
-    fn drop_row(&mut self, table: u32, key: u64) -> Result<(), Refused>;
+    fn drop_row(&mut self, table: u32, key: u64) -> Result<(), Refused>
+        ensures committed { is_committed self.new ≡ is_committed self.old };
 
     /// Commits what was put and dropped.
-    fn commit(&mut self) -> Result<(), Refused>;
+    fn commit(&mut self) -> Result<(), Refused>
+        ensures committed { is_committed self.new ≡ is_ok result };
 
     /// Closes the database.
     fn close(self);
@@ -29,7 +37,8 @@ pub trait Databases {
     type Tables: RowTables + Drop;
 
     /// Opens the database of a name, or makes it, and makes the tables in it. Refused if it has any table.
-    fn open(&self, name: &str) -> Result<Self::Tables, Refused>;
+    fn open(&self, name: &str) -> Result<Self::Tables, Refused>
+        ensures committed { IfOk result (λ tables. Self.Tables.is_committed tables ≡ false) };
 }
 
 /// Databases in memory. Each is a new one.
@@ -40,7 +49,9 @@ pub struct MemoryDatabases {
 
 impl MemoryDatabases {
     /// Returns databases in this memory.
-    pub fn new(alloc: Global) -> Self {
+    pub fn new(alloc: Global) -> Self
+        ensures { result.alloc ≡ alloc }
+    {
         MemoryDatabases { alloc }
     }
 }
@@ -49,6 +60,7 @@ impl MemoryDatabases {
 #[derive(Drop)]
 pub struct MemoryTables {
     tables: Tables<MemStore>,
+    is_committed: bool,
 }
 
 impl MemoryTables {
@@ -68,11 +80,16 @@ impl Databases for MemoryDatabases {
 
     fn open(&self, _name: &str) -> Result<MemoryTables, Refused> {
         let tables = Tables::create(self.alloc, Connection::open_in_memory(self.alloc)?)?;
-        Ok(MemoryTables { tables })
+        Ok(MemoryTables {
+            tables,
+            is_committed: false,
+        })
     }
 }
 
 impl RowTables for MemoryTables {
+    ghost is_committed = { λ database. database.is_committed };
+
     fn put(&mut self, table: u32, key: u64, refs: &[RefTo], line: &[u8]) -> Result<(), Refused> {
         self.tables.put(table, key, refs, line)
     }
@@ -82,7 +99,9 @@ impl RowTables for MemoryTables {
     }
 
     fn commit(&mut self) -> Result<(), Refused> {
-        self.tables.commit()
+        let committed = self.tables.commit();
+        self.is_committed = committed.is_ok();
+        committed
     }
 
     fn close(self) {}

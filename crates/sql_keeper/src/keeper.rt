@@ -1,6 +1,7 @@
 //! A store in a database of SQLite.
 
-ghost use Rattle.std.specs.Prelude.{◌≡◌, ◌≤◌, ◌+◌, None, false, true, IsErr, IsTrue, OnErr, OnOk, is_err, is_ok, is_some};
+ghost use Rattle.std.specs.Prelude.{◌≡◌, ◌≤◌, ◌+◌, ◌&&◌, None, false, true, IfSome, IsErr, IsTrue, OnErr, OnOk, is_err, is_ok, is_some};
+ghost use Rattle.std.specs.Option.{option_map};
 ghost use Rattle.pd_outside.specs.Faults.{counted, exact_counts, faults_after};
 
 use crate::{Databases, Refused, RowTables};
@@ -82,6 +83,7 @@ impl<D: Databases + Drop> SqlKeeper<D> {
         ensures made { OnOk result (self.new.done ≡ self.old.done + 1) }
         ensures unchanged { OnErr result (self.new.done ≡ self.old.done) }
         ensures refused { OnErr made (IsErr result) }
+        ensures sound { self.new.is_sound ≡ (is_ok result && self.old.is_sound) }
         ensures never_falls { self.old.faults ≤ self.new.faults }
         ensures counted { self.new.faults ≡ faults_after result self.old.faults }
         ensures last { self.new.last_failed ≡ is_err result }
@@ -92,10 +94,7 @@ impl<D: Databases + Drop> SqlKeeper<D> {
                 self.last_failed = false;
                 Ok(())
             }
-            _ => {
-                self.is_sound = false;
-                self.fail()
-            }
+            _ => self.stop(),
         }
     }
 
@@ -110,9 +109,21 @@ impl<D: Databases + Drop> SqlKeeper<D> {
         Err(KeepFailed)
     }
 
+    /// Counts a failed call as a fault, after which each further one is refused.
+    fn stop(&mut self) -> Result<(), KeepFailed>
+        ensures failed { IsErr result }
+        ensures never_falls { self.old.faults ≤ self.new.faults }
+        ensures rest { self.new ≡ record self.old { is_sound = false; faults = counted self.old.faults; last_failed = true } }
+    {
+        self.is_sound = false;
+        self.fail()
+    }
+
     /// Puts a row, if the store is open and no statement was refused.
     fn put_in(&mut self, table: u32, key: u64, refs: &[RefTo], line: &[u8]) -> Result<(), Refused>
         ensures tables { is_some self.new.tables ≡ is_some self.old.tables }
+        ensures unsound { self.old.is_sound ≡ false → IsErr result × (self.new ≡ self.old) }
+        ensures committed { option_map D.Tables.is_committed self.new.tables ≡ option_map D.Tables.is_committed self.old.tables }
         ensures rest { self.new ≡ record self.old { tables = self.new.tables } }
     {
         match &mut self.tables {
@@ -124,6 +135,8 @@ impl<D: Databases + Drop> SqlKeeper<D> {
     /// Drops a row, if the store is open and no statement was refused.
     fn drop_in(&mut self, table: u32, key: u64) -> Result<(), Refused>
         ensures tables { is_some self.new.tables ≡ is_some self.old.tables }
+        ensures unsound { self.old.is_sound ≡ false → IsErr result × (self.new ≡ self.old) }
+        ensures committed { option_map D.Tables.is_committed self.new.tables ≡ option_map D.Tables.is_committed self.old.tables }
         ensures rest { self.new ≡ record self.old { tables = self.new.tables } }
     {
         match &mut self.tables {
@@ -135,6 +148,9 @@ impl<D: Databases + Drop> SqlKeeper<D> {
     /// Commits what was put and dropped, if no statement was refused.
     fn commit(&mut self) -> Result<(), Refused>
         ensures tables { is_some self.new.tables ≡ is_some self.old.tables }
+        ensures unsound { self.old.is_sound ≡ false → IsErr result × (self.new ≡ self.old) }
+        ensures committed { OnOk result (IfSome self.new.tables (λ tables. IsTrue (D.Tables.is_committed tables))) }
+        ensures told { IsTrue self.old.is_sound → IfSome self.new.tables (λ tables. D.Tables.is_committed tables ≡ is_ok result) }
         ensures rest { self.new ≡ record self.old { tables = self.new.tables } }
     {
         match &mut self.tables {
@@ -143,8 +159,32 @@ impl<D: Databases + Drop> SqlKeeper<D> {
         }
     }
 
-    /// Closes the database.
+    /// Closes the database of a store that was committed. Returns how the commit ended, and counts it if it failed. After that all further
+    /// calls are refused.
+    fn settle(&mut self, committed: Result<(), Refused>) -> Result<(), KeepFailed>
+        requires { OnOk committed (IfSome self.old.tables (λ tables. IsTrue (D.Tables.is_committed tables))) }
+        ensures told { is_ok result ≡ is_ok committed }
+        ensures closed { OnOk result (is_some self.new.tables ≡ false) }
+        ensures open { OnErr result (self.new.tables ≡ self.old.tables) }
+        ensures sound { self.new.is_sound ≡ (is_ok result && self.old.is_sound) }
+        ensures done { self.new.done ≡ self.old.done }
+        ensures never_falls { self.old.faults ≤ self.new.faults }
+        ensures counted { self.new.faults ≡ faults_after result self.old.faults }
+        ensures last { self.new.last_failed ≡ is_err result }
+    {
+        match committed {
+            Ok(()) => {
+                self.close();
+                self.last_failed = false;
+                Ok(())
+            }
+            Err(Refused) => self.stop(),
+        }
+    }
+
+    /// Closes the database, which was committed.
     fn close(&mut self)
+        requires { IfSome self.old.tables (λ tables. IsTrue (D.Tables.is_committed tables)) }
         ensures tables { is_some self.new.tables ≡ false }
         ensures rest { self.new ≡ record self.old { tables = self.new.tables } }
     {
@@ -183,13 +223,7 @@ impl<D: Databases + Drop> Keeper for SqlKeeper<D> {
     }
 
     fn finish(&mut self) -> Result<(), KeepFailed> {
-        match self.commit() {
-            Ok(()) => {
-                self.close();
-                self.last_failed = false;
-                Ok(())
-            }
-            Err(Refused) => self.fail(),
-        }
+        let committed = self.commit();
+        self.settle(committed)
     }
 }

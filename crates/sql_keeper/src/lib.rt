@@ -9,6 +9,7 @@
 mod databases;
 mod inserts;
 mod keeper;
+mod mode;
 mod numbers;
 mod prepared;
 mod refused;

@@ -137,6 +137,11 @@ impl Site {
         is_gone
     }
 
+    /// Removes the log, of which the file has all. Nobody else may have the file open.
+    pub(crate) fn remove_log(&self, rt: &HostRuntime) -> io::Result<()> {
+        fs::remove_file(rt, self.log.as_str())
+    }
+
     /// Keeps the files, since they hold something or belong to somebody else by now.
     pub(crate) fn keep(&mut self) {
         self.made_store = false;

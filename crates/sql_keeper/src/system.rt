@@ -1,14 +1,18 @@
 //! Databases of the system.
 
+ghost use Rattle.std.specs.Prelude.{◌≡◌, IfSome, IsTrue, is_ok};
+
+use crate::mode::{reserved_bytes, set_journal_mode};
 use crate::site::Site;
 use crate::tables::{Change, Tables};
 use crate::writer::drop_tables;
 use crate::{Databases, Refused, RowTables};
 use keeper_play::RefTo;
 use sqlite::{Connection, File, FileStore, MemStore, Options, Unknown};
-use sqlite_disk::Disk;
+use sqlite_disk::{Disk, Files};
 use sqlite_std_file::OpenError;
 use std::hash::{BuildHasher, RandomState};
+use std::io;
 
 /// The name of a database in memory, as SQLite has it.
 const IN_MEMORY: &str = ":memory:";
@@ -22,7 +26,8 @@ const WRITTEN_PAGES: usize = 32_768;
 /// Databases in files of the system. A name is a path, or `:memory:` for a new database in memory, which is gone when it is closed.
 ///
 /// A database that has a table, an index or a view is refused before anything is written in it or beside it. If a database is refused or
-/// closed before its commit, the files that were made for it are removed, unless somebody else has it open.
+/// closed before its commit, the files that were made for it are removed, unless somebody else has it open. One that is closed after its
+/// commit stands alone, without a log, as far as the system allows.
 #[derive(Drop)]
 pub struct SystemDatabases<'a> {
     rt: &'a HostRuntime,
@@ -30,7 +35,9 @@ pub struct SystemDatabases<'a> {
 
 impl<'a> SystemDatabases<'a> {
     /// Returns the databases in the system's files and memory.
-    pub fn new(rt: &'a HostRuntime) -> Self {
+    pub fn new(rt: &'a HostRuntime) -> Self
+        ensures { result.rt ≡ rt.entry }
+    {
         SystemDatabases { rt }
     }
 }
@@ -52,6 +59,7 @@ impl<'a> Databases for SystemDatabases<'a> {
             rt: self.rt,
             site,
             place,
+            is_committed: false,
         })
     }
 }
@@ -61,11 +69,17 @@ pub struct SystemTables<'a> {
     rt: &'a HostRuntime,
     site: Option<Site>,
     place: Place,
+    is_committed: bool,
 }
 
 impl Drop for SystemTables<'_> {
     fn drop(self) {
-        let SystemTables { rt: _, site, place } = self;
+        let SystemTables {
+            rt: _,
+            site,
+            place,
+            is_committed: _,
+        } = self;
         drop(site);
         drop(place);
     }
@@ -99,12 +113,17 @@ impl Place {
         }
     }
 
-    /// Closes the database.
-    fn close(self) {
+    /// Closes the database, and returns its files as `close_file` does.
+    fn close(self) -> Option<Files<File>>
+        ensures { IfSome result (λ files. IsTrue (⟦<File as Disk>⟧.is_usable files.db)) }
+    {
         match self {
             Place::File(tables) => close_file(tables.into_database()),
-            Place::Memory(tables) => drop(tables),
-            Place::Nowhere => {}
+            Place::Memory(tables) => {
+                drop(tables);
+                None
+            }
+            Place::Nowhere => None,
         }
     }
 }
@@ -120,6 +139,22 @@ impl SystemTables<'_> {
             Some(site) if !is_gone => take_back_file(open_file(self.rt, site.path())?),
             _ => Ok(()),
         }
+    }
+
+    /// Keeps the files of a committed database, and takes back what a failed commit may have left. Returns how the commit ended.
+    fn settle(&mut self, committed: Result<(), Refused>) -> Result<(), Refused>
+        ensures same { result ≡ committed }
+        ensures told { self.new.is_committed ≡ is_ok committed }
+    {
+        match committed {
+            Ok(()) => self.keep(),
+            // If that is refused too, the contents of the disk are unknown.
+            Err(Refused) => {
+                let _ = self.take_back();
+            }
+        }
+        self.is_committed = committed.is_ok();
+        committed
     }
 
     /// Removes the files that were made for the database, and tells whether it removed the file itself.
@@ -139,6 +174,8 @@ impl SystemTables<'_> {
 }
 
 impl RowTables for SystemTables<'_> {
+    ghost is_committed = { λ database. database.is_committed };
+
     fn put(&mut self, table: u32, key: u64, refs: &[RefTo], line: &[u8]) -> Result<(), Refused> {
         self.place.make(Change::Put {
             table,
@@ -154,33 +191,59 @@ impl RowTables for SystemTables<'_> {
 
     fn commit(&mut self) -> Result<(), Refused> {
         let committed = self.place.make(Change::Commit);
-        match committed {
-            Ok(()) => self.keep(),
-            // If that is refused too, the contents of the disk are unknown.
-            Err(Refused) => {
-                let _ = self.take_back();
-            }
-        }
-        committed
+        self.settle(committed)
     }
 
     fn close(mut self) {
         self.clear();
-        let SystemTables { rt: _, site, place } = self;
-        drop(site);
-        place.close();
+        let SystemTables {
+            rt,
+            site,
+            place,
+            is_committed,
+        } = self;
+        let closed = place.close();
+        if let (Some(site), Some(files)) = (&site, closed) {
+            if is_committed {
+                // If that is refused, the log or the mode stays, with all that is committed.
+                let _ = leave_alone(rt, site, files);
+            }
+        }
     }
 }
 
-/// Closes a database. If its log isn't copied into the file, the log stays beside the file, with all that is committed.
-fn close_file<D: Disk + Drop>(database: Connection<FileStore<D>>) {
-    let _ = database.close();
+/// Closes a database. Returns its files, which are locked still, if its log was copied into the file. Else the log stays beside the file,
+/// with all that is committed.
+fn close_file<D: Disk + Drop>(database: Connection<FileStore<D>>) -> Option<Files<D>>
+    ensures { IfSome result (λ files. IsTrue (D.Disk.is_usable files.db)) }
+{
+    match database.close_files() {
+        Ok(files) => Some(files),
+        Err((_, store)) => {
+            drop(store.close());
+            None
+        }
+    }
+}
+
+/// Leaves a closed database alone: removes its log, of which the file has all, and then gives the file the mode without one. Its files are
+/// locked until then. A file whose pages can have checksums stays as it is, since the mode is in a page.
+fn leave_alone(rt: &HostRuntime, site: &Site, files: Files<File>) -> io::Result<()>
+    requires { IsTrue (⟦<File as Disk>⟧.is_usable files.db) }
+{
+    let Files { log, mut db } = files;
+    if reserved_bytes(&mut db)? == 0 {
+        site.remove_log(rt)?;
+        set_journal_mode(&mut db)?;
+    }
+    drop(log);
+    Ok(())
 }
 
 /// Drops the tables of a database in a file, and closes it.
 fn take_back_file<D: Disk + Drop>(mut database: Connection<FileStore<D>>) -> Result<(), Refused> {
     let dropped = drop_tables(&mut database);
-    close_file(database);
+    drop(close_file(database));
     dropped
 }
 

@@ -1,5 +1,7 @@
 //! Rows that wait, so that one statement puts many.
 
+ghost use Rattle.std.specs.Prelude.{◌≡◌, ◌+◌, ◌-◌, [], ◌++◌, IfOk, OnErr, OnOk, drop, length, take};
+
 use crate::Refused;
 use crate::numbers::{Keys, ReferenceNumber, RowNumber};
 use keeper_play::RefTo;
@@ -61,7 +63,10 @@ impl Drop for Waiting {
 
 impl Waiting {
     /// Returns an empty list of rows.
-    pub(crate) fn new(alloc: Global) -> Waiting {
+    pub(crate) fn new(alloc: Global) -> Waiting
+        ensures rows { result.rows.items ≡ [] }
+        ensures text { result.text.items ≡ [] }
+    {
         Waiting {
             alloc,
             rows: Vec::new(alloc),
@@ -85,7 +90,12 @@ impl Waiting {
         number: RowNumber,
         refs: &[RefTo],
         line: &[u8],
-    ) -> Result<(), Refused> {
+    ) -> Result<(), Refused>
+        ensures rows { OnOk result (length self.new.rows.items ≡ length self.old.rows.items + 1) }
+        ensures text { OnOk result (self.new.text.items ≡ self.old.text.items ++ line.now) }
+        ensures refused_rows { OnErr result (self.new.rows.items ≡ self.old.rows.items) }
+        ensures refused_text { OnErr result (self.new.text.items ≡ self.old.text.items) }
+    {
         let line_start = self.text.len();
         let references_start = self.references.len();
         let added = self.add_parts(keys, number, refs, line);
@@ -103,14 +113,15 @@ impl Waiting {
         number: RowNumber,
         refs: &[RefTo],
         line: &[u8],
-    ) -> Result<(), Refused> {
+    ) -> Result<(), Refused>
+        ensures rows { OnOk result (length self.new.rows.items ≡ length self.old.rows.items + 1) }
+        ensures text { OnOk result (self.new.text.items ≡ self.old.text.items ++ line.now) }
+        ensures refused_rows { OnErr result (self.new.rows.items ≡ self.old.rows.items) }
+        ensures refused_text { OnErr result (take (length self.old.text.items) self.new.text.items ≡ self.old.text.items) }
+    {
         let line_start = self.text.len();
         let references_start = self.references.len();
-        for to in refs {
-            let parent = keys.row(to.table, to.key)?.ok_or(Refused)?;
-            let number = number.reference(to.column)?;
-            self.references.push(Reference { number, parent })?;
-        }
+        push_references(&mut self.references, keys, number, refs)?;
         self.text.extend_from_slice(line)?;
         self.rows.push(WaitingRow {
             number,
@@ -127,7 +138,10 @@ impl Waiting {
     }
 
     /// Forgets all rows.
-    pub(crate) fn clear(&mut self) {
+    pub(crate) fn clear(&mut self)
+        ensures rows { self.new.rows.items ≡ [] }
+        ensures text { self.new.text.items ≡ [] }
+    {
         self.rows.clear();
         self.text.clear();
         self.references.clear();
@@ -158,7 +172,9 @@ impl Waiting {
     }
 
     /// Returns the line of a row.
-    pub(crate) fn line(&self, row: &WaitingRow) -> Result<&[u8], Refused> {
+    pub(crate) fn line(&self, row: &WaitingRow) -> Result<&[u8], Refused>
+        ensures { IfOk result (λ line. line.now ≡ take (row.now.line.end - row.now.line.start) (drop row.now.line.start self.now.text.items)) }
+    {
         let Span { start, end } = row.line;
         self.text.as_slice().get(start..end).ok_or(Refused)
     }
@@ -189,4 +205,19 @@ impl Waiting {
         }
         Ok(values)
     }
+}
+
+/// Adds the references of a row to others. They refer to rows whose keys are known. If one is refused, those before it stay.
+fn push_references(
+    references: &mut Vec<Reference>,
+    keys: &Keys,
+    number: RowNumber,
+    refs: &[RefTo],
+) -> Result<(), Refused> {
+    for to in refs {
+        let parent = keys.row(to.table, to.key)?.ok_or(Refused)?;
+        let number = number.reference(to.column)?;
+        references.push(Reference { number, parent })?;
+    }
+    Ok(())
 }

@@ -1,5 +1,7 @@
 //! The statements on the two tables of a store.
 
+ghost use Rattle.std.specs.Prelude.{◌≡◌, ◌↔◌, IsOk, pos};
+
 use crate::Refused;
 use crate::inserts::{Inserts, MANY};
 use crate::numbers::RowNumber;
@@ -242,11 +244,16 @@ fn make_tables<S: Alter>(
     database: &mut Connection<S>,
     alloc: Global,
 ) -> Result<Statements, Refused> {
-    if count_objects(database)? != 0 {
-        return Err(Refused);
-    }
+    refuse_objects(count_objects(database)?)?;
     batch(database, CREATE_TABLES)?;
     Statements::prepare(database, alloc)
+}
+
+/// Refuses a database with objects, by their number.
+fn refuse_objects(count: i64) -> Result<(), Refused>
+    ensures { IsOk result ↔ (count ≡ pos 0) }
+{
+    if count == 0 { Ok(()) } else { Err(Refused) }
 }
 
 /// Drops the tables of a database and commits that. Refused if it has none.

@@ -2,7 +2,7 @@
 
 use keeper_play::RefTo;
 use sql_keeper::{Databases, MemoryDatabases, MemoryTables, RowTables};
-use sqlite::{Connection, MemStore};
+use sqlite::{Alter, Connection};
 use std::test::Fail;
 
 // Returns the reference of an order to the customer with a key.
@@ -22,7 +22,8 @@ fn is_dropped(tables: &mut MemoryTables, table: u32, key: u64) -> bool {
     tables.drop_row(table, key).is_ok()
 }
 
-fn number(database: &mut Connection<MemStore>, sql: &str) -> Option<i64> {
+// Returns the number that a query answers.
+pub(crate) fn number<S: Alter>(database: &mut Connection<S>, sql: &str) -> Option<i64> {
     database.query_row(sql, &[]).ok()?.get(0).ok()
 }
 

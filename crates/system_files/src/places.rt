@@ -1,5 +1,8 @@
 //! Opening the files that are written, and putting them in their places.
 
+ghost use Rattle.std.specs.Prelude.{◌≡◌, ◌≢◌, ◌++◌, IfOk, codes, string_bytes};
+ghost use Rattle.system_files.specs.declared.places.Target.TheVariants.{Path, Standard};
+
 use crate::Syncing;
 use crate::output::Output;
 use crate::writing::Finish;
@@ -60,6 +63,26 @@ impl Drop for Beside {
     }
 }
 
+/// Where an output goes.
+enum Target<'a> {
+    /// To the standard output.
+    Standard,
+    /// To the file of a path.
+    Path(&'a str),
+}
+
+/// Returns where the output of a name goes. Only `-` alone is the standard output. Each other name is a path, as it stands.
+fn target_of(name: &str) -> Target<'_>
+    ensures standard { name.now ≡ codes "-" → result ≡ Standard }
+    ensures path { name.now ≢ codes "-" → result ≡ Path name.entry }
+{
+    if name == "-" {
+        Target::Standard
+    } else {
+        Target::Path(name)
+    }
+}
+
 impl<R: Files> Places<R> {
     /// Returns the places over a system's files and its standard output.
     pub(crate) fn new(rt: R, alloc: Global, stdout: Stdout, syncing: Syncing) -> Self {
@@ -75,9 +98,9 @@ impl<R: Files> Places<R> {
     /// Opens the output of a name, empty, with a buffer before it.
     pub(crate) fn open(&mut self, name: &str) -> io::Result<BufWriter<Output<R::File>>> {
         self.beside = None;
-        let output = match name {
-            "-" => Output::Standard(self.stdout),
-            path => Output::File(self.open_path(path)?),
+        let output = match target_of(name) {
+            Target::Standard => Output::Standard(self.stdout),
+            Target::Path(path) => Output::File(self.open_path(path)?),
         };
         BufWriter::with_capacity(self.alloc, BUFFER, output)
     }
@@ -122,7 +145,9 @@ impl<R: Files> Places<R> {
     }
 
     /// Returns the path of the file beside another.
-    fn part_of(&self, name: &str) -> io::Result<String> {
+    fn part_of(&self, name: &str) -> io::Result<String>
+        ensures { IfOk result (λ part. string_bytes part ≡ name.now ++ codes ".part") }
+    {
         let mut part = String::from_str(self.alloc, name)?;
         part.push_str(PART)?;
         Ok(part)

@@ -1,13 +1,15 @@
 //! The system's files, on which some calls fail.
 
+use std::cell::Cell;
 use std::fs::{Files, Metadata, OpenFile, OpenOptions};
 use std::io;
 use std::io::{ErrorKind, Read, Seek, SeekFrom, Write};
 
-// Which calls fail on an opened file. A signal breaks off the first `broken_off` reads. A write past `room` bytes finds no room.
+// Which calls fail. The first `unopened` openings are refused. On an opened file a signal breaks off the first `broken_off` reads. A write past `room` bytes finds no room.
 // `sync` is the error of syncing the file; None if syncing works.
 #[derive(Clone, Copy)]
 pub(crate) struct Faults {
+    pub(crate) unopened: u32,
     pub(crate) broken_off: u32,
     pub(crate) room: usize,
     pub(crate) sync: Option<ErrorKind>,
@@ -17,6 +19,7 @@ impl Faults {
     // Returns no faults.
     pub(crate) fn none() -> Faults {
         Faults {
+            unopened: 0,
             broken_off: 0,
             room: usize::MAX,
             sync: None,
@@ -28,6 +31,7 @@ impl Faults {
 pub(crate) struct FaultyFiles<R> {
     files: R,
     faults: Faults,
+    unopened: Cell<u32>,
 }
 
 #[derive(Drop)]
@@ -38,7 +42,11 @@ pub(crate) struct FaultyFile<F> {
 
 impl<R: Files> FaultyFiles<R> {
     pub(crate) fn new(files: R, faults: Faults) -> Self {
-        FaultyFiles { files, faults }
+        FaultyFiles {
+            files,
+            faults,
+            unopened: Cell::new(faults.unopened),
+        }
     }
 }
 
@@ -101,6 +109,10 @@ impl<R: Files> Files for FaultyFiles<R> {
     type Dir = R::Dir;
 
     fn open_file(&self, how: &OpenOptions, path: &str) -> io::Result<Self::File> {
+        if let Some(left) = self.unopened.get().checked_sub(1) {
+            self.unopened.set(left);
+            return Err(ErrorKind::Other.into());
+        }
         Ok(FaultyFile {
             file: self.files.open_file(how, path)?,
             left: self.faults,
