@@ -59,6 +59,7 @@ entry_some (kind.Drawn (leaf.Skew lo weights total)) draws pick = absurd pick
 entry_some (kind.Drawn (leaf.Chars lo lengths characters count)) draws pick = absurd pick
 entry_some (kind.Drawn (leaf.Dict words)) draws pick = absurd pick
 entry_some (kind.Drawn (leaf.Words lo lengths words)) draws pick = absurd pick
+entry_some (kind.Drawn leaf.Uuid) draws pick = absurd pick
 entry_some kind.Key draws pick = absurd pick
 entry_some kind.Born draws pick = absurd pick
 entry_some kind.Changed draws pick = absurd pick

@@ -10,7 +10,7 @@ use Rattle.row_text.specs.Fields.{escaped_text}
 use Rattle.schema_plan.specs.declared.ready.ReadyColumn.{ReadyColumn}
 use Rattle.schema_plan.specs.declared.ready.ReadyLeaf.{ReadyLeaf}
 use Rattle.schema_plan.specs.FieldBounds.{bounds_of, leaf_size}
-use Rattle.schema_plan.specs.Layout.{LeafLayout, int_leaf, fixed_leaf, date_leaf, pick_leaf, skew_leaf, dict_leaf, words_leaf, chars_leaf, KindLayout, key_kind, born_kind, changed_kind, leaf_kind, template_kind, case_kind, reference_kind, lookup_kind, ColumnLayout, Layout, TableLayout, column_at, no_column, table_at}
+use Rattle.schema_plan.specs.Layout.{LeafLayout, int_leaf, fixed_leaf, date_leaf, pick_leaf, skew_leaf, dict_leaf, words_leaf, chars_leaf, uuid_leaf, KindLayout, key_kind, born_kind, changed_kind, leaf_kind, template_kind, case_kind, reference_kind, lookup_kind, ColumnLayout, Layout, TableLayout, column_at, no_column, table_at}
 use Rattle.schema_plan.specs.Limits.{IsCase, IsKindInLimits, IsLeafInLimits, IsPickOf}
 use Rattle.schema_plan.specs.Ready.{ready_column, ready_columns, ready_kind, ready_leaf}
 use Rattle.draw_values.specs.declared.values.RowAt.{RowAt}
@@ -73,6 +73,7 @@ entry_of-ready delimiter (leaf_kind (skew_leaf lo size power)) draw = refl
 entry_of-ready delimiter (leaf_kind (dict_leaf dictionary)) draw = refl
 entry_of-ready delimiter (leaf_kind (words_leaf dictionary lo hi)) draw = refl
 entry_of-ready delimiter (leaf_kind (chars_leaf alphabet lo hi)) draw = refl
+entry_of-ready delimiter (leaf_kind uuid_leaf) draw = refl
 entry_of-ready delimiter (template_kind parts) draw = refl
 entry_of-ready delimiter (case_kind on branches) draw = refl
 entry_of-ready delimiter (reference_kind parent window spread nulls) draw = refl

@@ -72,6 +72,7 @@ ready_text-items (leaf.Skew lo weights total) draw itemized = absurd (cc)
 ready_text-items (leaf.Chars lo lengths characters count) draw itemized = refl
 ready_text-items (leaf.Dict words) draw itemized = absurd (cc)
 ready_text-items (leaf.Words lo lengths words) draw itemized = words_text lo lengths words draw (lo + draw 1 % lengths)
+ready_text-items leaf.Uuid draw itemized = absurd (cc)
 
 -- ---- sizes
 

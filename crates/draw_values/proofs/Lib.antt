@@ -6,6 +6,7 @@ pub mod SizeLemmas
 pub mod JoinLemmas
 pub mod CharacterLemmas
 pub mod PlainLemmas
+pub mod UuidLemmas
 pub mod ReadyLemmas
 pub mod ColumnLemmas
 pub mod FieldLemmas

@@ -16,9 +16,24 @@ use Rattle.draw_values.specs.Digits.{pointed, signed_pointed}
 abbrev pub IsPlain : ℕ → Type 0
 IsPlain byte = IsInRange 45 57 byte
 
-escaped-plain : (delimiter byte : ℕ) → IsPlain byte → escaped delimiter byte ≡ byte ∷ []
+pub escaped-plain : (delimiter byte : ℕ) → IsPlain byte → escaped delimiter byte ≡ byte ∷ []
 unfolding escaped
 escaped-plain delimiter byte plain =
+    simp (
+      ne_eqb byte 8 (omega arith),
+      ne_eqb byte 9 (omega arith),
+      ne_eqb byte 10 (omega arith),
+      ne_eqb byte 11 (omega arith),
+      ne_eqb byte 12 (omega arith),
+      ne_eqb byte 13 (omega arith),
+      ne_eqb byte 92 (omega arith),
+      and_left (byte == 124) (delimiter == 124) (ne_eqb byte 124 (omega arith)),
+    )
+
+-- so does a small letter
+pub escaped-small_letter : (delimiter byte : ℕ) → IsInRange 97 122 byte → escaped delimiter byte ≡ byte ∷ []
+unfolding escaped
+escaped-small_letter delimiter byte letter =
     simp (
       ne_eqb byte 8 (omega arith),
       ne_eqb byte 9 (omega arith),

@@ -9,7 +9,7 @@ use Rattle.weight_tables.specs.Harmonic.{harmonic_weights}
 use Rattle.weight_tables.proofs.HarmonicLemmas.{length-harmonic_weights}
 use Rattle.row_text.specs.Fields.{escaped_text}
 use Rattle.schema_plan.specs.FieldBounds.{entry_size, greatest_by, joined_size, leaf_size, written_size}
-use Rattle.schema_plan.specs.Layout.{LeafLayout, int_leaf, fixed_leaf, date_leaf, pick_leaf, skew_leaf, dict_leaf, words_leaf, chars_leaf}
+use Rattle.schema_plan.specs.Layout.{LeafLayout, int_leaf, fixed_leaf, date_leaf, pick_leaf, skew_leaf, dict_leaf, words_leaf, chars_leaf, uuid_leaf}
 use Rattle.schema_plan.specs.Limits.{IsLeafInLimits}
 use Rattle.schema_plan.specs.Ready.{ready_leaf}
 use Rattle.draw_values.specs.Dates.{date_text}
@@ -18,6 +18,7 @@ use Rattle.draw_values.specs.ReadyValues.{IsReady, ready_size, ready_text}
 use Rattle.draw_values.specs.Values.{Draws, chosen, chosen_group, leaf_value}
 use Rattle.draw_values.proofs.CharacterLemmas.{escaped_text-drawn_characters, escaped_text-drawn_words}
 use Rattle.draw_values.proofs.PlainLemmas.{escaped_text-plain, plain-date_text, plain-signed_decimal, plain-signed_pointed}
+use Rattle.draw_values.proofs.UuidLemmas.{escaped_text-uuid_text}
 
 -- the drawn value
 pub leaf_value-written : (delimiter : ℕ) (layout : LeafLayout) (draw : Draws) → IsLeafInLimits layout →
@@ -42,6 +43,7 @@ leaf_value-written delimiter (words_leaf words lo hi) draw limits =
     ap Some (escaped_text-drawn_words delimiter words draw (lo + draw 1 % (hi - lo + 1)))
 leaf_value-written delimiter (chars_leaf alphabet lo hi) draw limits =
     ap Some (escaped_text-drawn_characters delimiter (chars alphabet) draw (lo + draw 1 % (hi - lo + 1)) limits.0.some_character)
+leaf_value-written delimiter uuid_leaf draw limits = ap Some (escaped_text-uuid_text delimiter (draw 1) (draw 2))
 
 -- its limits
 pub leaf_is_ready : (delimiter : ℕ) (layout : LeafLayout) → IsLeafInLimits layout → IsReady (ready_leaf delimiter layout)
@@ -61,6 +63,7 @@ leaf_is_ready delimiter (chars_leaf alphabet lo hi) limits = (
   omega (arith, limits.1.ordered, limits.1.length_limit),
   sym (length-map (chars alphabet) (λ c. escaped_text delimiter (encode_utf8 c))),
 )
+leaf_is_ready delimiter uuid_leaf limits = tt
 
 -- and its greatest size
 pub leaf_size-ready : (delimiter : ℕ) (layout : LeafLayout) → IsLeafInLimits layout → leaf_size delimiter layout ≡ ready_size (ready_leaf delimiter layout)
@@ -82,3 +85,4 @@ leaf_size-ready delimiter (chars_leaf alphabet lo hi) limits =
     ap (λ (number : ℕ). number * greatest_by (λ c. written_size delimiter (encode_utf8 c)) (chars alphabet)) most
     ∙ ap (λ (greatest : ℕ). (lo + (hi - lo + 1) - 1) * greatest)
     (sym (fold-map (λ (most : ℕ) (text : List ℕ). max most (length text)) (λ c. escaped_text delimiter (encode_utf8 c)) 0 (chars alphabet)))
+leaf_size-ready delimiter uuid_leaf limits = refl

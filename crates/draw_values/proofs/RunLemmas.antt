@@ -74,6 +74,7 @@ text_by-ready (leaf.Skew lo weights total) draws short = refl
 text_by-ready (leaf.Chars lo lengths characters count) draws short = absurd (cc)
 text_by-ready (leaf.Dict words) draws short = refl
 text_by-ready (leaf.Words lo lengths words) draws short = absurd (cc)
+text_by-ready leaf.Uuid draws short = absurd (cc)
 
 short_value-ready : (seed : ℕ) (changes : Bool) (held : ReadyKind) (rows : RunRows) (i : ℕ) (entry : Option ℕ) → is_short_alone held ≡ true →
     ready_value (units_at (run_row rows i)) entry (draw (run_seed seed changes rows i)) held ≡ Some (short_value seed changes held rows i)
@@ -167,6 +168,7 @@ leaf_text_size (leaf.Skew lo weights total) number short few = omega arith
 leaf_text_size (leaf.Chars lo lengths characters count) number short few = absurd (cc)
 leaf_text_size (leaf.Dict words) number short few = entry_size 0 words.entries (chosen_group words.weights number)
 leaf_text_size (leaf.Words lo lengths words) number short few = absurd (cc)
+leaf_text_size leaf.Uuid number short few = absurd (cc)
 
 short_value_size : (seed : ℕ) (changes : Bool) (held : ReadyKind) (rows : RunRows) (i : ℕ) → is_short_alone held ≡ true → (run_row rows i).born ≤ 10000 → (run_row rows i).changed ≤ 10000 →
     length (short_value seed changes held rows i) ≤ 15 → length (short_value seed changes held rows i) ≤ ready_kind_size held

@@ -1,5 +1,6 @@
 pub mod Digits
 pub mod Dates
+pub mod Uuids
 pub mod Values
 pub mod WrittenUnits
 pub mod ReadyValues

@@ -13,6 +13,7 @@ use Rattle.schema_plan.specs.FieldBounds.{greatest_by, joined_size}
 use Rattle.schema_plan.specs.Limits.{IsDateRange, IsRange}
 use Rattle.draw_values.specs.Dates.{date_text}
 use Rattle.draw_values.specs.Digits.{signed_pointed}
+use Rattle.draw_values.specs.Uuids.{uuid_text}
 use Rattle.draw_values.specs.WrittenUnits.{WrittenUnits}
 use Rattle.draw_values.specs.Values.{Draws, chosen, chosen_group, drawn_words, unless_null}
 
@@ -35,6 +36,7 @@ ready_text (leaf.Skew lo weights total) draw = signed_decimal (lo +ℤ pos (chos
 ready_text (leaf.Chars lo lengths characters count) draw = chosen_texts characters draw (lo + draw 1 % lengths)
 ready_text (leaf.Dict words) draw = slice_index_or words.entries (chosen_group words.weights (draw 1)) []
 ready_text (leaf.Words lo lengths words) draw = drawn_words words draw (lo + draw 1 % lengths)
+ready_text leaf.Uuid draw = uuid_text (draw 1) (draw 2)
 
 -- the greatest size of such a text, in bytes
 abbrev pub ready_size : ReadyLeaf → ℕ
@@ -46,6 +48,7 @@ ready_size (leaf.Skew lo weights total) = 20
 ready_size (leaf.Chars lo lengths characters count) = (lo + lengths - 1) * greatest_by length characters
 ready_size (leaf.Dict words) = greatest_by length words.entries
 ready_size (leaf.Words lo lengths words) = joined_size (lo + lengths - 1) (greatest_by length words.entries)
+ready_size leaf.Uuid = 36
 
 -- its numbers are within their limits and what they are kept for
 abbrev pub IsReady : ReadyLeaf → Type 0
@@ -57,6 +60,7 @@ IsReady (leaf.Skew lo weights total) = (length weights ≤ 4096) × ((lo +ℤ po
 IsReady (leaf.Chars lo lengths characters count) = (lo + lengths ≤ 1001) × (count ≡ length characters)
 IsReady (leaf.Dict words) = ⊤
 IsReady (leaf.Words lo lengths words) = lo + lengths ≤ 1001
+IsReady leaf.Uuid = ⊤
 
 -- the place of the column that a field is chosen by: the pick column of a case; any other field goes by its own column
 abbrev pub chooser_of : ℕ → ReadyKind → ℕ

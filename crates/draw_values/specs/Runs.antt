@@ -53,6 +53,7 @@ is_short_leaf (leaf.Skew lo weights total) = is_short_number lo
 is_short_leaf (leaf.Chars lo lengths characters count) = false
 is_short_leaf (leaf.Dict words) = list_all is_short_text words.entries
 is_short_leaf (leaf.Words lo lengths words) = false
+is_short_leaf leaf.Uuid = false
 
 -- the same of what a column holds that goes by no other; what takes from other columns or rows is never known to be
 abbrev pub is_short_alone : ReadyKind → Bool

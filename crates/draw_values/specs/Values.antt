@@ -11,12 +11,13 @@ use Rattle.weight_tables.specs.Weights.{selected}
 use Rattle.row_text.specs.Fields.{escaped_text}
 use Rattle.schema_plan.specs.Choices.{choices}
 use Rattle.schema_plan.specs.FieldBounds.{bounds_of}
-use Rattle.schema_plan.specs.Layout.{LeafLayout, int_leaf, fixed_leaf, date_leaf, pick_leaf, skew_leaf, dict_leaf, words_leaf, chars_leaf, KindLayout, key_kind, born_kind, changed_kind, leaf_kind, template_kind, case_kind, reference_kind, lookup_kind, ColumnLayout, Layout, table_at, column_at}
+use Rattle.schema_plan.specs.Layout.{LeafLayout, int_leaf, fixed_leaf, date_leaf, pick_leaf, skew_leaf, dict_leaf, words_leaf, chars_leaf, uuid_leaf, KindLayout, key_kind, born_kind, changed_kind, leaf_kind, template_kind, case_kind, reference_kind, lookup_kind, ColumnLayout, Layout, table_at, column_at}
 use Rattle.draw_values.specs.declared.values.RowAt.{RowAt}
 use Rattle.draw_values.specs.declared.values.Put.{Put}
 use Rattle.draw_values.specs.declared.values.Put.TheVariants.{Text, Null}
 use Rattle.draw_values.specs.Dates.{date_text}
 use Rattle.draw_values.specs.Digits.{signed_pointed}
+use Rattle.draw_values.specs.Uuids.{uuid_text}
 
 -- the draws of a field, by their numbers
 abbrev pub Draws : Type 0
@@ -55,6 +56,7 @@ leaf_value (skew_leaf lo size power) draw =
 leaf_value (dict_leaf words) draw = Some (slice_index_or words.entries (chosen_group words.weights (draw 1)) [])
 leaf_value (words_leaf words lo hi) draw = Some (drawn_words words draw (lo + draw 1 % (hi - lo + 1)))
 leaf_value (chars_leaf alphabet lo hi) draw = Some (drawn_characters (chars alphabet) draw (lo + draw 1 % (hi - lo + 1)))
+leaf_value uuid_leaf draw = Some (uuid_text (draw 1) (draw 2))
 
 -- the draws of a row's fields, by the column's place
 abbrev pub RowDraws : Type 0

@@ -64,6 +64,7 @@ fn is_short_leaf(leaf: &ReadyLeaf) -> bool
         ReadyLeaf::Chars { .. } => false,
         ReadyLeaf::Dict(words) => are_short_words(words),
         ReadyLeaf::Words { .. } => false,
+        ReadyLeaf::Uuid => false,
     }
 }
 

@@ -9,11 +9,17 @@ ghost use Rattle.dictionaries.specs.WordList.{WordList};
 ghost use Rattle.jiff_core.specs.Calendar.{IsCivilDate, days_from_civil};
 ghost use Rattle.row_text.specs.Fields.{escaped_text};
 ghost use Rattle.schema_plan.specs.Choices.{choices};
-ghost use Rattle.schema_plan.specs.Layout.{chars_leaf, date_leaf, dict_leaf, fixed_leaf, int_leaf, pick_leaf, skew_leaf, words_leaf};
+ghost use Rattle.schema_plan.specs.Layout.{chars_leaf, date_leaf, dict_leaf, fixed_leaf, int_leaf, pick_leaf, skew_leaf, uuid_leaf, words_leaf};
 ghost use Rattle.schema_plan.specs.ReadyWords.{written_words};
 ghost use Rattle.draw_values.specs.Dates.{date_digits, date_text};
 ghost use Rattle.draw_values.specs.Digits.{signed_pointed};
+ghost use Rattle.uuid.specs.Parts.{variant_of};
+ghost use Rattle.uuid.specs.Text.{parsed};
+ghost use Rattle.uuid.specs.Uuid.{version_num};
+ghost use Rattle.draw_values.specs.Uuids.{uuid_bytes, uuid_text};
 ghost use Rattle.draw_values.specs.Values.{Draws, chosen, drawn_characters, drawn_words, leaf_value, unless_null};
+
+use uuid::Variant;
 
 /// A draw chooses a number of the range. A draw less than the number of choices chooses the number that many steps past the first.
 pub fn a_draw_chooses_a_number_of_the_range()
@@ -52,7 +58,19 @@ pub fn words_are_written_one_by_one()
         escaped_text delimiter (drawn_words words draw count) ≡ drawn_words (written_words delimiter words) draw count }
 {}
 
+/// The UUID of two draws is of version 4 and of the variant of RFC 9562. Its text reads back as its bytes. The text has 36 bytes,
+/// none of which must be escaped.
+pub fn uuids_are_of_version_4()
+    ensures version { (first second : ℕ) → version_num (uuid_bytes first second) ≡ 4 }
+    ensures variant { (first second : ℕ) → variant_of (slice_index (uuid_bytes first second) 8) ≡ Variant.RFC4122 }
+    ensures text { (first second : ℕ) → parsed (uuid_text first second) ≡ Some (uuid_bytes first second) }
+    ensures size { (first second : ℕ) → length (uuid_text first second) ≡ 36 }
+    ensures written { (delimiter first second : ℕ) →
+        escaped_text delimiter (uuid_text first second) ≡ uuid_text first second }
+{}
+
 /// Values worked out by hand. Draw n is 2 * n + 1, so the draw that is used is 3. For the skew, draw n is n * 10^9.
+/// For the UUID, draw 1 has the digits 0123456789abcdef in base 16, and draw 2 twice as much, 02468acf13579bde.
 pub fn worked_values()
     ensures int { leaf_value (int_leaf (neg_ℤ (pos 5)) (pos 9) 4) (λ n. 2 * n + 1) ≡ Some (codes "7") }
     ensures fixed { leaf_value (fixed_leaf (neg_ℤ (pos 8)) (pos 0) 2) (λ n. 2 * n + 1) ≡ Some (codes "-0.05") }
@@ -63,6 +81,7 @@ pub fn worked_values()
     ensures dict { leaf_value (dict_leaf (record { entries = codes "a" ∷ codes "b" ∷ []; weights = 1 ∷ 4 ∷ [] })) (λ n. 2 * n + 1) ≡ Some (codes "b") }
     ensures words { leaf_value (words_leaf (record { entries = codes "a" ∷ codes "b" ∷ []; weights = 1 ∷ 4 ∷ [] }) 2 3) (λ n. 2 * n + 1) ≡ Some (codes "a b b") }
     ensures chars { leaf_value (chars_leaf (codes "ab|") 1 2) (λ n. 2 * n + 1) ≡ Some (codes "|b") }
+    ensures uuid { leaf_value uuid_leaf (λ n. n * 81985529216486895) ≡ Some (codes "01234567-89ab-4def-8246-8acf13579bde") }
 {}
 
 /// A field is null if the remainder of draw 0 by 1000 is less than the column's nulls in a thousand. Here draw 0 is 1,003.

@@ -8,6 +8,7 @@ use crate::characters::put_characters;
 use crate::dates::put_date;
 use crate::fixed::put_fixed;
 use crate::numbers::{chosen, put_whole};
+use crate::uuids::put_uuid;
 use crate::weighted::{chosen_group, put_entry, skewed};
 use crate::words::{put_word, put_words};
 use line_pages::PageBuf;
@@ -62,5 +63,6 @@ pub(crate) fn put_leaf(leaf: &ReadyLeaf, seed: u64, buf: &mut PageBuf)
         ReadyLeaf::Words { lo, lengths, words } => {
             put_words(words, *lo + lengths.remainder(draw), seed, buf);
         }
+        ReadyLeaf::Uuid => put_uuid(draw, seed, buf),
     }
 }

@@ -26,6 +26,7 @@ mod run_items;
 mod run_loops;
 mod run_pieces;
 mod runs;
+mod uuids;
 mod values;
 mod weighted;
 mod words;

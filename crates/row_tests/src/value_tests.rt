@@ -235,6 +235,32 @@ column = [
 ]
 "#;
 
+/// The schema of one row at each unit, whose last column holds UUIDs.
+const ONE_WITH_UUIDS: &str = r#"
+seed = 1
+units = 2
+[[table]]
+name = "t"
+rows = 1
+insert = 1
+column = [
+    { name = "id", kind = "key", base = 1 },
+    { name = "born", kind = "born" },
+    { name = "u", kind = "uuid" },
+]
+"#;
+
+/// UUIDs: one that stays, one that changes and is null at times, and one for the first entry of a pick.
+const UUIDS: &str = r#"
+column = [
+    { name = "id", kind = "key", base = 1 },
+    { name = "still", kind = "uuid" },
+    { name = "moving", kind = "uuid", changes = true, null = 400 },
+    { name = "sort", kind = "pick", entries = ["a", "b"] },
+    { name = "by_sort", kind = "case", on = "sort", branches = [{ kind = "uuid" }, { kind = "int", lo = 1, hi = 9 }] },
+]
+"#;
+
 const ROWS: &[(u64, u64, u64, &str)] = &[
     (
         0,
@@ -307,6 +333,59 @@ const CHANGED_ROWS: &[(u64, u64, u64, &str)] = &[
 #[test]
 fn values_of_changed_rows(rt: HostRuntime) {
     assert_rows(&rt, rt.alloc(), &[FEW, COLUMNS_THAT_CHANGE], CHANGED_ROWS);
+}
+
+const ONE_UUID_ROWS: &[(u64, u64, u64, &str)] = &[
+    (0, 0, 0, "0;e1c6ab5c-6a70-4089-a025-5b41f18cb1de;"),
+    (1, 1, 1, "1;eb34f47f-1e9f-4e72-9e40-fe9a08c20d9e;"),
+    (2, 2, 2, "2;a85b28d7-c798-4bfe-a436-327bbd164253;"),
+];
+
+const UUID_ROWS: &[(u64, u64, u64, &str)] = &[
+    (0, 0, 0, "a9be72f2-e54d-4f8a-a946-cb655c39f077;\\N;b;9;"),
+    (
+        0,
+        0,
+        3,
+        "a9be72f2-e54d-4f8a-a946-cb655c39f077;a1eee56c-792f-4a97-93bd-74157da0e1c7;b;9;",
+    ),
+    (
+        1,
+        0,
+        2,
+        "f177e896-7948-4d7a-8b5e-1e1efdcceaf5;\\N;a;4ed044b7-aad5-414f-9ae6-ce4990a6a469;",
+    ),
+    (
+        3,
+        0,
+        5,
+        "60554a2b-d69b-4e81-9521-60a6cd8ff83a;5e5066eb-5571-4937-a606-e13c329d1b9c;a;15a661b6-67cc-42ed-b323-a5bb57544bec;",
+    ),
+    (
+        4,
+        1,
+        1,
+        "eac1a9ae-3663-4b88-b4be-695211243027;52d64f0e-cd0d-4ec1-9543-93a7a72d8aa1;b;8;",
+    ),
+    (4, 1, 3, "eac1a9ae-3663-4b88-b4be-695211243027;\\N;b;8;"),
+    (
+        8,
+        3,
+        4,
+        "647c7a00-d973-4c1b-960c-ef222c6dfdf1;4daa15d7-753c-4b9c-9e0f-9e315a407fd5;a;fcfe3d80-4208-4c41-80e8-cb258fba20e0;",
+    ),
+];
+
+// The texts were worked out twice, by programs that share no code.
+#[test]
+fn uuids_of_some_rows(rt: HostRuntime) {
+    assert_rows(&rt, rt.alloc(), &[ONE_WITH_UUIDS], ONE_UUID_ROWS);
+}
+
+// The texts are those of the Python program.
+#[test]
+fn uuids_of_changed_rows(rt: HostRuntime) {
+    assert_rows(&rt, rt.alloc(), &[FEW, UUIDS], UUID_ROWS);
 }
 
 const WORD_ROWS: &[(u64, u64, u64, &str)] = &[

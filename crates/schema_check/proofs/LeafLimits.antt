@@ -139,6 +139,7 @@ leaf_in_limits project lists (drawn.Dict file) supplied numbers dates picks skew
 leaf_in_limits project lists (drawn.Words file lo hi) supplied numbers dates picks skews lengths =
     (words_from_test project lists file supplied, lengths_from_test lo hi lengths)
 leaf_in_limits project lists (drawn.Chars alphabet lo hi) supplied numbers dates picks skews lengths = characters_from_test alphabet lo hi lengths
+leaf_in_limits project lists drawn.Uuid supplied numbers dates picks skews lengths = tt
 
 pub leaves_in_limits : (project : Project) → AreWordLists project.dictionaries → (leaves : List Leaf) → list_all (are_supplied project) leaves ≡ true → list_all is_number_range leaves ≡ true → list_all is_date_range leaves ≡ true → list_all is_weighted leaves ≡ true → list_all is_skew_range leaves ≡ true → list_all is_length_range leaves ≡ true → All IsLeafInLimits (map (leaf_layout project.dictionaries) leaves)
 leaves_in_limits project lists leaves supplied numbers dates picks skews lengths = λ i d lt.

@@ -117,6 +117,8 @@ pub enum Leaf {
     Words { file: Text, lo: i64, hi: i64 },
     /// From `lo` to `hi` characters of the alphabet.
     Chars { alphabet: Text, lo: i64, hi: i64 },
+    /// A UUID of version 4.
+    Uuid,
 }
 
 impl Drop for Leaf {
@@ -137,7 +139,8 @@ impl Drop for Leaf {
                 lo: _,
                 size: _,
                 power: _,
-            } => {}
+            }
+            | Leaf::Uuid => {}
             Leaf::Pick { entries, weights } => {
                 drop(entries);
                 drop(weights);

@@ -5,7 +5,7 @@ use Rattle.std.specs.Str.{chars}
 use Rattle.dictionaries.specs.WordList.{WordList}
 use Rattle.row_text.specs.Fields.{escaped_text}
 use Rattle.schema_plan.specs.declared.field_bounds.FieldBounds.{FieldBounds}
-use Rattle.schema_plan.specs.Layout.{LeafLayout, int_leaf, fixed_leaf, date_leaf, pick_leaf, skew_leaf, dict_leaf, words_leaf, chars_leaf, PartLayout, literal_part, cited_part, KindLayout, key_kind, born_kind, changed_kind, leaf_kind, template_kind, case_kind, reference_kind, lookup_kind, ColumnLayout, TableLayout, table_at, column_at}
+use Rattle.schema_plan.specs.Layout.{LeafLayout, int_leaf, fixed_leaf, date_leaf, pick_leaf, skew_leaf, dict_leaf, words_leaf, chars_leaf, uuid_leaf, PartLayout, literal_part, cited_part, KindLayout, key_kind, born_kind, changed_kind, leaf_kind, template_kind, case_kind, reference_kind, lookup_kind, ColumnLayout, TableLayout, table_at, column_at}
 use Rattle.schema_plan.specs.Lineage.{one_if}
 
 -- the greatest of a number for each item, 0 where there is no item
@@ -35,6 +35,7 @@ leaf_size delimiter (dict_leaf words) = entry_size delimiter words
 leaf_size delimiter (words_leaf words lo hi) = joined_size hi (entry_size delimiter words)
 leaf_size delimiter (chars_leaf alphabet lo hi) =
     hi * greatest_by (λ c. written_size delimiter (encode_utf8 c)) (chars alphabet)
+leaf_size delimiter uuid_leaf = 36
 
 -- what a field takes that has this size and asks this many permutations: never less than 2 bytes, the size of \N
 abbrev pub bounds : ℕ → ℕ → FieldBounds

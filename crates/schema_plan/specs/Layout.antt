@@ -40,6 +40,7 @@ pub data LeafLayout : Type 0 where
   dict_leaf : WordList → LeafLayout
   words_leaf : WordList → ℕ → ℕ → LeafLayout
   chars_leaf : List ℕ → ℕ → ℕ → LeafLayout
+  uuid_leaf : LeafLayout
 
 -- a part of a template: a text, or the place of a column of the same table
 pub data PartLayout : Type 0 where
@@ -143,6 +144,7 @@ leaf_layout dictionaries (drawn.Skew lo size power) = skew_leaf lo (count size) 
 leaf_layout dictionaries (drawn.Dict file) = dict_leaf (words_named dictionaries file)
 leaf_layout dictionaries (drawn.Words file lo hi) = words_leaf (words_named dictionaries file) (count lo) (count hi)
 leaf_layout dictionaries (drawn.Chars alphabet lo hi) = chars_leaf alphabet (count lo) (count hi)
+leaf_layout dictionaries drawn.Uuid = uuid_leaf
 
 abbrev pub part_layout : List Column → Part → PartLayout
 part_layout columns (part.Literal bytes) = literal_part bytes

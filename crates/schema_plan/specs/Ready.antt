@@ -12,7 +12,7 @@ use Rattle.schema_plan.specs.declared.ready.ReadyReference.{ReadyReference}
 use Rattle.schema_plan.specs.declared.ready.ReadyLeaf.{ReadyLeaf}
 use Rattle.schema_plan.specs.declared.ready.ReadyLeaf.TheVariants as leaf
 use Rattle.schema_plan.specs.Choices.{choices}
-use Rattle.schema_plan.specs.Layout.{LeafLayout, int_leaf, fixed_leaf, date_leaf, pick_leaf, skew_leaf, dict_leaf, words_leaf, chars_leaf, PartLayout, literal_part, cited_part, KindLayout, key_kind, born_kind, changed_kind, leaf_kind, template_kind, case_kind, reference_kind, lookup_kind, ColumnLayout, Layout, table_at}
+use Rattle.schema_plan.specs.Layout.{LeafLayout, int_leaf, fixed_leaf, date_leaf, pick_leaf, skew_leaf, dict_leaf, words_leaf, chars_leaf, uuid_leaf, PartLayout, literal_part, cited_part, KindLayout, key_kind, born_kind, changed_kind, leaf_kind, template_kind, case_kind, reference_kind, lookup_kind, ColumnLayout, Layout, table_at}
 use Rattle.schema_plan.specs.ReadyWords.{written_words}
 
 -- a value that is drawn for a field alone: the number of choices of a range, the weights with their sum, entries as they are written
@@ -27,6 +27,7 @@ ready_leaf delimiter (dict_leaf words) = leaf.Dict (written_words delimiter word
 ready_leaf delimiter (words_leaf words lo hi) = leaf.Words lo (hi - lo + 1) (written_words delimiter words)
 ready_leaf delimiter (chars_leaf alphabet lo hi) =
     leaf.Chars lo (hi - lo + 1) (map (λ c. escaped_text delimiter (encode_utf8 c)) (chars alphabet)) (length (chars alphabet))
+ready_leaf delimiter uuid_leaf = leaf.Uuid
 
 -- a part of a template: a text as it is written, or the place of the column that it cites
 abbrev pub ready_part : ℕ → PartLayout → ReadyPart

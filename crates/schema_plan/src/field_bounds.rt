@@ -26,6 +26,9 @@ const FIXED_SIZE: u64 = 21;
 /// The length of a date, in bytes.
 const DATE_SIZE: u64 = 10;
 
+/// The length of a UUID, in bytes.
+const UUID_SIZE: u64 = 36;
+
 /// The greatest length of a unit, in bytes.
 const UNIT_SIZE: u64 = 5;
 
@@ -105,6 +108,7 @@ fn leaf_size(delimiter: u8, dictionaries: &Dictionaries, leaf: &Leaf) -> u64
         Leaf::Chars { alphabet, hi, .. } => {
             count(*hi).saturating_mul(greatest_character(delimiter, alphabet.as_str()))
         }
+        Leaf::Uuid => UUID_SIZE,
     }
 }
 

@@ -175,4 +175,6 @@ pub enum ReadyLeaf {
         lengths: FixedDivisor,
         words: ReadyWords,
     },
+    /// A UUID of version 4.
+    Uuid,
 }

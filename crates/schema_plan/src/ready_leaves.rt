@@ -46,6 +46,7 @@ pub(crate) fn ready_leaf(
             let words = lexicon.words(file)?;
             Ok(ready_text(words, *lo, *hi))
         }
+        Leaf::Uuid => Ok(ReadyLeaf::Uuid),
     }
 }
 

@@ -3,7 +3,7 @@ use Rattle.std.specs.Prelude.{ℕ, List, [], ◌∷◌, Option, option_map, code
 use Rattle.std.specs.List.{find}
 use Rattle.std.specs.Option.{option_or}
 use Rattle.schema_read.specs.declared.kind_name.LeafName.{LeafName}
-use Rattle.schema_read.specs.declared.kind_name.LeafName.TheVariants.{Int, Fixed, Date, Pick, Skew, Dict, Words, Chars}
+use Rattle.schema_read.specs.declared.kind_name.LeafName.TheVariants.{Int, Fixed, Date, Pick, Skew, Dict, Words, Chars, Uuid}
 use Rattle.schema_read.specs.declared.kind_name.KindName.{KindName}
 use Rattle.schema_read.specs.declared.kind_name.KindName.TheVariants.{Key, Born, Changed, Template, Case, Ref, Lookup, Leaf}
 use Rattle.schema_read.specs.Document.{same_bytes}
@@ -18,9 +18,10 @@ leaf_text Skew = codes "skew"
 leaf_text Dict = codes "dict"
 leaf_text Words = codes "words"
 leaf_text Chars = codes "chars"
+leaf_text Uuid = codes "uuid"
 
 abbrev pub leaves : List LeafName
-leaves = Int ∷ Fixed ∷ Date ∷ Pick ∷ Skew ∷ Dict ∷ Words ∷ Chars ∷ []
+leaves = Int ∷ Fixed ∷ Date ∷ Pick ∷ Skew ∷ Dict ∷ Words ∷ Chars ∷ Uuid ∷ []
 
 -- the leaf kind of this name
 abbrev pub leaf_named : List ℕ → Option LeafName

@@ -20,7 +20,7 @@ use Rattle.schema_read.specs.declared.schema_key.SchemaKey.TheVariants as key
 use Rattle.schema_read.specs.declared.kind_name.KindName.{KindName}
 use Rattle.schema_read.specs.declared.kind_name.KindName.TheVariants.{Key, Born, Changed, Leaf as LeafOf, Template, Case, Ref, Lookup}
 use Rattle.schema_read.specs.declared.kind_name.LeafName.{LeafName}
-use Rattle.schema_read.specs.declared.kind_name.LeafName.TheVariants.{Int, Fixed, Date, Pick, Skew, Dict, Words, Chars}
+use Rattle.schema_read.specs.declared.kind_name.LeafName.TheVariants.{Int, Fixed, Date, Pick, Skew, Dict, Words, Chars, Uuid}
 use Rattle.schema_read.specs.Types.{as_delimiter, as_life, as_phases, one_phase, as_kind, as_leaf, as_day, as_list_of, as_part, as_window, as_deletion}
 use Rattle.schema_read.specs.Values.{value_under, value_or, whole, whole_or, text, text_list, flag_or, tables}
 use Rattle.schema_read.specs.declared.wanted.Wanted.{Wanted}
@@ -70,6 +70,7 @@ leaf_keys Skew = Required key.Lo Whole ∷ Required key.Size Whole ∷ Required 
 leaf_keys Dict = Required key.File TextValue ∷ []
 leaf_keys Words = Required key.File TextValue ∷ Required key.Lo Whole ∷ Required key.Hi Whole ∷ []
 leaf_keys Chars = Required key.Alphabet TextValue ∷ Required key.Lo Whole ∷ Required key.Hi Whole ∷ []
+leaf_keys Uuid = []
 
 abbrev pub kind_keys : KindName → List Wanted
 kind_keys Key = Required key.Base Whole ∷ Optional key.Scramble Flag ∷ []
@@ -132,6 +133,7 @@ leaf_given Skew ms = leaf.Skew (whole key.Lo ms) (whole key.Size ms) (whole key.
 leaf_given Dict ms = leaf.Dict (text key.File ms)
 leaf_given Words ms = leaf.Words (text key.File ms) (whole key.Lo ms) (whole key.Hi ms)
 leaf_given Chars ms = leaf.Chars (text key.Alphabet ms) (whole key.Lo ms) (whole key.Hi ms)
+leaf_given Uuid ms = leaf.Uuid
 
 abbrev pub branch : Members → Leaf
 branch ms = leaf_given (leaf_of ms) ms

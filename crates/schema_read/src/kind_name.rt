@@ -22,6 +22,8 @@ pub enum LeafName {
     Words,
     /// `chars`
     Chars,
+    /// `uuid`
+    Uuid,
 }
 
 /// A kind of column.
@@ -58,6 +60,7 @@ pub fn leaf_of_name(name: &str) -> Option<LeafName>
         "dict" => Some(LeafName::Dict),
         "words" => Some(LeafName::Words),
         "chars" => Some(LeafName::Chars),
+        "uuid" => Some(LeafName::Uuid),
         _ => None,
     }
 }

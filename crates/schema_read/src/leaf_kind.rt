@@ -74,5 +74,6 @@ pub fn read_leaf(alloc: Global, members: &Table, kind: LeafName) -> Result<Leaf,
             lo: whole_at(members, SchemaKey::Lo),
             hi: whole_at(members, SchemaKey::Hi),
         }),
+        LeafName::Uuid => Ok(Leaf::Uuid),
     }
 }

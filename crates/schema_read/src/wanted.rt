@@ -135,6 +135,7 @@ pub fn keys_of_leaf(kind: LeafName) -> &'static [Wanted]
         LeafName::Dict => &DICT_KEYS,
         LeafName::Words => &WORDS_KEYS,
         LeafName::Chars => &CHARS_KEYS,
+        LeafName::Uuid => &[],
     }
 }
 

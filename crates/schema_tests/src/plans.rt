@@ -90,6 +90,7 @@ table=[
         {name='c5',kind='dict',file='words'},
         {name='c6',kind='words',file='words',lo=1,hi=9},
         {name='c7',kind='chars',alphabet='a\b',lo=0,hi=3},
+        {name='c8',kind='uuid'},
         {name='case',kind='case',on='c3',branches=[
             {kind='int',lo=1,hi=2,step=1},
             {kind='date',lo='1970-01-02',hi='1970-01-03'},
@@ -129,11 +130,11 @@ const ALL: TableFacts = TableFacts {
         null_cost: 0,
     },
     cost: 11,
-    max_line: 227,
+    max_line: 264,
 };
 
 // A city's line has 20 + 6 bytes. A city costs a permutation each for its row, its key and its life. The fields of `all` have 20, 5, 5,
-// 20, 21, 10, 6, 20, 2, 8, 6, 20, 20, 6 and 43 bytes. The reference asks 2 permutations, the template that cites it twice 4, and the lookup 1.
+// 20, 21, 10, 6, 20, 2, 8, 6, 36, 20, 20, 6 and 43 bytes. The reference asks 2 permutations, the template that cites it twice 4, and the lookup 1.
 #[test]
 fn facts_of_each_kind(rt: HostRuntime) {
     let schema = read_schema(rt.alloc(), EACH_KIND.as_bytes()).expect(&rt, "no schema");

@@ -11,7 +11,7 @@ use schema_plan::{
 use std::process::Abort;
 use weight_tables::Weights;
 
-/// A table with two numbers, a date, a pick and a skew. Characters that are sometimes null, and a case: a number for the first entry of a
+/// A table with two numbers, a date, a pick, a skew and a UUID. Characters that are sometimes null, and a case: a number for the first entry of a
 /// pick and a date for the second. Customers who live 3 units and change every 2. Orders that live at most 9 units, each of a customer who
 /// is at most 2 units older. Lines, each as old as its order. Parents who live for ever, and children of any of them, who show when their
 /// parents were born. An entry of a word list, and up to three of them.
@@ -27,6 +27,7 @@ table=[
         {name='day',kind='date',lo='1969-12-31',hi='1970-01-31'},
         {name='word',kind='pick',entries=['plain','a|b\c'],weights=[3,4]},
         {name='rank',kind='skew',lo=10,size=4,power=2},
+        {name='token',kind='uuid'},
     ]},
     {name='composed',rows=1,insert=0,column=[
         {name='id',kind='key',base=1},
@@ -156,7 +157,7 @@ fn assert_rank(rt: &impl Abort, rank: &ReadyColumn) {
 /// Asserts a key that is never null, a unit of birth, 25 / 4 + 1 numbers in steps of 4, 1,000 hundredths and 32 days.
 fn assert_drawn(rt: &impl Abort, columns: &[ReadyColumn]) {
     match columns {
-        [key, born, count, price, day, word, rank] => {
+        [key, born, count, price, day, word, rank, token] => {
             assert!(rt; matches!(key.kind, ReadyKind::Key) && key.null == 0);
             assert!(rt; matches!(born.kind, ReadyKind::Born));
             assert_range(rt, count, (-5, 20, 4, 7, 0));
@@ -164,6 +165,7 @@ fn assert_drawn(rt: &impl Abort, columns: &[ReadyColumn]) {
             assert_range(rt, day, (-1, 30, 1, 32, 0));
             assert_word(rt, word);
             assert_rank(rt, rank);
+            assert!(rt; matches!(token.kind, ReadyKind::Drawn(ReadyLeaf::Uuid)));
         }
         _ => panic!(rt; "drawn"),
     }

@@ -33,7 +33,7 @@ const TABLE_FAULTS: [&str; 10] = [
 ];
 
 // The keys of the first column of the first table, with one wrong key.
-const COLUMN_FAULTS: [&str; 79] = [
+const COLUMN_FAULTS: [&str; 80] = [
     "Name TextValue: name=1,kind='born',changes=true,null=1",
     "Name TextValue: kind='born',changes=true,null=1",
     "Kind KindName: name='c',kind='nope',changes=true,null=1",
@@ -92,6 +92,7 @@ const COLUMN_FAULTS: [&str; 79] = [
     "Hi Whole: name='c',kind='chars',alphabet='a',lo=1,hi=1.0",
     "Hi Whole: name='c',kind='chars',alphabet='a',lo=1",
     "Other NoSuchKey: name='c',kind='chars',alphabet='a',lo=1,hi=1,zz=1",
+    "Other NoSuchKey: name='c',kind='uuid',lo=1",
     "Parts PartList: name='c',kind='template',parts=[{column='a',x=1}]",
     "Parts PartList: name='c',kind='template'",
     "Other NoSuchKey: name='c',kind='template',parts=['a',{column='b'}],zz=1",
@@ -116,7 +117,7 @@ const COLUMN_FAULTS: [&str; 79] = [
 ];
 
 // The keys of the first branch of a case, with one wrong key.
-const BRANCH_FAULTS: [&str; 20] = [
+const BRANCH_FAULTS: [&str; 21] = [
     "Kind LeafName: lo=1,hi=2",
     "Kind LeafName: kind='key',base=1",
     "Kind LeafName: kind='case'",
@@ -137,6 +138,7 @@ const BRANCH_FAULTS: [&str; 20] = [
     "Hi Whole: kind='words',file='a',lo=1,hi=1.0",
     "Other NoSuchKey: kind='chars',alphabet='a',lo=1,hi=1,changes=true",
     "Hi Whole: kind='chars',alphabet='a',lo=1,hi=1.0",
+    "Other NoSuchKey: kind='uuid',changes=true",
 ];
 
 // Whole texts with the place of the first wrong key. Places go depth first, each with its further keys.

@@ -12,7 +12,7 @@ class Unreadable(Exception):
 
 @dataclasses.dataclass(frozen=True)
 class Type:
-    """What fields hold: `form` is `whole`, `fixed`, `date` or `text`."""
+    """What fields hold: `form` is `whole`, `fixed`, `date`, `uuid` or `text`."""
 
     form: str
     digits: int  # of the greatest number of the forms `whole` and `fixed`
@@ -193,6 +193,8 @@ def type_of(leaf):
             return text_of(255)
         case "words":
             return text_of(leaf["hi"] * 256)
+        case "uuid":
+            return Type("uuid", 0, 0, 36)
         case kind:
             raise ValueError(f"kind {kind}")
 
@@ -212,7 +214,7 @@ def digits_of(low, high):
 def common_type(left, right):
     """A type that holds what either holds."""
     size = max(left.size, right.size)
-    if left.form == right.form == "date":
+    if left.form == right.form and left.form in ("date", "uuid"):
         return left
     if {left.form, right.form} <= {"whole", "fixed"}:
         decimals = max(left.decimals, right.decimals)

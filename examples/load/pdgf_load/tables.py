@@ -38,8 +38,8 @@ class Sqlite(Dialect):
     key_type = "integer"  # with any other word the key isn't the number by which SQLite finds a row
 
     def type(self, type_):
-        """SQLite keeps a number with a point as a double, which has 15 digits, and has no dates."""
-        if type_.form == "date" or (type_.form == "fixed" and type_.digits > 15):
+        """SQLite keeps a number with a point as a double, which has 15 digits, and has no dates and no UUIDs."""
+        if type_.form in ("date", "uuid") or (type_.form == "fixed" and type_.digits > 15):
             return "text"
         return super().type(type_)
 
@@ -60,11 +60,13 @@ class Mariadb(Dialect):
     def type(self, type_):
         if type_.form == "text" and type_.size <= self.longest_varchar:
             return f"varchar({type_.size})"
+        if type_.form == "uuid":
+            return f"char({type_.size})"
         return super().type(type_)
 
     def may_be_indexed(self, types):
         # An index has 3,072 bytes, counts 4 for a character, and takes no `text`.
-        texts = [it.size for it in types if it.form == "text"]
+        texts = [it.size for it in types if it.form in ("text", "uuid")]
         return all(size <= self.longest_varchar for size in texts) and sum(texts) <= 700
 
 

@@ -5,6 +5,8 @@ use Rattle.std.specs.Str.{chars}
 use Rattle.weight_tables.specs.Harmonic.{harmonic_weight, harmonic_weights}
 use Rattle.weight_tables.specs.Weights.{selected}
 use Rattle.draw_values.specs.Dates.{date_text, month_from, year_from}
+use Rattle.draw_values.specs.Uuids.{uuid_text}
+use Rattle.uuid.specs.Text.{by_index}
 use Rattle.line_pages.specs.Digits.{last_digits}
 use Rattle.draw_values.proofs.laws.worked_values.Goals as goal
 
@@ -43,3 +45,7 @@ returns-clause-dict c = refl
 pub returns-clause-words : goal.returns-clause-words
 unfolding selected
 returns-clause-words c = refl
+
+pub returns-clause-uuid : goal.returns-clause-uuid
+unfolding uuid_text by_index
+returns-clause-uuid c = refl
