@@ -10,8 +10,6 @@ use Rattle.schema_plan.specs.Ready.{ready_column, ready_columns, ready_kind}
 use Rattle.draw_values.specs.declared.values.RowAt.{RowAt}
 use Rattle.draw_values.specs.ReadyValues.{IsReadyKind, chooser_of, ready_field, ready_kind_size}
 use Rattle.draw_values.specs.Values.{Draws, draws_at, is_own, put_of, size_at, value_at, written}
-use Rattle.draw_values.specs.WrittenUnits.{WrittenUnits}
-use Rattle.draw_values.proofs.RowUnits.{units_at}
 use Rattle.draw_values.proofs.ColumnLemmas.{IsAllInLimits, IsOwn, bounds_of-ready, chooser_of-within, kind_is_ready, length-ready_columns, own_field-written, ready_column-at}
 
 -- ---- a value that is known as it is written
@@ -80,13 +78,13 @@ size_at-kept layout table place by column chooser kept =
     ∙ ap (λ (found : ReadyColumn). max 2 (ready_kind_size found.kind)) (sym kept.column_is)
 
 pub value_at-kept : (layout : Layout) (table place by : ℕ) (column chooser : ReadyColumn) → IsKeptField layout table place by column chooser →
-    (at : RowAt) (units : WrittenUnits) (draws chooser_draws : Draws) → units ≡ units_at at → draws ≡ draws_at layout table at place → chooser_draws ≡ draws_at layout table at by →
-    option_map (escaped_text layout.delimiter) (value_at layout table place at) ≡ ready_field units chooser chooser_draws column draws
-value_at-kept layout table place by column chooser kept at units draws chooser_draws units_are draws_are chooser_draws_are =
+    (at row : RowAt) (draws chooser_draws : Draws) → row ≡ at → draws ≡ draws_at layout table at place → chooser_draws ≡ draws_at layout table at by →
+    option_map (escaped_text layout.delimiter) (value_at layout table place at) ≡ ready_field row chooser chooser_draws column draws
+value_at-kept layout table place by column chooser kept at row draws chooser_draws row_is draws_are chooser_draws_are =
     let columns : List ColumnLayout = (table_at layout.tables table).columns in
     own_field-written layout.delimiter columns at (draws_at layout table at) place by kept.own kept.limits kept.within kept.by_is
-    ∙ ap (λ (text : WrittenUnits). ready_field text (ready_column layout.delimiter (column_at columns by)) (draws_at layout table at by) (ready_column layout.delimiter (column_at columns place)) (draws_at layout table at place)) (sym units_are)
-    ∙ ap (λ (found : ReadyColumn). ready_field units found (draws_at layout table at by) (ready_column layout.delimiter (column_at columns place)) (draws_at layout table at place)) (sym kept.chooser_is)
-    ∙ ap (λ (found : ReadyColumn). ready_field units chooser (draws_at layout table at by) found (draws_at layout table at place)) (sym kept.column_is)
-    ∙ ap (λ (drawn : Draws). ready_field units chooser drawn column (draws_at layout table at place)) (sym chooser_draws_are)
-    ∙ ap (λ (drawn : Draws). ready_field units chooser chooser_draws column drawn) (sym draws_are)
+    ∙ ap (λ (seen : RowAt). ready_field seen (ready_column layout.delimiter (column_at columns by)) (draws_at layout table at by) (ready_column layout.delimiter (column_at columns place)) (draws_at layout table at place)) (sym row_is)
+    ∙ ap (λ (found : ReadyColumn). ready_field row found (draws_at layout table at by) (ready_column layout.delimiter (column_at columns place)) (draws_at layout table at place)) (sym kept.chooser_is)
+    ∙ ap (λ (found : ReadyColumn). ready_field row chooser (draws_at layout table at by) found (draws_at layout table at place)) (sym kept.column_is)
+    ∙ ap (λ (drawn : Draws). ready_field row chooser drawn column (draws_at layout table at place)) (sym chooser_draws_are)
+    ∙ ap (λ (drawn : Draws). ready_field row chooser chooser_draws column drawn) (sym draws_are)

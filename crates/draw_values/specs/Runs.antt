@@ -14,7 +14,7 @@ use Rattle.schema_plan.specs.Ready.{ready_column}
 use Rattle.draw_values.specs.declared.runs.RunRows.{RunRows}
 use Rattle.draw_values.specs.declared.values.RowAt.{RowAt}
 use Rattle.draw_values.specs.Dates.{date_text}
-use Rattle.draw_values.specs.ReadyValues.{IsReady, ready_text}
+use Rattle.draw_values.specs.ReadyValues.{IsReady, IsReadyList, ready_entry_in_turn, ready_text}
 use Rattle.draw_values.specs.Values.{draws_at, is_null, value_at}
 
 -- the row at a place of a run
@@ -59,6 +59,7 @@ abbrev pub is_short_alone : ReadyKind → Bool
 is_short_alone kind.Born = true
 is_short_alone kind.Changed = true
 is_short_alone (kind.Drawn drawn) = is_short_leaf drawn
+is_short_alone (kind.List list) = list_all is_short_text list.words.entries
 is_short_alone _ = false
 
 -- whether a column holds cases
@@ -100,13 +101,15 @@ choices_kept _ = []
 abbrev pub with_behind : ℕ → List ℕ → List ℕ
 with_behind behind text = text ++ behind ∷ []
 
--- what is kept of a drawn value, and of a column: such texts with the byte behind them, where all are short, or the items of several
+-- what is kept of a drawn value, and of a column: such texts with the byte behind them, where all are short, or the items of several;
+-- of a list what is kept of one of its words
 abbrev pub leaf_texts : ℕ → ReadyLeaf → List (List ℕ)
 leaf_texts behind drawn =
     if is_short_leaf drawn then map (with_behind behind) (choices_kept drawn) else (if is_itemized_leaf drawn then items_of drawn else [])
 
 abbrev pub kept_texts : ℕ → ReadyKind → List (List ℕ)
 kept_texts behind (kind.Drawn drawn) = leaf_texts behind drawn
+kept_texts behind (kind.List list) = leaf_texts behind (leaf.Dict list.words)
 kept_texts behind _ = []
 
 -- the seed of the column that cases go by, below their table's; None of what goes by no other column
@@ -163,11 +166,13 @@ abbrev pub short_value : ℕ → Bool → ReadyKind → RunRows → ℕ → List
 short_value seed changes kind.Born rows i = decimal (run_row rows i).born
 short_value seed changes kind.Changed rows i = decimal (run_row rows i).changed
 short_value seed changes (kind.Drawn drawn) rows i = text_by drawn (draw (run_seed seed changes rows i) 1)
+short_value seed changes (kind.List list) rows i = ready_entry_in_turn list (run_row rows i).ordinal
 short_value seed changes _ rows i = []
 
--- the numbers of what is drawn are within their limits
+-- the numbers of what is drawn, or taken in turn, are within their limits
 abbrev pub IsReadyDrawn : ReadyKind → Type 0
 IsReadyDrawn (kind.Drawn drawn) = IsReady drawn
+IsReadyDrawn (kind.List list) = IsReadyList list
 IsReadyDrawn _ = ⊤
 
 -- what is written for the row at a place of a run, with the byte behind it

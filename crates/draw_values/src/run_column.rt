@@ -14,7 +14,7 @@ use crate::fields::{NULL_DRAW, is_null};
 use crate::kept::{is_itemized, is_short, kept_pieces, text_piece};
 use crate::leaves::FIRST_DRAW;
 use crate::run_loops::{put_draws, put_nulls, put_run_seeds};
-use crate::run_pieces::{fill_leaf, fill_units};
+use crate::run_pieces::{fill_in_turn, fill_leaf, fill_units};
 use crate::runs::{RunNumbers, RunRows};
 use crate::values::RowAt;
 use line_pages::{Digits, Piece};
@@ -186,6 +186,19 @@ impl RunColumn {
                 let seeds = &mut all_seeds[..count];
                 let draws = &mut all_draws[..count];
                 self.fill_drawn(digits, own.changes, leaf, rows, seeds, draws, pieces);
+            }
+            ReadyKind::List(list) => {
+                let count = pieces.len();
+                let all_places = &mut numbers.entries[..];
+                let places = &mut all_places[..count];
+                fill_in_turn(
+                    list,
+                    self.kept.as_slice(),
+                    rows.ordinals,
+                    places,
+                    self.behind,
+                    pieces,
+                );
             }
             _ => unreachable!(),
         }

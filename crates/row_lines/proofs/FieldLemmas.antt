@@ -4,7 +4,7 @@ use Rattle.std.proofs.lemmas.Bool.Decides.{nat_tests}
 use Rattle.std.proofs.lemmas.Fmt.{length-decimal-le}
 use Rattle.row_text.specs.Fields.{field_text}
 use Rattle.cohort_sizes.specs.Births.{born_count}
-use Rattle.schema_plan.specs.Layout.{ColumnLayout, KindLayout, LeafLayout, PartLayout, born_kind, case_kind, changed_kind, cited_part, column_at, key_kind, leaf_kind, lookup_kind, reference_kind, table_at, template_kind}
+use Rattle.schema_plan.specs.Layout.{ColumnLayout, KindLayout, LeafLayout, PartLayout, born_kind, case_kind, changed_kind, cited_part, column_at, key_kind, leaf_kind, lookup_kind, list_kind, reference_kind, table_at, template_kind}
 use Rattle.schema_plan.specs.Limits.{is_cited, is_lookup_kind}
 use Rattle.draw_values.specs.Values.{Draws, is_own, leaf_value, own_field, own_value, unless_null}
 use Rattle.life_intervals.specs.Generator.{Generator}
@@ -41,6 +41,7 @@ value-in_table generator unit place column row (leaf_kind leaf) no_lookup = refl
 value-in_table generator unit place column row (template_kind parts) no_lookup = refl
 value-in_table generator unit place column row (case_kind on branches) no_lookup = refl
 value-in_table generator unit place column row (reference_kind parent window spread nulls) no_lookup = refl
+value-in_table generator unit place column row (list_kind words) no_lookup = refl
 value-in_table generator unit place column row _ no_lookup = cc
 
 pub field-in_table : (generator : Generator) (unit place column : ℕ) (row : Row) → is_lookup_kind (column_at (table_at generator.tables place).columns column).kind ≡ false →
@@ -65,6 +66,7 @@ value-own generator place column row born_kind own = refl
 value-own generator place column row changed_kind own = refl
 value-own generator place column row (leaf_kind leaf) own = refl
 value-own generator place column row (case_kind on branches) own = refl
+value-own generator place column row (list_kind words) own = refl
 value-own generator place column row _ own = cc
 
 pub in_table-own : (generator : Generator) (place column : ℕ) (row : Row) → is_own (column_at (table_at generator.tables place).columns column).kind ≡ true →
@@ -88,6 +90,7 @@ value-cited generator place column row born_kind cited = refl
 value-cited generator place column row changed_kind cited = refl
 value-cited generator place column row (leaf_kind leaf) cited = refl
 value-cited generator place column row (reference_kind parent window spread nulls) cited = refl
+value-cited generator place column row (list_kind words) cited = refl
 value-cited generator place column row _ cited = cc
 
 pub in_table-cited : (generator : Generator) (place column : ℕ) (row : Row) → is_cited (column_at (table_at generator.tables place).columns column).kind ≡ true →
@@ -105,6 +108,7 @@ no_lookup-cited (leaf_kind leaf) cited = refl
 no_lookup-cited (template_kind parts) cited = refl
 no_lookup-cited (case_kind on branches) cited = refl
 no_lookup-cited (reference_kind parent window spread nulls) cited = refl
+no_lookup-cited (list_kind words) cited = refl
 
 field-cited : (generator : Generator) (unit place column : ℕ) (row : Row) → is_cited (column_at (table_at generator.tables place).columns column).kind ≡ true →
     field generator unit place row column ≡ field_alone generator place row column

@@ -19,9 +19,9 @@ use Rattle.schema_plan.specs.Dictionaries.{AreWordLists, Dictionary, Project}
 use Rattle.schema_plan.specs.Layout.{ColumnLayout, column_at, column_layout, kind_layout, leaf_layout, no_column, part_layout, place_of_column}
 use Rattle.schema_plan.specs.Limits.{AreParts, CitesStill, IsCase, IsKindInLimits, IsLeafInLimits, IsPart, IsPickOf, IsStillPart, can_change, is_cited, is_moving_kind as is_moving_layout, moves}
 use Rattle.schema_plan.specs.References.{Reference, reference_of}
-use Rattle.schema_plan.specs.Rules.{are_supplied, is_redrawn_at, cites_still, is_between, is_case, is_change, is_citable, is_date_range, is_key_in_range, is_length_range, is_moving_kind, is_null_share, is_number_range, is_part, is_pick_of, is_skew_range, is_spread, is_still_kind, is_still_part, is_template, is_weighted, kind_at, may_be_redrawn, moves_at, null_at}
+use Rattle.schema_plan.specs.Rules.{are_supplied, is_supplied_kind, is_redrawn_at, cites_still, is_between, is_case, is_change, is_citable, is_date_range, is_key_in_range, is_length_range, is_moving_kind, is_null_share, is_number_range, is_part, is_pick_of, is_skew_range, is_spread, is_still_kind, is_still_part, is_template, is_weighted, kind_at, may_be_redrawn, moves_at, null_at}
 use Rattle.schema_check.proofs.FromTests.{limit_from_test, passes_each}
-use Rattle.schema_check.proofs.LeafLimits.{leaf_in_limits, leaves_in_limits}
+use Rattle.schema_check.proofs.LeafLimits.{leaf_in_limits, leaves_in_limits, words_supplied}
 use Rattle.schema_check.proofs.ReferenceLimits.{spread_from_test}
 
 -- ---- the layout of a column
@@ -95,7 +95,7 @@ case_from_test dictionaries tables columns place within on branches h each =
 
 -- ---- a column by its kind
 
-pub kind_in_limits : (project : Project) → AreWordLists project.dictionaries → (tables : List Table) (columns : List Column) (place : ℕ) → place ≤ length columns → (kind : Kind) → list_all (are_supplied project) (leaves_of kind) ≡ true → list_all is_number_range (leaves_of kind) ≡ true → list_all is_date_range (leaves_of kind) ≡ true → list_all is_weighted (leaves_of kind) ≡ true → list_all is_skew_range (leaves_of kind) ≡ true → list_all is_length_range (leaves_of kind) ≡ true → is_template columns place kind ≡ true → is_case columns place kind ≡ true → is_spread kind ≡ true → IsKindInLimits (columns_layout project.dictionaries tables columns) place (kind_layout project.dictionaries tables columns kind)
+pub kind_in_limits : (project : Project) → AreWordLists project.dictionaries → (tables : List Table) (columns : List Column) (place : ℕ) → place ≤ length columns → (kind : Kind) → is_supplied_kind project kind ≡ true → list_all is_number_range (leaves_of kind) ≡ true → list_all is_date_range (leaves_of kind) ≡ true → list_all is_weighted (leaves_of kind) ≡ true → list_all is_skew_range (leaves_of kind) ≡ true → list_all is_length_range (leaves_of kind) ≡ true → is_template columns place kind ≡ true → is_case columns place kind ≡ true → is_spread kind ≡ true → IsKindInLimits (columns_layout project.dictionaries tables columns) place (kind_layout project.dictionaries tables columns kind)
 kind_in_limits project lists tables columns place within (kind.Leaf leaf) supplied numbers dates picks skews lengths parts case spread =
     leaf_in_limits project lists leaf
     ((and_parts (are_supplied project leaf) true supplied).0)
@@ -109,6 +109,7 @@ kind_in_limits project lists tables columns place within (kind.Template of) supp
 kind_in_limits project lists tables columns place within (kind.Case on branches) supplied numbers dates picks skews lengths parts case spread =
     case_from_test project.dictionaries tables columns place within on branches case (leaves_in_limits project lists branches supplied numbers dates picks skews lengths)
 kind_in_limits project lists tables columns place within (kind.Ref table window weights on_delete) supplied numbers dates picks skews lengths parts case spread = spread_from_test weights spread
+kind_in_limits project lists tables columns place within (kind.List file) supplied numbers dates picks skews lengths parts case spread = words_supplied project lists file supplied
 kind_in_limits project lists tables columns place within _ supplied numbers dates picks skews lengths parts case spread = tt
 
 -- ---- columns that change
@@ -205,3 +206,4 @@ null_limit (kind.Leaf leaf) null h = share_from_test null h
 null_limit (kind.Template parts) null h = share_from_test null h
 null_limit (kind.Case on branches) null h = share_from_test null h
 null_limit (kind.Lookup via column) null h = share_from_test null h
+null_limit (kind.List file) null h = share_from_test null h

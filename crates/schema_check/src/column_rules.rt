@@ -153,7 +153,7 @@ pub(crate) fn is_change(column: &Column) -> bool
     !column.changes || may_change(&column.kind)
 }
 
-/// Whether the fields of a kind can be drawn anew when a row changes. Keys, units and fields that follow from other rows can't.
+/// Whether the fields of a kind can be drawn anew when a row changes. Keys, units, lists and fields that follow from other rows can't.
 fn may_change(kind: &Kind) -> bool
     ensures { result ≡ may_be_redrawn kind.now }
 {

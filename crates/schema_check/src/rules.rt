@@ -8,7 +8,7 @@ ghost use Rattle.schema_plan.specs.Rules.{break_in_table, first_break, first_bro
 ghost use Rattle.schema_plan.specs.Sites.{columns_at, IsSiteOf};
 
 use crate::candidate::Candidate;
-use crate::cited_names::{are_citable, are_supplied};
+use crate::cited_names::{is_citable_kind, is_supplied_kind};
 use crate::column_rules::{cites_still, is_case, is_change, is_null_share, is_template};
 use crate::leaf_rules::{
     are_date_ranges, are_length_ranges, are_number_ranges, are_skew_ranges, are_weighted, leaves_of,
@@ -168,8 +168,8 @@ fn holds_of_column(rule: Rule, candidate: &Candidate<'_>, table: usize, column: 
     let columns = columns_at(schema, table);
     let leaves = leaves_of(&columns[column].kind);
     match rule {
-        Rule::Dictionaries => are_supplied(candidate, leaves),
-        Rule::CitedNames => are_citable(candidate.names(), leaves),
+        Rule::Dictionaries => is_supplied_kind(candidate, &columns[column].kind),
+        Rule::CitedNames => is_citable_kind(candidate.names(), &columns[column].kind),
         Rule::Columns => is_new_column(columns, column),
         Rule::KeyColumn => is_key_first(column, &columns[column].kind),
         Rule::NumberRange => are_number_ranges(leaves),

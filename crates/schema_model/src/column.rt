@@ -64,6 +64,10 @@ pub enum Kind {
         via: Text,
         column: Text,
     },
+    /// An entry of the dictionary of this name: the rows take the entries in turn, and begin again after the last.
+    List {
+        file: Text,
+    },
 }
 
 impl Drop for Kind {
@@ -94,6 +98,7 @@ impl Drop for Kind {
                 drop(via);
                 drop(column);
             }
+            Kind::List { file } => drop(file),
         }
     }
 }

@@ -9,8 +9,8 @@ use Rattle.schema_plan.specs.Citations.{leaves_of}
 use Rattle.cohort_sizes.specs.Births.{Births, born_count}
 use Rattle.cohort_sizes.specs.Rates.{AreRates}
 use Rattle.schema_plan.specs.Counts.{count}
-use Rattle.schema_plan.specs.Dictionaries.{Dictionary, Project}
-use Rattle.schema_plan.specs.Layout.{LeafLayout, int_leaf, fixed_leaf, date_leaf, pick_leaf, skew_leaf, dict_leaf, words_leaf, chars_leaf, PartLayout, literal_part, cited_part, KindLayout, key_kind, changed_kind, leaf_kind, template_kind, case_kind, reference_kind, lookup_kind, ColumnLayout, column_at, TableLayout, layout_of, leaf_layout, table_at}
+use Rattle.schema_plan.specs.Dictionaries.{Dictionary, Project, words_named}
+use Rattle.schema_plan.specs.Layout.{LeafLayout, int_leaf, fixed_leaf, date_leaf, pick_leaf, skew_leaf, dict_leaf, words_leaf, chars_leaf, PartLayout, literal_part, cited_part, KindLayout, key_kind, changed_kind, leaf_kind, template_kind, case_kind, reference_kind, lookup_kind, list_kind, ColumnLayout, column_at, TableLayout, layout_of, leaf_layout, table_at}
 use Rattle.schema_plan.specs.References.{IsReferenceInLimits, IsSpread, Reference, reference_at, references_of}
 use Rattle.schema_plan.specs.TableFacts.{cost, max_line}
 
@@ -73,14 +73,19 @@ is_cited (case_kind on branches) = false
 is_cited (lookup_kind via parent column) = false
 is_cited _ = true
 
--- what is made ready of a kind: what it draws is within its limits, and so is its spread
+-- what is made ready of a kind: what it draws is within its limits, and so is its spread, and so are the words of a list
 abbrev pub IsSpreadOf : Kind → Type 0
 IsSpreadOf (kind.Ref table window spread on_delete) = IsSpread (map count spread)
 IsSpreadOf _ = ⊤
 
+abbrev pub IsListOf : List Dictionary → Kind → Type 0
+IsListOf dictionaries (kind.List file) = IsWordList (words_named dictionaries file)
+IsListOf dictionaries _ = ⊤
+
 pub record CanBeReady (dictionaries : List Dictionary) (kind : Kind) : Type 0 where
   pub drawn : All (λ leaf. IsLeafInLimits (leaf_layout dictionaries leaf)) (leaves_of kind)
   pub spread : IsSpreadOf kind
+  pub listed : IsListOf dictionaries kind
 
 -- a part of the template at a place: a text, or an earlier column that may be cited
 abbrev pub IsPart : List ColumnLayout → ℕ → PartLayout → Type 0
@@ -119,9 +124,10 @@ IsKindInLimits columns place (leaf_kind leaf) = IsLeafInLimits leaf
 IsKindInLimits columns place (template_kind parts) = AreParts columns place parts
 IsKindInLimits columns place (case_kind on branches) = IsCase columns place on branches
 IsKindInLimits columns place (reference_kind parent window spread nulls) = IsSpread spread
+IsKindInLimits columns place (list_kind words) = IsWordList words
 IsKindInLimits columns place _ = ⊤
 
--- a kind whose fields may be drawn anew where a row changes: no key, no unit, and none that other rows tell
+-- a kind whose fields may be drawn anew where a row changes: no key, no unit, no list, and none that other rows tell
 abbrev pub can_change : KindLayout → Bool
 can_change (leaf_kind leaf) = true
 can_change (template_kind parts) = true

@@ -24,7 +24,7 @@ use Rattle.schema_plan.specs.declared.rules.Rule.{Rule}
 use Rattle.schema_plan.specs.declared.rules.Rule.TheVariants.{Dictionaries, CitedNames, SeedAndUnits, TableCount, TableNames, Columns, KeyColumn, RowCount, LifeRange, UpdatePeriod, NumberRange, DateRange, PickEntries, SkewRange, LengthRange, TemplateParts, CaseBranches, StillCitations, ReferenceTargets, ReferenceWindows, ParentRows, SpreadWeights, LookupColumns, RowCost, LineSize, ChangesAndNulls}
 use Rattle.schema_plan.specs.declared.site.Site.{Site}
 use Rattle.schema_plan.specs.declared.site.Site.TheVariants.{Whole, OfTable, OfColumn}
-use Rattle.schema_plan.specs.Citations.{cited_names, leaves_of, may_cite, may_cite_all, names_in_leaf}
+use Rattle.schema_plan.specs.Citations.{cited_names, leaves_of, may_cite, may_cite_of_kind, names_in_leaf}
 use Rattle.schema_plan.specs.Counts.{count}
 use Rattle.schema_plan.specs.Dictionaries.{Project, dictionary_named}
 use Rattle.schema_plan.specs.Layout.{becomes_null, births_of, columns_of, layout_of, place_of_column, place_of_table, window_layout}
@@ -174,9 +174,14 @@ is_supplied project name =
 abbrev pub are_supplied : Project → Leaf → Bool
 are_supplied project leaf = list_all (is_supplied project) (names_in_leaf leaf)
 
+-- whether all dictionaries that a column cites are so
+abbrev pub is_supplied_kind : Project → Kind → Bool
+is_supplied_kind project (kind.List file) = is_supplied project file
+is_supplied_kind project held = list_all (are_supplied project) (leaves_of held)
+
 -- whether a schema may cite all that is cited at a site
 abbrev pub cites_well : Schema → Site → Bool
-cites_well schema (OfColumn table column) = is_each_leaf (may_cite_all (cited_names schema.tables)) schema table column
+cites_well schema (OfColumn table column) = may_cite_of_kind (cited_names schema.tables) (kind_at (columns_at schema table) column)
 cites_well schema site = true
 
 -- ---- what rules ask of columns that speak of others
@@ -240,7 +245,7 @@ is_still_kind columns _ = true
 abbrev pub cites_still : List Column → ℕ → Bool
 cites_still columns place = is_redrawn_at columns place || is_still_kind columns (kind_at columns place)
 
--- a kind whose fields may be drawn anew: no key, no unit, and none that other rows tell
+-- a kind whose fields may be drawn anew: no key, no unit, no list, and none that other rows tell
 abbrev pub may_be_redrawn : Kind → Bool
 may_be_redrawn (kind.Leaf leaf) = true
 may_be_redrawn (kind.Template parts) = true
@@ -337,7 +342,7 @@ is_lookup tables columns place _ = true
 abbrev pub holds : Rule → Project → Site → Bool
 -- V13: a dictionary that is cited has a name of 1 to 255 bytes, at most 64 different ones are cited, and each is there. Tried at
 -- a case for its branches
-holds Dictionaries project (OfColumn table column) = is_each_leaf (are_supplied project) project.schema table column
+holds Dictionaries project (OfColumn table column) = is_supplied_kind project (kind_at (columns_at project.schema table) column)
 -- the same as far as a schema alone tells it
 holds CitedNames project site = cites_well project.schema site
 -- V1: the seed is at least 0, and the last unit is from 0 to 10,000
@@ -396,7 +401,7 @@ holds LookupColumns project (OfColumn table column) =
 holds RowCost project (OfTable table) = nat_le 64 table || nat_le (cost (layout_of project) table) 4096
 -- V24: a line has at most 65,536 bytes. The same
 holds LineSize project (OfTable table) = nat_le 64 table || nat_le (max_line (layout_of project) table) 65536
--- V25: at most 999 of a thousand fields are null, and none of a key or a reference; keys, units, references and lookups don't change
+-- V25: at most 999 of a thousand fields are null, and none of a key or a reference; keys, units, references, lookups and lists don't change
 holds ChangesAndNulls project (OfColumn table column) =
     is_null_share (kind_at (columns_at project.schema table) column) (null_at (columns_at project.schema table) column)
     && is_change (kind_at (columns_at project.schema table) column) (is_redrawn_at (columns_at project.schema table) column)

@@ -50,6 +50,8 @@ pub enum ReadyKind {
     Reference(ReadyReference),
     /// A field of the parent that the row has by one of its references.
     Lookup(ReadyLookup),
+    /// One of the words, which the rows take in turn.
+    List(ReadyList),
 }
 
 impl Drop for ReadyKind {
@@ -60,6 +62,7 @@ impl Drop for ReadyKind {
             ReadyKind::Template { parts } => drop(parts),
             ReadyKind::Case { on: _, branches } => drop(branches),
             ReadyKind::Reference(it) => drop(it),
+            ReadyKind::List(it) => drop(it),
         }
     }
 }
@@ -104,6 +107,21 @@ pub struct ReadyLookup {
     pub parent: u32,
     /// The place of the shown column in the parent's table, counted from 0.
     pub column: u64,
+}
+
+/// The words of a list, ready for rows.
+pub struct ReadyList {
+    /// The words, in the order of the file.
+    pub words: ReadyWords,
+    /// The number of words.
+    pub count: FixedDivisor,
+}
+
+impl Drop for ReadyList {
+    fn drop(self) {
+        let ReadyList { words, count: _ } = self;
+        drop(words);
+    }
 }
 
 /// A part of a template, ready for rows.

@@ -94,6 +94,9 @@ pub fn read_kind(alloc: Global, members: &Table, kind: KindName) -> Result<Kind,
         KindName::Case => read_case(alloc, members),
         KindName::Ref => read_reference(alloc, members),
         KindName::Lookup => read_lookup(alloc, members),
+        KindName::List => Ok(Kind::List {
+            file: text_at(alloc, members, SchemaKey::File)?,
+        }),
         KindName::Leaf(leaf) => Ok(Kind::Leaf(read_leaf(alloc, members, leaf)?)),
     }
 }

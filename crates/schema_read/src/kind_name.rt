@@ -41,6 +41,8 @@ pub enum KindName {
     Ref,
     /// `lookup`
     Lookup,
+    /// `list`
+    List,
     /// One of the leaf kinds.
     Leaf(LeafName),
 }
@@ -74,6 +76,7 @@ pub fn kind_of_name(name: &str) -> Option<KindName>
         "case" => Some(KindName::Case),
         "ref" => Some(KindName::Ref),
         "lookup" => Some(KindName::Lookup),
+        "list" => Some(KindName::List),
         _ => match leaf_of_name(name) {
             Some(leaf) => Some(KindName::Leaf(leaf)),
             None => None,

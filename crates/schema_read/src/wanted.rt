@@ -162,6 +162,8 @@ const LOOKUP_KEYS: [Wanted; 2] = [
     Wanted::Required(SchemaKey::Column, Expected::TextValue),
 ];
 
+const LIST_KEYS: [Wanted; 1] = [Wanted::Required(SchemaKey::File, Expected::TextValue)];
+
 /// Returns the keys that belong to this kind of column.
 pub fn keys_of_kind(kind: KindName) -> &'static [Wanted]
     ensures { result.now ≡ kind_keys kind }
@@ -173,6 +175,7 @@ pub fn keys_of_kind(kind: KindName) -> &'static [Wanted]
         KindName::Case => &CASE_KEYS,
         KindName::Ref => &REFERENCE_KEYS,
         KindName::Lookup => &LOOKUP_KEYS,
+        KindName::List => &LIST_KEYS,
         KindName::Leaf(leaf) => keys_of_leaf(leaf),
     }
 }
