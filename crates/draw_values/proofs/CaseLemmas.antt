@@ -14,7 +14,7 @@ use Rattle.schema_plan.specs.declared.ready.ReadyLeaf.{ReadyLeaf}
 use Rattle.schema_plan.specs.declared.ready.ReadyLeaf.TheVariants as leaf
 use Rattle.schema_plan.specs.Dictionaries.{Project}
 use Rattle.schema_plan.specs.FieldBounds.{greatest_by}
-use Rattle.schema_plan.specs.Layout.{KindLayout, key_kind, born_kind, changed_kind, leaf_kind, template_kind, case_kind, reference_kind, lookup_kind, list_kind, column_at, layout_of, table_at}
+use Rattle.schema_plan.specs.Layout.{KindLayout, key_kind, born_kind, changed_kind, leaf_kind, template_kind, case_kind, reference_kind, lookup_kind, list_kind, unit_date_kind, column_at, layout_of, table_at}
 use Rattle.schema_plan.specs.Limits.{IsTableInLimits}
 use Rattle.schema_plan.specs.Ready.{ready_columns, ready_kind}
 use Rattle.draw_values.specs.declared.runs.RunRows.{RunRows}
@@ -38,6 +38,7 @@ case_own delimiter (case_kind on branches) case = refl
 case_own delimiter (reference_kind parent window spread nulls) case = case
 case_own delimiter (lookup_kind via parent name) case = case
 case_own delimiter (list_kind words) case = refl
+case_own delimiter (unit_date_kind changed start step) case = refl
 
 -- the column that is kept for cases, and the one that they go by
 pub kept_case : (plan : Project) (run : RunColumnOf) (kept : List ReadyColumn) (own pick : ReadyColumn) (on units : ℕ) (branches : List ReadyLeaf) → IsRunColumn plan run →
@@ -67,6 +68,7 @@ entry_some (kind.Case on branches) draws pick = absurd pick
 entry_some (kind.Reference reference) draws pick = absurd pick
 entry_some (kind.Lookup lookup) draws pick = absurd pick
 entry_some (kind.List list) draws pick = absurd pick
+entry_some (kind.UnitDate date) draws pick = absurd pick
 
 decided : (b : Bool) → (b ≡ false → ⊥) → b ≡ true
 decided true not_false = refl

@@ -16,12 +16,12 @@ use Rattle.schema_plan.specs.declared.ready.ReadyKind.TheVariants as kind
 use Rattle.schema_plan.specs.declared.ready.ReadyLeaf.{ReadyLeaf}
 use Rattle.schema_plan.specs.declared.ready.ReadyLeaf.TheVariants as leaf
 use Rattle.schema_plan.specs.Dictionaries.{Project}
-use Rattle.schema_plan.specs.Layout.{KindLayout, key_kind, born_kind, changed_kind, leaf_kind, template_kind, case_kind, reference_kind, lookup_kind, list_kind, ColumnLayout, column_at, layout_of, table_at}
+use Rattle.schema_plan.specs.Layout.{KindLayout, key_kind, born_kind, changed_kind, leaf_kind, template_kind, case_kind, reference_kind, lookup_kind, list_kind, unit_date_kind, ColumnLayout, column_at, layout_of, table_at}
 use Rattle.schema_plan.specs.Limits.{IsKindInLimits, IsTableInLimits}
 use Rattle.schema_plan.specs.Ready.{ready_columns, ready_kind}
 use Rattle.draw_values.specs.declared.runs.RunRows.{RunRows}
 use Rattle.draw_values.specs.Dates.{date_text}
-use Rattle.draw_values.specs.ReadyValues.{chooser_of, ready_held_entry, ready_kind_size, ready_size, ready_text, ready_value}
+use Rattle.draw_values.specs.ReadyValues.{chooser_of, ready_day, ready_held_entry, ready_kind_size, ready_size, ready_text, ready_value}
 use Rattle.draw_values.specs.Runs.{IsReadyDrawn, IsRunColumn, RunColumnOf, is_null_in, is_short, is_short_alone, is_short_leaf, leaf_texts, ready_at, run_row, run_seed, run_field, short_value, text_by, with_behind}
 use Rattle.draw_values.specs.Values.{Draws, chosen, chosen_group, draws_at, is_null, is_own, size_at, unless_null, value_at}
 use Rattle.draw_values.proofs.ColumnLemmas.{length-decimal-unit, ready_column-at}
@@ -41,6 +41,7 @@ short_own delimiter (case_kind on branches) short = absurd (cc)
 short_own delimiter (reference_kind parent window spread nulls) short = short
 short_own delimiter (lookup_kind via parent name) short = short
 short_own delimiter (list_kind words) short = refl
+short_own delimiter (unit_date_kind changed start step) short = refl
 
 short_chooser : (place : ℕ) (held : ReadyKind) → is_short_alone held ≡ true → place ≡ chooser_of place held
 short_chooser place kind.Key short = refl
@@ -52,6 +53,7 @@ short_chooser place (kind.Case on branches) short = absurd (cc)
 short_chooser place (kind.Reference reference) short = refl
 short_chooser place (kind.Lookup lookup) short = refl
 short_chooser place (kind.List list) short = refl
+short_chooser place (kind.UnitDate date) short = refl
 
 -- what is drawn is within its limits
 pub drawn_is_ready : (delimiter : ℕ) (columns : List ColumnLayout) (place : ℕ) (held : KindLayout) → IsKindInLimits columns place held → IsReadyDrawn (ready_kind delimiter held)
@@ -64,6 +66,7 @@ drawn_is_ready delimiter columns place (case_kind on branches) limits = tt
 drawn_is_ready delimiter columns place (reference_kind parent window spread nulls) limits = tt
 drawn_is_ready delimiter columns place (lookup_kind via parent name) limits = tt
 drawn_is_ready delimiter columns place (list_kind words) limits = list_is_ready delimiter words
+drawn_is_ready delimiter columns place (unit_date_kind changed start step) limits = tt
 
 -- ---- values
 
@@ -88,6 +91,7 @@ short_value-ready seed changes (kind.Case on branches) rows i entry short = absu
 short_value-ready seed changes (kind.Reference reference) rows i entry short = absurd (cc)
 short_value-ready seed changes (kind.Lookup lookup) rows i entry short = absurd (cc)
 short_value-ready seed changes (kind.List list) rows i entry short = refl
+short_value-ready seed changes (kind.UnitDate date) rows i entry short = refl
 
 -- the draws of a row's field
 pub run_draws : (plan : Project) (run : RunColumnOf) (column : ReadyColumn) (rows : RunRows) (i : ℕ) → IsRunColumn plan run → column ≡ ready_at plan run.table run.column →
@@ -182,6 +186,7 @@ short_value_size seed changes (kind.Case on branches) rows i short born changed 
 short_value_size seed changes (kind.Reference reference) rows i short born changed few = absurd (cc)
 short_value_size seed changes (kind.Lookup lookup) rows i short born changed few = absurd (cc)
 short_value_size seed changes (kind.List list) rows i short born changed few = entry_size 0 list.words.entries ((run_row rows i).ordinal % list.count)
+short_value_size seed changes (kind.UnitDate date) rows i short born changed few = omega (arith, length-date_text (ready_day date (run_row rows i)))
 
 unless_null_size : (null : Bool) (value : List ℕ) (size : ℕ) → length value ≤ size → length (unwrap_or (if null then None else Some value) []) ≤ size
 unless_null_size true value size fits = omega arith
@@ -252,6 +257,7 @@ alone_from_short (kind.Case on branches) short no_case = absurd (no_case on bran
 alone_from_short (kind.Reference reference) short no_case = short
 alone_from_short (kind.Lookup lookup) short no_case = short
 alone_from_short (kind.List list) short no_case = short
+alone_from_short (kind.UnitDate date) short no_case = short
 
 -- the place of the column that cases go by is a number of 32 bits
 pub chooser_small : (delimiter : ℕ) (columns : List ColumnLayout) (place : ℕ) (held : KindLayout) → IsKindInLimits columns place held → place < 2 ^ 32 → chooser_of 0 (ready_kind delimiter held) < 2 ^ 32
@@ -264,3 +270,4 @@ chooser_small delimiter columns place (case_kind on branches) limits small = ome
 chooser_small delimiter columns place (reference_kind parent window spread nulls) limits small = omega arith
 chooser_small delimiter columns place (lookup_kind via parent name) limits small = omega arith
 chooser_small delimiter columns place (list_kind words) limits small = omega arith
+chooser_small delimiter columns place (unit_date_kind changed start step) limits small = omega arith

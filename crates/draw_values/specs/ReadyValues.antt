@@ -1,5 +1,5 @@
 -- What is written for a field by what a plan keeps ready for its column, and what has to be kept so that it can be.
-use Rattle.std.specs.Prelude.{◌≡◌, ◌≤◌, ℕ, pos, ◌+◌, ◌-◌, ◌*◌, ◌%◌, ◌^◌, ◌+ℤ◌, ◌<ℤ◌, List, [], All, Option, Some, None, decimal, flat_map, length, option_map, sum, slice_index_or, ⊤}
+use Rattle.std.specs.Prelude.{◌≡◌, ◌≤◌, ℕ, ℤ, pos, ◌+◌, ◌-◌, ◌*◌, ◌%◌, ◌^◌, ◌+ℤ◌, ◌<ℤ◌, List, [], All, Option, Some, None, decimal, flat_map, length, option_map, sum, slice_index_or, ⊤}
 use Rattle.std.specs.Fmt.{signed_decimal}
 use Rattle.std.specs.List.{range_with_len}
 use Rattle.philox_seeds.specs.SeedTree.{draw, row_seed}
@@ -8,6 +8,7 @@ use Rattle.schema_plan.specs.declared.ready.ReadyKind.{ReadyKind}
 use Rattle.schema_plan.specs.declared.ready.ReadyKind.TheVariants as kind
 use Rattle.schema_plan.specs.declared.ready.ReadyLeaf.{ReadyLeaf}
 use Rattle.schema_plan.specs.declared.ready.ReadyList.{ReadyList}
+use Rattle.schema_plan.specs.declared.ready.ReadyUnitDate.{ReadyUnitDate}
 use Rattle.schema_plan.specs.declared.ready.ReadyLeaf.TheVariants as leaf
 use Rattle.schema_plan.specs.Choices.{choices}
 use Rattle.schema_plan.specs.FieldBounds.{greatest_by, joined_size}
@@ -15,7 +16,7 @@ use Rattle.schema_plan.specs.Limits.{IsDateRange, IsRange}
 use Rattle.draw_values.specs.declared.values.RowAt.{RowAt}
 use Rattle.draw_values.specs.Dates.{date_text}
 use Rattle.draw_values.specs.Digits.{signed_pointed}
-use Rattle.draw_values.specs.Values.{Draws, chosen, chosen_group, drawn_words, unless_null}
+use Rattle.draw_values.specs.Values.{Draws, chosen, chosen_group, drawn_words, unit_day, unless_null}
 
 -- the draws of the field of the row with an ordinal, by the seed of its column at its unit
 abbrev pub row_draws : ℕ → ℕ → Draws
@@ -81,6 +82,10 @@ ready_branch branches place = slice_index_or branches place (leaf.Int (pos 0) (p
 abbrev pub ready_entry_in_turn : ReadyList → ℕ → List ℕ
 ready_entry_in_turn list ordinal = slice_index_or list.words.entries (ordinal % list.count) []
 
+-- the day that a row shows
+abbrev pub ready_day : ReadyUnitDate → RowAt → ℤ
+ready_day date at = unit_day date.changed date.start date.step at
+
 -- what is written for a field of a row's place and units or of draws that isn't null, by the row, the entry that its pick column
 -- holds, and its draws; None where its pick column's field is null
 abbrev pub ready_value : RowAt → Option ℕ → Draws → ReadyKind → Option (List ℕ)
@@ -89,6 +94,7 @@ ready_value at entry draw kind.Changed = Some (decimal at.changed)
 ready_value at entry draw (kind.Drawn leaf) = Some (ready_text leaf draw)
 ready_value at entry draw (kind.Case on branches) = option_map (λ e. ready_text (ready_branch branches e) draw) entry
 ready_value at entry draw (kind.List list) = Some (ready_entry_in_turn list at.ordinal)
+ready_value at entry draw (kind.UnitDate date) = Some (date_text (ready_day date at))
 ready_value at entry draw _ = None
 
 -- what is written for a field, None where it is null
@@ -103,6 +109,7 @@ ready_kind_size kind.Changed = 5
 ready_kind_size (kind.Drawn leaf) = ready_size leaf
 ready_kind_size (kind.Case on branches) = greatest_by ready_size branches
 ready_kind_size (kind.List list) = greatest_by length list.words.entries
+ready_kind_size (kind.UnitDate date) = 10
 ready_kind_size _ = 0
 
 -- the number of the entries of a pick; no other kind has any
@@ -124,6 +131,15 @@ pub record AreUnits (at : RowAt) : Type 0 where
   pub born_limit : at.born ≤ 10000
   pub changed_limit : at.changed ≤ 10000
 
+-- the day that a row shows is of the years 1 to 9999
+abbrev pub IsUnitDay : ReadyUnitDate → RowAt → Type 0
+IsUnitDay date at = IsDateRange date.start (ready_day date at)
+
+-- the same of a field of this kind; of other kinds nothing is asked
+abbrev pub HasDay : ReadyKind → RowAt → Type 0
+HasDay (kind.UnitDate date) at = IsUnitDay date at
+HasDay _ at = ⊤
+
 -- a field of this kind can be written, where it is chosen by a column of the other
 abbrev pub IsReadyKind : ReadyKind → ReadyKind → Type 0
 IsReadyKind chooser kind.Born = ⊤
@@ -131,4 +147,5 @@ IsReadyKind chooser kind.Changed = ⊤
 IsReadyKind chooser (kind.Drawn leaf) = IsReady leaf
 IsReadyKind chooser (kind.Case on branches) = All IsReady branches × IsReadyPick chooser × (entry_count chooser ≡ length branches)
 IsReadyKind chooser (kind.List list) = IsReadyList list
+IsReadyKind chooser (kind.UnitDate date) = ⊤
 IsReadyKind chooser _ = ⊥

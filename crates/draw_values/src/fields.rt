@@ -3,16 +3,19 @@
 ghost use Rattle.std.specs.Prelude.{◌≡◌, ◌<◌, ◌≤◌, ◌+◌, ◌++◌, [], All, IfSome, decimal, length, option_map, unwrap_or};
 ghost use Rattle.philox_seeds.specs.SeedTree.{draw as draw_of};
 ghost use Rattle.schema_plan.specs.FieldBounds.{greatest_by};
-ghost use Rattle.draw_values.specs.ReadyValues.{AreUnits, IsReady, IsReadyKind, IsReadyList, IsReadyPick, chooser_of, entry_count, ready_branch, ready_entry_in_turn, ready_field, ready_held_entry, ready_kind_size, ready_size, ready_text, row_draws};
+ghost use Rattle.draw_values.specs.Dates.{date_text};
+ghost use Rattle.draw_values.specs.ReadyValues.{AreUnits, HasDay, IsReady, IsReadyKind, IsReadyList, IsReadyPick, IsUnitDay, chooser_of, entry_count, ready_branch, ready_day, ready_entry_in_turn, ready_field, ready_held_entry, ready_kind_size, ready_size, ready_text, row_draws};
 ghost use Rattle.draw_values.specs.Values.{is_null, put_of};
 
+use crate::dates::put_date;
 use crate::leaves::{FIRST_DRAW, put_leaf};
+use crate::unit_dates::day_of_row;
 use crate::values::{Put, RowAt};
 use crate::weighted::chosen_group;
 use crate::words::put_entry;
 use line_pages::{PageBuf, Piece};
 use philox_seeds::{draw, row_seed};
-use schema_plan::{ReadyColumn, ReadyKind, ReadyLeaf, ReadyList};
+use schema_plan::{ReadyColumn, ReadyKind, ReadyLeaf, ReadyList, ReadyUnitDate};
 
 /// The draw that decides if a field is null.
 pub(crate) const NULL_DRAW: u32 = 0;
@@ -104,12 +107,24 @@ fn put_entry_in_turn(list: &ReadyList, ordinal: u64, buf: &mut PageBuf)
     put_entry(&list.words, list.count.remainder(ordinal) as usize, buf);
 }
 
+/// Appends the date of the unit that a row shows. 10 bytes must be free.
+#[inline(always)]
+fn put_unit_date(date: &ReadyUnitDate, at: RowAt, buf: &mut PageBuf)
+    requires day { IsUnitDay date.now at }
+    requires room { length buf.old.text + 10 ≤ buf.old.room }
+    ensures text { buf.new ≡ record buf.old { text = buf.old.text ++ date_text (ready_day date.now at) } }
+    ensures size { length (date_text (ready_day date.now at)) ≡ 10 }
+{
+    put_date(day_of_row(date, at), buf);
+}
+
 /// Appends the row's field in the column `own`, as it is written. A null field appends nothing. `chooser` is the column that
 /// chooses the field. The greatest size of the column's fields must be free.
 #[inline(always)]
 pub(crate) fn put_field(own: Drawn<'_>, chooser: Drawn<'_>, at: RowAt, buf: &mut PageBuf) -> Put
     requires ready { IsReadyKind chooser.column.now.kind own.column.now.kind }
     requires units { AreUnits at }
+    requires day { HasDay own.column.now.kind at }
     requires room { length buf.old.text + ready_kind_size own.column.now.kind ≤ buf.old.room }
     ensures put { result ≡ put_of (ready_field at chooser.entry.column.now (row_draws chooser.entry.seed at.ordinal) own.entry.column.now (row_draws own.entry.seed at.ordinal)) }
     ensures text { buf.new ≡ record buf.old { text = buf.old.text ++ unwrap_or (ready_field at chooser.entry.column.now (row_draws chooser.entry.seed at.ordinal) own.entry.column.now (row_draws own.entry.seed at.ordinal)) [] } }
@@ -128,6 +143,7 @@ pub(crate) fn put_field(own: Drawn<'_>, chooser: Drawn<'_>, at: RowAt, buf: &mut
             return put_branch(branches.as_slice(), entry, seed, buf);
         }
         ReadyKind::List(list) => put_entry_in_turn(list, at.ordinal, buf),
+        ReadyKind::UnitDate(date) => put_unit_date(date, at, buf),
         _ => unreachable!(),
     }
     Put::Text

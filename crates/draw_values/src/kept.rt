@@ -36,6 +36,7 @@ pub(crate) fn is_short(kind: &ReadyKind) -> bool
         ReadyKind::Drawn(leaf) => is_short_leaf(leaf),
         ReadyKind::Case { branches, .. } => are_short_leaves(branches.as_slice()),
         ReadyKind::List(list) => are_short_words(&list.words),
+        ReadyKind::UnitDate(_) => true,
         _ => false,
     }
 }

@@ -134,13 +134,13 @@ pub(crate) fn moves(column: &Column) -> bool
     column.changes || is_moving_kind(&column.kind)
 }
 
-/// Whether the fields of a kind move though they aren't drawn anew. These are the unit of a row's last change, and a reference that
-/// becomes null.
+/// Whether the fields of a kind move though they aren't drawn anew. These are the unit of a row's last change, its date, and a
+/// reference that becomes null.
 fn is_moving_kind(kind: &Kind) -> bool
     ensures { result ≡ is_moving_kind kind.now }
 {
     match kind {
-        Kind::Changed => true,
+        Kind::Changed | Kind::ChangedDate { .. } => true,
         Kind::Ref { on_delete, .. } => becomes_null(*on_delete),
         _ => false,
     }

@@ -1,5 +1,5 @@
 -- What the rules give for the numbers of an accepted schema.
-use Rattle.std.specs.Prelude.{◌≡◌, ◌≢◌, Bool, true, false, ◌||◌, ℕ, ℤ, suc, pos, neg_ℤ, ◌-◌, ◌^◌, ◌<◌, ◌≤◌, ◌+ℤ◌, ◌-ℤ◌, ◌<ℤ◌, ◌≤ℤ◌, List, length, map, sum, All, IfSome, Some, ⊤}
+use Rattle.std.specs.Prelude.{◌≡◌, ◌≢◌, Bool, true, false, ◌||◌, ℕ, ℤ, suc, pos, neg_ℤ, ◌-◌, ◌*◌, ◌^◌, ◌<◌, ◌≤◌, ◌+ℤ◌, ◌-ℤ◌, ◌<ℤ◌, ◌≤ℤ◌, List, length, map, sum, All, IfSome, Some, ⊤}
 use Rattle.std.specs.Str.{chars}
 use Rattle.dictionaries.specs.WordList.{IsWordList}
 use Rattle.schema_model.specs.declared.column.Kind.{Kind}
@@ -10,7 +10,7 @@ use Rattle.cohort_sizes.specs.Births.{Births, born_count}
 use Rattle.cohort_sizes.specs.Rates.{AreRates}
 use Rattle.schema_plan.specs.Counts.{count}
 use Rattle.schema_plan.specs.Dictionaries.{Dictionary, Project, words_named}
-use Rattle.schema_plan.specs.Layout.{LeafLayout, int_leaf, fixed_leaf, date_leaf, pick_leaf, skew_leaf, dict_leaf, words_leaf, chars_leaf, PartLayout, literal_part, cited_part, KindLayout, key_kind, changed_kind, leaf_kind, template_kind, case_kind, reference_kind, lookup_kind, list_kind, ColumnLayout, column_at, TableLayout, layout_of, leaf_layout, table_at}
+use Rattle.schema_plan.specs.Layout.{LeafLayout, int_leaf, fixed_leaf, date_leaf, pick_leaf, skew_leaf, dict_leaf, words_leaf, chars_leaf, PartLayout, literal_part, cited_part, KindLayout, key_kind, changed_kind, leaf_kind, template_kind, case_kind, reference_kind, lookup_kind, list_kind, unit_date_kind, ColumnLayout, column_at, TableLayout, layout_of, leaf_layout, table_at}
 use Rattle.schema_plan.specs.References.{IsReferenceInLimits, IsSpread, Reference, reference_at, references_of}
 use Rattle.schema_plan.specs.TableFacts.{cost, max_line}
 
@@ -127,6 +127,11 @@ IsKindInLimits columns place (reference_kind parent window spread nulls) = IsSpr
 IsKindInLimits columns place (list_kind words) = IsWordList words
 IsKindInLimits columns place _ = ⊤
 
+-- the dates of units up to a last one are of the years 1 to 9999
+abbrev pub IsUnitDateInLimits : ℕ → KindLayout → Type 0
+IsUnitDateInLimits units (unit_date_kind changed start step) = IsDateRange start (start +ℤ pos (step * units))
+IsUnitDateInLimits units _ = ⊤
+
 -- a kind whose fields may be drawn anew where a row changes: no key, no unit, no list, and none that other rows tell
 abbrev pub can_change : KindLayout → Bool
 can_change (leaf_kind leaf) = true
@@ -134,9 +139,11 @@ can_change (template_kind parts) = true
 can_change (case_kind on branches) = true
 can_change _ = false
 
--- a kind whose fields move though nothing is drawn anew: the unit of a row's last change, and a reference that becomes null
+-- a kind whose fields move though nothing is drawn anew: the unit of a row's last change, the date of that unit, and a reference that
+-- becomes null
 abbrev pub is_moving_kind : KindLayout → Bool
 is_moving_kind changed_kind = true
+is_moving_kind (unit_date_kind changed start step) = changed
 is_moving_kind (reference_kind parent window spread nulls) = nulls
 is_moving_kind _ = false
 
@@ -203,6 +210,7 @@ pub record IsTableInLimits (units : ℕ) (table : TableLayout) : Type 0 where
   pub key_first : (column_at table.columns 0).kind ≡ key_kind
   pub no_other_key : (place : ℕ) → suc place < length table.columns → (column_at table.columns (suc place)).kind ≢ key_kind
   pub kinds : (place : ℕ) → place < length table.columns → IsKindInLimits table.columns place (column_at table.columns place).kind
+  pub unit_dates : (place : ℕ) → place < length table.columns → IsUnitDateInLimits units (column_at table.columns place).kind
   pub nulls : (place : ℕ) → place < length table.columns → (column_at table.columns place).null ≤ 999
   pub changes : (place : ℕ) → place < length table.columns → can_change (column_at table.columns place).kind ≡ false → (column_at table.columns place).changes ≡ false
   pub still : (place : ℕ) → place < length table.columns → (column_at table.columns place).changes ≡ false → CitesStill table.columns (column_at table.columns place).kind

@@ -36,6 +36,7 @@ pub use places::{columns_of, parent_via, place_of_column, place_of_table};
 pub use plan::Plan;
 pub use ready::{
     ReadyColumn, ReadyKind, ReadyLeaf, ReadyList, ReadyLookup, ReadyPart, ReadyReference,
+    ReadyUnitDate,
 };
 pub use ready_words::ReadyWords;
 pub use rules::{MAX_ITEMS, Rule};

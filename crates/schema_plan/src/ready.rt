@@ -52,12 +52,18 @@ pub enum ReadyKind {
     Lookup(ReadyLookup),
     /// One of the words, which the rows take in turn.
     List(ReadyList),
+    /// The date of a unit.
+    UnitDate(ReadyUnitDate),
 }
 
 impl Drop for ReadyKind {
     fn drop(self) {
         match self {
-            ReadyKind::Key | ReadyKind::Born | ReadyKind::Changed | ReadyKind::Lookup(_) => {}
+            ReadyKind::Key
+            | ReadyKind::Born
+            | ReadyKind::Changed
+            | ReadyKind::Lookup(_)
+            | ReadyKind::UnitDate(_) => {}
             ReadyKind::Drawn(it) => drop(it),
             ReadyKind::Template { parts } => drop(parts),
             ReadyKind::Case { on: _, branches } => drop(branches),
@@ -122,6 +128,17 @@ impl Drop for ReadyList {
         let ReadyList { words, count: _ } = self;
         drop(words);
     }
+}
+
+/// The dates of the units, ready for rows.
+#[derive(Clone, Copy, Debug, PartialEq, Eq)]
+pub struct ReadyUnitDate {
+    /// Whether a row shows the unit of its last change. Otherwise it shows the unit of its birth.
+    pub changed: bool,
+    /// The day of unit 0. Day 0 is 1970-01-01.
+    pub start: i32,
+    /// The days from one unit to the next.
+    pub step: u64,
 }
 
 /// A part of a template, ready for rows.

@@ -13,7 +13,9 @@ use crate::counts::count;
 use crate::facts::delimiter_byte;
 use crate::layout::becomes_null;
 use crate::places::{columns_of, parent_via, place_of_column, place_of_table};
-use crate::ready::{ReadyColumn, ReadyKind, ReadyLeaf, ReadyList, ReadyLookup, ReadyReference};
+use crate::ready::{
+    ReadyColumn, ReadyKind, ReadyLeaf, ReadyList, ReadyLookup, ReadyReference, ReadyUnitDate,
+};
 use crate::ready_leaves::{counts, ready_leaf};
 use crate::ready_parts::ready_parts;
 use crate::ready_words::{Lexicon, ReadyWords};
@@ -123,6 +125,23 @@ fn ready_kind(
             Ok(ReadyKind::Lookup(ready_lookup(tables, columns, via, column)))
         }
         Kind::List { file } => Ok(ReadyKind::List(ready_list(lexicon.words(file)?))),
+        Kind::BornDate { start, step } => {
+            Ok(ReadyKind::UnitDate(ready_unit_date(false, *start, *step)))
+        }
+        Kind::ChangedDate { start, step } => {
+            Ok(ReadyKind::UnitDate(ready_unit_date(true, *start, *step)))
+        }
+    }
+}
+
+/// Makes ready the dates of the units.
+fn ready_unit_date(changed: bool, start: i32, step: i64) -> ReadyUnitDate
+    ensures { result ≡ record { changed = changed; start = start; step = count step } }
+{
+    ReadyUnitDate {
+        changed,
+        start,
+        step: count(step),
     }
 }
 

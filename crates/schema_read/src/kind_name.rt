@@ -43,6 +43,10 @@ pub enum KindName {
     Lookup,
     /// `list`
     List,
+    /// `born_date`
+    BornDate,
+    /// `changed_date`
+    ChangedDate,
     /// One of the leaf kinds.
     Leaf(LeafName),
 }
@@ -77,6 +81,8 @@ pub fn kind_of_name(name: &str) -> Option<KindName>
         "ref" => Some(KindName::Ref),
         "lookup" => Some(KindName::Lookup),
         "list" => Some(KindName::List),
+        "born_date" => Some(KindName::BornDate),
+        "changed_date" => Some(KindName::ChangedDate),
         _ => match leaf_of_name(name) {
             Some(leaf) => Some(KindName::Leaf(leaf)),
             None => None,
