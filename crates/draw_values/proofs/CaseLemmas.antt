@@ -14,7 +14,7 @@ use Rattle.schema_plan.specs.declared.ready.ReadyLeaf.{ReadyLeaf}
 use Rattle.schema_plan.specs.declared.ready.ReadyLeaf.TheVariants as leaf
 use Rattle.schema_plan.specs.Dictionaries.{Project}
 use Rattle.schema_plan.specs.FieldBounds.{greatest_by}
-use Rattle.schema_plan.specs.Layout.{KindLayout, key_kind, born_kind, changed_kind, leaf_kind, template_kind, case_kind, reference_kind, lookup_kind, column_at, layout_of, table_at}
+use Rattle.schema_plan.specs.Layout.{KindLayout, key_kind, born_kind, changed_kind, leaf_kind, template_kind, case_kind, reference_kind, lookup_kind, list_kind, unit_date_kind, column_at, layout_of, table_at}
 use Rattle.schema_plan.specs.Limits.{IsTableInLimits}
 use Rattle.schema_plan.specs.Ready.{ready_columns, ready_kind}
 use Rattle.draw_values.specs.declared.runs.RunRows.{RunRows}
@@ -22,7 +22,6 @@ use Rattle.draw_values.specs.Cases.{case_text, entry_drawn}
 use Rattle.draw_values.specs.ReadyValues.{IsReadyPick, chooser_of, ready_branch, ready_entry, ready_field, ready_held_entry, ready_kind_size, ready_size, ready_text, ready_value}
 use Rattle.draw_values.specs.Runs.{IsRunColumn, RunColumnOf, is_case, is_short_leaf, ready_at, run_field, run_row, run_seed, text_by, with_behind}
 use Rattle.draw_values.specs.Values.{Draws, draws_at, is_null, is_own, size_at, unless_null, value_at}
-use Rattle.draw_values.proofs.RowUnits.{units_at}
 use Rattle.draw_values.proofs.FieldLemmas.{IsKeptField, kept_field, length-field_text, size_at-kept, value_at-kept}
 use Rattle.draw_values.proofs.RunLemmas.{field_text-kept, leaf_text_size, or_null, run_draws, text-short, text_by-ready}
 use Rattle.draw_values.proofs.SizeLemmas.{greatest_by-each}
@@ -38,6 +37,8 @@ case_own delimiter (template_kind parts) case = case
 case_own delimiter (case_kind on branches) case = refl
 case_own delimiter (reference_kind parent window spread nulls) case = case
 case_own delimiter (lookup_kind via parent name) case = case
+case_own delimiter (list_kind words) case = refl
+case_own delimiter (unit_date_kind changed start step) case = refl
 
 -- the column that is kept for cases, and the one that they go by
 pub kept_case : (plan : Project) (run : RunColumnOf) (kept : List ReadyColumn) (own pick : ReadyColumn) (on units : ℕ) (branches : List ReadyLeaf) → IsRunColumn plan run →
@@ -67,6 +68,8 @@ entry_some (kind.Template parts) draws pick = absurd pick
 entry_some (kind.Case on branches) draws pick = absurd pick
 entry_some (kind.Reference reference) draws pick = absurd pick
 entry_some (kind.Lookup lookup) draws pick = absurd pick
+entry_some (kind.List list) draws pick = absurd pick
+entry_some (kind.UnitDate date) draws pick = absurd pick
 
 decided : (b : Bool) → (b ≡ false → ⊥) → b ≡ true
 decided true not_false = refl
@@ -118,7 +121,7 @@ pub record IsCaseAt (plan : Project) (run : RunColumnOf) (own pick : ReadyColumn
 -- the value of the field
 case_held : (plan : Project) (run : RunColumnOf) (own pick : ReadyColumn) (on : ℕ) (branches : List ReadyLeaf) (chooser : ℕ) (rows : RunRows) (i : ℕ) → IsCaseAt plan run own pick on branches chooser →
     entry_drawn pick.kind (draw (run_seed chooser pick.changes rows i)) < length branches →
-    ready_field (units_at (run_row rows i)) pick (draw (run_seed chooser pick.changes rows i)) own (draw (run_seed run.seed own.changes rows i))
+    ready_field (run_row rows i) pick (draw (run_seed chooser pick.changes rows i)) own (draw (run_seed run.seed own.changes rows i))
     ≡ held_case (is_null own.null (draw (run_seed run.seed own.changes rows i))) (is_null pick.null (draw (run_seed chooser pick.changes rows i)))
     (text_by (ready_branch branches (entry_drawn pick.kind (draw (run_seed chooser pick.changes rows i)))) (draw (run_seed run.seed own.changes rows i) 1))
 case_held plan run own pick on branches chooser rows i known within =
@@ -127,16 +130,16 @@ case_held plan run own pick on branches chooser rows i known within =
     let entry : ℕ = entry_drawn pick.kind draws in
     let held : Option ℕ = ready_held_entry pick draws in
     let text_of : ℕ → List ℕ = λ (e : ℕ). ready_text (ready_branch branches e) own_draws in
-    ap (λ (found : ReadyKind). unless_null own.null own_draws (ready_value (units_at (run_row rows i)) held own_draws found)) known.case
+    ap (λ (found : ReadyKind). unless_null own.null own_draws (ready_value (run_row rows i) held own_draws found)) known.case
     ∙ ap (λ (found : Option ℕ). unless_null own.null own_draws (option_map text_of (unless_null pick.null draws found))) (entry_some pick.kind draws known.pick_is)
     ∙ chosen_branch (is_null own.null own_draws) (is_null pick.null draws) text_of entry
     ∙ ap (held_case (is_null own.null own_draws) (is_null pick.null draws)) (text_by-ready (ready_branch branches entry) own_draws (branch_short branches entry known.short within))
 
 case_value : (plan : Project) (run : RunColumnOf) (own pick : ReadyColumn) (on : ℕ) (branches : List ReadyLeaf) (chooser : ℕ) (rows : RunRows) (i : ℕ) → IsCaseAt plan run own pick on branches chooser →
     option_map (escaped_text (layout_of plan).delimiter) (value_at (layout_of plan) run.table run.column (run_row rows i))
-    ≡ ready_field (units_at (run_row rows i)) pick (draw (run_seed chooser pick.changes rows i)) own (draw (run_seed run.seed own.changes rows i))
+    ≡ ready_field (run_row rows i) pick (draw (run_seed chooser pick.changes rows i)) own (draw (run_seed run.seed own.changes rows i))
 case_value plan run own pick on branches chooser rows i known =
-    value_at-kept (layout_of plan) run.table run.column on own pick known.kept (run_row rows i) (units_at (run_row rows i)) (draw (run_seed run.seed own.changes rows i)) (draw (run_seed chooser pick.changes rows i)) refl
+    value_at-kept (layout_of plan) run.table run.column on own pick known.kept (run_row rows i) (run_row rows i) (draw (run_seed run.seed own.changes rows i)) (draw (run_seed chooser pick.changes rows i)) refl
     (run_draws plan run own rows i known.of known.own_is) (pick_draws plan run pick rows i on chooser known.chooser_is known.kept.chooser_is)
 
 -- the text that is put for it

@@ -1,5 +1,5 @@
 -- What a plan keeps ready for a column gives what a row holds there, as it is written.
-use Rattle.std.proofs.Common.{◌≡◌, ◌<◌, ◌≤◌, ℕ, Bool, true, false, max, List, [], ◌∷◌, map, decimal, fold, length, get_or, ◌%◌, IfSome, option_map, Option, None, Some, if◌then◌else◌, refl, ap, sym, ◌∙◌, arith}
+use Rattle.std.proofs.Common.{◌≡◌, ◌<◌, ◌≤◌, ℕ, ℤ, Bool, true, false, max, List, [], ◌∷◌, map, decimal, fold, length, get_or, ◌%◌, IfSome, option_map, Option, None, Some, if◌then◌else◌, refl, ap, sym, ◌∙◌, arith}
 use Rattle.std.specs.Prelude.{All, option_and_then, sum}
 use Rattle.std.proofs.lemmas.Fmt.{length-decimal-le}
 use Rattle.std.proofs.lemmas.List.{get_or-map, length-map}
@@ -10,15 +10,15 @@ use Rattle.row_text.specs.Fields.{escaped_text}
 use Rattle.schema_plan.specs.declared.ready.ReadyColumn.{ReadyColumn}
 use Rattle.schema_plan.specs.declared.ready.ReadyLeaf.{ReadyLeaf}
 use Rattle.schema_plan.specs.FieldBounds.{bounds_of, leaf_size}
-use Rattle.schema_plan.specs.Layout.{LeafLayout, int_leaf, fixed_leaf, date_leaf, pick_leaf, skew_leaf, dict_leaf, words_leaf, chars_leaf, uuid_leaf, KindLayout, key_kind, born_kind, changed_kind, leaf_kind, template_kind, case_kind, reference_kind, lookup_kind, ColumnLayout, Layout, TableLayout, column_at, no_column, table_at}
+use Rattle.schema_plan.specs.Layout.{LeafLayout, int_leaf, fixed_leaf, date_leaf, pick_leaf, skew_leaf, dict_leaf, words_leaf, chars_leaf, uuid_leaf, KindLayout, key_kind, born_kind, changed_kind, leaf_kind, template_kind, case_kind, reference_kind, lookup_kind, ColumnLayout, Layout, TableLayout, column_at, no_column, table_at, list_kind, unit_date_kind}
 use Rattle.schema_plan.specs.Limits.{IsCase, IsKindInLimits, IsLeafInLimits, IsPickOf}
 use Rattle.schema_plan.specs.Ready.{ready_column, ready_columns, ready_kind, ready_leaf}
 use Rattle.draw_values.specs.declared.values.RowAt.{RowAt}
+use Rattle.draw_values.specs.Dates.{date_text}
 use Rattle.draw_values.specs.ReadyValues.{IsReady, IsReadyKind, chooser_of, ready_branch, ready_entry, ready_field, ready_held_entry, ready_kind_size, ready_size, ready_text, ready_value}
-use Rattle.draw_values.specs.Values.{Draws, RowDraws, branch_at, chosen_group, entry_of, held_entry, is_null, is_own, leaf_value, own_field, own_value, unless_null}
-use Rattle.draw_values.proofs.RowUnits.{units_at}
-use Rattle.draw_values.proofs.PlainLemmas.{escaped_text-plain, plain-decimal}
-use Rattle.draw_values.proofs.ReadyLemmas.{leaf_is_ready, leaf_size-ready, leaf_value-written}
+use Rattle.draw_values.specs.Values.{Draws, RowDraws, branch_at, chosen_group, entry_of, held_entry, is_null, is_own, leaf_value, own_field, own_value, unit_day, unless_null}
+use Rattle.draw_values.proofs.PlainLemmas.{escaped_text-plain, plain-date_text, plain-decimal}
+use Rattle.draw_values.proofs.ReadyLemmas.{entry-written, leaf_is_ready, leaf_size-ready, leaf_value-written, list_is_ready}
 
 pub length-ready_columns : (layout : Layout) (table : ℕ) → length (ready_columns layout table) ≡ length (table_at layout.tables table).columns
 length-ready_columns layout table = length-map (table_at layout.tables table).columns (ready_column layout.delimiter)
@@ -78,6 +78,8 @@ entry_of-ready delimiter (template_kind parts) draw = refl
 entry_of-ready delimiter (case_kind on branches) draw = refl
 entry_of-ready delimiter (reference_kind parent window spread nulls) draw = refl
 entry_of-ready delimiter (lookup_kind via parent name) draw = refl
+entry_of-ready delimiter (list_kind words) draw = refl
+entry_of-ready delimiter (unit_date_kind changed start step) draw = refl
 
 -- what is known of the kind of a pick column of so many entries
 pick_elim : (P : KindLayout → Type 0) (columns : List ColumnLayout) (place count : ℕ) (kind : KindLayout) → IsPickOf count kind → IsKindInLimits columns place kind →
@@ -118,6 +120,8 @@ chooser_of-within delimiter columns place (template_kind parts) of within = absu
 chooser_of-within delimiter columns place (case_kind on branches) of within = omega (arith, of.limits.earlier)
 chooser_of-within delimiter columns place (reference_kind parent window spread nulls) of within = absurd (let own = of.own in cc)
 chooser_of-within delimiter columns place (lookup_kind via parent name) of within = absurd (let own = of.own in cc)
+chooser_of-within delimiter columns place (list_kind words) of within = within
+chooser_of-within delimiter columns place (unit_date_kind changed start step) of within = within
 
 -- what is kept of it can be written
 case_is_ready : (delimiter on : ℕ) (branches : List LeafLayout) (columns : List ColumnLayout) (place : ℕ) → IsCase columns place on branches → IsKindInLimits columns on (column_at columns on).kind →
@@ -143,6 +147,8 @@ kind_is_ready delimiter columns place (case_kind on branches) of all within =
     case_is_ready delimiter on branches columns place of.limits (all on (omega (arith, of.limits.earlier)))
 kind_is_ready delimiter columns place (reference_kind parent window spread nulls) of all within = absurd (let own = of.own in cc)
 kind_is_ready delimiter columns place (lookup_kind via parent name) of all within = absurd (let own = of.own in cc)
+kind_is_ready delimiter columns place (list_kind words) of all within = list_is_ready delimiter words
+kind_is_ready delimiter columns place (unit_date_kind changed start step) of all within = tt
 
 -- its greatest size
 pub bounds_of-ready : (delimiter : ℕ) (tables : List TableLayout) (table : TableLayout) (columns : List ColumnLayout) (place : ℕ) (kind : KindLayout) → IsOwn delimiter columns place kind →
@@ -155,6 +161,8 @@ bounds_of-ready delimiter tables table columns place (template_kind parts) of = 
 bounds_of-ready delimiter tables table columns place (case_kind on branches) of = ap (max 2) (greatest_from delimiter 0 branches of.limits.each)
 bounds_of-ready delimiter tables table columns place (reference_kind parent window spread nulls) of = absurd (let own = of.own in cc)
 bounds_of-ready delimiter tables table columns place (lookup_kind via parent name) of = absurd (let own = of.own in cc)
+bounds_of-ready delimiter tables table columns place (list_kind words) of = ap (max 2) (leaf_size-ready delimiter (dict_leaf words) of.limits)
+bounds_of-ready delimiter tables table columns place (unit_date_kind changed start step) of = refl
 
 -- and what a row holds in it
 held_entry-ready : (delimiter : ℕ) (column : ColumnLayout) (draw : Draws) → held_entry column draw ≡ ready_held_entry (ready_column delimiter column) draw
@@ -170,7 +178,7 @@ held_entry-within columns on count draw pick limits =
 abbrev ready_value_at : ℕ → List ColumnLayout → RowAt → RowDraws → ℕ → KindLayout → Option (List ℕ)
 ready_value_at delimiter columns at draws place kind =
     let chooser : ℕ = chooser_of place (ready_kind delimiter kind) in
-    ready_value (units_at at) (ready_held_entry (ready_column delimiter (column_at columns chooser)) (draws chooser)) (draws place) (ready_kind delimiter kind)
+    ready_value at (ready_held_entry (ready_column delimiter (column_at columns chooser)) (draws chooser)) (draws place) (ready_kind delimiter kind)
 
 own_value-written : (delimiter : ℕ) (columns : List ColumnLayout) (at : RowAt) (draws : RowDraws) (place : ℕ) (kind : KindLayout) → IsOwn delimiter columns place kind →
     IsAllInLimits columns → place < length columns →
@@ -187,6 +195,10 @@ own_value-written delimiter columns at draws place (case_kind on branches) of al
     ∙ ap (option_map (λ entry. ready_text (ready_branch (map (ready_leaf delimiter) branches) entry) (draws place))) (held_entry-ready delimiter pick (draws on))
 own_value-written delimiter columns at draws place (reference_kind parent window spread nulls) of all within = absurd (let own = of.own in cc)
 own_value-written delimiter columns at draws place (lookup_kind via parent name) of all within = absurd (let own = of.own in cc)
+own_value-written delimiter columns at draws place (list_kind words) of all within = ap Some (entry-written delimiter words (at.ordinal % length words.entries))
+own_value-written delimiter columns at draws place (unit_date_kind changed start step) of all within =
+    let day : ℤ = unit_day changed start step at in
+    ap Some (escaped_text-plain delimiter (date_text day) (plain-date_text day))
 
 option_map-if : {A B : Type 0} (f : A → B) (null : Bool) (held : Option A) → option_map f (if null then None else held) ≡ (if null then None else option_map f held)
 option_map-if f true held = refl
@@ -195,9 +207,9 @@ option_map-if f false held = refl
 pub own_field-written : (delimiter : ℕ) (columns : List ColumnLayout) (at : RowAt) (draws : RowDraws) (place chooser : ℕ) → IsOwn delimiter columns place (column_at columns place).kind →
     IsAllInLimits columns → place < length columns → chooser ≡ chooser_of place (ready_kind delimiter (column_at columns place).kind) →
     option_map (escaped_text delimiter) (own_field columns at draws place)
-    ≡ ready_field (units_at at) (ready_column delimiter (column_at columns chooser)) (draws chooser) (ready_column delimiter (column_at columns place)) (draws place)
+    ≡ ready_field at (ready_column delimiter (column_at columns chooser)) (draws chooser) (ready_column delimiter (column_at columns place)) (draws place)
 own_field-written delimiter columns at draws place chooser of all within chosen =
     let column : ColumnLayout = column_at columns place in
     option_map-if (escaped_text delimiter) (is_null column.null (draws place)) (own_value columns at draws place column.kind)
     ∙ ap (unless_null column.null (draws place)) (own_value-written delimiter columns at draws place column.kind of all within)
-    ∙ ap (λ (by : ℕ). ready_field (units_at at) (ready_column delimiter (column_at columns by)) (draws by) (ready_column delimiter column) (draws place)) (sym chosen)
+    ∙ ap (λ (by : ℕ). ready_field at (ready_column delimiter (column_at columns by)) (draws by) (ready_column delimiter column) (draws place)) (sym chosen)

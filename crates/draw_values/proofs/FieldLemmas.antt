@@ -1,17 +1,17 @@
 -- What a row holds in a column of units or of drawn values, as it is written, by what a plan keeps of the columns.
-use Rattle.std.proofs.Common.{◌≡◌, ◌<◌, ◌≤◌, ℕ, true, max, List, [], length, get_or, option_map, Option, None, Some, ap, sym, ◌∙◌, subst, arith}
+use Rattle.std.proofs.Common.{◌≡◌, ◌<◌, ◌≤◌, ◌*◌, ◌+ℤ◌, pos, ℕ, ℤ, true, false, max, List, [], length, get_or, option_map, Option, None, Some, ap, sym, ◌∙◌, subst, arith}
 use Rattle.std.specs.Prelude.{unwrap_or}
+use Rattle.std.proofs.Math.Nat.{mul-le-mul_left}
+use Rattle.std.proofs.lemmas.Int.{ints}
 use Rattle.row_text.specs.Fields.{field_text, escaped_text}
 use Rattle.schema_plan.specs.declared.ready.ReadyColumn.{ReadyColumn}
 use Rattle.schema_plan.specs.declared.ready.ReadyKind.{ReadyKind}
-use Rattle.schema_plan.specs.Layout.{ColumnLayout, Layout, column_at, table_at}
-use Rattle.schema_plan.specs.Limits.{IsTableInLimits}
+use Rattle.schema_plan.specs.Layout.{ColumnLayout, KindLayout, Layout, key_kind, born_kind, changed_kind, leaf_kind, template_kind, case_kind, reference_kind, lookup_kind, list_kind, unit_date_kind, column_at, table_at}
+use Rattle.schema_plan.specs.Limits.{IsDateRange, IsTableInLimits, IsUnitDateInLimits}
 use Rattle.schema_plan.specs.Ready.{ready_column, ready_columns, ready_kind}
 use Rattle.draw_values.specs.declared.values.RowAt.{RowAt}
-use Rattle.draw_values.specs.ReadyValues.{IsReadyKind, chooser_of, ready_field, ready_kind_size}
+use Rattle.draw_values.specs.ReadyValues.{HasDay, IsReadyKind, chooser_of, ready_field, ready_kind_size}
 use Rattle.draw_values.specs.Values.{Draws, draws_at, is_own, put_of, size_at, value_at, written}
-use Rattle.draw_values.specs.WrittenUnits.{WrittenUnits}
-use Rattle.draw_values.proofs.RowUnits.{units_at}
 use Rattle.draw_values.proofs.ColumnLemmas.{IsAllInLimits, IsOwn, bounds_of-ready, chooser_of-within, kind_is_ready, length-ready_columns, own_field-written, ready_column-at}
 
 -- ---- a value that is known as it is written
@@ -80,13 +80,40 @@ size_at-kept layout table place by column chooser kept =
     ∙ ap (λ (found : ReadyColumn). max 2 (ready_kind_size found.kind)) (sym kept.column_is)
 
 pub value_at-kept : (layout : Layout) (table place by : ℕ) (column chooser : ReadyColumn) → IsKeptField layout table place by column chooser →
-    (at : RowAt) (units : WrittenUnits) (draws chooser_draws : Draws) → units ≡ units_at at → draws ≡ draws_at layout table at place → chooser_draws ≡ draws_at layout table at by →
-    option_map (escaped_text layout.delimiter) (value_at layout table place at) ≡ ready_field units chooser chooser_draws column draws
-value_at-kept layout table place by column chooser kept at units draws chooser_draws units_are draws_are chooser_draws_are =
+    (at row : RowAt) (draws chooser_draws : Draws) → row ≡ at → draws ≡ draws_at layout table at place → chooser_draws ≡ draws_at layout table at by →
+    option_map (escaped_text layout.delimiter) (value_at layout table place at) ≡ ready_field row chooser chooser_draws column draws
+value_at-kept layout table place by column chooser kept at row draws chooser_draws row_is draws_are chooser_draws_are =
     let columns : List ColumnLayout = (table_at layout.tables table).columns in
     own_field-written layout.delimiter columns at (draws_at layout table at) place by kept.own kept.limits kept.within kept.by_is
-    ∙ ap (λ (text : WrittenUnits). ready_field text (ready_column layout.delimiter (column_at columns by)) (draws_at layout table at by) (ready_column layout.delimiter (column_at columns place)) (draws_at layout table at place)) (sym units_are)
-    ∙ ap (λ (found : ReadyColumn). ready_field units found (draws_at layout table at by) (ready_column layout.delimiter (column_at columns place)) (draws_at layout table at place)) (sym kept.chooser_is)
-    ∙ ap (λ (found : ReadyColumn). ready_field units chooser (draws_at layout table at by) found (draws_at layout table at place)) (sym kept.column_is)
-    ∙ ap (λ (drawn : Draws). ready_field units chooser drawn column (draws_at layout table at place)) (sym chooser_draws_are)
-    ∙ ap (λ (drawn : Draws). ready_field units chooser chooser_draws column drawn) (sym draws_are)
+    ∙ ap (λ (seen : RowAt). ready_field seen (ready_column layout.delimiter (column_at columns by)) (draws_at layout table at by) (ready_column layout.delimiter (column_at columns place)) (draws_at layout table at place)) (sym row_is)
+    ∙ ap (λ (found : ReadyColumn). ready_field row found (draws_at layout table at by) (ready_column layout.delimiter (column_at columns place)) (draws_at layout table at place)) (sym kept.chooser_is)
+    ∙ ap (λ (found : ReadyColumn). ready_field row chooser (draws_at layout table at by) found (draws_at layout table at place)) (sym kept.column_is)
+    ∙ ap (λ (drawn : Draws). ready_field row chooser drawn column (draws_at layout table at place)) (sym chooser_draws_are)
+    ∙ ap (λ (drawn : Draws). ready_field row chooser chooser_draws column drawn) (sym draws_are)
+
+-- ---- the days that rows show
+
+-- the units up to a last one have such days where that one has
+days_up_to : (start : ℤ) (step units unit : ℕ) → unit ≤ units → IsDateRange start (start +ℤ pos (step * units)) → IsDateRange start (start +ℤ pos (step * unit))
+days_up_to start step units unit within days =
+    let fewer : step * unit ≤ step * units = mul-le-mul_left step within in
+    record { first_day = days.first_day; ordered = omega (arith, ints); last_day = omega (arith, ints, days.last_day, fewer) }
+
+kind_has_day : (delimiter units : ℕ) (kind : KindLayout) (at : RowAt) → at.born ≤ units → at.changed ≤ units → IsUnitDateInLimits units kind → HasDay (ready_kind delimiter kind) at
+kind_has_day delimiter units key_kind at born changed limits = tt
+kind_has_day delimiter units born_kind at born changed limits = tt
+kind_has_day delimiter units changed_kind at born changed limits = tt
+kind_has_day delimiter units (leaf_kind leaf) at born changed limits = tt
+kind_has_day delimiter units (template_kind parts) at born changed limits = tt
+kind_has_day delimiter units (case_kind on branches) at born changed limits = tt
+kind_has_day delimiter units (reference_kind parent window spread nulls) at born changed limits = tt
+kind_has_day delimiter units (lookup_kind via parent name) at born changed limits = tt
+kind_has_day delimiter units (list_kind words) at born changed limits = tt
+kind_has_day delimiter units (unit_date_kind true start step) at born changed limits = days_up_to start step units at.changed changed limits
+kind_has_day delimiter units (unit_date_kind false start step) at born changed limits = days_up_to start step units at.born born limits
+
+pub column_has_day : (layout : Layout) (table place units : ℕ) (column : ReadyColumn) (at : RowAt) → IsTableInLimits units (table_at layout.tables table) → place < length (table_at layout.tables table).columns →
+    column ≡ ready_column layout.delimiter (column_at (table_at layout.tables table).columns place) → at.born ≤ units → at.changed ≤ units → HasDay column.kind at
+column_has_day layout table place units column at limits within is born changed =
+    let kind : KindLayout = (column_at (table_at layout.tables table).columns place).kind in
+    subst (λ (found : ReadyColumn). HasDay found.kind at) (sym is) (kind_has_day layout.delimiter units kind at born changed (limits.unit_dates place within))

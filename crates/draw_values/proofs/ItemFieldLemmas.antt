@@ -7,7 +7,7 @@ use Rattle.schema_plan.specs.declared.ready.ReadyKind.{ReadyKind}
 use Rattle.schema_plan.specs.declared.ready.ReadyKind.TheVariants as kind
 use Rattle.schema_plan.specs.declared.ready.ReadyLeaf.{ReadyLeaf}
 use Rattle.schema_plan.specs.Dictionaries.{Project}
-use Rattle.schema_plan.specs.Layout.{KindLayout, key_kind, born_kind, changed_kind, leaf_kind, template_kind, case_kind, reference_kind, lookup_kind, column_at, layout_of, table_at}
+use Rattle.schema_plan.specs.Layout.{KindLayout, key_kind, born_kind, changed_kind, leaf_kind, template_kind, case_kind, reference_kind, lookup_kind, list_kind, unit_date_kind, column_at, layout_of, table_at}
 use Rattle.schema_plan.specs.Limits.{IsTableInLimits}
 use Rattle.schema_plan.specs.Ready.{ready_columns, ready_kind}
 use Rattle.draw_values.specs.declared.values.RowAt.{RowAt}
@@ -15,7 +15,6 @@ use Rattle.draw_values.specs.Items.{item_count, item_texts, itemized_by, itemize
 use Rattle.draw_values.specs.ReadyValues.{chooser_of, ready_held_entry, ready_text, ready_value}
 use Rattle.draw_values.specs.Runs.{IsRunColumn, RunColumnOf, is_itemized, is_itemized_leaf, ready_at}
 use Rattle.draw_values.specs.Values.{Draws, draws_at, is_null, is_own, unless_null, value_at}
-use Rattle.draw_values.proofs.RowUnits.{units_at}
 use Rattle.draw_values.proofs.FieldLemmas.{IsKeptField, kept_field, value_at-kept}
 use Rattle.draw_values.proofs.ItemLemmas.{ready_text-items}
 use Rattle.draw_values.proofs.RunLemmas.{field_text-kept, or_null}
@@ -31,6 +30,8 @@ itemized_own delimiter (template_kind parts) itemized = itemized
 itemized_own delimiter (case_kind on branches) itemized = absurd (cc)
 itemized_own delimiter (reference_kind parent window spread nulls) itemized = itemized
 itemized_own delimiter (lookup_kind via parent name) itemized = itemized
+itemized_own delimiter (list_kind words) itemized = refl
+itemized_own delimiter (unit_date_kind changed start step) itemized = refl
 
 itemized_chooser : (place : ℕ) (held : ReadyKind) → is_itemized held ≡ true → place ≡ chooser_of place held
 itemized_chooser place kind.Key itemized = refl
@@ -41,6 +42,8 @@ itemized_chooser place (kind.Template parts) itemized = refl
 itemized_chooser place (kind.Case on branches) itemized = absurd (cc)
 itemized_chooser place (kind.Reference reference) itemized = refl
 itemized_chooser place (kind.Lookup lookup) itemized = refl
+itemized_chooser place (kind.List list) itemized = refl
+itemized_chooser place (kind.UnitDate date) itemized = refl
 
 -- the column that is kept for one
 pub kept_itemized : (plan : Project) (run : RunColumnOf) (kept : List ReadyColumn) (column : ReadyColumn) (units : ℕ) → IsRunColumn plan run → kept ≡ ready_columns (layout_of plan) run.table →
@@ -77,9 +80,9 @@ itemized_text plan run column drawn at of kept is kind_is itemized =
     let draws : Draws = draw (seed_at run column.changes at) in
     let drawn_at = draws_of_row plan run column at of is in
     let entry : Option ℕ = ready_held_entry column draws in
-    let field = value_at-kept (layout_of plan) run.table run.column run.column column column kept at (units_at at) draws draws refl drawn_at drawn_at in
+    let field = value_at-kept (layout_of plan) run.table run.column run.column column column kept at at draws draws refl drawn_at drawn_at in
     ap (λ (found : ReadyColumn). items_or_null drawn (draw (seed_at run found.changes at)) (itemized_by found (seed_at run found.changes at)).count) (sym is)
     ∙ ap (λ (held : ReadyKind). items_or_null drawn draws (unless_null column.null draws (Some (kind_count held (draws 1))))) kind_is
     ∙ held_items (is_null column.null draws) drawn draws (item_count drawn (draws 1)) (ready_text drawn draws) (ready_text-items drawn draws itemized)
-    ∙ ap (λ (held : ReadyKind). or_null (unless_null column.null draws (ready_value (units_at at) entry draws held))) (sym kind_is)
+    ∙ ap (λ (held : ReadyKind). or_null (unless_null column.null draws (ready_value at entry draws held))) (sym kind_is)
     ∙ sym (field_text-kept (layout_of plan).delimiter (value_at (layout_of plan) run.table run.column at) _ field)

@@ -1,5 +1,4 @@
 pub mod DigitLemmas
-pub mod RowUnits
 pub mod WalkLemmas
 pub mod DateLemmas
 pub mod SizeLemmas

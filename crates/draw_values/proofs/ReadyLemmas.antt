@@ -1,10 +1,11 @@
 -- What a plan keeps ready for a drawn value gives that value, as it is written.
-use Rattle.std.proofs.Common.{◌≡◌, ℕ, ℤ, ◌+◌, ◌-◌, ◌*◌, ◌%◌, ◌^◌, pos, ◌+ℤ◌, ◌<ℤ◌, max, List, [], length, encode_utf8, option_map, Some, refl, ap, sym, subst, ◌∙◌, arith}
+use Rattle.std.proofs.Common.{◌≡◌, ℕ, ℤ, ◌+◌, ◌-◌, ◌*◌, ◌%◌, ◌^◌, pos, ◌+ℤ◌, ◌<ℤ◌, max, List, [], get_or, length, encode_utf8, option_map, Some, refl, ap, sym, subst, ◌∙◌, arith}
 use Rattle.std.specs.Fmt.{signed_decimal}
 use Rattle.std.specs.Str.{chars}
 use Rattle.std.proofs.lemmas.List.{length-map}
 use Rattle.std.proofs.lemmas.List.Folds.{fold-map}
 use Rattle.std.proofs.Math.ListN.{get_or-map}
+use Rattle.dictionaries.specs.WordList.{WordList}
 use Rattle.weight_tables.specs.Harmonic.{harmonic_weights}
 use Rattle.weight_tables.proofs.HarmonicLemmas.{length-harmonic_weights}
 use Rattle.row_text.specs.Fields.{escaped_text}
@@ -12,6 +13,7 @@ use Rattle.schema_plan.specs.FieldBounds.{entry_size, greatest_by, joined_size, 
 use Rattle.schema_plan.specs.Layout.{LeafLayout, int_leaf, fixed_leaf, date_leaf, pick_leaf, skew_leaf, dict_leaf, words_leaf, chars_leaf, uuid_leaf}
 use Rattle.schema_plan.specs.Limits.{IsLeafInLimits}
 use Rattle.schema_plan.specs.Ready.{ready_leaf}
+use Rattle.schema_plan.specs.ReadyWords.{written_words}
 use Rattle.draw_values.specs.Dates.{date_text}
 use Rattle.draw_values.specs.Digits.{signed_pointed}
 use Rattle.draw_values.specs.ReadyValues.{IsReady, ready_size, ready_text}
@@ -19,6 +21,14 @@ use Rattle.draw_values.specs.Values.{Draws, chosen, chosen_group, leaf_value}
 use Rattle.draw_values.proofs.CharacterLemmas.{escaped_text-drawn_characters, escaped_text-drawn_words}
 use Rattle.draw_values.proofs.PlainLemmas.{escaped_text-plain, plain-date_text, plain-signed_decimal, plain-signed_pointed}
 use Rattle.draw_values.proofs.UuidLemmas.{escaped_text-uuid_text}
+
+-- an entry of a word list
+pub entry-written : (delimiter : ℕ) (words : WordList) (place : ℕ) → escaped_text delimiter (get_or words.entries place []) ≡ get_or (written_words delimiter words).entries place []
+entry-written delimiter words place = sym (get_or-map (escaped_text delimiter) words.entries place [])
+
+-- the words of a list, as many as are counted
+pub list_is_ready : (delimiter : ℕ) (words : WordList) → length words.entries ≡ length (written_words delimiter words).entries
+list_is_ready delimiter words = sym (length-map words.entries (escaped_text delimiter))
 
 -- the drawn value
 pub leaf_value-written : (delimiter : ℕ) (layout : LeafLayout) (draw : Draws) → IsLeafInLimits layout →
@@ -38,7 +48,7 @@ leaf_value-written delimiter (skew_leaf lo size power) draw limits =
     let number : ℤ = lo +ℤ pos (chosen_group (harmonic_weights size power) (draw 1)) in
     ap Some (escaped_text-plain delimiter (signed_decimal number) (plain-signed_decimal number))
 leaf_value-written delimiter (dict_leaf words) draw limits =
-    ap Some (sym (get_or-map (escaped_text delimiter) words.entries (chosen_group words.weights (draw 1)) []))
+    ap Some (entry-written delimiter words (chosen_group words.weights (draw 1)))
 leaf_value-written delimiter (words_leaf words lo hi) draw limits =
     ap Some (escaped_text-drawn_words delimiter words draw (lo + draw 1 % (hi - lo + 1)))
 leaf_value-written delimiter (chars_leaf alphabet lo hi) draw limits =

@@ -1,5 +1,5 @@
 -- The fields of a column over a run of rows, by what a plan keeps ready for the column.
-use Rattle.std.proofs.Common.{◌≡◌, ◌<◌, ◌≤◌, ◌^◌, ◌+ℤ◌, pos, ℕ, ℤ, Bool, true, false, zero, suc, max, List, [], ◌∷◌, if◌then◌else◌, get_or, length, map, option_map, Option, None, Some, refl, ap, sym, ◌∙◌, length-append, arith}
+use Rattle.std.proofs.Common.{◌≡◌, ◌<◌, ◌≤◌, ◌^◌, ◌%◌, ◌+ℤ◌, pos, ℕ, ℤ, Bool, true, false, zero, suc, max, List, [], ◌∷◌, if◌then◌else◌, get_or, length, map, option_map, Option, None, Some, refl, ap, sym, ◌∙◌, length-append, arith}
 use Rattle.std.specs.Prelude.{codes, unwrap_or}
 use Rattle.std.specs.List.{fold, range_with_len}
 use Rattle.std.proofs.lemmas.Bool.{le-ltb}
@@ -16,19 +16,18 @@ use Rattle.schema_plan.specs.declared.ready.ReadyKind.TheVariants as kind
 use Rattle.schema_plan.specs.declared.ready.ReadyLeaf.{ReadyLeaf}
 use Rattle.schema_plan.specs.declared.ready.ReadyLeaf.TheVariants as leaf
 use Rattle.schema_plan.specs.Dictionaries.{Project}
-use Rattle.schema_plan.specs.Layout.{KindLayout, key_kind, born_kind, changed_kind, leaf_kind, template_kind, case_kind, reference_kind, lookup_kind, ColumnLayout, column_at, layout_of, table_at}
+use Rattle.schema_plan.specs.Layout.{KindLayout, key_kind, born_kind, changed_kind, leaf_kind, template_kind, case_kind, reference_kind, lookup_kind, list_kind, unit_date_kind, ColumnLayout, column_at, layout_of, table_at}
 use Rattle.schema_plan.specs.Limits.{IsKindInLimits, IsTableInLimits}
 use Rattle.schema_plan.specs.Ready.{ready_columns, ready_kind}
 use Rattle.draw_values.specs.declared.runs.RunRows.{RunRows}
 use Rattle.draw_values.specs.Dates.{date_text}
-use Rattle.draw_values.specs.ReadyValues.{chooser_of, ready_held_entry, ready_kind_size, ready_size, ready_text, ready_value}
+use Rattle.draw_values.specs.ReadyValues.{chooser_of, ready_day, ready_held_entry, ready_kind_size, ready_size, ready_text, ready_value}
 use Rattle.draw_values.specs.Runs.{IsReadyDrawn, IsRunColumn, RunColumnOf, is_null_in, is_short, is_short_alone, is_short_leaf, leaf_texts, ready_at, run_row, run_seed, run_field, short_value, text_by, with_behind}
 use Rattle.draw_values.specs.Values.{Draws, chosen, chosen_group, draws_at, is_null, is_own, size_at, unless_null, value_at}
-use Rattle.draw_values.proofs.RowUnits.{units_at}
 use Rattle.draw_values.proofs.ColumnLemmas.{length-decimal-unit, ready_column-at}
 use Rattle.draw_values.proofs.DateLemmas.{length-date_digits}
 use Rattle.draw_values.proofs.FieldLemmas.{IsKeptField, kept_field, length-field_text, size_at-kept, value_at-kept}
-use Rattle.draw_values.proofs.ReadyLemmas.{leaf_is_ready}
+use Rattle.draw_values.proofs.ReadyLemmas.{leaf_is_ready, list_is_ready}
 
 -- ---- the kinds of short columns
 
@@ -41,6 +40,8 @@ short_own delimiter (template_kind parts) short = short
 short_own delimiter (case_kind on branches) short = absurd (cc)
 short_own delimiter (reference_kind parent window spread nulls) short = short
 short_own delimiter (lookup_kind via parent name) short = short
+short_own delimiter (list_kind words) short = refl
+short_own delimiter (unit_date_kind changed start step) short = refl
 
 short_chooser : (place : ℕ) (held : ReadyKind) → is_short_alone held ≡ true → place ≡ chooser_of place held
 short_chooser place kind.Key short = refl
@@ -51,6 +52,8 @@ short_chooser place (kind.Template parts) short = refl
 short_chooser place (kind.Case on branches) short = absurd (cc)
 short_chooser place (kind.Reference reference) short = refl
 short_chooser place (kind.Lookup lookup) short = refl
+short_chooser place (kind.List list) short = refl
+short_chooser place (kind.UnitDate date) short = refl
 
 -- what is drawn is within its limits
 pub drawn_is_ready : (delimiter : ℕ) (columns : List ColumnLayout) (place : ℕ) (held : KindLayout) → IsKindInLimits columns place held → IsReadyDrawn (ready_kind delimiter held)
@@ -62,6 +65,8 @@ drawn_is_ready delimiter columns place (template_kind parts) limits = tt
 drawn_is_ready delimiter columns place (case_kind on branches) limits = tt
 drawn_is_ready delimiter columns place (reference_kind parent window spread nulls) limits = tt
 drawn_is_ready delimiter columns place (lookup_kind via parent name) limits = tt
+drawn_is_ready delimiter columns place (list_kind words) limits = list_is_ready delimiter words
+drawn_is_ready delimiter columns place (unit_date_kind changed start step) limits = tt
 
 -- ---- values
 
@@ -77,7 +82,7 @@ text_by-ready (leaf.Words lo lengths words) draws short = absurd (cc)
 text_by-ready leaf.Uuid draws short = absurd (cc)
 
 short_value-ready : (seed : ℕ) (changes : Bool) (held : ReadyKind) (rows : RunRows) (i : ℕ) (entry : Option ℕ) → is_short_alone held ≡ true →
-    ready_value (units_at (run_row rows i)) entry (draw (run_seed seed changes rows i)) held ≡ Some (short_value seed changes held rows i)
+    ready_value (run_row rows i) entry (draw (run_seed seed changes rows i)) held ≡ Some (short_value seed changes held rows i)
 short_value-ready seed changes kind.Key rows i entry short = absurd (cc)
 short_value-ready seed changes kind.Born rows i entry short = refl
 short_value-ready seed changes kind.Changed rows i entry short = refl
@@ -86,6 +91,8 @@ short_value-ready seed changes (kind.Template parts) rows i entry short = absurd
 short_value-ready seed changes (kind.Case on branches) rows i entry short = absurd (cc)
 short_value-ready seed changes (kind.Reference reference) rows i entry short = absurd (cc)
 short_value-ready seed changes (kind.Lookup lookup) rows i entry short = absurd (cc)
+short_value-ready seed changes (kind.List list) rows i entry short = refl
+short_value-ready seed changes (kind.UnitDate date) rows i entry short = refl
 
 -- the draws of a row's field
 pub run_draws : (plan : Project) (run : RunColumnOf) (column : ReadyColumn) (rows : RunRows) (i : ℕ) → IsRunColumn plan run → column ≡ ready_at plan run.table run.column →
@@ -129,7 +136,7 @@ run_field-filled plan run column rows i before after of kept is short before_is 
     let draws : Draws = draw (run_seed run.seed column.changes rows i) in
     let drawn = run_draws plan run column rows i of is in
     let entry : Option ℕ = ready_held_entry column draws in
-    let field = value_at-kept (layout_of plan) run.table run.column run.column column column kept (run_row rows i) (units_at (run_row rows i)) draws draws refl drawn drawn in
+    let field = value_at-kept (layout_of plan) run.table run.column run.column column column kept (run_row rows i) (run_row rows i) draws draws refl drawn drawn in
     nulled (is_null column.null draws) run.behind (short_value run.seed column.changes column.kind rows i) before after before_is after_is
     ∙ ap (λ (value : Option (List ℕ)). with_behind run.behind (or_null (unless_null column.null draws value))) (sym (short_value-ready run.seed column.changes column.kind rows i entry short))
     ∙ ap (with_behind run.behind) (sym (field_text-kept (layout_of plan).delimiter (value_at (layout_of plan) run.table run.column (run_row rows i)) _ field))
@@ -180,6 +187,8 @@ short_value_size seed changes (kind.Template parts) rows i short born changed fe
 short_value_size seed changes (kind.Case on branches) rows i short born changed few = absurd (cc)
 short_value_size seed changes (kind.Reference reference) rows i short born changed few = absurd (cc)
 short_value_size seed changes (kind.Lookup lookup) rows i short born changed few = absurd (cc)
+short_value_size seed changes (kind.List list) rows i short born changed few = entry_size 0 list.words.entries ((run_row rows i).ordinal % list.count)
+short_value_size seed changes (kind.UnitDate date) rows i short born changed few = omega (arith, length-date_text (ready_day date (run_row rows i)))
 
 unless_null_size : (null : Bool) (value : List ℕ) (size : ℕ) → length value ≤ size → length (unwrap_or (if null then None else Some value) []) ≤ size
 unless_null_size true value size fits = omega arith
@@ -195,10 +204,10 @@ run_text_size plan run column rows i before of kept is short born changed before
     let drawn = run_draws plan run column rows i of is in
     let value : List ℕ = short_value run.seed column.changes column.kind rows i in
     let entry : Option ℕ = ready_held_entry column draws in
-    let field = value_at-kept (layout_of plan) run.table run.column run.column column column kept (run_row rows i) (units_at (run_row rows i)) draws draws refl drawn drawn in
+    let field = value_at-kept (layout_of plan) run.table run.column run.column column column kept (run_row rows i) (run_row rows i) draws draws refl drawn drawn in
     let few : length value ≤ 15 = omega (arith, ap (length {A = ℕ}) before_is, length-append value (run.behind ∷ []), text-short before i) in
     let size : length value ≤ ready_kind_size column.kind = short_value_size run.seed column.changes column.kind rows i short born changed few in
-    let held : unless_null column.null draws (ready_value (units_at (run_row rows i)) entry draws column.kind) ≡ unless_null column.null draws (Some value) =
+    let held : unless_null column.null draws (ready_value (run_row rows i) entry draws column.kind) ≡ unless_null column.null draws (Some value) =
     ap (unless_null column.null draws) (short_value-ready run.seed column.changes column.kind rows i entry short) in
     omega (
       arith,
@@ -249,6 +258,8 @@ alone_from_short (kind.Template parts) short no_case = short
 alone_from_short (kind.Case on branches) short no_case = absurd (no_case on branches refl)
 alone_from_short (kind.Reference reference) short no_case = short
 alone_from_short (kind.Lookup lookup) short no_case = short
+alone_from_short (kind.List list) short no_case = short
+alone_from_short (kind.UnitDate date) short no_case = short
 
 -- the place of the column that cases go by is a number of 32 bits
 pub chooser_small : (delimiter : ℕ) (columns : List ColumnLayout) (place : ℕ) (held : KindLayout) → IsKindInLimits columns place held → place < 2 ^ 32 → chooser_of 0 (ready_kind delimiter held) < 2 ^ 32
@@ -260,3 +271,5 @@ chooser_small delimiter columns place (template_kind parts) limits small = omega
 chooser_small delimiter columns place (case_kind on branches) limits small = omega (arith, limits.earlier)
 chooser_small delimiter columns place (reference_kind parent window spread nulls) limits small = omega arith
 chooser_small delimiter columns place (lookup_kind via parent name) limits small = omega arith
+chooser_small delimiter columns place (list_kind words) limits small = omega arith
+chooser_small delimiter columns place (unit_date_kind changed start step) limits small = omega arith

@@ -50,6 +50,7 @@ AreSeedsOf values (seeds.Columns columns) = AreColumnsOf values.plan values.tabl
 pub record AreValuesOf (values : ValuesOf) (ready : List ReadyColumn) (taken : Seeds) : Type 0 where
   pub columns : ready ≡ ready_columns (layout_of values.plan) values.table
   pub limits : IsTableInLimits (layout_of values.plan).units (table_for values)
-  pub born_limit : values.born ≤ 10000
-  pub changed_limit : values.changed ≤ 10000
+  pub unit_limit : (layout_of values.plan).units ≤ 10000
+  pub born_limit : values.born ≤ (layout_of values.plan).units
+  pub changed_limit : values.changed ≤ (layout_of values.plan).units
   pub seeds_are : AreSeedsOf values taken

@@ -2,7 +2,6 @@ pub mod Digits
 pub mod Dates
 pub mod Uuids
 pub mod Values
-pub mod WrittenUnits
 pub mod ReadyValues
 pub mod ColumnSeeds
 pub mod Runs

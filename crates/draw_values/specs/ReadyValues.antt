@@ -1,5 +1,5 @@
 -- What is written for a field by what a plan keeps ready for its column, and what has to be kept so that it can be.
-use Rattle.std.specs.Prelude.{◌≡◌, ◌≤◌, ℕ, pos, ◌+◌, ◌-◌, ◌*◌, ◌%◌, ◌^◌, ◌+ℤ◌, ◌<ℤ◌, List, [], All, Option, Some, None, flat_map, length, option_map, sum, slice_index_or, ⊤}
+use Rattle.std.specs.Prelude.{◌≡◌, ◌≤◌, ℕ, ℤ, pos, ◌+◌, ◌-◌, ◌*◌, ◌%◌, ◌^◌, ◌+ℤ◌, ◌<ℤ◌, List, [], All, Option, Some, None, decimal, flat_map, length, option_map, sum, slice_index_or, ⊤}
 use Rattle.std.specs.Fmt.{signed_decimal}
 use Rattle.std.specs.List.{range_with_len}
 use Rattle.philox_seeds.specs.SeedTree.{draw, row_seed}
@@ -7,15 +7,18 @@ use Rattle.schema_plan.specs.declared.ready.ReadyColumn.{ReadyColumn}
 use Rattle.schema_plan.specs.declared.ready.ReadyKind.{ReadyKind}
 use Rattle.schema_plan.specs.declared.ready.ReadyKind.TheVariants as kind
 use Rattle.schema_plan.specs.declared.ready.ReadyLeaf.{ReadyLeaf}
+use Rattle.schema_plan.specs.declared.ready.ReadyList.{ReadyList}
+use Rattle.schema_plan.specs.declared.ready.ReadyUnitDate.{ReadyUnitDate}
 use Rattle.schema_plan.specs.declared.ready.ReadyLeaf.TheVariants as leaf
 use Rattle.schema_plan.specs.Choices.{choices}
 use Rattle.schema_plan.specs.FieldBounds.{greatest_by, joined_size}
 use Rattle.schema_plan.specs.Limits.{IsDateRange, IsRange}
+use Rattle.draw_values.specs.declared.values.RowAt.{RowAt}
 use Rattle.draw_values.specs.Dates.{date_text}
 use Rattle.draw_values.specs.Digits.{signed_pointed}
 use Rattle.draw_values.specs.Uuids.{uuid_text}
 use Rattle.draw_values.specs.WrittenUnits.{WrittenUnits}
-use Rattle.draw_values.specs.Values.{Draws, chosen, chosen_group, drawn_words, unless_null}
+use Rattle.draw_values.specs.Values.{Draws, chosen, chosen_group, drawn_words, unless_null, unit_day}
 
 -- the draws of the field of the row with an ordinal, by the seed of its column at its unit
 abbrev pub row_draws : ℕ → ℕ → Draws
@@ -80,19 +83,29 @@ ready_held_entry column draw = unless_null column.null draw (ready_entry column.
 abbrev pub ready_branch : List ReadyLeaf → ℕ → ReadyLeaf
 ready_branch branches place = slice_index_or branches place (leaf.Int (pos 0) (pos 0) 1 1)
 
--- what is written for a field of units or of draws that isn't null, by the row's units as they are written, the entry that its
--- pick column holds, and its draws; None where its pick column's field is null
-abbrev pub ready_value : WrittenUnits → Option ℕ → Draws → ReadyKind → Option (List ℕ)
-ready_value units entry draw kind.Born = Some units.born
-ready_value units entry draw kind.Changed = Some units.changed
-ready_value units entry draw (kind.Drawn leaf) = Some (ready_text leaf draw)
-ready_value units entry draw (kind.Case on branches) = option_map (λ e. ready_text (ready_branch branches e) draw) entry
-ready_value units entry draw _ = None
+-- the entry of a list that a row takes, by its ordinal
+abbrev pub ready_entry_in_turn : ReadyList → ℕ → List ℕ
+ready_entry_in_turn list ordinal = slice_index_or list.words.entries (ordinal % list.count) []
+
+-- the day that a row shows
+abbrev pub ready_day : ReadyUnitDate → RowAt → ℤ
+ready_day date at = unit_day date.changed date.start date.step at
+
+-- what is written for a field of a row's place and units or of draws that isn't null, by the row, the entry that its pick column
+-- holds, and its draws; None where its pick column's field is null
+abbrev pub ready_value : RowAt → Option ℕ → Draws → ReadyKind → Option (List ℕ)
+ready_value at entry draw kind.Born = Some (decimal at.born)
+ready_value at entry draw kind.Changed = Some (decimal at.changed)
+ready_value at entry draw (kind.Drawn leaf) = Some (ready_text leaf draw)
+ready_value at entry draw (kind.Case on branches) = option_map (λ e. ready_text (ready_branch branches e) draw) entry
+ready_value at entry draw (kind.List list) = Some (ready_entry_in_turn list at.ordinal)
+ready_value at entry draw (kind.UnitDate date) = Some (date_text (ready_day date at))
+ready_value at entry draw _ = None
 
 -- what is written for a field, None where it is null
-abbrev pub ready_field : WrittenUnits → ReadyColumn → Draws → ReadyColumn → Draws → Option (List ℕ)
-ready_field units chooser chooser_draw column draw =
-    unless_null column.null draw (ready_value units (ready_held_entry chooser chooser_draw) draw column.kind)
+abbrev pub ready_field : RowAt → ReadyColumn → Draws → ReadyColumn → Draws → Option (List ℕ)
+ready_field at chooser chooser_draw column draw =
+    unless_null column.null draw (ready_value at (ready_held_entry chooser chooser_draw) draw column.kind)
 
 -- the greatest size of such a text, in bytes
 abbrev pub ready_kind_size : ReadyKind → ℕ
@@ -100,6 +113,8 @@ ready_kind_size kind.Born = 5
 ready_kind_size kind.Changed = 5
 ready_kind_size (kind.Drawn leaf) = ready_size leaf
 ready_kind_size (kind.Case on branches) = greatest_by ready_size branches
+ready_kind_size (kind.List list) = greatest_by length list.words.entries
+ready_kind_size (kind.UnitDate date) = 10
 ready_kind_size _ = 0
 
 -- the number of the entries of a pick; no other kind has any
@@ -112,10 +127,30 @@ abbrev pub IsReadyPick : ReadyKind → Type 0
 IsReadyPick (kind.Drawn (leaf.Pick entries weights total)) = total ≡ sum weights
 IsReadyPick _ = ⊥
 
+-- the words of a list are as many as are counted
+abbrev pub IsReadyList : ReadyList → Type 0
+IsReadyList list = list.count ≡ length list.words.entries
+
+-- the units of a row of a plan, each of at most 5 digits
+pub record AreUnits (at : RowAt) : Type 0 where
+  pub born_limit : at.born ≤ 10000
+  pub changed_limit : at.changed ≤ 10000
+
+-- the day that a row shows is of the years 1 to 9999
+abbrev pub IsUnitDay : ReadyUnitDate → RowAt → Type 0
+IsUnitDay date at = IsDateRange date.start (ready_day date at)
+
+-- the same of a field of this kind; of other kinds nothing is asked
+abbrev pub HasDay : ReadyKind → RowAt → Type 0
+HasDay (kind.UnitDate date) at = IsUnitDay date at
+HasDay _ at = ⊤
+
 -- a field of this kind can be written, where it is chosen by a column of the other
 abbrev pub IsReadyKind : ReadyKind → ReadyKind → Type 0
 IsReadyKind chooser kind.Born = ⊤
 IsReadyKind chooser kind.Changed = ⊤
 IsReadyKind chooser (kind.Drawn leaf) = IsReady leaf
 IsReadyKind chooser (kind.Case on branches) = All IsReady branches × IsReadyPick chooser × (entry_count chooser ≡ length branches)
+IsReadyKind chooser (kind.List list) = IsReadyList list
+IsReadyKind chooser (kind.UnitDate date) = ⊤
 IsReadyKind chooser _ = ⊥

@@ -14,7 +14,7 @@ use Rattle.schema_plan.specs.Ready.{ready_column}
 use Rattle.draw_values.specs.declared.runs.RunRows.{RunRows}
 use Rattle.draw_values.specs.declared.values.RowAt.{RowAt}
 use Rattle.draw_values.specs.Dates.{date_text}
-use Rattle.draw_values.specs.ReadyValues.{IsReady, ready_text}
+use Rattle.draw_values.specs.ReadyValues.{HasDay, IsReady, IsReadyList, ready_day, ready_entry_in_turn, ready_text}
 use Rattle.draw_values.specs.Values.{draws_at, is_null, value_at}
 
 -- the row at a place of a run
@@ -34,6 +34,10 @@ pub record AreRunRows (units count : ℕ) (rows : RunRows) : Type 0 where
   pub lengths : AreOfLength count rows
   pub born : (i : ℕ) → i < count → slice_index rows.births.now i ≤ units
   pub changed : (i : ℕ) → i < count → slice_index rows.changes.now i ≤ units
+
+-- each of so many rows shows a day of the years 1 to 9999, if it shows one
+abbrev pub HaveDays : ReadyKind → ℕ → RunRows → Type 0
+HaveDays held count rows = (i : ℕ) → i < count → HasDay held (run_row rows i)
 
 -- a text of at most 15 bytes makes a piece with the byte behind it
 abbrev pub is_short_text : List ℕ → Bool
@@ -60,6 +64,8 @@ abbrev pub is_short_alone : ReadyKind → Bool
 is_short_alone kind.Born = true
 is_short_alone kind.Changed = true
 is_short_alone (kind.Drawn drawn) = is_short_leaf drawn
+is_short_alone (kind.List list) = list_all is_short_text list.words.entries
+is_short_alone (kind.UnitDate date) = true
 is_short_alone _ = false
 
 -- whether a column holds cases
@@ -101,13 +107,15 @@ choices_kept _ = []
 abbrev pub with_behind : ℕ → List ℕ → List ℕ
 with_behind behind text = text ++ behind ∷ []
 
--- what is kept of a drawn value, and of a column: such texts with the byte behind them, where all are short, or the items of several
+-- what is kept of a drawn value, and of a column: such texts with the byte behind them, where all are short, or the items of several;
+-- of a list what is kept of one of its words
 abbrev pub leaf_texts : ℕ → ReadyLeaf → List (List ℕ)
 leaf_texts behind drawn =
     if is_short_leaf drawn then map (with_behind behind) (choices_kept drawn) else (if is_itemized_leaf drawn then items_of drawn else [])
 
 abbrev pub kept_texts : ℕ → ReadyKind → List (List ℕ)
 kept_texts behind (kind.Drawn drawn) = leaf_texts behind drawn
+kept_texts behind (kind.List list) = leaf_texts behind (leaf.Dict list.words)
 kept_texts behind _ = []
 
 -- the seed of the column that cases go by, below their table's; None of what goes by no other column
@@ -164,11 +172,14 @@ abbrev pub short_value : ℕ → Bool → ReadyKind → RunRows → ℕ → List
 short_value seed changes kind.Born rows i = decimal (run_row rows i).born
 short_value seed changes kind.Changed rows i = decimal (run_row rows i).changed
 short_value seed changes (kind.Drawn drawn) rows i = text_by drawn (draw (run_seed seed changes rows i) 1)
+short_value seed changes (kind.List list) rows i = ready_entry_in_turn list (run_row rows i).ordinal
+short_value seed changes (kind.UnitDate date) rows i = date_text (ready_day date (run_row rows i))
 short_value seed changes _ rows i = []
 
--- the numbers of what is drawn are within their limits
+-- the numbers of what is drawn, or taken in turn, are within their limits
 abbrev pub IsReadyDrawn : ReadyKind → Type 0
 IsReadyDrawn (kind.Drawn drawn) = IsReady drawn
+IsReadyDrawn (kind.List list) = IsReadyList list
 IsReadyDrawn _ = ⊤
 
 -- what is written for the row at a place of a run, with the byte behind it

@@ -11,7 +11,7 @@ use Rattle.weight_tables.specs.Weights.{selected}
 use Rattle.row_text.specs.Fields.{escaped_text}
 use Rattle.schema_plan.specs.Choices.{choices}
 use Rattle.schema_plan.specs.FieldBounds.{bounds_of}
-use Rattle.schema_plan.specs.Layout.{LeafLayout, int_leaf, fixed_leaf, date_leaf, pick_leaf, skew_leaf, dict_leaf, words_leaf, chars_leaf, uuid_leaf, KindLayout, key_kind, born_kind, changed_kind, leaf_kind, template_kind, case_kind, reference_kind, lookup_kind, ColumnLayout, Layout, table_at, column_at}
+use Rattle.schema_plan.specs.Layout.{LeafLayout, int_leaf, fixed_leaf, date_leaf, pick_leaf, skew_leaf, dict_leaf, words_leaf, chars_leaf, uuid_leaf, KindLayout, key_kind, born_kind, changed_kind, leaf_kind, template_kind, case_kind, reference_kind, lookup_kind, ColumnLayout, Layout, table_at, column_at, list_kind, unit_date_kind}
 use Rattle.draw_values.specs.declared.values.RowAt.{RowAt}
 use Rattle.draw_values.specs.declared.values.Put.{Put}
 use Rattle.draw_values.specs.declared.values.Put.TheVariants.{Text, Null}
@@ -83,12 +83,22 @@ held_entry column draw = unless_null column.null draw (entry_of column.kind draw
 abbrev pub branch_at : List LeafLayout → ℕ → LeafLayout
 branch_at branches place = slice_index_or branches place (int_leaf (pos 0) (pos 0) 1)
 
--- whether a field of this kind is made of its row's units and of draws
+-- the entry of a word list that a row takes: the first row the first entry, and so on in turn
+abbrev pub entry_in_turn : WordList → ℕ → List ℕ
+entry_in_turn words ordinal = slice_index_or words.entries (ordinal % length words.entries) []
+
+-- the day that a row shows: so many steps past the day of unit 0 as the unit of its last change says, or that of its birth
+abbrev pub unit_day : Bool → ℤ → ℕ → RowAt → ℤ
+unit_day changed start step at = start +ℤ pos (step * (if changed then at.changed else at.born))
+
+-- whether a field of this kind is made of its row's place and units and of draws
 abbrev pub is_own : KindLayout → Bool
 is_own born_kind = true
 is_own changed_kind = true
 is_own (leaf_kind leaf) = true
 is_own (case_kind on branches) = true
+is_own (list_kind words) = true
+is_own (unit_date_kind changed start step) = true
 is_own _ = false
 
 -- what a row holds in a column of such a kind, where it isn't null. A case draws its branch's value from its own draws, and is null where
@@ -104,6 +114,8 @@ own_value columns at draws column (case_kind on branches) =
     (held_entry (column_at columns on) (draws on))
 own_value columns at draws column (reference_kind parent window spread nulls) = not_own
 own_value columns at draws column (lookup_kind via parent name) = not_own
+own_value columns at draws column (list_kind words) = Some (entry_in_turn words at.ordinal)
+own_value columns at draws column (unit_date_kind changed start step) = Some (date_text (unit_day changed start step at))
 
 -- the field of a row in the column at a place, which is of such a kind
 abbrev pub own_field : List ColumnLayout → RowAt → RowDraws → ℕ → Option (List ℕ)

@@ -11,8 +11,9 @@ ghost use Rattle.draw_values.specs.Runs.{AreColumnsOf, RunColumnOf};
 ghost use Rattle.draw_values.specs.Values.{draws_at, is_own, put_of, written};
 
 use crate::Put;
-use crate::fields::{Drawn, Units, chooser_of, is_null, put_field};
+use crate::fields::{Drawn, chooser_of, is_null, put_field};
 use crate::run_column::RunColumn;
+use crate::values::RowAt;
 use line_pages::PageBuf;
 use philox_seeds::{column_seed, table_seed, unit_seed};
 use schema_plan::{Plan, ReadyColumn};
@@ -124,7 +125,7 @@ impl<'a> CohortValues<'a> {
     }
 
     /// Appends the row's field in the column at a place, as it is written. A null field appends nothing. The column must be one of
-    /// units, drawn values or cases. The greatest size of the column's fields must be free.
+    /// units, drawn values, cases or entries in turn. The greatest size of the column's fields must be free.
     #[inline(always)]
     pub fn put(&self, column: usize, ordinal: u64, buf: &mut PageBuf) -> Put
         requires column { column < length (table_for self.now).columns }
@@ -137,7 +138,8 @@ impl<'a> CohortValues<'a> {
         let columns = self.columns;
         let own = &columns[column];
         let chooser = chooser_of(column, own);
-        let units = Units {
+        let at = RowAt {
+            ordinal,
             born: self.born,
             changed: self.changed,
         };
@@ -150,8 +152,7 @@ impl<'a> CohortValues<'a> {
                 column: &columns[chooser],
                 seed: self.seed(chooser),
             },
-            units,
-            ordinal,
+            at,
             buf,
         )
     }

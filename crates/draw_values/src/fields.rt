@@ -1,18 +1,21 @@
-//! The field of a row in a column of units, of drawn values or of cases, onto a page.
+//! The field of a row in a column of units, of drawn values, of cases or of entries in turn, onto a page.
 
 ghost use Rattle.std.specs.Prelude.{◌≡◌, ◌<◌, ◌≤◌, ◌+◌, ◌++◌, [], All, IfSome, decimal, length, option_map, unwrap_or};
 ghost use Rattle.philox_seeds.specs.SeedTree.{draw as draw_of};
 ghost use Rattle.schema_plan.specs.FieldBounds.{greatest_by};
-ghost use Rattle.draw_values.specs.ReadyValues.{IsReady, IsReadyKind, IsReadyPick, chooser_of, entry_count, ready_branch, ready_field, ready_held_entry, ready_kind_size, ready_size, ready_text, row_draws};
+ghost use Rattle.draw_values.specs.Dates.{date_text};
+ghost use Rattle.draw_values.specs.ReadyValues.{AreUnits, HasDay, IsReady, IsReadyKind, IsReadyList, IsReadyPick, IsUnitDay, chooser_of, entry_count, ready_branch, ready_day, ready_entry_in_turn, ready_field, ready_held_entry, ready_kind_size, ready_size, ready_text, row_draws};
 ghost use Rattle.draw_values.specs.Values.{is_null, put_of};
-ghost use Rattle.draw_values.specs.WrittenUnits.{AreUnits, written_units};
 
-use crate::Put;
+use crate::dates::put_date;
 use crate::leaves::{FIRST_DRAW, put_leaf};
+use crate::unit_dates::day_of_row;
+use crate::values::{Put, RowAt};
 use crate::weighted::chosen_group;
+use crate::words::put_entry;
 use line_pages::{PageBuf, Piece};
 use philox_seeds::{draw, row_seed};
-use schema_plan::{ReadyColumn, ReadyKind, ReadyLeaf};
+use schema_plan::{ReadyColumn, ReadyKind, ReadyLeaf, ReadyList, ReadyUnitDate};
 
 /// The draw that decides if a field is null.
 pub(crate) const NULL_DRAW: u32 = 0;
@@ -82,13 +85,6 @@ pub(crate) struct Drawn<'a> {
     pub(crate) seed: u64,
 }
 
-/// The units of a row's birth and last change.
-#[derive(Clone, Copy)]
-pub(crate) struct Units {
-    pub(crate) born: u64,
-    pub(crate) changed: u64,
-}
-
 /// Appends a unit. 5 bytes must be free.
 #[inline(always)]
 fn put_unit(unit: u64, buf: &mut PageBuf)
@@ -100,34 +96,54 @@ fn put_unit(unit: u64, buf: &mut PageBuf)
     buf.put_piece(&Piece::of_number(unit));
 }
 
+/// Appends the entry of a list that the row with an ordinal takes. The size of the greatest entry must be free.
+#[inline(always)]
+fn put_entry_in_turn(list: &ReadyList, ordinal: u64, buf: &mut PageBuf)
+    requires ready { IsReadyList list.now }
+    requires room { length buf.old.text + greatest_by length list.now.words.entries ≤ buf.old.room }
+    ensures text { buf.new ≡ record buf.old { text = buf.old.text ++ ready_entry_in_turn list.now ordinal } }
+    ensures size { length (ready_entry_in_turn list.now ordinal) ≤ greatest_by length list.now.words.entries }
+{
+    put_entry(&list.words, list.count.remainder(ordinal) as usize, buf);
+}
+
+/// Appends the date of the unit that a row shows. 10 bytes must be free.
+#[inline(always)]
+fn put_unit_date(date: &ReadyUnitDate, at: RowAt, buf: &mut PageBuf)
+    requires day { IsUnitDay date.now at }
+    requires room { length buf.old.text + 10 ≤ buf.old.room }
+    ensures text { buf.new ≡ record buf.old { text = buf.old.text ++ date_text (ready_day date.now at) } }
+    ensures size { length (date_text (ready_day date.now at)) ≡ 10 }
+{
+    put_date(day_of_row(date, at), buf);
+}
+
 /// Appends the row's field in the column `own`, as it is written. A null field appends nothing. `chooser` is the column that
 /// chooses the field. The greatest size of the column's fields must be free.
 #[inline(always)]
-pub(crate) fn put_field(
-    own: Drawn<'_>,
-    chooser: Drawn<'_>,
-    units: Units,
-    ordinal: u64,
-    buf: &mut PageBuf,
-) -> Put
+pub(crate) fn put_field(own: Drawn<'_>, chooser: Drawn<'_>, at: RowAt, buf: &mut PageBuf) -> Put
     requires ready { IsReadyKind chooser.column.now.kind own.column.now.kind }
-    requires units { AreUnits units }
+    requires units { AreUnits at }
+    requires day { HasDay own.column.now.kind at }
     requires room { length buf.old.text + ready_kind_size own.column.now.kind ≤ buf.old.room }
-    ensures put { result ≡ put_of (ready_field (written_units units) chooser.entry.column.now (row_draws chooser.entry.seed ordinal) own.entry.column.now (row_draws own.entry.seed ordinal)) }
-    ensures text { buf.new ≡ record buf.old { text = buf.old.text ++ unwrap_or (ready_field (written_units units) chooser.entry.column.now (row_draws chooser.entry.seed ordinal) own.entry.column.now (row_draws own.entry.seed ordinal)) [] } }
-    ensures size { length (unwrap_or (ready_field (written_units units) chooser.entry.column.now (row_draws chooser.entry.seed ordinal) own.entry.column.now (row_draws own.entry.seed ordinal)) []) ≤ ready_kind_size own.entry.column.now.kind }
+    ensures put { result ≡ put_of (ready_field at chooser.entry.column.now (row_draws chooser.entry.seed at.ordinal) own.entry.column.now (row_draws own.entry.seed at.ordinal)) }
+    ensures text { buf.new ≡ record buf.old { text = buf.old.text ++ unwrap_or (ready_field at chooser.entry.column.now (row_draws chooser.entry.seed at.ordinal) own.entry.column.now (row_draws own.entry.seed at.ordinal)) [] } }
+    ensures size { length (unwrap_or (ready_field at chooser.entry.column.now (row_draws chooser.entry.seed at.ordinal) own.entry.column.now (row_draws own.entry.seed at.ordinal)) []) ≤ ready_kind_size own.entry.column.now.kind }
 {
-    if is_null(own.column.null, own.seed, ordinal) {
+    if is_null(own.column.null, own.seed, at.ordinal) {
         return Put::Null;
     }
     match &own.column.kind {
-        ReadyKind::Born => put_unit(units.born, buf),
-        ReadyKind::Changed => put_unit(units.changed, buf),
-        ReadyKind::Drawn(leaf) => put_leaf(leaf, row_seed(own.seed, ordinal), buf),
+        ReadyKind::Born => put_unit(at.born, buf),
+        ReadyKind::Changed => put_unit(at.changed, buf),
+        ReadyKind::Drawn(leaf) => put_leaf(leaf, row_seed(own.seed, at.ordinal), buf),
         ReadyKind::Case { branches, .. } => {
-            let entry = held_entry(chooser.column, chooser.seed, ordinal);
-            return put_branch(branches.as_slice(), entry, row_seed(own.seed, ordinal), buf);
+            let entry = held_entry(chooser.column, chooser.seed, at.ordinal);
+            let seed = row_seed(own.seed, at.ordinal);
+            return put_branch(branches.as_slice(), entry, seed, buf);
         }
+        ReadyKind::List(list) => put_entry_in_turn(list, at.ordinal, buf),
+        ReadyKind::UnitDate(date) => put_unit_date(date, at, buf),
         _ => unreachable!(),
     }
     Put::Text

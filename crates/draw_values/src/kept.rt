@@ -5,7 +5,7 @@ ghost use Rattle.std.specs.List.{list_all, range_with_len};
 ghost use Rattle.line_pages.specs.Pieces.{piece_text};
 ghost use Rattle.draw_values.specs.Dates.{date_text};
 ghost use Rattle.draw_values.specs.ReadyValues.{IsReady};
-ghost use Rattle.draw_values.specs.Runs.{IsReadyDrawn, choices_kept, is_itemized, is_itemized_leaf, is_short, is_short_leaf, is_short_number, is_short_text, items_of, kept_texts, with_behind};
+ghost use Rattle.draw_values.specs.Runs.{IsReadyDrawn, choices_kept, is_itemized, is_itemized_leaf, is_short, is_short_leaf, is_short_number, is_short_text, items_of, kept_texts, leaf_texts, with_behind};
 
 use crate::dates::day_piece;
 use line_pages::Piece;
@@ -35,6 +35,8 @@ pub(crate) fn is_short(kind: &ReadyKind) -> bool
         ReadyKind::Changed => true,
         ReadyKind::Drawn(leaf) => is_short_leaf(leaf),
         ReadyKind::Case { branches, .. } => are_short_leaves(branches.as_slice()),
+        ReadyKind::List(list) => are_short_words(&list.words),
+        ReadyKind::UnitDate(_) => true,
         _ => false,
     }
 }
@@ -141,7 +143,19 @@ pub(crate) fn kept_pieces(alloc: Global, kind: &ReadyKind, behind: u8) -> Result
     match kind {
         ReadyKind::Drawn(leaf) if is_short_leaf(leaf) => leaf_pieces(alloc, leaf, behind),
         ReadyKind::Drawn(leaf) if is_itemized_leaf(leaf) => item_pieces(alloc, leaf),
+        ReadyKind::List(list) => list_pieces(alloc, &list.words, behind),
         _ => Ok(Vec::new(alloc)),
+    }
+}
+
+/// Makes the pieces that are kept of words which rows take in turn.
+fn list_pieces(alloc: Global, words: &ReadyWords, behind: u8) -> Result<Vec<Piece>, Memory>
+    ensures { IfOk result (λ pieces. map piece_text pieces.items ≡ leaf_texts behind (ReadyLeaf.Dict words.now)) }
+{
+    if words.len() <= WORD_ROOM && are_short_words(words) {
+        word_pieces(alloc, words, behind)
+    } else {
+        Ok(Vec::new(alloc))
     }
 }
 

@@ -1,6 +1,6 @@
-//! The fields that need no other row: the units of a row's birth and last change, drawn values, and cases. A case is a drawn value
-//! whose kind depends on the row's field in a pick column. Any field can be drawn to be null instead. A column that changes is
-//! drawn by the unit of the last change, any other column by the unit of birth.
+//! The fields that need no other row: the units of a row's birth and last change, their dates, drawn values, cases, and entries that
+//! rows take in turn. A case is a drawn value whose kind depends on the row's field in a pick column. Any field can be drawn to be
+//! null instead. A column that changes is drawn by the unit of the last change, any other column by the unit of birth.
 //!
 //! A table is named by its place in the schema, a column by its place in the table. A row is named by its ordinal, its place in the
 //! order of birth in its table. All count from 0. A value is appended to a page as it is written (PostgreSQL's manual, "COPY", text
@@ -26,6 +26,7 @@ mod run_items;
 mod run_loops;
 mod run_pieces;
 mod runs;
+mod unit_dates;
 mod uuids;
 mod values;
 mod weighted;

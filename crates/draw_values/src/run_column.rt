@@ -5,7 +5,7 @@ ghost use Rattle.philox_seeds.specs.SeedTree.{draw as draw_of, table_seed as tab
 ghost use Rattle.line_pages.specs.Pieces.{piece_text};
 ghost use Rattle.row_text.specs.Fields.{field_text};
 ghost use Rattle.schema_plan.specs.Layout.{layout_of, table_at};
-ghost use Rattle.draw_values.specs.Runs.{AreOfLength, AreRunRows, IsReadyDrawn, IsRunColumn, chooser_seed, is_null_in, is_short_alone, is_short_leaf, kept_texts, leaf_texts, null_text, ready_at, run_column, run_row, run_seed, run_field, short_value, text_by, with_behind};
+ghost use Rattle.draw_values.specs.Runs.{AreOfLength, AreRunRows, HaveDays, IsReadyDrawn, IsRunColumn, chooser_seed, is_null_in, is_short_alone, is_short_leaf, kept_texts, leaf_texts, null_text, ready_at, run_column, run_row, run_seed, run_field, short_value, text_by, with_behind};
 ghost use Rattle.draw_values.specs.ReadyValues.{IsReady, chooser_of};
 ghost use Rattle.draw_values.specs.Values.{is_null, size_at, value_at};
 
@@ -14,8 +14,9 @@ use crate::fields::{NULL_DRAW, is_null};
 use crate::kept::{is_itemized, is_short, kept_pieces, text_piece};
 use crate::leaves::FIRST_DRAW;
 use crate::run_loops::{put_draws, put_nulls, put_run_seeds};
-use crate::run_pieces::{fill_leaf, fill_units};
+use crate::run_pieces::{fill_in_turn, fill_leaf, fill_units};
 use crate::runs::{RunNumbers, RunRows};
+use crate::unit_dates::fill_unit_dates;
 use crate::values::RowAt;
 use line_pages::{Digits, Piece};
 use out_of_memory::Memory;
@@ -174,6 +175,7 @@ impl RunColumn {
         requires short { is_short_alone own.now.kind ≡ true }
         requires kept { self.now.texts ≡ kept_texts self.now.behind own.now.kind }
         requires rows { AreRunRows 10000 (length pieces.old) rows }
+        requires days { HaveDays own.now.kind (length pieces.old) rows }
         ensures { (i : ℕ) → i < length pieces.old → slice_index_or (map piece_text pieces.new) i [] ≡ with_behind self.now.behind (short_value self.now.seed own.now.changes own.now.kind rows.entry i) }
     {
         match &own.kind {
@@ -187,6 +189,20 @@ impl RunColumn {
                 let draws = &mut all_draws[..count];
                 self.fill_drawn(digits, own.changes, leaf, rows, seeds, draws, pieces);
             }
+            ReadyKind::List(list) => {
+                let count = pieces.len();
+                let all_places = &mut numbers.entries[..];
+                let places = &mut all_places[..count];
+                fill_in_turn(
+                    list,
+                    self.kept.as_slice(),
+                    rows.ordinals,
+                    places,
+                    self.behind,
+                    pieces,
+                );
+            }
+            ReadyKind::UnitDate(date) => fill_unit_dates(date, rows, self.behind, pieces),
             _ => unreachable!(),
         }
     }

@@ -1,13 +1,13 @@
 //! The pieces of drawn values over a run, by their draws. There is one loop for each kind. Each piece has the byte after its field.
 
-ghost use Rattle.std.specs.Prelude.{◌≡◌, ℕ, ◌<◌, ◌≤◌, ◌+◌, ◌-◌, ◌^◌, [], IfSome, decimal, length, map, neg_ℤ, pos, slice_index, slice_index_or, sum, true, ◌+ℤ◌, ◌-ℤ◌, ◌<ℤ◌, ◌≤ℤ◌};
+ghost use Rattle.std.specs.Prelude.{◌≡◌, ℕ, ◌<◌, ◌≤◌, ◌+◌, ◌-◌, ◌%◌, ◌^◌, [], IfSome, decimal, length, map, neg_ℤ, pos, slice_index, slice_index_or, sum, true, ◌+ℤ◌, ◌-ℤ◌, ◌<ℤ◌, ◌≤ℤ◌};
 ghost use Rattle.std.specs.Fmt.{signed_decimal};
 ghost use Rattle.std.specs.List.{list_all};
 ghost use Rattle.line_pages.specs.Pieces.{piece_text};
 ghost use Rattle.schema_plan.specs.Choices.{choices as choices_of};
 ghost use Rattle.draw_values.specs.Dates.{date_text};
 ghost use Rattle.draw_values.specs.Digits.{signed_pointed};
-ghost use Rattle.draw_values.specs.ReadyValues.{IsReady};
+ghost use Rattle.draw_values.specs.ReadyValues.{IsReady, IsReadyList, ready_entry_in_turn};
 ghost use Rattle.draw_values.specs.Runs.{is_short_leaf, is_short_number, is_short_text, leaf_texts, text_by, with_behind};
 ghost use Rattle.draw_values.specs.Values.{chosen as chosen_of, chosen_group};
 
@@ -20,7 +20,7 @@ use crate::weighted::skewed;
 use fixed_divisors::FixedDivisor;
 use line_pages::{Digits, Piece};
 use row_text::WrittenTexts;
-use schema_plan::{ReadyLeaf, ReadyWords};
+use schema_plan::{ReadyLeaf, ReadyList, ReadyWords};
 use weight_tables::Weights;
 
 /// Makes the pieces of units of at most 5 digits. Neighbours often have one unit, and then its piece is made once.
@@ -291,7 +291,41 @@ fn fill_entries(entries: &WrittenTexts, places: &[u64], behind: u8, pieces: &mut
     }
 }
 
-/// Makes the words of a list. If pieces are given, a list of at most 65,536 words has all its pieces among them.
+/// Makes the entries of a list that rows with these ordinals take. Their places are put into `places`.
+#[inline(always)]
+pub(crate) fn fill_in_turn(
+    list: &ReadyList,
+    kept: &[Piece],
+    ordinals: &[u64],
+    places: &mut [u64],
+    behind: u8,
+    pieces: &mut [Piece],
+)
+    requires ready { IsReadyList list.now }
+    requires short { list_all is_short_text list.now.words.entries ≡ true }
+    requires kept { map piece_text kept.now ≡ leaf_texts behind (ReadyLeaf.Dict list.now.words) }
+    requires ordinals { length ordinals.now ≡ length pieces.old }
+    requires places { length places.old ≡ length pieces.old }
+    ensures { (i : ℕ) → i < length pieces.old → slice_index_or (map piece_text pieces.new) i [] ≡ with_behind behind (ready_entry_in_turn list.now (slice_index ordinals.now i)) }
+{
+    put_places(list, ordinals, places);
+    fill_places(&list.words, Some(kept), places, behind, pieces);
+}
+
+/// Finds the places of the entries that rows with these ordinals take.
+#[inline(always)]
+fn put_places(list: &ReadyList, ordinals: &[u64], places: &mut [u64])
+    requires ready { IsReadyList list.now }
+    requires lengths { length ordinals.now ≡ length places.old }
+    ensures exact { (i : ℕ) → i < length places.old → slice_index places.new i ≡ slice_index ordinals.now i % list.now.count }
+    ensures within { (i : ℕ) → i < length places.old → slice_index places.new i < length list.now.words.entries }
+{
+    let _some = list.count.number(); // it is at least 1
+    places.copy_from_slice(ordinals);
+    list.count.remainders(places);
+}
+
+/// Makes the words that draws choose. If pieces are given, a list of at most 65,536 words has all its pieces among them.
 #[inline(always)]
 fn fill_chosen(
     words: &ReadyWords,
@@ -306,9 +340,27 @@ fn fill_chosen(
     ensures { (i : ℕ) → i < length pieces.old → slice_index_or (map piece_text pieces.new) i [] ≡ with_behind behind (slice_index_or words.now.entries (chosen_group words.now.weights (slice_index draws.old i)) []) }
 {
     choose_words(words, draws);
+    fill_places(words, kept, draws, behind, pieces);
+}
+
+/// Makes the words at places, from the kept pieces if these are given and the words are few enough to keep.
+#[inline(always)]
+fn fill_places(
+    words: &ReadyWords,
+    kept: Option<&[Piece]>,
+    places: &[u64],
+    behind: u8,
+    pieces: &mut [Piece],
+)
+    requires short { list_all is_short_text words.now.entries ≡ true }
+    requires kept { IfSome kept (λ kept. map piece_text kept.now ≡ leaf_texts behind (ReadyLeaf.Dict words.now)) }
+    requires within { (i : ℕ) → i < length places.now → slice_index places.now i < length words.now.entries }
+    requires lengths { length places.now ≡ length pieces.old }
+    ensures { (i : ℕ) → i < length pieces.old → slice_index_or (map piece_text pieces.new) i [] ≡ with_behind behind (slice_index_or words.now.entries (slice_index places.now i) []) }
+{
     match kept {
-        Some(kept) if words.len() <= WORD_ROOM => fill_kept(kept, draws, pieces),
-        _ => fill_words(words, draws, behind, pieces),
+        Some(kept) if words.len() <= WORD_ROOM => fill_kept(kept, places, pieces),
+        _ => fill_words(words, places, behind, pieces),
     }
 }
 

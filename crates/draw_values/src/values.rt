@@ -6,7 +6,7 @@ ghost use Rattle.schema_plan.specs.Layout.{column_at, layout_of, table_at};
 ghost use Rattle.draw_values.specs.ReadyValues.{row_draws};
 ghost use Rattle.draw_values.specs.Values.{draws_at, is_own, put_of, size_at, value_at, written};
 
-use crate::fields::{Drawn, Units, chooser_of, put_field};
+use crate::fields::{Drawn, chooser_of, put_field};
 use line_pages::PageBuf;
 use philox_seeds::{column_seed, table_seed, unit_seed};
 use schema_plan::Plan;
@@ -49,7 +49,7 @@ fn drawn_seed(plan: &Plan, table: u32, place: usize, at: RowAt) -> u64
     )
 }
 
-/// Appends a row's field in a column of units, of drawn values or of cases, as it is written. A null field appends nothing. The
+/// Appends a row's field in a column of units, of drawn values, of cases or of entries in turn, as it is written. A null field appends nothing. The
 /// greatest size of the column's fields must be free.
 pub fn put_value(plan: &Plan, table: u32, column: u32, at: RowAt, buf: &mut PageBuf) -> Put
     requires table { table < length plan.now.schema.tables }
@@ -65,10 +65,6 @@ pub fn put_value(plan: &Plan, table: u32, column: u32, at: RowAt, buf: &mut Page
     let columns = plan.columns(table);
     let own = &columns[column as usize];
     let chooser = chooser_of(column as usize, own);
-    let units = Units {
-        born: at.born,
-        changed: at.changed,
-    };
     put_field(
         Drawn {
             column: own,
@@ -78,8 +74,7 @@ pub fn put_value(plan: &Plan, table: u32, column: u32, at: RowAt, buf: &mut Page
             column: &columns[chooser],
             seed: drawn_seed(plan, table, chooser, at),
         },
-        units,
-        at.ordinal,
+        at,
         buf,
     )
 }

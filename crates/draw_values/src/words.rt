@@ -24,7 +24,7 @@ pub(crate) fn put_word(words: &ReadyWords, draw: u64, buf: &mut PageBuf)
 
 /// Appends the word at a place, as it is written. The size of the greatest word must be free.
 #[inline(always)]
-fn put_entry(words: &ReadyWords, place: usize, buf: &mut PageBuf)
+pub(crate) fn put_entry(words: &ReadyWords, place: usize, buf: &mut PageBuf)
     requires place { place < length words.now.entries }
     requires room { length buf.old.text + greatest_by length words.now.entries ≤ buf.old.room }
     ensures text { buf.new ≡ record buf.old { text = buf.old.text ++ slice_index_or words.now.entries place [] } }

@@ -9,7 +9,7 @@ use Rattle.schema_plan.specs.declared.ready.ReadyPart.{ReadyPart}
 use Rattle.schema_plan.specs.declared.ready.ReadyReference.{ReadyReference}
 use Rattle.cohort_sizes.specs.Births.{cohort_size, first_ordinal}
 use Rattle.schema_plan.specs.FieldBounds.{bounds_of}
-use Rattle.schema_plan.specs.Layout.{ColumnLayout, KindLayout, born_kind, case_kind, changed_kind, column_at, key_kind, layout_of, leaf_kind, no_column, reference_kind, template_kind}
+use Rattle.schema_plan.specs.Layout.{ColumnLayout, KindLayout, born_kind, case_kind, changed_kind, column_at, key_kind, layout_of, leaf_kind, list_kind, unit_date_kind, no_column, reference_kind, template_kind}
 use Rattle.schema_plan.specs.Limits.{is_lookup_kind}
 use Rattle.schema_plan.specs.Lineage.{one_if}
 use Rattle.schema_plan.specs.Ready.{ready_column, ready_columns, ready_kind}
@@ -60,6 +60,8 @@ own_from_ready delimiter (leaf_kind leaf) no_lookup no_key no_template no_refere
 own_from_ready delimiter (template_kind parts) no_lookup no_key no_template no_reference = absurd (no_template _ refl)
 own_from_ready delimiter (case_kind on branches) no_lookup no_key no_template no_reference = refl
 own_from_ready delimiter (reference_kind parent window spread nulls) no_lookup no_key no_template no_reference = absurd (no_reference _ refl)
+own_from_ready delimiter (list_kind words) no_lookup no_key no_template no_reference = refl
+own_from_ready delimiter (unit_date_kind changed start step) no_lookup no_key no_template no_reference = refl
 own_from_ready delimiter _ no_lookup no_key no_template no_reference = cc
 
 -- a key is never null

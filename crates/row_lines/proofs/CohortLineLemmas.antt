@@ -7,7 +7,7 @@ use Rattle.std.proofs.lemmas.List.Sums.{sum_by-cons}
 use Rattle.schema_plan.specs.declared.ready.ReadyColumn.{ReadyColumn}
 use Rattle.cohort_sizes.specs.Births.{cohort_size}
 use Rattle.schema_plan.specs.FieldBounds.{bounds_alone, bounds_of, bounds_of_part}
-use Rattle.schema_plan.specs.Layout.{ColumnLayout, KindLayout, PartLayout, TableLayout, born_kind, case_kind, changed_kind, cited_part, column_at, key_kind, layout_of, leaf_kind, literal_part, lookup_kind, reference_kind, template_kind}
+use Rattle.schema_plan.specs.Layout.{ColumnLayout, KindLayout, PartLayout, TableLayout, born_kind, case_kind, changed_kind, cited_part, column_at, key_kind, layout_of, leaf_kind, literal_part, lookup_kind, list_kind, unit_date_kind, reference_kind, template_kind}
 use Rattle.schema_plan.specs.Lineage.{lineages, null_cost_of, null_cost_of_field, null_cost_of_part, one_if}
 use Rattle.schema_plan.specs.Limits.{IsInLimits, IsTableInLimits}
 use Rattle.schema_plan.specs.TableFacts.{line_cost, max_line}
@@ -103,6 +103,8 @@ asked_by-le known delimiter tables table changed_kind = omega arith
 asked_by-le known delimiter tables table (leaf_kind leaf) = omega arith
 asked_by-le known delimiter tables table (case_kind on branches) = omega arith
 asked_by-le known delimiter tables table (reference_kind parent window spread nulls) = omega arith
+asked_by-le known delimiter tables table (list_kind words) = omega arith
+asked_by-le known delimiter tables table (unit_date_kind changed start step) = omega arith
 
 -- a line may ask the permutation of its key, which is its first field, those of its change, and those of its other fields
 line_cost-columns : (asked permutations : ColumnLayout → ℕ) (columns : List ColumnLayout) (scramble : ℕ) → ((column : ColumnLayout) → asked column ≤ permutations column) → 1 ≤ length columns →

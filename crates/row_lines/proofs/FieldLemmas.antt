@@ -1,11 +1,14 @@
 -- What a row holds in a column, and how long it is.
-use Rattle.std.proofs.Common.{◌≡◌, ◌<◌, ◌≤◌, ◌^◌, ℕ, ◌%◌, List, [], ◌++◌, flat_map, unwrap_or, Bool, Option, Some, None, length, codes, decimal, false, true, if◌then◌else◌, nat_lt, refl, ap, sym, ◌∙◌, arith}
+use Rattle.std.proofs.Common.{◌≡◌, ◌<◌, ◌≤◌, ◌^◌, ◌*◌, ◌+ℤ◌, pos, ℕ, ℤ, ◌%◌, List, [], ◌++◌, flat_map, unwrap_or, Bool, Option, Some, None, length, codes, decimal, false, true, if◌then◌else◌, nat_lt, refl, ap, sym, ◌∙◌, arith}
+use Rattle.std.specs.Prelude.{slice_index_or}
 use Rattle.std.proofs.lemmas.Bool.Decides.{nat_tests}
 use Rattle.std.proofs.lemmas.Fmt.{length-decimal-le}
 use Rattle.row_text.specs.Fields.{field_text}
 use Rattle.cohort_sizes.specs.Births.{born_count}
-use Rattle.schema_plan.specs.Layout.{ColumnLayout, KindLayout, LeafLayout, PartLayout, born_kind, case_kind, changed_kind, cited_part, column_at, key_kind, leaf_kind, lookup_kind, reference_kind, table_at, template_kind}
+use Rattle.schema_plan.specs.Layout.{ColumnLayout, KindLayout, LeafLayout, PartLayout, born_kind, case_kind, changed_kind, cited_part, column_at, key_kind, leaf_kind, lookup_kind, list_kind, unit_date_kind, reference_kind, table_at, template_kind}
 use Rattle.schema_plan.specs.Limits.{is_cited, is_lookup_kind}
+use Rattle.dictionaries.specs.WordList.{WordList}
+use Rattle.draw_values.specs.Dates.{date_text}
 use Rattle.draw_values.specs.Values.{Draws, is_own, leaf_value, own_field, own_value, unless_null}
 use Rattle.life_intervals.specs.Generator.{Generator}
 use Rattle.life_intervals.specs.Intervals.{row_at}
@@ -41,6 +44,8 @@ value-in_table generator unit place column row (leaf_kind leaf) no_lookup = refl
 value-in_table generator unit place column row (template_kind parts) no_lookup = refl
 value-in_table generator unit place column row (case_kind on branches) no_lookup = refl
 value-in_table generator unit place column row (reference_kind parent window spread nulls) no_lookup = refl
+value-in_table generator unit place column row (list_kind words) no_lookup = refl
+value-in_table generator unit place column row (unit_date_kind changed start step) no_lookup = refl
 value-in_table generator unit place column row _ no_lookup = cc
 
 pub field-in_table : (generator : Generator) (unit place column : ℕ) (row : Row) → is_lookup_kind (column_at (table_at generator.tables place).columns column).kind ≡ false →
@@ -65,6 +70,8 @@ value-own generator place column row born_kind own = refl
 value-own generator place column row changed_kind own = refl
 value-own generator place column row (leaf_kind leaf) own = refl
 value-own generator place column row (case_kind on branches) own = refl
+value-own generator place column row (list_kind words) own = refl
+value-own generator place column row (unit_date_kind changed start step) own = refl
 value-own generator place column row _ own = cc
 
 pub in_table-own : (generator : Generator) (place column : ℕ) (row : Row) → is_own (column_at (table_at generator.tables place).columns column).kind ≡ true →
@@ -88,6 +95,8 @@ value-cited generator place column row born_kind cited = refl
 value-cited generator place column row changed_kind cited = refl
 value-cited generator place column row (leaf_kind leaf) cited = refl
 value-cited generator place column row (reference_kind parent window spread nulls) cited = refl
+value-cited generator place column row (list_kind words) cited = refl
+value-cited generator place column row (unit_date_kind changed start step) cited = refl
 value-cited generator place column row _ cited = cc
 
 pub in_table-cited : (generator : Generator) (place column : ℕ) (row : Row) → is_cited (column_at (table_at generator.tables place).columns column).kind ≡ true →
@@ -105,6 +114,8 @@ no_lookup-cited (leaf_kind leaf) cited = refl
 no_lookup-cited (template_kind parts) cited = refl
 no_lookup-cited (case_kind on branches) cited = refl
 no_lookup-cited (reference_kind parent window spread nulls) cited = refl
+no_lookup-cited (list_kind words) cited = refl
+no_lookup-cited (unit_date_kind changed start step) cited = refl
 
 field-cited : (generator : Generator) (unit place column : ℕ) (row : Row) → is_cited (column_at (table_at generator.tables place).columns column).kind ≡ true →
     field generator unit place row column ≡ field_alone generator place row column
@@ -141,6 +152,24 @@ pub field-changed : (generator : Generator) (unit place ordinal column : ℕ) �
     ≡ unless_null (column_at (table_at generator.tables place).columns column).null (draws_of generator place (row_at generator place unit ordinal) column)
     (Some (decimal (row_at generator place unit ordinal).changed))
 field-changed generator unit place ordinal column is =
+    let row : Row = row_at generator place unit ordinal in
+    ap (λ (kind : KindLayout). unless_null (column_at (table_at generator.tables place).columns column).null (draws_of generator place row column) (value generator unit place row column kind)) is
+
+-- the date of one of them
+pub field-date : (generator : Generator) (unit place ordinal column : ℕ) (changed : Bool) (start : ℤ) (step : ℕ) → (column_at (table_at generator.tables place).columns column).kind ≡ unit_date_kind changed start step →
+    field generator unit place (row_at generator place unit ordinal) column
+    ≡ unless_null (column_at (table_at generator.tables place).columns column).null (draws_of generator place (row_at generator place unit ordinal) column)
+    (Some (date_text (start +ℤ pos (step * (if changed then (row_at generator place unit ordinal).changed else (row_at generator place unit ordinal).born)))))
+field-date generator unit place ordinal column changed start step is =
+    let row : Row = row_at generator place unit ordinal in
+    ap (λ (kind : KindLayout). unless_null (column_at (table_at generator.tables place).columns column).null (draws_of generator place row column) (value generator unit place row column kind)) is
+
+-- the entry that it takes in turn
+pub field-in_turn : (generator : Generator) (unit place ordinal column : ℕ) (words : WordList) → (column_at (table_at generator.tables place).columns column).kind ≡ list_kind words →
+    field generator unit place (row_at generator place unit ordinal) column
+    ≡ unless_null (column_at (table_at generator.tables place).columns column).null (draws_of generator place (row_at generator place unit ordinal) column)
+    (Some (slice_index_or words.entries (ordinal % length words.entries) []))
+field-in_turn generator unit place ordinal column words is =
     let row : Row = row_at generator place unit ordinal in
     ap (λ (kind : KindLayout). unless_null (column_at (table_at generator.tables place).columns column).null (draws_of generator place row column) (value generator unit place row column kind)) is
 

@@ -4,7 +4,7 @@ use Rattle.std.specs.Option.{option_and_then}
 use Rattle.std.proofs.lemmas.Bool.{false≢true}
 use Rattle.cohort_sizes.specs.Births.{Births, birth, born_count}
 use Rattle.schema_plan.specs.Dictionaries.{Project}
-use Rattle.schema_plan.specs.Layout.{KindLayout, born_kind, case_kind, changed_kind, column_at, key_kind, leaf_kind, lookup_kind, no_table, reference_kind, template_kind}
+use Rattle.schema_plan.specs.Layout.{KindLayout, born_kind, case_kind, changed_kind, column_at, key_kind, leaf_kind, lookup_kind, list_kind, unit_date_kind, no_table, reference_kind, template_kind}
 use Rattle.schema_plan.specs.Limits.{IsCascadeTo, IsInLimits, IsLookup, IsStillColumn, is_lookup_kind}
 use Rattle.schema_plan.specs.References.{IsReferenceInLimits, Reference, reference_at, reference_of}
 use Rattle.life_intervals.specs.Generator.{Generator, generator_of, last_unit, table_of}
@@ -32,6 +32,8 @@ lookup-parts (leaf_kind leaf) is = absurd (false≢true is)
 lookup-parts (template_kind parts) is = absurd (false≢true is)
 lookup-parts (case_kind on branches) is = absurd (false≢true is)
 lookup-parts (reference_kind parent window spread nulls) is = absurd (false≢true is)
+lookup-parts (list_kind words) is = absurd (false≢true is)
+lookup-parts (unit_date_kind changed start step) is = absurd (false≢true is)
 
 -- a reference to a table, with whose row its own is deleted
 cascade-parts : (column parent : ℕ) (kind : KindLayout) → IsCascadeTo parent kind →

@@ -8,7 +8,7 @@ use Rattle.schema_plan.specs.declared.ready.ReadyKind.TheVariants as kind
 use Rattle.schema_plan.specs.declared.ready.ReadyLookup.{ReadyLookup}
 use Rattle.schema_plan.specs.declared.ready.ReadyReference.{ReadyReference}
 use Rattle.schema_plan.specs.FieldBounds.{bounds_at, bounds_in_table, bounds_of}
-use Rattle.schema_plan.specs.Layout.{KindLayout, TableLayout, born_kind, case_kind, changed_kind, column_at, key_kind, layout_of, leaf_kind, lookup_kind, reference_kind, table_at, template_kind}
+use Rattle.schema_plan.specs.Layout.{KindLayout, TableLayout, born_kind, case_kind, changed_kind, column_at, key_kind, layout_of, leaf_kind, lookup_kind, list_kind, unit_date_kind, reference_kind, table_at, template_kind}
 use Rattle.schema_plan.specs.Limits.{IsCascadeTo, IsInLimits, IsLookup, IsLookupInLimits, IsStillColumn, IsTableInLimits, is_lookup_kind, is_moving_kind}
 use Rattle.schema_plan.specs.Lineage.{lineages}
 use Rattle.schema_plan.specs.Ready.{ready_kind, ready_reference}
@@ -51,6 +51,8 @@ bounds_of-in_table delimiter tables table (leaf_kind leaf) no_lookup = refl
 bounds_of-in_table delimiter tables table (template_kind parts) no_lookup = refl
 bounds_of-in_table delimiter tables table (case_kind on branches) no_lookup = refl
 bounds_of-in_table delimiter tables table (reference_kind parent window spread nulls) no_lookup = refl
+bounds_of-in_table delimiter tables table (list_kind words) no_lookup = refl
+bounds_of-in_table delimiter tables table (unit_date_kind changed start step) no_lookup = refl
 bounds_of-in_table delimiter tables table _ no_lookup = cc
 
 -- each has room for a null one
@@ -63,6 +65,8 @@ room_for_null delimiter tables table (template_kind parts) = omega arith
 room_for_null delimiter tables table (case_kind on branches) = omega arith
 room_for_null delimiter tables table (reference_kind parent window spread nulls) = omega arith
 room_for_null delimiter tables table (lookup_kind via parent name) = omega arith
+room_for_null delimiter tables table (list_kind words) = omega arith
+room_for_null delimiter tables table (unit_date_kind changed start step) = omega arith
 
 -- ---- a column that is ready as a lookup
 

@@ -6,7 +6,7 @@ use Rattle.std.proofs.lemmas.List.Elements.{All-head, All-tail}
 use Rattle.std.proofs.lemmas.List.Sums.{sum_by-cons}
 use Rattle.schema_plan.specs.declared.lineage.Lineage.{Lineage}
 use Rattle.schema_plan.specs.Dictionaries.{Project}
-use Rattle.schema_plan.specs.Layout.{ColumnLayout, KindLayout, PartLayout, born_kind, case_kind, changed_kind, cited_part, column_at, key_kind, layout_of, leaf_kind, literal_part, lookup_kind, reference_kind, table_layout, template_kind}
+use Rattle.schema_plan.specs.Layout.{ColumnLayout, KindLayout, PartLayout, born_kind, case_kind, changed_kind, cited_part, column_at, key_kind, layout_of, leaf_kind, literal_part, lookup_kind, list_kind, unit_date_kind, reference_kind, table_layout, template_kind}
 use Rattle.schema_plan.specs.Limits.{CitesStill, IsInLimits, IsStillPart, is_moving_kind}
 use Rattle.schema_plan.specs.Lineage.{endless, lineages, null_cost, null_cost_of, null_cost_of_field, null_cost_of_part}
 use Rattle.schema_plan.specs.References.{IsReferenceInLimits, reference_of}
@@ -43,6 +43,8 @@ module _ (plan : Project) (limits : IsInLimits plan) (place : ℕ) (below : plac
   of_kind (template_kind parts) earlier = refl
   of_kind (case_kind on branches) earlier = refl
   of_kind (lookup_kind via parent column) earlier = refl
+  of_kind (list_kind words) earlier = refl
+  of_kind (unit_date_kind changed start step) earlier = refl
 
   of_column : (column : ℕ) → null_cost_of (take place all) (column_at own column).kind ≡ null_cost_of all (column_at own column).kind
   of_column column =
@@ -65,6 +67,8 @@ module _ (plan : Project) (limits : IsInLimits plan) (place : ℕ) (below : plac
   of_field (leaf_kind leaf) same = same
   of_field (case_kind on branches) same = same
   of_field (lookup_kind via parent column) same = same
+  of_field (list_kind words) same = same
+  of_field (unit_date_kind changed start step) same = same
 
   pub null_cost-fields : null_cost (layout_of plan).tables place ≡ sum_by (λ (column : ColumnLayout). null_cost_of_field all own column.kind) own
   null_cost-fields =
@@ -86,6 +90,8 @@ still-kind lineages (leaf_kind leaf) still = refl
 still-kind lineages (template_kind parts) still = refl
 still-kind lineages (case_kind on branches) still = refl
 still-kind lineages (lookup_kind via parent column) still = refl
+still-kind lineages (list_kind words) still = refl
+still-kind lineages (unit_date_kind changed start step) still = refl
 
 still-part : (lineages : List Lineage) (columns : List ColumnLayout) (part : PartLayout) → IsStillPart columns part → null_cost_of_part lineages columns part ≡ 0
 still-part lineages columns (literal_part bytes) still = refl
@@ -111,3 +117,5 @@ null_cost-still lineages columns changed_kind still cites = refl
 null_cost-still lineages columns (leaf_kind leaf) still cites = refl
 null_cost-still lineages columns (case_kind on branches) still cites = refl
 null_cost-still lineages columns (lookup_kind via parent column) still cites = refl
+null_cost-still lineages columns (list_kind words) still cites = refl
+null_cost-still lineages columns (unit_date_kind changed start step) still cites = refl

@@ -12,7 +12,7 @@ use Rattle.schema_plan.specs.declared.ready.ReadyPart.{ReadyPart}
 use Rattle.schema_plan.specs.declared.ready.ReadyReference.{ReadyReference}
 use Rattle.cohort_sizes.specs.Births.{cohort_size}
 use Rattle.schema_plan.specs.FieldBounds.{bounds_alone, bounds_of, bounds_of_part}
-use Rattle.schema_plan.specs.Layout.{KindLayout, PartLayout, TableLayout, born_kind, changed_kind, cited_part, column_at, key_kind, layout_of, leaf_kind, literal_part, reference_kind, template_kind}
+use Rattle.schema_plan.specs.Layout.{KindLayout, PartLayout, TableLayout, born_kind, changed_kind, cited_part, column_at, key_kind, layout_of, leaf_kind, list_kind, unit_date_kind, literal_part, reference_kind, template_kind}
 use Rattle.schema_plan.specs.Limits.{AreParts, IsKindInLimits, IsPart, is_cited}
 use Rattle.schema_plan.specs.Ready.{ready_kind, ready_part}
 use Rattle.draw_values.specs.CohortValues.{ValuesOf, is_null_for, value_for}
@@ -34,6 +34,8 @@ own_from_cited delimiter born_kind cited no_key no_reference = refl
 own_from_cited delimiter (leaf_kind leaf) cited no_key no_reference = refl
 own_from_cited delimiter changed_kind cited no_key no_reference = refl
 own_from_cited delimiter (reference_kind parent window spread nulls) cited no_key no_reference = absurd (no_reference _ refl)
+own_from_cited delimiter (list_kind words) cited no_key no_reference = refl
+own_from_cited delimiter (unit_date_kind changed start step) cited no_key no_reference = refl
 own_from_cited delimiter _ cited no_key no_reference = cc
 
 -- it takes what its own field takes
@@ -44,6 +46,8 @@ bounds_of-cited delimiter tables table born_kind cited = refl
 bounds_of-cited delimiter tables table changed_kind cited = refl
 bounds_of-cited delimiter tables table (leaf_kind leaf) cited = refl
 bounds_of-cited delimiter tables table (reference_kind parent window spread nulls) cited = refl
+bounds_of-cited delimiter tables table (list_kind words) cited = refl
+bounds_of-cited delimiter tables table (unit_date_kind changed start step) cited = refl
 bounds_of-cited delimiter tables table _ cited = cc
 
 -- a key takes 20 bytes

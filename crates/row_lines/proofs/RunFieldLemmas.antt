@@ -12,7 +12,7 @@ use Rattle.cohort_sizes.specs.Births.{LiesIn, birth, born_count}
 use Rattle.cohort_sizes.proofs.CohortLemmas.{birth-only, cohort-within}
 use Rattle.schema_plan.specs.declared.ready.ReadyReference.{ReadyReference}
 use Rattle.schema_plan.specs.Dictionaries.{Project}
-use Rattle.schema_plan.specs.Layout.{ColumnLayout, KindLayout, born_kind, case_kind, changed_kind, column_at, key_kind, layout_of, leaf_kind, lookup_kind, no_column, reference_kind, table_at, template_kind}
+use Rattle.schema_plan.specs.Layout.{ColumnLayout, KindLayout, born_kind, case_kind, changed_kind, column_at, key_kind, layout_of, leaf_kind, lookup_kind, list_kind, unit_date_kind, no_column, reference_kind, table_at, template_kind}
 use Rattle.schema_plan.specs.FieldBounds.{bounds_of}
 use Rattle.schema_plan.specs.Limits.{IsInLimits, IsTableInLimits, is_lookup_kind}
 use Rattle.schema_plan.specs.Lineage.{one_if}
@@ -78,6 +78,8 @@ own_no_lookup (leaf_kind leaf) own = refl
 own_no_lookup (template_kind parts) own = refl
 own_no_lookup (case_kind on branches) own = refl
 own_no_lookup (reference_kind parent window spread nulls) own = refl
+own_no_lookup (list_kind words) own = refl
+own_no_lookup (unit_date_kind changed start step) own = refl
 
 -- what is known to be short is made of units and of draws
 pub own_from_short : (delimiter : ℕ) (kind : KindLayout) → is_short (ready_kind delimiter kind) ≡ true → is_own kind ≡ true
@@ -85,6 +87,8 @@ own_from_short delimiter born_kind short = refl
 own_from_short delimiter changed_kind short = refl
 own_from_short delimiter (leaf_kind leaf) short = refl
 own_from_short delimiter (case_kind on branches) short = refl
+own_from_short delimiter (list_kind words) short = refl
+own_from_short delimiter (unit_date_kind changed start step) short = refl
 own_from_short delimiter _ short = cc
 
 pub text_at-own : (lines : RunLinesOf) (ordinal column born changed : ℕ) → lines.table < length lines.plan.schema.tables → is_own (column_at (layout_for lines).columns column).kind ≡ true →

@@ -66,6 +66,8 @@ short-drawn plan table column (kind.Template parts) short no_key no_reference no
 short-drawn plan table column (kind.Case on branches) short no_key no_reference no_lookup = short
 short-drawn plan table column (kind.Reference reference) short no_key no_reference no_lookup = absurd (no_reference reference refl)
 short-drawn plan table column (kind.Lookup lookup) short no_key no_reference no_lookup = absurd (no_lookup lookup refl)
+short-drawn plan table column (kind.List list) short no_key no_reference no_lookup = short
+short-drawn plan table column (kind.UnitDate date) short no_key no_reference no_lookup = short
 
 -- ---- what is drawn
 

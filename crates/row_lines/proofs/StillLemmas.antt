@@ -1,14 +1,15 @@
 -- What two forms of a row hold in a column that doesn't move is the same, where they have one birth and the same parents with whom the
 -- row is deleted.
-use Rattle.std.proofs.Common.{◌≡◌, ◌<◌, ◌≤◌, ℕ, ◌-◌, ◌||◌, Bool, true, false, List, [], ◌∷◌, ◌++◌, All, decimal, flat_map, length, Option, Some, unwrap_or, refl, ap, ap₂, sym, ◌∙◌, arith}
+use Rattle.std.proofs.Common.{◌≡◌, ◌<◌, ◌≤◌, ℕ, pos, ◌-◌, ◌*◌, ◌+ℤ◌, ◌||◌, Bool, true, false, List, [], ◌∷◌, ◌++◌, All, decimal, flat_map, length, Option, Some, unwrap_or, refl, ap, ap₂, sym, ◌∙◌, arith}
 use Rattle.std.specs.Option.{option_and_then, option_map}
 use Rattle.std.proofs.lemmas.Bool.{true≢false}
 use Rattle.std.proofs.lemmas.List.Elements.{All-head, All-tail}
 use Rattle.cohort_sizes.specs.Births.{first_ordinal}
-use Rattle.schema_plan.specs.Layout.{ColumnLayout, KindLayout, PartLayout, TableLayout, born_kind, case_kind, changed_kind, cited_part, column_at, key_kind, leaf_kind, literal_part, lookup_kind, reference_kind, table_at, template_kind}
+use Rattle.schema_plan.specs.Layout.{ColumnLayout, KindLayout, PartLayout, TableLayout, born_kind, case_kind, changed_kind, cited_part, column_at, key_kind, leaf_kind, literal_part, lookup_kind, list_kind, unit_date_kind, reference_kind, table_at, template_kind}
 use Rattle.schema_plan.specs.Limits.{CitesStill, IsKindInLimits, IsPart, IsStillPart, IsTableInLimits, is_moving_kind, moves}
 use Rattle.schema_plan.specs.References.{Reference, reference_at, reference_of}
-use Rattle.draw_values.specs.Values.{Draws, branch_at, held_entry, leaf_value, unless_null}
+use Rattle.draw_values.specs.Dates.{date_text}
+use Rattle.draw_values.specs.Values.{Draws, branch_at, entry_in_turn, held_entry, leaf_value, unless_null}
 use Rattle.life_intervals.specs.Generator.{Generator}
 use Rattle.life_intervals.specs.Keys.{key_in_cohort, key_of}
 use Rattle.life_intervals.specs.Rows.{Row}
@@ -53,6 +54,9 @@ module _ (generator : Generator) (place : ℕ) (row later : Row) (units : ℕ) (
       ap₂ (λ (born : ℕ) (held : Option ℕ). option_map (λ (ordinal : ℕ). decimal (key_of generator parent born ordinal)) held) same_born
       (same_parents column (record { column = column; parent = parent; window = window; spread = spread; nulls = nulls }) (ap (reference_of column) is) no_unit)
   still_alone column (lookup_kind via parent name) is still no_unit cites = refl
+  still_alone column (list_kind words) is still no_unit cites = ap (λ (ordinal : ℕ). Some (entry_in_turn words ordinal)) same_ordinal
+  still_alone column (unit_date_kind true start step) is still no_unit cites = absurd (true≢false no_unit)
+  still_alone column (unit_date_kind false start step) is still no_unit cites = ap (λ (born : ℕ). Some (date_text (start +ℤ pos (step * born)))) same_born
 
   still_field_alone : (column : ℕ) → column < length columns → moves (column_at columns column) ≡ false →
       field_alone generator place later column ≡ field_alone generator place row column
@@ -91,6 +95,9 @@ module _ (generator : Generator) (place : ℕ) (row later : Row) (units : ℕ) (
   still_in_table column (reference_kind parent window spread nulls) is within still no_unit cites of =
       still_alone column (reference_kind parent window spread nulls) is still no_unit cites
   still_in_table column (lookup_kind via parent name) is within still no_unit cites of = refl
+  still_in_table column (list_kind words) is within still no_unit cites of = still_alone column (list_kind words) is still no_unit cites
+  still_in_table column (unit_date_kind changed start step) is within still no_unit cites of =
+      still_alone column (unit_date_kind changed start step) is still no_unit cites
 
   pub still_field : (column : ℕ) → column < length columns → moves (column_at columns column) ≡ false →
       field_in_table generator place later column ≡ field_in_table generator place row column

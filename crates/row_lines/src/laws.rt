@@ -4,12 +4,14 @@
 //!
 //! A table is named by its place in the schema, from 0. Units, ordinals and the indices of a cohort's rows count from 0.
 
-ghost use Rattle.std.specs.Prelude.{◌≡◌, ℕ, ◌+◌, ◌<◌, ◌≤◌, ◌++◌, [], List, None, Some, codes, decimal, flat_map, if◌then◌else◌, false, length, true, unwrap_or};
+ghost use Rattle.std.specs.Prelude.{◌≡◌, ℕ, ℤ, pos, ◌+◌, ◌*◌, ◌%◌, ◌+ℤ◌, ◌<◌, ◌≤◌, ◌++◌, [], Bool, List, None, Some, codes, decimal, flat_map, if◌then◌else◌, false, length, slice_index_or, true, unwrap_or};
 ghost use Rattle.std.specs.Option.{option_and_then, option_map};
 ghost use Rattle.row_text.specs.Fields.{field_text, escaped_text};
 ghost use Rattle.cohort_sizes.specs.Births.{born_count, cohort_size, first_ordinal};
-ghost use Rattle.schema_plan.specs.Layout.{LeafLayout, PartLayout, born_kind, changed_kind, cited_part, column_at, key_kind, leaf_kind, literal_part, lookup_kind, table_at, template_kind};
+ghost use Rattle.schema_plan.specs.Layout.{LeafLayout, PartLayout, born_kind, changed_kind, cited_part, column_at, key_kind, leaf_kind, list_kind, literal_part, lookup_kind, table_at, template_kind, unit_date_kind};
 ghost use Rattle.schema_plan.specs.Limits.{is_cited, is_lookup_kind};
+ghost use Rattle.dictionaries.specs.WordList.{WordList};
+ghost use Rattle.draw_values.specs.Dates.{date_text};
 ghost use Rattle.draw_values.specs.Values.{leaf_value, unless_null};
 ghost use Rattle.life_intervals.specs.Generator.{Generator};
 ghost use Rattle.schema_plan.specs.References.{Reference, reference_at};
@@ -64,8 +66,9 @@ pub fn text_so_far_begins_the_text()
 /// - A reference whose fields no draw makes null holds the key of the parent that the row still has. It is null if the row has lost
 ///   the parent.
 /// - A lookup of a living row holds what that parent holds at the unit in the column that is looked up.
-/// - A column of units of birth or of last changes holds the unit. A column of drawn values holds what its draws give. A template
-///   holds its parts, one after the other.
+/// - A column of units of birth or of last changes holds the unit, and one of their dates the day so many steps past the first. A list
+///   holds the entry with the number of the row's ordinal modulo that of the entries. A column of drawn values holds what its draws
+///   give. A template holds its parts, one after the other.
 /// - Draw 0 can make the field of a lookup or of one of these columns null.
 /// - A part of a template is a text or the row's field in the cited column. A null field gives nothing.
 /// - A column that changes takes its draws at the unit of the row's last change. Any other column takes them at the row's birth.
@@ -88,6 +91,18 @@ pub fn fields_of_a_row()
         ≡ unless_null (column_at (table_at generator.tables place).columns column).null
         (draws_of generator place (row_at generator place unit ordinal) column)
         (Some (decimal (row_at generator place unit ordinal).changed)) }
+    ensures date { (generator : Generator) (unit place ordinal column : ℕ) (changed : Bool) (start : ℤ) (step : ℕ) →
+        (column_at (table_at generator.tables place).columns column).kind ≡ unit_date_kind changed start step →
+        field generator unit place (row_at generator place unit ordinal) column
+        ≡ unless_null (column_at (table_at generator.tables place).columns column).null
+        (draws_of generator place (row_at generator place unit ordinal) column)
+        (Some (date_text (start +ℤ pos (step * (if changed then (row_at generator place unit ordinal).changed else (row_at generator place unit ordinal).born))))) }
+    ensures in_turn { (generator : Generator) (unit place ordinal column : ℕ) (words : WordList) →
+        (column_at (table_at generator.tables place).columns column).kind ≡ list_kind words →
+        field generator unit place (row_at generator place unit ordinal) column
+        ≡ unless_null (column_at (table_at generator.tables place).columns column).null
+        (draws_of generator place (row_at generator place unit ordinal) column)
+        (Some (slice_index_or words.entries (ordinal % length words.entries) [])) }
     ensures drawn { (generator : Generator) (unit place ordinal column : ℕ) (leaf : LeafLayout) →
         (column_at (table_at generator.tables place).columns column).kind ≡ leaf_kind leaf →
         field generator unit place (row_at generator place unit ordinal) column

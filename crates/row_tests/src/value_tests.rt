@@ -14,7 +14,7 @@ use schema_plan::{Plan, ReadyKind, ReadyLeaf};
 use std::alloc::Global;
 use std::process::Abort;
 
-/// Tells whether the first table has a column of units or of drawn values at a place.
+/// Tells whether the first table has a column of units, of drawn values or of entries in turn at a place.
 fn is_own_column(plan: &Plan, column: usize) -> bool
     requires { 0 < length plan.now.schema.tables }
     ensures within { OnTrue result (column < length (table_at (layout_of plan.now).tables 0).columns) }
@@ -23,8 +23,12 @@ fn is_own_column(plan: &Plan, column: usize) -> bool
 {
     match plan.columns(0).get(column) {
         Some(ready) => match &ready.kind {
-            ReadyKind::Born | ReadyKind::Changed | ReadyKind::Drawn(_) | ReadyKind::Case { .. } =>
-                true,
+            ReadyKind::Born
+            | ReadyKind::Changed
+            | ReadyKind::Drawn(_)
+            | ReadyKind::Case { .. }
+            | ReadyKind::List(_)
+            | ReadyKind::UnitDate(_) => true,
             _ => false,
         },
         None => false,
@@ -400,6 +404,76 @@ const WORD_ROWS: &[(u64, u64, u64, &str)] = &[
 #[test]
 fn words_of_some_rows(rt: HostRuntime) {
     assert_rows(&rt, rt.alloc(), &[FEW_WITH_BARS, WORDS], WORD_ROWS);
+}
+
+/// Words that the rows take in turn, and dates: of the units of birth, day by day and year by year, and of the units of the last changes.
+const TURNS_AND_DATES: &str = r#"
+column = [
+    { name = "id", kind = "key", base = 1, scramble = true },
+    { name = "turn", kind = "list", file = "n" },
+    { name = "leap", kind = "born_date", start = "2024-02-28" },
+    { name = "year", kind = "born_date", start = "2024-01-31", step = 366 },
+    { name = "month", kind = "changed_date", start = "2024-01-01", step = 31 },
+    { name = "same", kind = "changed_date", start = "0001-01-01", step = 0 },
+    { name = "at_times", kind = "list", file = "n", null = 500 },
+]
+"#;
+
+// By hand: row 3 takes the first of the three words again, whatever its key and its place in its cohort. The last column's draws are those of
+// the Python program.
+const TURN_ROWS: &[(u64, u64, u64, &str)] = &[
+    (
+        0,
+        0,
+        0,
+        "Ann;2024-02-28;2024-01-31;2024-01-01;0001-01-01;\\N;",
+    ),
+    (
+        1,
+        0,
+        2,
+        "Bo;2024-02-28;2024-01-31;2024-03-03;0001-01-01;\\N;",
+    ),
+    (
+        2,
+        0,
+        3,
+        "A\\|b;2024-02-28;2024-01-31;2024-04-03;0001-01-01;A\\|b;",
+    ),
+    (
+        3,
+        0,
+        1,
+        "Ann;2024-02-28;2024-01-31;2024-02-01;0001-01-01;Ann;",
+    ),
+    (
+        4,
+        1,
+        1,
+        "Bo;2024-02-29;2025-01-31;2024-02-01;0001-01-01;Bo;",
+    ),
+    (
+        7,
+        2,
+        3,
+        "Bo;2024-03-01;2026-02-01;2024-04-03;0001-01-01;\\N;",
+    ),
+    (
+        13,
+        5,
+        5,
+        "Bo;2024-03-04;2029-02-03;2024-06-04;0001-01-01;\\N;",
+    ),
+];
+
+#[test]
+fn turns_and_dates_of_some_rows(rt: HostRuntime) {
+    assert_rows(
+        &rt,
+        rt.alloc(),
+        &[FEW_WITH_BARS, TURNS_AND_DATES],
+        TURN_ROWS,
+    );
 }
 
 /// Of the numbers of a range in steps, each draw chooses the one with its text.

@@ -1,9 +1,10 @@
 -- Columns that pass the tests of the rules are within their limits.
-use Rattle.std.proofs.Common.{◌≡◌, ◌∙◌, ℕ, ℤ, pos, ◌<◌, ◌≤◌, ◌&&◌, ◌||◌, not, zero, suc, ◌∷◌, All, Bool, true, false, List, [], length, map, get_or, nat_le, nat_lt, int_le, Some, refl, sym, ap, subst, arith}
+use Rattle.std.proofs.Common.{◌≡◌, ◌∙◌, ℕ, ℤ, pos, neg_ℤ, ◌*◌, ◌+ℤ◌, ◌<◌, ◌≤◌, ◌&&◌, ◌||◌, not, zero, suc, ◌∷◌, All, Bool, true, false, List, [], length, map, get_or, nat_le, nat_lt, int_le, Some, refl, sym, ap, subst, arith}
 use Rattle.std.specs.List.{list_all}
 use Rattle.std.specs.Ordering.{int_eq}
 use Rattle.std.proofs.lemmas.Bool.{and_parts, eqb-true, leb-true, ltb-true}
 use Rattle.std.proofs.lemmas.Bool.Decides.{Decides-int_eq}
+use Rattle.std.proofs.lemmas.Int.{ints}
 use Rattle.std.proofs.lemmas.List.{get_or-map, length-map}
 use Rattle.schema_model.specs.declared.table.Table.{Table}
 use Rattle.schema_model.specs.declared.column.Column.{Column}
@@ -17,12 +18,12 @@ use Rattle.schema_plan.specs.Citations.{leaves_of}
 use Rattle.schema_plan.specs.Counts.{count}
 use Rattle.schema_plan.specs.Dictionaries.{AreWordLists, Dictionary, Project}
 use Rattle.schema_plan.specs.Layout.{ColumnLayout, column_at, column_layout, kind_layout, leaf_layout, no_column, part_layout, place_of_column}
-use Rattle.schema_plan.specs.Limits.{AreParts, CitesStill, IsCase, IsKindInLimits, IsLeafInLimits, IsPart, IsPickOf, IsStillPart, can_change, is_cited, is_moving_kind as is_moving_layout, moves}
+use Rattle.schema_plan.specs.Limits.{AreParts, CitesStill, IsCase, IsDateRange, IsKindInLimits, IsUnitDateInLimits, IsLeafInLimits, IsPart, IsPickOf, IsStillPart, can_change, is_cited, is_moving_kind as is_moving_layout, moves}
 use Rattle.schema_plan.specs.References.{Reference, reference_of}
-use Rattle.schema_plan.specs.Rules.{are_supplied, is_redrawn_at, cites_still, is_between, is_case, is_change, is_citable, is_date_range, is_key_in_range, is_length_range, is_moving_kind, is_null_share, is_number_range, is_part, is_pick_of, is_skew_range, is_spread, is_still_kind, is_still_part, is_template, is_weighted, kind_at, may_be_redrawn, moves_at, null_at}
-use Rattle.schema_check.proofs.FromTests.{limit_from_test, passes_each}
-use Rattle.schema_check.proofs.LeafLimits.{leaf_in_limits, leaves_in_limits}
-use Rattle.schema_check.proofs.ReferenceLimits.{spread_from_test}
+use Rattle.schema_plan.specs.Rules.{are_supplied, are_unit_days, is_supplied_kind, is_unit_date, is_redrawn_at, cites_still, is_between, is_case, is_change, is_citable, is_date_range, is_key_in_range, is_length_range, is_moving_kind, is_null_share, is_number_range, is_part, is_pick_of, is_skew_range, is_spread, is_still_kind, is_still_part, is_template, is_weighted, kind_at, may_be_redrawn, moves_at, null_at}
+use Rattle.schema_check.proofs.FromTests.{le_from_test, limit_from_test, passes_each}
+use Rattle.schema_check.proofs.LeafLimits.{leaf_in_limits, leaves_in_limits, words_supplied}
+use Rattle.schema_check.proofs.ReferenceLimits.{asked_units, spread_from_test}
 
 -- ---- the layout of a column
 
@@ -95,7 +96,7 @@ case_from_test dictionaries tables columns place within on branches h each =
 
 -- ---- a column by its kind
 
-pub kind_in_limits : (project : Project) → AreWordLists project.dictionaries → (tables : List Table) (columns : List Column) (place : ℕ) → place ≤ length columns → (kind : Kind) → list_all (are_supplied project) (leaves_of kind) ≡ true → list_all is_number_range (leaves_of kind) ≡ true → list_all is_date_range (leaves_of kind) ≡ true → list_all is_weighted (leaves_of kind) ≡ true → list_all is_skew_range (leaves_of kind) ≡ true → list_all is_length_range (leaves_of kind) ≡ true → is_template columns place kind ≡ true → is_case columns place kind ≡ true → is_spread kind ≡ true → IsKindInLimits (columns_layout project.dictionaries tables columns) place (kind_layout project.dictionaries tables columns kind)
+pub kind_in_limits : (project : Project) → AreWordLists project.dictionaries → (tables : List Table) (columns : List Column) (place : ℕ) → place ≤ length columns → (kind : Kind) → is_supplied_kind project kind ≡ true → list_all is_number_range (leaves_of kind) ≡ true → list_all is_date_range (leaves_of kind) ≡ true → list_all is_weighted (leaves_of kind) ≡ true → list_all is_skew_range (leaves_of kind) ≡ true → list_all is_length_range (leaves_of kind) ≡ true → is_template columns place kind ≡ true → is_case columns place kind ≡ true → is_spread kind ≡ true → IsKindInLimits (columns_layout project.dictionaries tables columns) place (kind_layout project.dictionaries tables columns kind)
 kind_in_limits project lists tables columns place within (kind.Leaf leaf) supplied numbers dates picks skews lengths parts case spread =
     leaf_in_limits project lists leaf
     ((and_parts (are_supplied project leaf) true supplied).0)
@@ -109,7 +110,27 @@ kind_in_limits project lists tables columns place within (kind.Template of) supp
 kind_in_limits project lists tables columns place within (kind.Case on branches) supplied numbers dates picks skews lengths parts case spread =
     case_from_test project.dictionaries tables columns place within on branches case (leaves_in_limits project lists branches supplied numbers dates picks skews lengths)
 kind_in_limits project lists tables columns place within (kind.Ref table window weights on_delete) supplied numbers dates picks skews lengths parts case spread = spread_from_test weights spread
+kind_in_limits project lists tables columns place within (kind.List file) supplied numbers dates picks skews lengths parts case spread = words_supplied project lists file supplied
 kind_in_limits project lists tables columns place within _ supplied numbers dates picks skews lengths parts case spread = tt
+
+-- ---- the dates of units
+
+days_from_test : (units start step : ℤ) → count units ≤ 10000 → are_unit_days units start step ≡ true → IsDateRange start (start +ℤ pos (count step * count units))
+days_from_test units start step few h =
+    let last = int_le (start +ℤ pos (count step * count units)) (pos 2932896) in
+    let v = and_parts (int_le (neg_ℤ (pos 719162)) start && is_between 0 3660 step) (nat_lt 10000 (count units) || last) h in
+    let w = and_parts (int_le (neg_ℤ (pos 719162)) start) (is_between 0 3660 step) v.0 in
+    record {
+      first_day = le_from_test (neg_ℤ (pos 719162)) start w.0;
+      ordered = omega (arith, ints);
+      last_day = le_from_test (start +ℤ pos (count step * count units)) (pos 2932896) (asked_units (count units) last few v.1);
+    }
+
+pub unit_date_from_test : (dictionaries : List Dictionary) (tables : List Table) (columns : List Column) (units : ℤ) → count units ≤ 10000 → (kind : Kind) → is_unit_date units kind ≡ true →
+    IsUnitDateInLimits (count units) (kind_layout dictionaries tables columns kind)
+unit_date_from_test dictionaries tables columns units few (kind.BornDate start step) h = days_from_test units start step few h
+unit_date_from_test dictionaries tables columns units few (kind.ChangedDate start step) h = days_from_test units start step few h
+unit_date_from_test dictionaries tables columns units few _ h = tt
 
 -- ---- columns that change
 
@@ -126,6 +147,7 @@ can_change-layout dictionaries tables columns _ = refl
 
 is_moving_kind-layout : (dictionaries : List Dictionary) (tables : List Table) (columns : List Column) (kind : Kind) → is_moving_layout (kind_layout dictionaries tables columns kind) ≡ is_moving_kind kind
 is_moving_kind-layout dictionaries tables columns kind.Changed = refl
+is_moving_kind-layout dictionaries tables columns (kind.ChangedDate start step) = refl
 is_moving_kind-layout dictionaries tables columns (kind.Ref table window spread on_delete) = refl
 is_moving_kind-layout dictionaries tables columns _ = refl
 
@@ -205,3 +227,6 @@ null_limit (kind.Leaf leaf) null h = share_from_test null h
 null_limit (kind.Template parts) null h = share_from_test null h
 null_limit (kind.Case on branches) null h = share_from_test null h
 null_limit (kind.Lookup via column) null h = share_from_test null h
+null_limit (kind.List file) null h = share_from_test null h
+null_limit (kind.BornDate start step) null h = share_from_test null h
+null_limit (kind.ChangedDate start step) null h = share_from_test null h

@@ -119,11 +119,13 @@ list_found test (d ∷ dictionaries) lists h =
     of_test true h later = lists 0 d (omega arith)
     of_test false h later = later h
 
-words_from_test : (project : Project) → AreWordLists project.dictionaries → (name : List ℕ) → (is_supplied project name && true) ≡ true → IsWordList (words_named project.dictionaries name)
-words_from_test project lists name h =
-    let supplied = (and_parts (is_supplied project name) true h).0 in
+pub words_supplied : (project : Project) → AreWordLists project.dictionaries → (name : List ℕ) → is_supplied project name ≡ true → IsWordList (words_named project.dictionaries name)
+words_supplied project lists name supplied =
     let there = (and_parts (may_cite (cited_names project.schema.tables) name) (is_some (dictionary_named project.dictionaries name)) supplied).1 in
     list_found (λ (d : Dictionary). same_text d.name name) project.dictionaries lists there
+
+words_from_test : (project : Project) → AreWordLists project.dictionaries → (name : List ℕ) → (is_supplied project name && true) ≡ true → IsWordList (words_named project.dictionaries name)
+words_from_test project lists name h = words_supplied project lists name (and_parts (is_supplied project name) true h).0
 
 pub leaf_in_limits : (project : Project) → AreWordLists project.dictionaries → (leaf : Leaf) → are_supplied project leaf ≡ true → is_number_range leaf ≡ true → is_date_range leaf ≡ true → is_weighted leaf ≡ true → is_skew_range leaf ≡ true → is_length_range leaf ≡ true → IsLeafInLimits (leaf_layout project.dictionaries leaf)
 leaf_in_limits project lists (drawn.Int lo hi step) supplied numbers dates picks skews lengths =

@@ -2,15 +2,15 @@
 
 ghost use Rattle.std.specs.Prelude.{◌≡◌, IfOk, is_some};
 ghost use Rattle.std.specs.List.{list_all, list_any};
-ghost use Rattle.schema_plan.specs.Citations.{cited_names, may_cite, may_cite_all};
+ghost use Rattle.schema_plan.specs.Citations.{cited_names, may_cite, may_cite_all, may_cite_of_kind};
 ghost use Rattle.schema_plan.specs.Dictionaries.{dictionary_named};
 ghost use Rattle.schema_plan.specs.Names.{same_text};
-ghost use Rattle.schema_plan.specs.Rules.{are_supplied, is_supplied};
+ghost use Rattle.schema_plan.specs.Rules.{are_supplied, is_supplied, is_supplied_kind};
 
 use crate::candidate::Candidate;
 use crate::leaf_rules::leaves_of;
 use out_of_memory::Memory;
-use schema_model::{Column, Leaf, Schema, Table, Text, Texts};
+use schema_model::{Column, Kind, Leaf, Schema, Table, Text, Texts};
 use std::alloc::Global;
 use std::marker::Model;
 
@@ -40,7 +40,7 @@ impl<'a> Model for CitedNames<'a> {
 impl<'a> CitedNames<'a> {
     ghost use Rattle.std.specs.Prelude.{◌≡◌, ℕ, ◌<◌, List, [], ◌∷◌, ◌++◌, flat_map, length, map, take};
     ghost use Rattle.std.specs.List.{fold};
-    ghost use Rattle.schema_plan.specs.Citations.{cited_names, has_name, leaves_of, names_in_columns, names_in_leaf, with_name};
+    ghost use Rattle.schema_plan.specs.Citations.{cited_names, has_name, names_in_columns, names_in_kind, names_in_leaf, with_name};
 
     /// Returns no names.
     fn none() -> CitedNames<'a>
@@ -91,9 +91,20 @@ impl<'a> CitedNames<'a> {
     /// Adds the names that a column cites.
     fn add_column(&mut self, column: &'a Column)
         ensures { (before : List (List ℕ)) → self.old ≡ take 64 before →
-            self.new ≡ take 64 (fold with_name before (flat_map names_in_leaf (leaves_of column.now.kind))) }
+            self.new ≡ take 64 (fold with_name before (names_in_kind column.now.kind)) }
     {
-        for leaf in leaves_of(&column.kind) {
+        match &column.kind {
+            Kind::List { file } => self.add(file.as_str()),
+            kind => self.add_leaves(leaves_of(kind)),
+        }
+    }
+
+    /// Adds the names that some drawn values cite.
+    fn add_leaves(&mut self, leaves: &'a [Leaf])
+        ensures { (before : List (List ℕ)) → self.old ≡ take 64 before →
+            self.new ≡ take 64 (fold with_name before (flat_map names_in_leaf leaves.now)) }
+    {
+        for leaf in leaves {
             self.add_leaf(leaf);
         }
     }
@@ -143,8 +154,18 @@ fn is_among(names: &[&str], name: &str) -> bool
     names.iter().any(|other| *other == name)
 }
 
-/// Whether some drawn values cite only names of 1 to 255 bytes that are among the first ones.
-pub(crate) fn are_citable(names: &CitedNames<'_>, leaves: &[Leaf]) -> bool
+/// Whether a column of this kind cites only names of 1 to 255 bytes that are among the first ones.
+pub(crate) fn is_citable_kind(names: &CitedNames<'_>, kind: &Kind) -> bool
+    ensures { result ≡ may_cite_of_kind names.now kind.now }
+{
+    match kind {
+        Kind::List { file } => is_citable(names, file),
+        _ => are_citable(names, leaves_of(kind)),
+    }
+}
+
+/// Whether some drawn values cite only such names.
+fn are_citable(names: &CitedNames<'_>, leaves: &[Leaf]) -> bool
     ensures { result ≡ list_all (may_cite_all names.now) leaves.now }
 {
     leaves.iter().all(|leaf| is_citable_leaf(names, leaf))
@@ -165,8 +186,18 @@ fn is_citable(names: &CitedNames<'_>, name: &Text) -> bool
     1 <= name.len() && name.len() <= MAX_LEN && names.has(name.as_str())
 }
 
-/// Whether some drawn values cite only names that can be cited and have a dictionary.
-pub(crate) fn are_supplied(candidate: &Candidate<'_>, leaves: &[Leaf]) -> bool
+/// Whether a column of this kind cites only names that can be cited and have a dictionary.
+pub(crate) fn is_supplied_kind(candidate: &Candidate<'_>, kind: &Kind) -> bool
+    ensures { result ≡ is_supplied_kind candidate.now kind.now }
+{
+    match kind {
+        Kind::List { file } => is_supplied(candidate, file),
+        _ => are_supplied(candidate, leaves_of(kind)),
+    }
+}
+
+/// Whether some drawn values cite only such names.
+fn are_supplied(candidate: &Candidate<'_>, leaves: &[Leaf]) -> bool
     ensures { result ≡ list_all (are_supplied candidate.now) leaves.now }
 {
     leaves.iter().all(|leaf| is_supplied_leaf(candidate, leaf))

@@ -134,13 +134,13 @@ pub(crate) fn moves(column: &Column) -> bool
     column.changes || is_moving_kind(&column.kind)
 }
 
-/// Whether the fields of a kind move though they aren't drawn anew. These are the unit of a row's last change, and a reference that
-/// becomes null.
+/// Whether the fields of a kind move though they aren't drawn anew. These are the unit of a row's last change, its date, and a
+/// reference that becomes null.
 fn is_moving_kind(kind: &Kind) -> bool
     ensures { result ≡ is_moving_kind kind.now }
 {
     match kind {
-        Kind::Changed => true,
+        Kind::Changed | Kind::ChangedDate { .. } => true,
         Kind::Ref { on_delete, .. } => becomes_null(*on_delete),
         _ => false,
     }
@@ -153,7 +153,7 @@ pub(crate) fn is_change(column: &Column) -> bool
     !column.changes || may_change(&column.kind)
 }
 
-/// Whether the fields of a kind can be drawn anew when a row changes. Keys, units and fields that follow from other rows can't.
+/// Whether the fields of a kind can be drawn anew when a row changes. Keys, units, lists and fields that follow from other rows can't.
 fn may_change(kind: &Kind) -> bool
     ensures { result ≡ may_be_redrawn kind.now }
 {

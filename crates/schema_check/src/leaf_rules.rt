@@ -16,10 +16,10 @@ use std::slice;
 const MAX_DECIMALS: i64 = 9;
 
 /// The day 0001-01-01, where day 0 is 1970-01-01.
-const FIRST_DAY: i32 = -719_162;
+pub(crate) const FIRST_DAY: i32 = -719_162;
 
 /// The day 9999-12-31, where day 0 is 1970-01-01.
-const LAST_DAY: i32 = 2_932_896;
+pub(crate) const LAST_DAY: i32 = 2_932_896;
 
 /// The most entries of a pick.
 const MAX_ENTRIES: usize = 256;

@@ -15,6 +15,7 @@ mod names;
 mod phase_rules;
 mod reference_rules;
 mod rules;
+mod unit_date_rules;
 
 pub use checker::{CheckFault, check, citations};
 pub use leaf_rules::is_range;

@@ -8,7 +8,7 @@ ghost use Rattle.schema_plan.specs.Rules.{break_in_table, first_break, first_bro
 ghost use Rattle.schema_plan.specs.Sites.{columns_at, IsSiteOf};
 
 use crate::candidate::Candidate;
-use crate::cited_names::{are_citable, are_supplied};
+use crate::cited_names::{is_citable_kind, is_supplied_kind};
 use crate::column_rules::{cites_still, is_case, is_change, is_null_share, is_template};
 use crate::leaf_rules::{
     are_date_ranges, are_length_ranges, are_number_ranges, are_skew_ranges, are_weighted, leaves_of,
@@ -17,6 +17,7 @@ use crate::lookup_rules::is_lookup;
 use crate::names::is_name;
 use crate::phase_rules::is_row_count;
 use crate::reference_rules::{has_parents, is_spread, is_target, is_window};
+use crate::unit_date_rules::is_unit_date;
 use schema_model::{Column, Kind, Life, Schema, Table, Text};
 use schema_plan::{Broken, MAX_ITEMS, Rule, Site, TableFacts};
 
@@ -39,7 +40,7 @@ const MAX_COST: u64 = 4_096;
 const MAX_LINE: u64 = 65_536;
 
 /// The rules in the order in which they are tried.
-const ORDER: [Rule; 25] = [
+const ORDER: [Rule; 26] = [
     Rule::Dictionaries,
     Rule::SeedAndUnits,
     Rule::TableCount,
@@ -65,6 +66,7 @@ const ORDER: [Rule; 25] = [
     Rule::RowCost,
     Rule::LineSize,
     Rule::ChangesAndNulls,
+    Rule::UnitDates,
 ];
 
 /// Returns the first rule that a schema breaks with its dictionaries, at its first site. The whole schema comes before the tables, and
@@ -168,8 +170,8 @@ fn holds_of_column(rule: Rule, candidate: &Candidate<'_>, table: usize, column: 
     let columns = columns_at(schema, table);
     let leaves = leaves_of(&columns[column].kind);
     match rule {
-        Rule::Dictionaries => are_supplied(candidate, leaves),
-        Rule::CitedNames => are_citable(candidate.names(), leaves),
+        Rule::Dictionaries => is_supplied_kind(candidate, &columns[column].kind),
+        Rule::CitedNames => is_citable_kind(candidate.names(), &columns[column].kind),
         Rule::Columns => is_new_column(columns, column),
         Rule::KeyColumn => is_key_first(column, &columns[column].kind),
         Rule::NumberRange => are_number_ranges(leaves),
@@ -186,6 +188,7 @@ fn holds_of_column(rule: Rule, candidate: &Candidate<'_>, table: usize, column: 
         Rule::SpreadWeights => is_spread(&columns[column].kind),
         Rule::LookupColumns => is_lookup(schema.tables.as_slice(), columns, column),
         Rule::ChangesAndNulls => is_null_share(&columns[column]) && is_change(&columns[column]),
+        Rule::UnitDates => is_unit_date(schema.units, &columns[column].kind),
         _ => true,
     }
 }

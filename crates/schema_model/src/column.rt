@@ -64,6 +64,20 @@ pub enum Kind {
         via: Text,
         column: Text,
     },
+    /// An entry of the dictionary of this name: the rows take the entries in turn, and begin again after the last.
+    List {
+        file: Text,
+    },
+    /// The date of the unit of the row's birth. Unit 0 is the day `start`, and each unit is `step` days after the one before.
+    BornDate {
+        start: i32,
+        step: i64,
+    },
+    /// The same of the unit of the row's last change, or of its birth.
+    ChangedDate {
+        start: i32,
+        step: i64,
+    },
 }
 
 impl Drop for Kind {
@@ -74,7 +88,9 @@ impl Drop for Kind {
                 scramble: _,
             }
             | Kind::Born
-            | Kind::Changed => {}
+            | Kind::Changed
+            | Kind::BornDate { start: _, step: _ }
+            | Kind::ChangedDate { start: _, step: _ } => {}
             Kind::Leaf(leaf) => drop(leaf),
             Kind::Template { parts } => drop(parts),
             Kind::Case { on, branches } => {
@@ -94,6 +110,7 @@ impl Drop for Kind {
                 drop(via);
                 drop(column);
             }
+            Kind::List { file } => drop(file),
         }
     }
 }

@@ -15,7 +15,7 @@ use Rattle.schema_model.specs.declared.column.Window.{Window}
 use Rattle.schema_plan.specs.declared.layout.Span.{Span}
 use Rattle.schema_plan.specs.declared.lineage.Lineage.{Lineage}
 use Rattle.schema_plan.specs.Capped.{capped, capped_lineage}
-use Rattle.schema_plan.specs.Layout.{PartLayout, literal_part, cited_part, KindLayout, key_kind, born_kind, changed_kind, leaf_kind, template_kind, case_kind, reference_kind, lookup_kind, TableLayout, ColumnLayout, no_table, column_at, table_at, column_layout, kind_layout, place_of_table, table_layout, window_layout}
+use Rattle.schema_plan.specs.Layout.{PartLayout, literal_part, cited_part, KindLayout, key_kind, born_kind, changed_kind, leaf_kind, template_kind, case_kind, reference_kind, lookup_kind, list_kind, unit_date_kind, TableLayout, ColumnLayout, no_table, column_at, table_at, column_layout, kind_layout, place_of_table, table_layout, window_layout}
 use Rattle.schema_plan.specs.Lineage.{endless, lineage_at, lineage_of, lineages, null_cost_of, null_cost_of_field, null_cost_of_line, null_cost_of_part, own_lineage, with_kind, with_loss, with_parent}
 use Rattle.schema_plan.specs.Dictionaries.{Dictionary}
 use Rattle.schema_plan.proofs.Capping.{capped_sum-same}
@@ -107,6 +107,8 @@ null_cost_of-capped given (leaf_kind leaf) = refl
 null_cost_of-capped given (template_kind parts) = refl
 null_cost_of-capped given (case_kind on branches) = refl
 null_cost_of-capped given (lookup_kind via parent column) = refl
+null_cost_of-capped given (list_kind words) = refl
+null_cost_of-capped given (unit_date_kind changed start step) = refl
 
 null_cost_of_part-capped : (given : List Lineage) (columns : List ColumnLayout) (part : PartLayout) → capped (null_cost_of_part (map capped_lineage given) columns part) ≡ capped (null_cost_of_part given columns part)
 null_cost_of_part-capped given columns (literal_part bytes) = refl
@@ -125,6 +127,8 @@ null_cost_of_field-capped given columns changed_kind = refl
 null_cost_of_field-capped given columns (leaf_kind leaf) = refl
 null_cost_of_field-capped given columns (case_kind on branches) = refl
 null_cost_of_field-capped given columns (lookup_kind via parent column) = refl
+null_cost_of_field-capped given columns (list_kind words) = refl
+null_cost_of_field-capped given columns (unit_date_kind changed start step) = refl
 
 null_cost_of_line-capped : (given : List Lineage) (columns : List ColumnLayout) → capped (null_cost_of_line (map capped_lineage given) columns) ≡ capped (null_cost_of_line given columns)
 null_cost_of_line-capped given columns =

@@ -15,7 +15,7 @@ use Rattle.schema_plan.specs.Counts.{count}
 use Rattle.schema_plan.specs.Delimiters.{delimiter_byte}
 use Rattle.schema_plan.specs.Dictionaries.{Dictionary, Project}
 use Rattle.schema_plan.specs.Layout.{ColumnLayout, TableLayout, column_at, column_layout, kind_layout, layout_of, leaf_layout, no_column, no_table, table_at, table_layout, table_layouts}
-use Rattle.schema_plan.specs.Limits.{CanBeReady, IsInLimits, IsKindInLimits, IsLeafInLimits, IsSpreadOf, IsTableInLimits}
+use Rattle.schema_plan.specs.Limits.{CanBeReady, IsInLimits, IsKindInLimits, IsLeafInLimits, IsListOf, IsSpreadOf, IsTableInLimits}
 use Rattle.schema_plan.specs.Ready.{ready_column, ready_columns}
 use Rattle.schema_plan.proofs.FactsLemmas.{table_at-is}
 use Rattle.schema_plan.proofs.Lists.{map-map}
@@ -35,6 +35,10 @@ spread_in_limits : (dictionaries : List Dictionary) (tables : List Table) (colum
 spread_in_limits dictionaries tables columns layouts place (kind.Ref table window spread on_delete) h = h
 spread_in_limits dictionaries tables columns layouts place _ h = tt
 
+list_in_limits : (dictionaries : List Dictionary) (tables : List Table) (columns : List Column) (layouts : List ColumnLayout) (place : ℕ) (kind : Kind) → IsKindInLimits layouts place (kind_layout dictionaries tables columns kind) → IsListOf dictionaries kind
+list_in_limits dictionaries tables columns layouts place (kind.List file) h = h
+list_in_limits dictionaries tables columns layouts place _ h = tt
+
 -- the columns of a table of a schema within its limits
 pub columns_in_limits : (project : Project) (place : ℕ) (table : Table) → IsInLimits project → place < length project.schema.tables → table ≡ get_or project.schema.tables place table → All (λ (column : Column). CanBeReady project.dictionaries column.kind) table.columns
 columns_in_limits project place table limits within is = λ i d h.
@@ -52,6 +56,7 @@ columns_in_limits project place table limits within is = λ i d h.
     record {
       drawn = leaves_in_limits dictionaries tables table.columns layouts i kind within_limits;
       spread = spread_in_limits dictionaries tables table.columns layouts i kind within_limits;
+      listed = list_in_limits dictionaries tables table.columns layouts i kind within_limits;
     }
 
 -- ---- columns

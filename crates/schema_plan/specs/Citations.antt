@@ -21,9 +21,14 @@ leaves_of (kind.Leaf leaf) = leaf ∷ []
 leaves_of (kind.Case on branches) = branches
 leaves_of _ = []
 
+-- the dictionaries that a column cites: the one of a list, or those of what is drawn for it
+abbrev pub names_in_kind : Kind → List (List ℕ)
+names_in_kind (kind.List file) = file ∷ []
+names_in_kind held = flat_map names_in_leaf (leaves_of held)
+
 -- the dictionaries that the columns of a table cite, in order, a name for each citation
 abbrev pub names_in_columns : List Column → List (List ℕ)
-names_in_columns columns = flat_map (λ (column : Column). flat_map names_in_leaf (leaves_of column.kind)) columns
+names_in_columns columns = flat_map (λ (column : Column). names_in_kind column.kind) columns
 
 -- the dictionaries that tables cite, in order, a name for each citation
 abbrev pub names_in_tables : List Table → List (List ℕ)
@@ -52,3 +57,8 @@ may_cite names name = nat_le 1 (length name) && nat_le (length name) 255 && has_
 -- whether all that a drawn value cites may be cited
 abbrev pub may_cite_all : List (List ℕ) → Leaf → Bool
 may_cite_all names leaf = list_all (may_cite names) (names_in_leaf leaf)
+
+-- whether all that a column cites may be cited
+abbrev pub may_cite_of_kind : List (List ℕ) → Kind → Bool
+may_cite_of_kind names (kind.List file) = may_cite names file
+may_cite_of_kind names held = list_all (may_cite_all names) (leaves_of held)

@@ -5,7 +5,7 @@ use Rattle.std.specs.Str.{chars}
 use Rattle.dictionaries.specs.WordList.{WordList}
 use Rattle.row_text.specs.Fields.{escaped_text}
 use Rattle.schema_plan.specs.declared.field_bounds.FieldBounds.{FieldBounds}
-use Rattle.schema_plan.specs.Layout.{LeafLayout, int_leaf, fixed_leaf, date_leaf, pick_leaf, skew_leaf, dict_leaf, words_leaf, chars_leaf, uuid_leaf, PartLayout, literal_part, cited_part, KindLayout, key_kind, born_kind, changed_kind, leaf_kind, template_kind, case_kind, reference_kind, lookup_kind, ColumnLayout, TableLayout, table_at, column_at}
+use Rattle.schema_plan.specs.Layout.{LeafLayout, int_leaf, fixed_leaf, date_leaf, pick_leaf, skew_leaf, dict_leaf, words_leaf, chars_leaf, uuid_leaf, PartLayout, literal_part, cited_part, KindLayout, key_kind, born_kind, changed_kind, leaf_kind, template_kind, case_kind, reference_kind, lookup_kind, ColumnLayout, TableLayout, table_at, column_at, list_kind, unit_date_kind}
 use Rattle.schema_plan.specs.Lineage.{one_if}
 
 -- the greatest of a number for each item, 0 where there is no item
@@ -56,6 +56,8 @@ bounds_alone delimiter tables table (case_kind on branches) = bounds (greatest_b
 bounds_alone delimiter tables table (reference_kind parent window spread nulls) =
     bounds 20 (1 + one_if (table_at tables parent).key.scramble)
 bounds_alone delimiter tables table (lookup_kind via parent column) = of_cited
+bounds_alone delimiter tables table (list_kind words) = bounds (entry_size delimiter words) 0
+bounds_alone delimiter tables table (unit_date_kind changed start step) = bounds 10 0
 
 -- what a part of a template takes; a cited column counts once for each part that cites it
 abbrev pub bounds_of_part : ℕ → List TableLayout → TableLayout → PartLayout → FieldBounds

@@ -49,7 +49,9 @@ pub data PartLayout : Type 0 where
 
 -- what a column holds. A case has the place of its pick column; a reference the place of its parent's table, the units by which
 -- a parent may be older (None: any), its spread, and whether it becomes null where the parent is deleted; a lookup the places of its
--- reference column, of that one's parent and of the parent's column
+-- reference column, of that one's parent and of the parent's column; a list the words that its rows take in turn;
+-- a date of units whether it goes by the unit of the row's last change, not by that of its birth, the day of unit 0, and the days from one
+-- unit to the next
 pub data KindLayout : Type 0 where
   key_kind : KindLayout
   born_kind : KindLayout
@@ -59,6 +61,8 @@ pub data KindLayout : Type 0 where
   case_kind : ℕ → List LeafLayout → KindLayout
   reference_kind : ℕ → Option ℕ → List ℕ → Bool → KindLayout
   lookup_kind : ℕ → ℕ → ℕ → KindLayout
+  list_kind : WordList → KindLayout
+  unit_date_kind : Bool → ℤ → ℕ → KindLayout
 
 -- a column: what it holds, whether it is drawn anew where a row changes, and how many of a thousand fields are null
 pub record ColumnLayout : Type 0 where
@@ -172,6 +176,9 @@ kind_layout dictionaries tables columns (kind.Ref table window spread on_delete)
 kind_layout dictionaries tables columns (kind.Lookup via column) =
     lookup_kind (place_of_column columns via) (parent_via tables columns via)
     (place_of_column (columns_of tables (parent_via tables columns via)) column)
+kind_layout dictionaries tables columns (kind.List file) = list_kind (words_named dictionaries file)
+kind_layout dictionaries tables columns (kind.BornDate start step) = unit_date_kind false start (count step)
+kind_layout dictionaries tables columns (kind.ChangedDate start step) = unit_date_kind true start (count step)
 
 abbrev pub column_layout : List Dictionary → List Table → List Column → Column → ColumnLayout
 column_layout dictionaries tables columns column = record {

@@ -1,5 +1,5 @@
 -- What the rules give for the numbers of an accepted schema.
-use Rattle.std.specs.Prelude.{◌≡◌, ◌≢◌, Bool, true, false, ◌||◌, ℕ, ℤ, suc, pos, neg_ℤ, ◌-◌, ◌^◌, ◌<◌, ◌≤◌, ◌+ℤ◌, ◌-ℤ◌, ◌<ℤ◌, ◌≤ℤ◌, List, length, map, sum, All, IfSome, Some, ⊤}
+use Rattle.std.specs.Prelude.{◌≡◌, ◌≢◌, Bool, true, false, ◌||◌, ℕ, ℤ, suc, pos, neg_ℤ, ◌-◌, ◌*◌, ◌^◌, ◌<◌, ◌≤◌, ◌+ℤ◌, ◌-ℤ◌, ◌<ℤ◌, ◌≤ℤ◌, List, length, map, sum, All, IfSome, Some, ⊤}
 use Rattle.std.specs.Str.{chars}
 use Rattle.dictionaries.specs.WordList.{IsWordList}
 use Rattle.schema_model.specs.declared.column.Kind.{Kind}
@@ -9,8 +9,8 @@ use Rattle.schema_plan.specs.Citations.{leaves_of}
 use Rattle.cohort_sizes.specs.Births.{Births, born_count}
 use Rattle.cohort_sizes.specs.Rates.{AreRates}
 use Rattle.schema_plan.specs.Counts.{count}
-use Rattle.schema_plan.specs.Dictionaries.{Dictionary, Project}
-use Rattle.schema_plan.specs.Layout.{LeafLayout, int_leaf, fixed_leaf, date_leaf, pick_leaf, skew_leaf, dict_leaf, words_leaf, chars_leaf, uuid_leaf, PartLayout, literal_part, cited_part, KindLayout, key_kind, changed_kind, leaf_kind, template_kind, case_kind, reference_kind, lookup_kind, ColumnLayout, column_at, TableLayout, layout_of, leaf_layout, table_at}
+use Rattle.schema_plan.specs.Dictionaries.{Dictionary, Project, words_named}
+use Rattle.schema_plan.specs.Layout.{LeafLayout, int_leaf, fixed_leaf, date_leaf, pick_leaf, skew_leaf, dict_leaf, words_leaf, chars_leaf, uuid_leaf, PartLayout, literal_part, cited_part, KindLayout, key_kind, changed_kind, leaf_kind, template_kind, case_kind, reference_kind, lookup_kind, ColumnLayout, column_at, TableLayout, layout_of, leaf_layout, table_at, list_kind, unit_date_kind}
 use Rattle.schema_plan.specs.References.{IsReferenceInLimits, IsSpread, Reference, reference_at, references_of}
 use Rattle.schema_plan.specs.TableFacts.{cost, max_line}
 
@@ -74,14 +74,19 @@ is_cited (case_kind on branches) = false
 is_cited (lookup_kind via parent column) = false
 is_cited _ = true
 
--- what is made ready of a kind: what it draws is within its limits, and so is its spread
+-- what is made ready of a kind: what it draws is within its limits, and so is its spread, and so are the words of a list
 abbrev pub IsSpreadOf : Kind → Type 0
 IsSpreadOf (kind.Ref table window spread on_delete) = IsSpread (map count spread)
 IsSpreadOf _ = ⊤
 
+abbrev pub IsListOf : List Dictionary → Kind → Type 0
+IsListOf dictionaries (kind.List file) = IsWordList (words_named dictionaries file)
+IsListOf dictionaries _ = ⊤
+
 pub record CanBeReady (dictionaries : List Dictionary) (kind : Kind) : Type 0 where
   pub drawn : All (λ leaf. IsLeafInLimits (leaf_layout dictionaries leaf)) (leaves_of kind)
   pub spread : IsSpreadOf kind
+  pub listed : IsListOf dictionaries kind
 
 -- a part of the template at a place: a text, or an earlier column that may be cited
 abbrev pub IsPart : List ColumnLayout → ℕ → PartLayout → Type 0
@@ -120,18 +125,26 @@ IsKindInLimits columns place (leaf_kind leaf) = IsLeafInLimits leaf
 IsKindInLimits columns place (template_kind parts) = AreParts columns place parts
 IsKindInLimits columns place (case_kind on branches) = IsCase columns place on branches
 IsKindInLimits columns place (reference_kind parent window spread nulls) = IsSpread spread
+IsKindInLimits columns place (list_kind words) = IsWordList words
 IsKindInLimits columns place _ = ⊤
 
--- a kind whose fields may be drawn anew where a row changes: no key, no unit, and none that other rows tell
+-- the dates of units up to a last one are of the years 1 to 9999
+abbrev pub IsUnitDateInLimits : ℕ → KindLayout → Type 0
+IsUnitDateInLimits units (unit_date_kind changed start step) = IsDateRange start (start +ℤ pos (step * units))
+IsUnitDateInLimits units _ = ⊤
+
+-- a kind whose fields may be drawn anew where a row changes: no key, no unit, no list, and none that other rows tell
 abbrev pub can_change : KindLayout → Bool
 can_change (leaf_kind leaf) = true
 can_change (template_kind parts) = true
 can_change (case_kind on branches) = true
 can_change _ = false
 
--- a kind whose fields move though nothing is drawn anew: the unit of a row's last change, and a reference that becomes null
+-- a kind whose fields move though nothing is drawn anew: the unit of a row's last change, the date of that unit, and a reference that
+-- becomes null
 abbrev pub is_moving_kind : KindLayout → Bool
 is_moving_kind changed_kind = true
+is_moving_kind (unit_date_kind changed start step) = changed
 is_moving_kind (reference_kind parent window spread nulls) = nulls
 is_moving_kind _ = false
 
@@ -198,6 +211,7 @@ pub record IsTableInLimits (units : ℕ) (table : TableLayout) : Type 0 where
   pub key_first : (column_at table.columns 0).kind ≡ key_kind
   pub no_other_key : (place : ℕ) → suc place < length table.columns → (column_at table.columns (suc place)).kind ≢ key_kind
   pub kinds : (place : ℕ) → place < length table.columns → IsKindInLimits table.columns place (column_at table.columns place).kind
+  pub unit_dates : (place : ℕ) → place < length table.columns → IsUnitDateInLimits units (column_at table.columns place).kind
   pub nulls : (place : ℕ) → place < length table.columns → (column_at table.columns place).null ≤ 999
   pub changes : (place : ℕ) → place < length table.columns → can_change (column_at table.columns place).kind ≡ false → (column_at table.columns place).changes ≡ false
   pub still : (place : ℕ) → place < length table.columns → (column_at table.columns place).changes ≡ false → CitesStill table.columns (column_at table.columns place).kind

@@ -1,5 +1,5 @@
 -- The rules of a schema, each at the sites where it asks something, and the first that is broken.
-use Rattle.std.specs.Prelude.{◌≡◌, ℕ, zero, suc, ℤ, pos, neg_ℤ, ◌+ℤ◌, ◌-ℤ◌, ◌+◌, ◌-◌, ◌^◌, ◌==◌, List, [], ◌∷◌, length, map, sum, take, Bool, true, false, not, ◌&&◌, ◌||◌, nat_le, nat_lt, int_le, int_lt, count_by, Option, Some, None, is_none, is_some, slice_index_or, if◌then◌else◌}
+use Rattle.std.specs.Prelude.{◌≡◌, ℕ, zero, suc, ℤ, pos, neg_ℤ, ◌+ℤ◌, ◌-ℤ◌, ◌+◌, ◌-◌, ◌*◌, ◌^◌, ◌==◌, List, [], ◌∷◌, length, map, sum, take, Bool, true, false, not, ◌&&◌, ◌||◌, nat_le, nat_lt, int_le, int_lt, count_by, Option, Some, None, is_none, is_some, slice_index_or, if◌then◌else◌}
 use Rattle.std.specs.List.{list_all, list_any, range_with_len}
 use Rattle.std.specs.Option.{option_or, option_map}
 use Rattle.std.specs.Ordering.{int_eq}
@@ -21,10 +21,10 @@ use Rattle.schema_model.specs.declared.column.Window.TheVariants as window
 use Rattle.schema_plan.specs.declared.broken.Broken.{Broken}
 use Rattle.cohort_sizes.specs.Births.{Births, born_count, cohort_size}
 use Rattle.schema_plan.specs.declared.rules.Rule.{Rule}
-use Rattle.schema_plan.specs.declared.rules.Rule.TheVariants.{Dictionaries, CitedNames, SeedAndUnits, TableCount, TableNames, Columns, KeyColumn, RowCount, LifeRange, UpdatePeriod, NumberRange, DateRange, PickEntries, SkewRange, LengthRange, TemplateParts, CaseBranches, StillCitations, ReferenceTargets, ReferenceWindows, ParentRows, SpreadWeights, LookupColumns, RowCost, LineSize, ChangesAndNulls}
+use Rattle.schema_plan.specs.declared.rules.Rule.TheVariants.{Dictionaries, CitedNames, SeedAndUnits, TableCount, TableNames, Columns, KeyColumn, RowCount, LifeRange, UpdatePeriod, NumberRange, DateRange, PickEntries, SkewRange, LengthRange, TemplateParts, CaseBranches, StillCitations, ReferenceTargets, ReferenceWindows, ParentRows, SpreadWeights, LookupColumns, RowCost, LineSize, ChangesAndNulls, UnitDates}
 use Rattle.schema_plan.specs.declared.site.Site.{Site}
 use Rattle.schema_plan.specs.declared.site.Site.TheVariants.{Whole, OfTable, OfColumn}
-use Rattle.schema_plan.specs.Citations.{cited_names, leaves_of, may_cite, may_cite_all, names_in_leaf}
+use Rattle.schema_plan.specs.Citations.{cited_names, leaves_of, may_cite, may_cite_of_kind, names_in_leaf}
 use Rattle.schema_plan.specs.Counts.{count}
 use Rattle.schema_plan.specs.Dictionaries.{Project, dictionary_named}
 use Rattle.schema_plan.specs.Layout.{becomes_null, births_of, columns_of, layout_of, place_of_column, place_of_table, window_layout}
@@ -174,9 +174,14 @@ is_supplied project name =
 abbrev pub are_supplied : Project → Leaf → Bool
 are_supplied project leaf = list_all (is_supplied project) (names_in_leaf leaf)
 
+-- whether all dictionaries that a column cites are so
+abbrev pub is_supplied_kind : Project → Kind → Bool
+is_supplied_kind project (kind.List file) = is_supplied project file
+is_supplied_kind project held = list_all (are_supplied project) (leaves_of held)
+
 -- whether a schema may cite all that is cited at a site
 abbrev pub cites_well : Schema → Site → Bool
-cites_well schema (OfColumn table column) = is_each_leaf (may_cite_all (cited_names schema.tables)) schema table column
+cites_well schema (OfColumn table column) = may_cite_of_kind (cited_names schema.tables) (kind_at (columns_at schema table) column)
 cites_well schema site = true
 
 -- ---- what rules ask of columns that speak of others
@@ -215,9 +220,11 @@ is_case columns place _ = true
 abbrev pub is_redrawn_at : List Column → ℕ → Bool
 is_redrawn_at columns place = slice_index_or (map (λ (column : Column). column.changes) columns) place false
 
--- a kind whose fields move though nothing is drawn anew: the unit of a row's last change, and a reference that becomes null
+-- a kind whose fields move though nothing is drawn anew: the unit of a row's last change, the date of that unit, and a reference that
+-- becomes null
 abbrev pub is_moving_kind : Kind → Bool
 is_moving_kind kind.Changed = true
+is_moving_kind (kind.ChangedDate start step) = true
 is_moving_kind (kind.Ref table window spread on_delete) = becomes_null on_delete
 is_moving_kind _ = false
 
@@ -240,7 +247,7 @@ is_still_kind columns _ = true
 abbrev pub cites_still : List Column → ℕ → Bool
 cites_still columns place = is_redrawn_at columns place || is_still_kind columns (kind_at columns place)
 
--- a kind whose fields may be drawn anew: no key, no unit, and none that other rows tell
+-- a kind whose fields may be drawn anew: no key, no unit, no list, and none that other rows tell
 abbrev pub may_be_redrawn : Kind → Bool
 may_be_redrawn (kind.Leaf leaf) = true
 may_be_redrawn (kind.Template parts) = true
@@ -256,6 +263,21 @@ abbrev pub is_null_share : Kind → ℤ → Bool
 is_null_share (kind.Key base scramble) null = int_eq null (pos 0)
 is_null_share (kind.Ref table window spread on_delete) null = int_eq null (pos 0)
 is_null_share _ null = is_between 0 999 null
+
+-- ---- what rules ask of dates of units
+
+-- from 0001-01-01 on, in steps of 0 to 3,660 days a unit, and at most 9999-12-31 at the last unit. Past 10,000 units, where an earlier
+-- rule is broken, nothing is asked of the last day
+abbrev pub are_unit_days : ℤ → ℤ → ℤ → Bool
+are_unit_days units start step =
+    int_le (neg_ℤ (pos 719162)) start && is_between 0 3660 step
+    && (nat_lt 10000 (count units) || int_le (start +ℤ pos (count step * count units)) (pos 2932896))
+
+-- a date of units has such days
+abbrev pub is_unit_date : ℤ → Kind → Bool
+is_unit_date units (kind.BornDate start step) = are_unit_days units start step
+is_unit_date units (kind.ChangedDate start step) = are_unit_days units start step
+is_unit_date units _ = true
 
 -- ---- what rules ask of references
 
@@ -337,7 +359,7 @@ is_lookup tables columns place _ = true
 abbrev pub holds : Rule → Project → Site → Bool
 -- V13: a dictionary that is cited has a name of 1 to 255 bytes, at most 64 different ones are cited, and each is there. Tried at
 -- a case for its branches
-holds Dictionaries project (OfColumn table column) = is_each_leaf (are_supplied project) project.schema table column
+holds Dictionaries project (OfColumn table column) = is_supplied_kind project (kind_at (columns_at project.schema table) column)
 -- the same as far as a schema alone tells it
 holds CitedNames project site = cites_well project.schema site
 -- V1: the seed is at least 0, and the last unit is from 0 to 10,000
@@ -396,10 +418,12 @@ holds LookupColumns project (OfColumn table column) =
 holds RowCost project (OfTable table) = nat_le 64 table || nat_le (cost (layout_of project) table) 4096
 -- V24: a line has at most 65,536 bytes. The same
 holds LineSize project (OfTable table) = nat_le 64 table || nat_le (max_line (layout_of project) table) 65536
--- V25: at most 999 of a thousand fields are null, and none of a key or a reference; keys, units, references and lookups don't change
+-- V25: at most 999 of a thousand fields are null, and none of a key or a reference; keys, units and their dates, references, lookups and lists don't change
 holds ChangesAndNulls project (OfColumn table column) =
     is_null_share (kind_at (columns_at project.schema table) column) (null_at (columns_at project.schema table) column)
     && is_change (kind_at (columns_at project.schema table) column) (is_redrawn_at (columns_at project.schema table) column)
+-- V26: a date of units is from 0001-01-01 to 9999-12-31 at each unit, and its step is 0 to 3,660 days
+holds UnitDates project (OfColumn table column) = is_unit_date project.schema.units (kind_at (columns_at project.schema table) column)
 holds _ project site = true
 
 -- the number of a rule in messages, as 1 for V1
@@ -430,13 +454,14 @@ rule_number LookupColumns = 22
 rule_number RowCost = 23
 rule_number LineSize = 24
 rule_number ChangesAndNulls = 25
+rule_number UnitDates = 26
 
--- the rules in the order in which they are tried: V13, V1 to V12, V14 to V25. Of V13 the part that a
+-- the rules in the order in which they are tried: V13, V1 to V12, V14 to V26. Of V13 the part that a
 -- schema alone tells is no rule beside the whole
 abbrev pub rules : List Rule
 rules = Dictionaries ∷ SeedAndUnits ∷ TableCount ∷ TableNames ∷ Columns ∷ KeyColumn ∷ RowCount
     ∷ LifeRange ∷ UpdatePeriod ∷ NumberRange ∷ DateRange ∷ PickEntries ∷ SkewRange ∷ LengthRange ∷ TemplateParts ∷ CaseBranches
-    ∷ StillCitations ∷ ReferenceTargets ∷ ReferenceWindows ∷ ParentRows ∷ SpreadWeights ∷ LookupColumns ∷ RowCost ∷ LineSize ∷ ChangesAndNulls ∷ []
+    ∷ StillCitations ∷ ReferenceTargets ∷ ReferenceWindows ∷ ParentRows ∷ SpreadWeights ∷ LookupColumns ∷ RowCost ∷ LineSize ∷ ChangesAndNulls ∷ UnitDates ∷ []
 
 -- ---- the first broken rule
 

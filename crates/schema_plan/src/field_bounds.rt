@@ -165,6 +165,8 @@ fn bounds_alone(
         ),
         Kind::Ref { table, .. } => bounds_of_reference(tables, place_of_table(tables, table)),
         Kind::Template { .. } | Kind::Lookup { .. } => bounds(0, 0),
+        Kind::List { file } => bounds(dictionaries.entry_size(delimiter, file.as_str()), 0),
+        Kind::BornDate { .. } | Kind::ChangedDate { .. } => bounds(DATE_SIZE, 0),
     }
 }
 

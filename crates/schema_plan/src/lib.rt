@@ -34,7 +34,10 @@ pub use layout::{Keys, Span, becomes_null};
 pub use lineage::{Lineage, lineage_at};
 pub use places::{columns_of, parent_via, place_of_column, place_of_table};
 pub use plan::Plan;
-pub use ready::{ReadyColumn, ReadyKind, ReadyLeaf, ReadyLookup, ReadyPart, ReadyReference};
+pub use ready::{
+    ReadyColumn, ReadyKind, ReadyLeaf, ReadyList, ReadyLookup, ReadyPart, ReadyReference,
+    ReadyUnitDate,
+};
 pub use ready_words::ReadyWords;
 pub use rules::{MAX_ITEMS, Rule};
 pub use site::Site;

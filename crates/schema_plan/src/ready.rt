@@ -50,16 +50,25 @@ pub enum ReadyKind {
     Reference(ReadyReference),
     /// A field of the parent that the row has by one of its references.
     Lookup(ReadyLookup),
+    /// One of the words, which the rows take in turn.
+    List(ReadyList),
+    /// The date of a unit.
+    UnitDate(ReadyUnitDate),
 }
 
 impl Drop for ReadyKind {
     fn drop(self) {
         match self {
-            ReadyKind::Key | ReadyKind::Born | ReadyKind::Changed | ReadyKind::Lookup(_) => {}
+            ReadyKind::Key
+            | ReadyKind::Born
+            | ReadyKind::Changed
+            | ReadyKind::Lookup(_)
+            | ReadyKind::UnitDate(_) => {}
             ReadyKind::Drawn(it) => drop(it),
             ReadyKind::Template { parts } => drop(parts),
             ReadyKind::Case { on: _, branches } => drop(branches),
             ReadyKind::Reference(it) => drop(it),
+            ReadyKind::List(it) => drop(it),
         }
     }
 }
@@ -104,6 +113,32 @@ pub struct ReadyLookup {
     pub parent: u32,
     /// The place of the shown column in the parent's table, counted from 0.
     pub column: u64,
+}
+
+/// The words of a list, ready for rows.
+pub struct ReadyList {
+    /// The words, in the order of the file.
+    pub words: ReadyWords,
+    /// The number of words.
+    pub count: FixedDivisor,
+}
+
+impl Drop for ReadyList {
+    fn drop(self) {
+        let ReadyList { words, count: _ } = self;
+        drop(words);
+    }
+}
+
+/// The dates of the units, ready for rows.
+#[derive(Clone, Copy, Debug, PartialEq, Eq)]
+pub struct ReadyUnitDate {
+    /// Whether a row shows the unit of its last change. Otherwise it shows the unit of its birth.
+    pub changed: bool,
+    /// The day of unit 0. Day 0 is 1970-01-01.
+    pub start: i32,
+    /// The days from one unit to the next.
+    pub step: u64,
 }
 
 /// A part of a template, ready for rows.

@@ -13,10 +13,12 @@ use crate::counts::count;
 use crate::facts::delimiter_byte;
 use crate::layout::becomes_null;
 use crate::places::{columns_of, parent_via, place_of_column, place_of_table};
-use crate::ready::{ReadyColumn, ReadyKind, ReadyLeaf, ReadyLookup, ReadyReference};
+use crate::ready::{
+    ReadyColumn, ReadyKind, ReadyLeaf, ReadyList, ReadyLookup, ReadyReference, ReadyUnitDate,
+};
 use crate::ready_leaves::{counts, ready_leaf};
 use crate::ready_parts::ready_parts;
-use crate::ready_words::Lexicon;
+use crate::ready_words::{Lexicon, ReadyWords};
 use crate::word_lists::Dictionaries;
 use fixed_divisors::FixedDivisor;
 use out_of_memory::Memory;
@@ -122,6 +124,35 @@ fn ready_kind(
         Kind::Lookup { via, column } => {
             Ok(ReadyKind::Lookup(ready_lookup(tables, columns, via, column)))
         }
+        Kind::List { file } => Ok(ReadyKind::List(ready_list(lexicon.words(file)?))),
+        Kind::BornDate { start, step } => {
+            Ok(ReadyKind::UnitDate(ready_unit_date(false, *start, *step)))
+        }
+        Kind::ChangedDate { start, step } => {
+            Ok(ReadyKind::UnitDate(ready_unit_date(true, *start, *step)))
+        }
+    }
+}
+
+/// Makes ready the dates of the units.
+fn ready_unit_date(changed: bool, start: i32, step: i64) -> ReadyUnitDate
+    ensures { result ≡ record { changed = changed; start = start; step = count step } }
+{
+    ReadyUnitDate {
+        changed,
+        start,
+        step: count(step),
+    }
+}
+
+/// Makes ready the words of a list.
+fn ready_list(words: ReadyWords) -> ReadyList
+    requires { 1 ≤ length words.entries }
+    ensures { result ≡ record { words = words; count = length words.entries } }
+{
+    ReadyList {
+        count: FixedDivisor::new(words.len() as u64),
+        words,
     }
 }
 

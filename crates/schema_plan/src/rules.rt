@@ -61,6 +61,8 @@ pub enum Rule {
     LineSize,
     /// V25
     ChangesAndNulls,
+    /// V26
+    UnitDates,
 }
 
 impl Rule {
@@ -94,6 +96,7 @@ impl Rule {
             Rule::RowCost => 23,
             Rule::LineSize => 24,
             Rule::ChangesAndNulls => 25,
+            Rule::UnitDates => 26,
         }
     }
 }

@@ -11,7 +11,8 @@ use crate::leaf_kind::read_leaf;
 use crate::lists::{Element, list_at, list_if_any};
 use crate::schema_key::SchemaKey;
 use crate::typed_member::{
-    deletion_if_any, flag_if_any, leaf_kind_at, text_at, whole_at, window_if_any,
+    day_if_any, deletion_if_any, flag_if_any, leaf_kind_at, text_at, whole_at, whole_if_any,
+    window_if_any,
 };
 use out_of_memory::Memory;
 use schema_model::{Kind, Leaf, Leaves, Longs, OnDelete, Window};
@@ -94,6 +95,17 @@ pub fn read_kind(alloc: Global, members: &Table, kind: KindName) -> Result<Kind,
         KindName::Case => read_case(alloc, members),
         KindName::Ref => read_reference(alloc, members),
         KindName::Lookup => read_lookup(alloc, members),
+        KindName::List => Ok(Kind::List {
+            file: text_at(alloc, members, SchemaKey::File)?,
+        }),
+        KindName::BornDate => Ok(Kind::BornDate {
+            start: day_if_any(members, SchemaKey::Start).unwrap_or(0),
+            step: whole_if_any(members, SchemaKey::Step).unwrap_or(1),
+        }),
+        KindName::ChangedDate => Ok(Kind::ChangedDate {
+            start: day_if_any(members, SchemaKey::Start).unwrap_or(0),
+            step: whole_if_any(members, SchemaKey::Step).unwrap_or(1),
+        }),
         KindName::Leaf(leaf) => Ok(Kind::Leaf(read_leaf(alloc, members, leaf)?)),
     }
 }

@@ -43,6 +43,12 @@ pub enum KindName {
     Ref,
     /// `lookup`
     Lookup,
+    /// `list`
+    List,
+    /// `born_date`
+    BornDate,
+    /// `changed_date`
+    ChangedDate,
     /// One of the leaf kinds.
     Leaf(LeafName),
 }
@@ -77,6 +83,9 @@ pub fn kind_of_name(name: &str) -> Option<KindName>
         "case" => Some(KindName::Case),
         "ref" => Some(KindName::Ref),
         "lookup" => Some(KindName::Lookup),
+        "list" => Some(KindName::List),
+        "born_date" => Some(KindName::BornDate),
+        "changed_date" => Some(KindName::ChangedDate),
         _ => match leaf_of_name(name) {
             Some(leaf) => Some(KindName::Leaf(leaf)),
             None => None,

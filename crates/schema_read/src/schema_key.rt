@@ -70,6 +70,8 @@ pub enum SchemaKey {
     OnDelete,
     /// `via`
     Via,
+    /// `start`
+    Start,
     /// A key that has no place where it stands.
     Other,
 }
@@ -112,6 +114,7 @@ impl SchemaKey {
             SchemaKey::Spread => "spread",
             SchemaKey::OnDelete => "on_delete",
             SchemaKey::Via => "via",
+            SchemaKey::Start => "start",
             SchemaKey::Other => "",
         }
     }

@@ -163,6 +163,13 @@ const LOOKUP_KEYS: [Wanted; 2] = [
     Wanted::Required(SchemaKey::Column, Expected::TextValue),
 ];
 
+const LIST_KEYS: [Wanted; 1] = [Wanted::Required(SchemaKey::File, Expected::TextValue)];
+
+const UNIT_DATE_KEYS: [Wanted; 2] = [
+    Wanted::Required(SchemaKey::Start, Expected::DateText),
+    Wanted::Optional(SchemaKey::Step, Expected::Whole),
+];
+
 /// Returns the keys that belong to this kind of column.
 pub fn keys_of_kind(kind: KindName) -> &'static [Wanted]
     ensures { result.now ≡ kind_keys kind }
@@ -174,6 +181,8 @@ pub fn keys_of_kind(kind: KindName) -> &'static [Wanted]
         KindName::Case => &CASE_KEYS,
         KindName::Ref => &REFERENCE_KEYS,
         KindName::Lookup => &LOOKUP_KEYS,
+        KindName::List => &LIST_KEYS,
+        KindName::BornDate | KindName::ChangedDate => &UNIT_DATE_KEYS,
         KindName::Leaf(leaf) => keys_of_leaf(leaf),
     }
 }

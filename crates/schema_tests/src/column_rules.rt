@@ -53,15 +53,28 @@ const OF_KEY: &str = "'template',parts=[{column='id'}]";
 
 const CASE: &str = "'case',on='word',branches=[{kind='date',lo='1970-01-02',hi='1970-01-03'}]";
 
+const BORN_DATE: &str = "'born_date',start='2024-02-28'";
+
+const CHANGED_DATE: &str = "'changed_date',start='2024-02-28'";
+
+/// A fourth column of dates, and a template that cites it.
+const OF_BORN_DATE: &str =
+    "'born_date',start='2024-02-28'},{name='d',kind='template',parts=[{column='c'}]";
+
+const OF_CHANGED_DATE: &str =
+    "'changed_date',start='2024-02-28'},{name='d',kind='template',parts=[{column='c'}]";
+
 /// A fourth column, whether the pick changes, whether the fourth column changes, and what is told.
 type Fourth = (&'static str, bool, bool, Told);
 
-const FOURTHS: [Fourth; 16] = [
+const FOURTHS: [Fourth; 21] = [
     ("'pick',entries=['x'],weights=[1]", true, true, None),
     (OF_UNIT, true, true, None),
     (CASE, true, true, None),
     ("'born'", true, true, Some((25, 1, 4))),
     ("'changed'", true, true, Some((25, 1, 4))),
+    (BORN_DATE, true, true, Some((25, 1, 4))),
+    (CHANGED_DATE, true, true, Some((25, 1, 4))),
     // A citation of a column that moves is told if the citing column doesn't change.
     (OF_WORD, false, false, None),
     (OF_WORD, true, false, Some((17, 1, 4))),
@@ -70,6 +83,9 @@ const FOURTHS: [Fourth; 16] = [
     (OF_UNIT, false, false, Some((17, 1, 4))),
     (OF_UNIT, false, true, None),
     (OF_KEY, true, false, None),
+    (OF_BORN_DATE, false, false, None),
+    (OF_CHANGED_DATE, false, false, Some((17, 1, 5))),
+    (OF_CHANGED_DATE, false, true, None),
     (CASE, false, false, None),
     (CASE, true, false, Some((17, 1, 4))),
     (CASE, true, true, None),
@@ -136,19 +152,13 @@ fn push(rt: &impl Abort, alloc: Global, columns: &mut Columns, name: &str, kind:
     columns.push(column).expect(rt, "memory");
 }
 
-/// Makes three columns: a key, units of birth, and days from `lo` to `hi`.
-fn columns_of_days(rt: &impl Abort, alloc: Global, lo: i32, hi: i32) -> Columns {
+/// Makes three columns: a key, units of birth, and one of a kind.
+fn columns_with(rt: &impl Abort, alloc: Global, kind: Kind) -> Columns {
     let mut columns = Columns::new(alloc);
     let (base, scramble) = (1, false);
     push(rt, alloc, &mut columns, "id", Kind::Key { base, scramble });
     push(rt, alloc, &mut columns, "born", Kind::Born);
-    push(
-        rt,
-        alloc,
-        &mut columns,
-        "drawn",
-        Kind::Leaf(Leaf::Date { lo, hi }),
-    );
+    push(rt, alloc, &mut columns, "drawn", kind);
     columns
 }
 
@@ -165,6 +175,58 @@ const DAYS: [(i32, i32, Told); 6] = [
     (i32::MIN, i32::MAX, Some((10, 2, 3))),
 ];
 
+/// Dates of units, up to unit 2, and whether they are of the years 1 to 9999 with a step of 0 to 3,660.
+const UNIT_DATES: [(&str, bool); 12] = [
+    ("'born_date',start='9999-12-29'", true),
+    ("'born_date',start='9999-12-30'", false),
+    ("'born_date',start='9999-12-31',step=0", true),
+    ("'born_date',start='0001-01-01',step=3660", true),
+    ("'born_date',start='2024-02-28',step=3660", true),
+    ("'born_date',start='2024-02-28',step=3661", false),
+    ("'born_date',start='2024-02-28',step=-1", false),
+    (
+        "'born_date',start='2024-02-28',step=9223372036854775807",
+        false,
+    ),
+    ("'changed_date',start='9999-12-29'", true),
+    ("'changed_date',start='9999-12-30'", false),
+    ("'changed_date',start='2024-02-28',step=0", true),
+    ("'changed_date',start='2024-02-28',step=3661", false),
+];
+
+// 0001-01-01 is day -719,162, and 9999-12-31 is day 2,932,896: 3,652,058 days later. No text names a day before it.
+const UNIT_DAYS: [(i32, i64, Told); 6] = [
+    (-719_162, 1, None),
+    (-719_163, 1, Some((26, 2, 3))),
+    (2_932_894, 1, None),
+    (2_932_895, 1, Some((26, 2, 3))),
+    (i32::MAX, i64::MAX, Some((26, 2, 3))),
+    (i32::MIN, i64::MIN, Some((26, 2, 3))),
+];
+
+fn try_unit_days(rt: &impl Abort, alloc: Global, cases: &[(i32, i64, Told)]) {
+    for (start, step, told) in cases {
+        let (start, step) = (*start, *step);
+        let kinds = [
+            Kind::BornDate { start, step },
+            Kind::ChangedDate { start, step },
+        ];
+        for kind in kinds {
+            assert!(rt;
+                fault_of_third(rt, alloc, kind) == fault_of(*told),
+                "day {start} and {step} days a unit"
+            );
+        }
+    }
+}
+
+#[test]
+fn dates_of_units(rt: HostRuntime) {
+    let alloc = rt.alloc();
+    try_rule(&rt, alloc, (26, 2, 3), DRAWN, &UNIT_DATES, "}]}]");
+    try_unit_days(&rt, alloc, &UNIT_DAYS);
+}
+
 /// Makes the table `u`, with a row born at each unit.
 fn table_of(rt: &impl Abort, alloc: Global, columns: Columns) -> Table {
     let name = Text::of(alloc, "u").expect(rt, "memory");
@@ -180,10 +242,10 @@ fn table_of(rt: &impl Abort, alloc: Global, columns: Columns) -> Table {
     }
 }
 
-/// Returns the first fault of a schema whose second table has these days in its third column.
-fn fault_of_days(rt: &impl Abort, alloc: Global, lo: i32, hi: i32) -> Option<CheckFault> {
+/// Returns the first fault of a schema whose second table has a third column of this kind.
+fn fault_of_third(rt: &impl Abort, alloc: Global, kind: Kind) -> Option<CheckFault> {
     let mut schema = read_schema(alloc, ONE_TABLE).expect(rt, "no schema");
-    let table = table_of(rt, alloc, columns_of_days(rt, alloc, lo, hi));
+    let table = table_of(rt, alloc, columns_with(rt, alloc, kind));
     schema.tables.push(table).expect(rt, "memory");
     check(alloc, schema, Dictionaries::new(alloc)).err()
 }
@@ -191,7 +253,8 @@ fn fault_of_days(rt: &impl Abort, alloc: Global, lo: i32, hi: i32) -> Option<Che
 fn try_days(rt: &impl Abort, alloc: Global, cases: &[(i32, i32, Told)]) {
     for (lo, hi, told) in cases {
         assert!(rt;
-            fault_of_days(rt, alloc, *lo, *hi) == fault_of(*told),
+            fault_of_third(rt, alloc, Kind::Leaf(Leaf::Date { lo: *lo, hi: *hi }))
+                == fault_of(*told),
             "day {lo} to day {hi}"
         );
     }

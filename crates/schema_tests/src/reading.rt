@@ -29,6 +29,9 @@ column = [
     {name="c", kind="case", on="x", branches=[{kind="dict", file="f"}, {kind="date", lo="1970-01-01", hi="2000-03-01"}, {kind="uuid"}]},
     {name="c", kind="ref", table="p", window=9, spread=[1, 2], on_delete="null"},
     {name="c", kind="lookup", via="p", column="city"},
+    {name="c", kind="list", file="names.txt"},
+    {name="c", kind="born_date", start="0001-01-01", step=7},
+    {name="c", kind="changed_date", start="2000-03-01", step=-1},
 ]
 [[table]]
 name = "defaults"
@@ -40,6 +43,8 @@ column = [
     {name="c", kind="pick", entries=["a", "b"]},
     {name="c", kind="ref", table="p", window="all"},
     {name="c", kind="template", parts=[]},
+    {name="c", kind="born_date", start="1970-01-01"},
+    {name="c", kind="changed_date", start="9999-12-31"},
 ]
 [[table]]
 name = "phases"
@@ -72,7 +77,10 @@ const SCHEMA: &str = concat!(
     r#"Column { name: Text { text: "c" }, kind: Template { parts: Sequence { items: [Literal(Text { text: "r" }), Cited(Text { text: "id" })] } }, changes: false, null: 0 }, "#,
     r#"Column { name: Text { text: "c" }, kind: Case { on: Text { text: "x" }, branches: Sequence { items: [Dict { file: Text { text: "f" } }, Date { lo: 0, hi: 11017 }, Uuid] } }, changes: false, null: 0 }, "#,
     r#"Column { name: Text { text: "c" }, kind: Ref { table: Text { text: "p" }, window: Units(9), spread: Sequence { items: [1, 2] }, on_delete: Null }, changes: false, null: 0 }, "#,
-    r#"Column { name: Text { text: "c" }, kind: Lookup { via: Text { text: "p" }, column: Text { text: "city" } }, changes: false, null: 0 }"#,
+    r#"Column { name: Text { text: "c" }, kind: Lookup { via: Text { text: "p" }, column: Text { text: "city" } }, changes: false, null: 0 }, "#,
+    r#"Column { name: Text { text: "c" }, kind: List { file: Text { text: "names.txt" } }, changes: false, null: 0 }, "#,
+    r#"Column { name: Text { text: "c" }, kind: BornDate { start: -719162, step: 7 }, changes: false, null: 0 }, "#,
+    r#"Column { name: Text { text: "c" }, kind: ChangedDate { start: 11017, step: -1 }, changes: false, null: 0 }"#,
     "] } }, ",
     r#"Table { name: Text { text: "defaults" }, rows: 1, insert: Sequence { items: [Phase { from: 1, rate: 0 }] }, life: None, update: None, columns: Sequence { items: ["#,
     r#"Column { name: Text { text: "c" }, kind: Changed, changes: true, null: 100 }, "#,
@@ -80,7 +88,9 @@ const SCHEMA: &str = concat!(
     r#"Column { name: Text { text: "c" }, kind: Leaf(Int { lo: 1, hi: 9, step: 1 }), changes: false, null: 0 }, "#,
     r#"Column { name: Text { text: "c" }, kind: Leaf(Pick { entries: Sequence { items: [Text { text: "a" }, Text { text: "b" }] }, weights: Sequence { items: [1, 1] } }), changes: false, null: 0 }, "#,
     r#"Column { name: Text { text: "c" }, kind: Ref { table: Text { text: "p" }, window: All, spread: Sequence { items: [1] }, on_delete: Cascade }, changes: false, null: 0 }, "#,
-    r#"Column { name: Text { text: "c" }, kind: Template { parts: Sequence { items: [] } }, changes: false, null: 0 }"#,
+    r#"Column { name: Text { text: "c" }, kind: Template { parts: Sequence { items: [] } }, changes: false, null: 0 }, "#,
+    r#"Column { name: Text { text: "c" }, kind: BornDate { start: 0, step: 1 }, changes: false, null: 0 }, "#,
+    r#"Column { name: Text { text: "c" }, kind: ChangedDate { start: 2932896, step: 1 }, changes: false, null: 0 }"#,
     "] } }, ",
     r#"Table { name: Text { text: "phases" }, rows: 20, "#,
     "insert: Sequence { items: [Phase { from: 1, rate: 20 }, Phase { from: 6, rate: 50 }, Phase { from: 6, rate: -1 }, Phase { from: 0, rate: 0 }] }, ",

@@ -214,13 +214,15 @@ table=[
         {name='shown',kind='lookup',via='country',column='name'},
         {name='size',kind='int',lo=7,hi=7},
         {name='moving',kind='int',lo=7,hi=7,changes=true},
+        {name='born_date',kind='born_date',start='2024-02-28'},
+        {name='changed_date',kind='changed_date',start='2024-02-28'},
     ]},
     {name='house',rows=1,insert=1,column=[
         {name='id',kind='key',base=1},
         {name=";
 
 /// The lookup of a house after its reference to a city: the reference, the shown column and further keys, and what is told.
-const LOOKUPS: [(&str, Told); 17] = [
+const LOOKUPS: [(&str, Told); 19] = [
     ("via='city',column='id'", None),
     ("via='city',column='born'", None),
     ("via='city',column='label'", None),
@@ -228,6 +230,8 @@ const LOOKUPS: [(&str, Told); 17] = [
     ("via='city',column='size'", None),
     ("via='city',column='changed'", Some((22, 3, 3))),
     ("via='city',column='moving'", Some((22, 3, 3))),
+    ("via='city',column='born_date'", None),
+    ("via='city',column='changed_date'", Some((22, 3, 3))),
     ("via='city',column='shown'", Some((22, 3, 3))),
     ("via='city',column='none'", Some((22, 3, 3))),
     ("via='city',column='city'", Some((22, 3, 3))),

@@ -62,6 +62,32 @@ table=[{name='t',rows=1,column=[
     {name='c3',kind='dict',file='c'},
 ]}]";
 
+/// A list cites its word list at its place, as a drawn word does.
+const CITED_BY_LISTS: &str = "seed=-1
+units=0
+table=[{name='t',rows=1,column=[
+    {name='id',kind='key',base=1},
+    {name='c1',kind='list',file='b'},
+    {name='c2',kind='dict',file='a'},
+    {name='c3',kind='list',file='a'},
+    {name='c4',kind='list',file='c'},
+]}]";
+
+const LIST_WITHOUT_NAME: &str = "seed=-1
+units=0
+table=[{name='t',rows=1,column=[
+    {name='id',kind='key',base=1},
+    {name='c1',kind='dict',file='b'},
+    {name='c2',kind='list',file=''},
+    {name='c3',kind='dict',file='c'},
+]}]";
+
+#[test]
+fn lists_cite_as_drawn_words_do(rt: HostRuntime) {
+    assert_cited(&rt, rt.alloc(), CITED_BY_LISTS, 3, 0, &["b", "a", "c"]);
+    assert_refused(&rt, rt.alloc(), LIST_WITHOUT_NAME, Some((13, 1, 3)));
+}
+
 #[test]
 fn names_are_cited_once_in_order(rt: HostRuntime) {
     assert_cited(&rt, rt.alloc(), CITED_TWICE, 2, 0, &["b", "a"]);

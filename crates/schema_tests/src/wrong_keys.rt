@@ -33,7 +33,7 @@ const TABLE_FAULTS: [&str; 10] = [
 ];
 
 // The keys of the first column of the first table, with one wrong key.
-const COLUMN_FAULTS: [&str; 80] = [
+const COLUMN_FAULTS: [&str; 91] = [
     "Name TextValue: name=1,kind='born',changes=true,null=1",
     "Name TextValue: kind='born',changes=true,null=1",
     "Kind KindName: name='c',kind='nope',changes=true,null=1",
@@ -46,6 +46,16 @@ const COLUMN_FAULTS: [&str; 80] = [
     "Other NoSuchKey: name='c',kind='key',base=1,scramble=true,zz=1",
     "Other NoSuchKey: name='c',kind='born',zz=1",
     "Other NoSuchKey: name='c',kind='changed',zz=1",
+    "File TextValue: name='c',kind='list',file=1",
+    "File TextValue: name='c',kind='list'",
+    "Other NoSuchKey: name='c',kind='list',file='f',lo=1",
+    "Start DateText: name='c',kind='born_date',start='2023-02-29',step=1",
+    "Start DateText: name='c',kind='born_date',step=1",
+    "Step Whole: name='c',kind='born_date',start='2024-02-29',step=1.0",
+    "Other NoSuchKey: name='c',kind='born_date',start='2024-02-29',zz=1",
+    "Start DateText: name='c',kind='changed_date',start=1",
+    "Step Whole: name='c',kind='changed_date',start='2024-02-29',step='1'",
+    "Other NoSuchKey: name='c',kind='changed_date',start='2024-02-29',lo=1",
     "Lo Whole: name='c',kind='int',lo=1.0,hi=1,step=1",
     "Lo Whole: name='c',kind='int',hi=1,step=1",
     "Hi Whole: name='c',kind='int',lo=1,hi=1.0,step=1",

@@ -126,7 +126,7 @@ def word_lists_of(text):
     for table in text["table"]:
         for column in table["column"]:
             for leaf in [column, *column.get("branches", [])]:
-                if leaf["kind"] in ("dict", "words"):
+                if leaf["kind"] in ("dict", "words", "list"):
                     names[leaf["file"]] = None
     return tuple(names)
 
@@ -183,13 +183,13 @@ def type_of(leaf):
         case "fixed":
             digits = max(digits_of(leaf["lo"], leaf["hi"]), leaf["decimals"] + 1)
             return Type("fixed", digits, leaf["decimals"], 21)
-        case "date":
+        case "date" | "born_date" | "changed_date":
             return Type("date", 0, 0, 10)
         case "pick":
             return text_of(max(len(it.encode()) for it in leaf["entries"]))
         case "chars":
             return text_of(leaf["hi"] * max(len(it.encode()) for it in leaf["alphabet"]))
-        case "dict":
+        case "dict" | "list":
             return text_of(255)
         case "words":
             return text_of(leaf["hi"] * 256)

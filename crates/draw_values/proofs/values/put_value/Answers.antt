@@ -3,8 +3,7 @@ use Rattle.row_text.specs.Fields.{escaped_text as written_text}
 use Rattle.schema_plan.specs.Layout.{layout_of}
 use Rattle.draw_values.specs.ReadyValues.{ready_field, ready_kind_size, row_draws}
 use Rattle.draw_values.specs.Values.{value_at}
-use Rattle.draw_values.proofs.RowUnits.{units_at}
-use Rattle.draw_values.proofs.FieldLemmas.{IsKeptField, field_is_ready, kept_field, length-field_text, put_of-written, size_at-kept, unwrap_or-written, value_at-kept}
+use Rattle.draw_values.proofs.FieldLemmas.{IsKeptField, column_has_day, field_is_ready, kept_field, length-field_text, put_of-written, size_at-kept, unwrap_or-written, value_at-kept}
 use Rattle.draw_values.proofs.values.put_value.Goals as goal
 use Rattle.draw_values.proofs.values.put_value.Goals.{After-drawn_seed-2}
 
@@ -25,6 +24,11 @@ put_field-requires-clause-units c = record {
   changed_limit = omega (arith, c.columns-columns.ensures.units, c.requires.changed);
 }
 
+pub put_field-requires-clause-day : goal.put_field-requires-clause-day
+put_field-requires-clause-day c =
+    column_has_day (layout_of c.args.plan.now) c.args.table c.args.column (layout_of c.args.plan.now).units c.index-columns-column.result c.args.at
+    c.columns-columns.ensures.limits c.requires.column (kept (goal.at.put_field-requires-clause-day c).After-drawn_seed-2).column_is c.requires.born c.requires.changed
+
 pub put_field-requires-clause-room : goal.put_field-requires-clause-room
 put_field-requires-clause-room c =
     omega (
@@ -36,11 +40,11 @@ put_field-requires-clause-room c =
 
 -- what is written is the value
 value : (c : After-drawn_seed-2) → option_map (written_text (layout_of c.args.plan.now).delimiter) (value_at (layout_of c.args.plan.now) c.args.table c.args.column c.args.at)
-    ≡ ready_field (units_at c.args.at) c.index-columns-chooser.result (row_draws c.drawn_seed-2.result c.args.at.ordinal)
+    ≡ ready_field c.args.at c.index-columns-chooser.result (row_draws c.drawn_seed-2.result c.args.at.ordinal)
     c.index-columns-column.result (row_draws c.drawn_seed.result c.args.at.ordinal)
 value c =
     value_at-kept (layout_of c.args.plan.now) c.args.table c.args.column c.chooser_of-chooser.result c.index-columns-column.result c.index-columns-chooser.result (kept c)
-    c.args.at (units_at c.args.at) (row_draws c.drawn_seed.result c.args.at.ordinal)
+    c.args.at c.args.at (row_draws c.drawn_seed.result c.args.at.ordinal)
     (row_draws c.drawn_seed-2.result c.args.at.ordinal) refl c.drawn_seed.ensures c.drawn_seed-2.ensures
 
 pub returns-clause-put : goal.returns-clause-put

@@ -1,5 +1,5 @@
 use Rattle.std.proofs.Common.{refl}
-use Rattle.row_lines.proofs.FieldLemmas.{draws_of-born, draws_of-changed, field-born, field-changed, field-drawn, field-key, field-template, part_text-cited}
+use Rattle.row_lines.proofs.FieldLemmas.{draws_of-born, draws_of-changed, field-born, field-changed, field-date, field-drawn, field-in_turn, field-key, field-template, part_text-cited}
 use Rattle.row_lines.proofs.LookupLemmas.{lookup-field}
 use Rattle.life_intervals.proofs.HeldParentLemmas.{held_parent-cascades}
 use Rattle.row_lines.proofs.ReferenceFieldLemmas.{field-reference}
@@ -10,6 +10,8 @@ returns c = record {
   key = field-key;
   born = field-born;
   changed = field-changed;
+  date = field-date;
+  in_turn = field-in_turn;
   drawn = field-drawn;
   reference = field-reference;
   lookup = lookup-field;

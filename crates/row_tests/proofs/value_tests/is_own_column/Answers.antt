@@ -25,3 +25,9 @@ returns-in-Born-3-clause-size c = size_fits (goal.at.returns-in-Born-3-clause-si
 
 pub returns-in-Born-4-clause-size : goal.returns-in-Born-4-clause-size
 returns-in-Born-4-clause-size c = size_fits (goal.at.returns-in-Born-4-clause-size c).In-Some
+
+pub returns-in-Born-5-clause-size : goal.returns-in-Born-5-clause-size
+returns-in-Born-5-clause-size c = size_fits (goal.at.returns-in-Born-5-clause-size c).In-Some
+
+pub returns-in-Born-6-clause-size : goal.returns-in-Born-6-clause-size
+returns-in-Born-6-clause-size c = size_fits (goal.at.returns-in-Born-6-clause-size c).In-Some

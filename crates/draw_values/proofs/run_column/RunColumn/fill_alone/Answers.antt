@@ -4,8 +4,8 @@ use Rattle.schema_plan.specs.declared.ready.ReadyColumn.{ReadyColumn}
 use Rattle.schema_plan.specs.Layout.{column_at, layout_of, table_at}
 use Rattle.schema_plan.specs.Limits.{IsTableInLimits}
 use Rattle.schema_plan.specs.Ready.{ready_columns}
-use Rattle.draw_values.specs.Runs.{IsReadyDrawn, RunColumnOf, is_short_alone, ready_at}
-use Rattle.draw_values.proofs.FieldLemmas.{IsKeptField}
+use Rattle.draw_values.specs.Runs.{IsReadyDrawn, RunColumnOf, is_short_alone, ready_at, run_row}
+use Rattle.draw_values.proofs.FieldLemmas.{IsKeptField, column_has_day}
 use Rattle.draw_values.proofs.RunLemmas.{drawn_is_ready, kept_short, own_ready, run_field-filled, run_text_size}
 use Rattle.draw_values.proofs.run_column.RunColumn.fill_alone.Goals as goal
 use Rattle.draw_values.proofs.run_column.RunColumn.fill_alone.Goals.{After-index-columns-self}
@@ -42,6 +42,12 @@ fill_values-requires-clause-ready c =
     let columns = (table_at (layout_of c.args.plan.now).tables c.args.self.now.table).columns in
     subst (λ (found : ReadyColumn). IsReadyDrawn found.kind) (sym (own_is at))
     (drawn_is_ready (layout_of c.args.plan.now).delimiter columns c.args.self.now.column (column_at columns c.args.self.now.column).kind ((limits at).kinds c.args.self.now.column c.requires.column.column_within))
+
+pub fill_values-requires-clause-days : goal.fill_values-requires-clause-days
+fill_values-requires-clause-days c = λ i within.
+    let at : After-index-columns-self = (goal.at.fill_values-requires-clause-days c).After-index-columns-self in
+    column_has_day (layout_of c.args.plan.now) c.args.self.now.table c.args.self.now.column (layout_of c.args.plan.now).units c.index-columns-self.result (run_row c.args.rows i)
+    (limits at) c.requires.column.column_within (kept at).column_is (c.requires.rows.born i within) (c.requires.rows.changed i within)
 
 pub returns-clause-text : goal.returns-clause-text
 returns-clause-text c = λ i within.
