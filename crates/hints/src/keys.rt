@@ -18,10 +18,10 @@ const COLUMN_KEYS: &str = "name, kind, changes, null";
 const BRANCH_KEYS: &str = "kind";
 
 /// The kinds that a branch can have.
-const LEAF_KINDS: &str = "int, fixed, date, pick, skew, dict, words, chars";
+const LEAF_KINDS: &str = "int, fixed, date, pick, skew, dict, words, chars, uuid";
 
 /// The kinds that only a column can have.
-const OTHER_KINDS: &str = "key, born, changed, template, case, ref, lookup";
+const OTHER_KINDS: &str = "key, born, changed, born_date, changed_date, list, template, case, ref, lookup";
 
 /// Returns the keys of a kind, beside those of any kind.
 fn own_keys(kind: &str) -> &'static str {
@@ -32,7 +32,8 @@ fn own_keys(kind: &str) -> &'static str {
         "date" => "lo, hi",
         "pick" => "entries, weights",
         "skew" => "lo, size, power",
-        "dict" => "file",
+        "dict" | "list" => "file",
+        "born_date" | "changed_date" => "start, step",
         "words" => "file, lo, hi",
         "chars" => "alphabet, lo, hi",
         "template" => "parts",

@@ -33,7 +33,7 @@ const TABLE_FAULTS: [&str; 10] = [
 ];
 
 // The keys of the first column of the first table, with one wrong key.
-const COLUMN_FAULTS: [&str; 91] = [
+const COLUMN_FAULTS: [&str; 90] = [
     "Name TextValue: name=1,kind='born',changes=true,null=1",
     "Name TextValue: kind='born',changes=true,null=1",
     "Kind KindName: name='c',kind='nope',changes=true,null=1",
