@@ -21,7 +21,8 @@ const BRANCH_KEYS: &str = "kind";
 const LEAF_KINDS: &str = "int, fixed, date, pick, skew, dict, words, chars, uuid";
 
 /// The kinds that only a column can have.
-const OTHER_KINDS: &str = "key, born, changed, born_date, changed_date, list, template, case, ref, lookup";
+const OTHER_KINDS: &str =
+    "key, born, changed, born_date, changed_date, list, template, case, ref, lookup";
 
 /// Returns the keys of a kind, beside those of any kind.
 fn own_keys(kind: &str) -> &'static str {

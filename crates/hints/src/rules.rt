@@ -99,6 +99,7 @@ fn rule_words(number: u32) -> &'static str {
         24 => "a line has at most 65,536 bytes, by the greatest sizes of its fields",
         25 =>
             "`null` is 0 to 999, and `null` and `changes = true` stand only with kinds that take them",
+        26 => "`step` is 0 to 3,660, and the day of unit `units` is at most 9999-12-31",
         _ => "",
     }
 }
