@@ -17,7 +17,6 @@ use Rattle.draw_values.specs.declared.values.RowAt.{RowAt}
 use Rattle.draw_values.specs.Dates.{date_text}
 use Rattle.draw_values.specs.Digits.{signed_pointed}
 use Rattle.draw_values.specs.Uuids.{uuid_text}
-use Rattle.draw_values.specs.WrittenUnits.{WrittenUnits}
 use Rattle.draw_values.specs.Values.{Draws, chosen, chosen_group, drawn_words, unless_null, unit_day}
 
 -- the draws of the field of the row with an ordinal, by the seed of its column at its unit

@@ -1,5 +1,5 @@
 -- How a keeper in memory keeps its rows.
-use Rattle.std.specs.Prelude.{◌≡◌, ◌&&◌, ◌==◌, ℕ, Bool, List, Option, Result, Some, string_bytes}
+use Rattle.std.specs.Prelude.{◌≡◌, ◌&&◌, ◌==◌, ℕ, Bool, List, Result, Some, string_bytes}
 use Rattle.std.specs.HashMap.{get}
 use Rattle.std.specs.Option.{option_map}
 use Rattle.pd_outside.specs.Faults.{Counts, exact_counts, faults_after}

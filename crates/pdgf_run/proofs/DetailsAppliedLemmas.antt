@@ -1,5 +1,5 @@
 -- Inputs that a plain simulation gives make what a detail table holds later.
-use Rattle.std.proofs.Common.{◌≡◌, ◌≢◌, ◌<◌, ◌≤◌, ◌+◌, ◌-◌, ◌*◌, ℕ, zero, suc, Bool, true, false, List, [], ◌∷◌, ◌++◌, flat_map, get_or, length, length-append, Option, None, Some, Result, Ok, Err, ap, arith, refl, subst, sym, ◌∙◌}
+use Rattle.std.proofs.Common.{◌≡◌, ◌≤◌, ◌+◌, ◌-◌, ◌*◌, ℕ, zero, suc, Bool, true, false, List, [], ◌∷◌, ◌++◌, flat_map, get_or, length, length-append, Option, None, Some, Result, Ok, Err, ap, arith, refl, subst, sym, ◌∙◌}
 use Rattle.std.specs.Prelude.{IfOk, nat_lt, if◌then◌else◌}
 use Rattle.std.specs.List.{range_with_len}
 use Rattle.std.proofs.lemmas.List.{append-nil}
@@ -36,7 +36,7 @@ use Rattle.detail_rows.specs.Lines.{detail_text}
 use Rattle.detail_laws.proofs.ApplyLawLemmas.{units-applied}
 use Rattle.pdgf_run.specs.Details.{detail_in, detail_of_text, kept_over, undeclared, unless_broken}
 use Rattle.pdgf_run.specs.Formats.{made_files}
-use Rattle.pdgf_run.specs.Replay.{AreReplayed, IsMadeOf, IsReplayDue, IsReplayOf, format_of, input_limit, input_paths, inputs_at, text_name}
+use Rattle.pdgf_run.specs.Replay.{AreReplayed, IsMadeOf, IsReplayDue, IsReplayOf, format_of, input_paths, inputs_at, text_name}
 use Rattle.pdgf_run.specs.ReadingList.{reads_schema}
 use Rattle.pdgf_run.specs.TopCall.{Carries, GivesLaterDetails}
 use Rattle.pdgf_run.specs.Verdict.{IsInMode, IsVerdict}

@@ -1,5 +1,5 @@
 -- What is left of the library, stage by stage.
-use Rattle.std.proofs.Common.{◌≡◌, ◌≢◌, ◌≤◌, ◌+◌, ℕ, Bool, false, List, Option, None, Some, Result, Ok, Err, inl, inr, refl, sym, subst, arith, ◌∙◌}
+use Rattle.std.proofs.Common.{◌≡◌, ◌≢◌, ◌≤◌, ◌+◌, ℕ, Bool, false, List, Option, None, Some, Result, Ok, Err, inl, inr, refl, sym, subst, ◌∙◌}
 use Rattle.std.specs.Prelude.{◌⊎◌}
 use Rattle.std.specs.Option.{option_map}
 use Rattle.dictionaries.specs.declared.fault.DictFault.{DictFault}

@@ -1,26 +1,18 @@
-use Rattle.std.proofs.Common.{◌≡◌, ◌<◌, ◌≤◌, ℕ, suc, ◌+◌, ◌-◌, ◌∷◌, [], true, List, length, map, take, drop, get_or, reverse, ap, ap₂, arith, subst, sym, ◌∙◌}
-use Rattle.std.specs.Prelude.{All, ◌++◌}
+use Rattle.std.proofs.Common.{◌<◌, ◌≤◌, ℕ, suc, ◌+◌, ◌-◌, ◌∷◌, [], true, List, map, take, drop, get_or, ap, arith, subst, sym, ◌∙◌}
+use Rattle.std.specs.Prelude.{◌++◌}
 use Rattle.cohort_sizes.proofs.CohortLemmas.{born_count-le}
 use Rattle.life_intervals.specs.Found.{IsFound}
 use Rattle.life_intervals.proofs.FoundLemmas.{found-early}
 use Rattle.pd_outside.proofs.Counts.{failed_then, unfailed_then}
-use Rattle.std.specs.List.{flat_map, range_with_len}
 use Rattle.std.proofs.lemmas.Result.{err_from_is_err_and}
 use Rattle.schema_plan.specs.Dictionaries.{Project}
-use Rattle.schema_plan.specs.Limits.{IsInLimits}
-use Rattle.life_intervals.specs.CohortKeys.{IsCohort}
-use Rattle.life_intervals.specs.Generator.{Generator, generator_of, last_unit, rows_in_all, table_of}
-use Rattle.life_intervals.specs.Intervals.{changing, dying, is_live, newborn}
-use Rattle.cohort_sizes.specs.Births.{born_count, cohort_size, first_ordinal}
-use Rattle.cohort_sizes.specs.declared.cohort.Cohort.{Cohort}
+use Rattle.life_intervals.specs.Generator.{generator_of, last_unit, rows_in_all, table_of}
+use Rattle.life_intervals.specs.Intervals.{is_live}
+use Rattle.cohort_sizes.specs.Births.{born_count}
 use Rattle.keeper_play.specs.Kept.{Statement}
-use Rattle.keeper_play.specs.Played.{changes_of, drop_at, put_at, Changes}
-use Rattle.keeper_play.specs.Statements.{deletions, insertions, places, unit_statements, updates}
-use Rattle.keeper_play.specs.Store.{StoppedIn, perform, perform_all}
-use Rattle.keeper_play.proofs.StoreLemmas.{backwards-at, backwards-more, items-at, items-more, made-more, made-none, numbers-at, numbers-more, places-at, stopped-behind, stopped-one}
-use Rattle.keeper_play.proofs.UnitLemmas.{changing-alive, changing-born, cohort-limit, deleted-ordinals, deletions-at, dying-born, insertions-at, newborn-alive, unit_statements-parts, updated-ordinals, updates-at}
-use Rattle.life_intervals.proofs.AcceptedLemmas.{length-tables}
-use Rattle.life_intervals.proofs.Ranges.{flat_map-range_with_len_more}
+use Rattle.keeper_play.specs.Played.{put_at}
+use Rattle.keeper_play.specs.Store.{StoppedIn, perform_all}
+use Rattle.keeper_play.proofs.StoreLemmas.{items-at, items-more, made-more, stopped-behind}
 use Rattle.keeper_play.proofs.play.put_listed.Goals as goal
 
 -- what is found is the row of its ordinal

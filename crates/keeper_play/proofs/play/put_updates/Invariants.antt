@@ -1,4 +1,4 @@
-use Rattle.std.proofs.Common.{◌≡◌, ◌≤◌}
+use Rattle.std.proofs.Common.{◌≡◌}
 use Rattle.std.specs.List.{flat_map, range_with_len}
 use Rattle.life_intervals.specs.Generator.{generator_of}
 use Rattle.pd_outside.specs.Faults.{Unfailed}

@@ -1,4 +1,4 @@
-use Rattle.std.proofs.Common.{Some, arith, refl, sym, ap, ◌∙◌}
+use Rattle.std.proofs.Common.{Some, arith, sym, ap, ◌∙◌}
 use Rattle.std.proofs.lemmas.Result.{err_from_is_err_and}
 use Rattle.pd_outside.proofs.Counts.{failed_then, unfailed_same, unfailed_then}
 use Rattle.pdgf_run.proofs.FileLemmas.{all_finished, next_finished, next_partly, none_finished}

@@ -1,4 +1,4 @@
-use Rattle.std.proofs.Common.{rules, ◌≡◌, ◌+◌, ◌<◌, ℕ, List, [], ◌∷◌, arith, drop, length, refl, subst, sym, ◌∙◌}
+use Rattle.std.proofs.Common.{rules, ◌≡◌, ◌+◌, ◌<◌, ℕ, List, [], ◌∷◌, arith, drop, length, subst, sym, ◌∙◌}
 use Rattle.std.specs.Option.{option_map}
 use Rattle.pd_outside.proofs.Counts.{failed_then, unfailed_same, unfailed_then}
 use Rattle.pd_outside.specs.Files.{File}

@@ -1,4 +1,4 @@
-use Rattle.std.proofs.Common.{◌+◌, arith, ◌∙◌}
+use Rattle.std.proofs.Common.{◌+◌, arith}
 use Rattle.pd_outside.proofs.Appending.{prefix_after}
 use Rattle.pd_outside.proofs.Counts.{failed_then, unfailed_then}
 use Rattle.range_workers.specs.Marks.{texts}
