@@ -49,8 +49,8 @@ fn drawn_seed(plan: &Plan, table: u32, place: usize, at: RowAt) -> u64
     )
 }
 
-/// Appends a row's field in a column of units, of drawn values, of cases or of entries in turn, as it is written. A null field appends nothing. The
-/// greatest size of the column's fields must be free.
+/// Appends a row's field in a column of units, of drawn values, of cases or of entries in turn, as it is written. A null field
+/// appends nothing. The greatest size of the column's fields must be free.
 pub fn put_value(plan: &Plan, table: u32, column: u32, at: RowAt, buf: &mut PageBuf) -> Put
     requires table { table < length plan.now.schema.tables }
     requires column { column < length (table_at (layout_of plan.now).tables table).columns }
