@@ -8,7 +8,7 @@ use std::fs;
 
 // How a database was left.
 #[derive(Clone, Copy, PartialEq, Eq)]
-enum Ending {
+enum Left {
     // One file, read and written with a rollback journal.
     Alone,
     // A file that is read and written with a log, and a log beside it.
@@ -22,27 +22,36 @@ fn exists(rt: HostRuntime, name: &str) -> bool {
     fs::exists(&rt, name).unwrap_or(true)
 }
 
-// Returns the two bytes of the header that tell how a file is written and read.
-fn mode(rt: HostRuntime, name: &str) -> Option<[u8; 2]> {
-    let bytes = fs::read(&rt, name).ok()?;
-    let mode = bytes.as_slice().get(18..20)?;
-    Some([mode[0], mode[1]])
+// Tells whether both bytes of a file's header that tell how it is written and read are this one.
+fn has_mode(rt: HostRuntime, name: &str, mode: u8) -> bool {
+    match fs::read(&rt, name) {
+        Ok(bytes) => is_byte(bytes.as_slice(), 18, mode) && is_byte(bytes.as_slice(), 19, mode),
+        Err(_) => false,
+    }
 }
 
-fn ending(rt: HostRuntime, name: &str, log: &str) -> Ending {
-    match (mode(rt, name), exists(rt, log)) {
-        (Some([1, 1]), false) => Ending::Alone,
-        (Some([2, 2]), true) => Ending::WithLog,
-        (None, false) if !exists(rt, name) => Ending::Gone,
-        _ => Ending::Other,
+fn is_byte(bytes: &[u8], at: usize, byte: u8) -> bool {
+    at < bytes.len() && bytes[at] == byte
+}
+
+fn ending(rt: HostRuntime, name: &str, log: &str) -> Left {
+    let has_log = exists(rt, log);
+    if !exists(rt, name) {
+        if has_log { Left::Other } else { Left::Gone }
+    } else if !has_log && has_mode(rt, name, 1) {
+        Left::Alone
+    } else if has_log && has_mode(rt, name, 2) {
+        Left::WithLog
+    } else {
+        Left::Other
     }
 }
 
 // Plays one row into a store, finishes it or breaks off, and tells how it was left. Returns `Other` if a call is refused.
-fn played(rt: HostRuntime, name: &str, log: &str, is_finished: bool) -> Ending {
+fn played(rt: HostRuntime, name: &str, log: &str, is_finished: bool) -> Left {
     let mut keeper = SqlKeeper::new(SystemDatabases::new(&rt));
     if keeper.start(name).is_err() {
-        return Ending::Other;
+        return Left::Other;
     }
     let is_put = keeper.put(0, 1, &[], b"1\t0\n").is_ok();
     let is_made = is_put && (!is_finished || keeper.finish().is_ok());
@@ -52,7 +61,7 @@ fn played(rt: HostRuntime, name: &str, log: &str, is_finished: bool) -> Ending {
     if is_made {
         ending(rt, name, log)
     } else {
-        Ending::Other
+        Left::Other
     }
 }
 
@@ -80,15 +89,15 @@ fn a_finished_store_stands_alone(rt: HostRuntime) {
     let finished = played(rt, name, log, true);
     let count = rows(rt, name);
     remove(rt, name, log);
-    assert!(rt; broken_off == Ending::Gone);
-    assert!(rt; finished == Ending::Alone);
+    assert!(rt; broken_off == Left::Gone);
+    assert!(rt; finished == Left::Alone);
     assert!(rt; count == Some(1));
 }
 
 // Makes a database of somebody else, without a table, and tells how it was left.
-fn others(rt: HostRuntime, name: &str, log: &str) -> Ending {
+fn others(rt: HostRuntime, name: &str, log: &str) -> Left {
     let Ok(mut database) = Connection::open(&rt, name) else {
-        return Ending::Other;
+        return Left::Other;
     };
     let is_made = database
         .execute_batch("CREATE TABLE mine (a); DROP TABLE mine")
@@ -97,7 +106,7 @@ fn others(rt: HostRuntime, name: &str, log: &str) -> Ending {
     if is_made && is_closed {
         ending(rt, name, log)
     } else {
-        Ending::Other
+        Left::Other
     }
 }
 
@@ -110,9 +119,9 @@ fn a_database_keeps_its_mode_where_nothing_is_committed(rt: HostRuntime) {
     let finished = played(rt, name, log, true);
     let count = rows(rt, name);
     remove(rt, name, log);
-    assert!(rt; before == Ending::WithLog);
-    assert!(rt; broken_off == Ending::WithLog);
-    assert!(rt; finished == Ending::Alone);
+    assert!(rt; before == Left::WithLog);
+    assert!(rt; broken_off == Left::WithLog);
+    assert!(rt; finished == Left::Alone);
     assert!(rt; count == Some(1));
 }
 
@@ -131,6 +140,6 @@ fn a_database_with_checksums_keeps_its_mode(rt: HostRuntime) {
     let finished = played(rt, name, log, true);
     let count = rows(rt, name);
     remove(rt, name, log);
-    assert!(rt; is_made && finished == Ending::WithLog);
+    assert!(rt; is_made && finished == Left::WithLog);
     assert!(rt; count == Some(1));
 }

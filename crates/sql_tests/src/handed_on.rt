@@ -125,11 +125,11 @@ struct Played {
     goes_on: bool,
 }
 
-// Puts so many rows, drops one, and finishes the store. If that is refused, tries all again.
-fn play(calls: &Calls, refusing: Refusing, puts: u64) -> Option<Played> {
+// Puts three rows if that is asked for, drops one, and finishes the store. If that is refused, tries all again.
+fn play(calls: &Calls, refusing: Refusing, has_rows: bool) -> Option<Played> {
     let mut keeper = SqlKeeper::new(Counted { calls, refusing });
     keeper.start("").ok()?;
-    let is_put = are_put(&mut keeper, puts);
+    let is_put = !has_rows || are_put(&mut keeper);
     let is_dropped = keeper.drop_row(0, 1).is_ok();
     let is_finished = keeper.finish().is_ok();
     let goes_on = !is_finished
@@ -143,13 +143,22 @@ fn play(calls: &Calls, refusing: Refusing, puts: u64) -> Option<Played> {
     })
 }
 
-// Puts the rows with the keys from 1 on, and tells whether all were put.
-fn are_put<K: Keeper>(keeper: &mut K, puts: u64) -> bool
+fn is_put<K: Keeper>(keeper: &mut K, key: u64) -> bool
     requires { IsTrue (K.store keeper.old).is_open }
     ensures { IsTrue (K.store keeper.new).is_open }
 {
-    puts == 0
-        || are_put(keeper, puts - 1) && keeper.put(1, puts, &[to_customer(puts)], b"1\t1\n").is_ok()
+    keeper.put(1, key, &[to_customer(key)], b"1\t1\n").is_ok()
+}
+
+// Puts three rows, also after one is refused, and tells whether all were put.
+fn are_put<K: Keeper>(keeper: &mut K) -> bool
+    requires { IsTrue (K.store keeper.old).is_open }
+    ensures { IsTrue (K.store keeper.new).is_open }
+{
+    let first = is_put(keeper, 1);
+    let second = is_put(keeper, 2);
+    let third = is_put(keeper, 3);
+    first && second && third
 }
 
 fn is(played: Option<Played>, is_made: bool, is_finished: bool) -> bool {
@@ -165,29 +174,29 @@ fn is(played: Option<Played>, is_made: bool, is_finished: bool) -> bool {
 #[test]
 fn each_call_is_handed_on_once(rt: HostRuntime) {
     let calls = Calls::none();
-    let one = play(&calls, Refusing::Nothing, 0);
+    let one = play(&calls, Refusing::Nothing, false);
     assert!(rt; is(one, true, true) && calls.counts() == (0, 1, 1, 1));
     let calls = Calls::none();
-    let many = play(&calls, Refusing::Nothing, 5);
-    assert!(rt; is(many, true, true) && calls.counts() == (5, 1, 1, 1));
-    assert!(rt; calls.last.get() == (1, 5, 1, 4));
+    let many = play(&calls, Refusing::Nothing, true);
+    assert!(rt; is(many, true, true) && calls.counts() == (3, 1, 1, 1));
+    assert!(rt; calls.last.get() == (1, 3, 1, 4));
 }
 
 // After a refused statement no other call is handed on, and nothing is committed or closed.
 #[test]
 fn nothing_is_handed_on_after_a_refused_statement(rt: HostRuntime) {
     let calls = Calls::none();
-    let put = play(&calls, Refusing::Put, 5);
+    let put = play(&calls, Refusing::Put, true);
     assert!(rt; is(put, false, false) && calls.counts() == (1, 0, 0, 0));
     let calls = Calls::none();
-    let dropped = play(&calls, Refusing::Drop, 5);
-    assert!(rt; is(dropped, false, false) && calls.counts() == (5, 1, 0, 0));
+    let dropped = play(&calls, Refusing::Drop, true);
+    assert!(rt; is(dropped, false, false) && calls.counts() == (3, 1, 0, 0));
 }
 
 // A refused commit is told, though a second would be made. The store isn't closed, and nothing more is handed on.
 #[test]
 fn a_refused_commit_is_told(rt: HostRuntime) {
     let calls = Calls::none();
-    let committed = play(&calls, Refusing::Commit, 5);
-    assert!(rt; is(committed, true, false) && calls.counts() == (5, 1, 1, 0));
+    let committed = play(&calls, Refusing::Commit, true);
+    assert!(rt; is(committed, true, false) && calls.counts() == (3, 1, 1, 0));
 }

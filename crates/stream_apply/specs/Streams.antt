@@ -69,7 +69,7 @@ IsKeyFault kind table before key number (BadLine line) = ⊥
 IsKeyFault kind table before key number (DoubleKey line) = (line ≡ number) × (has_key before key ≡ true)
 IsKeyFault kind table before key number (NoSuchKey line) = (line ≡ number) × (has_key before key ≡ false) × (wants_held kind ≡ true) × (has_key table key ≡ false)
 IsKeyFault kind table before key number (KeyExists line) = (line ≡ number) × (has_key before key ≡ false) × (wants_held kind ≡ false) × (has_key table key ≡ true)
-IsKeyFault kind table before key number Memory = Unit {0}
+IsKeyFault kind table before key number Memory = ⊥
 
 -- the line behind those without a fault is no line of the stream
 pub record HasBadLine (keys : KeyFields) (delimiter : ℕ) (kind : InputKind) (table : List KeyedLine) (bytes : List ℕ) (line : ℕ) : Type 0 where

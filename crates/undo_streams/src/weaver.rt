@@ -1,6 +1,6 @@
 //! A table while an undo text is applied to it.
 
-ghost use Rattle.std.specs.Prelude.{◌≡◌, ◌≤◌, ◌<◌, ◌+◌, [], ◌∷◌, ◌++◌, false, drop, length, take, IfErr, IfOk, OnOk};
+ghost use Rattle.std.specs.Prelude.{◌≡◌, ◌≢◌, ◌≤◌, ◌<◌, ◌+◌, [], ◌∷◌, ◌++◌, false, drop, length, take, IfErr, IfOk, OnOk};
 ghost use Rattle.std.specs.Bool.{OnFalse, OnTrue};
 ghost use Rattle.row_text.specs.Fields.{IsDelimiter};
 ghost use Rattle.stream_apply.specs.KeyedLines.{has_key, keyed, put};
@@ -8,6 +8,7 @@ ghost use Rattle.stream_apply.specs.Streams.{wants_held};
 ghost use Rattle.undo_streams.specs.ReadLines.{undo_of};
 ghost use Rattle.undo_streams.specs.Reverting.{IsLineFault, IsPlaceIn, IsUndoFault, IsUndoneBy, begun, behind, kind_of, rank_of};
 ghost use Rattle.undo_streams.specs.Weaving.{IsWoven, undoing_of};
+ghost use Rattle.undo_streams.specs.declared.fault.RevertFault.TheVariants as revert_fault;
 ghost use Rattle.undo_streams.specs.declared.part.Part.TheVariants.{Adds, Drops, Sets};
 
 use crate::fault::RevertFault;
@@ -124,6 +125,7 @@ impl<'a> Weaver<'a> {
         ensures held { OnOk result (has_key (undoing_of self.now).lines line.entry.key.now ≡ wants_held (kind_of line.entry.part)) }
         ensures placed { OnOk result (IsPlaceIn (undoing_of self.now) line.entry.part line.entry.place) }
         ensures fault { IfErr result (IsLineFault (undoing_of self.now) (undo_of line.entry) number) }
+        ensures sure { IfErr result (λ fault. fault ≢ revert_fault.Memory) }
     {
         if self.told.has(line.key) {
             return Err(RevertFault::DoubleKey { line: number });
