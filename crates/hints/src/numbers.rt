@@ -93,6 +93,9 @@ fn put_numbers_of_column(
     match &column.kind {
         Kind::Key { base, .. } if broken.number == 5 => writeln!(hints, "hint: base {base}"),
         Kind::Leaf(leaf) if 9 <= broken.number && broken.number <= 14 => put_leaf(leaf, hints),
+        Kind::List { file } if broken.number == 13 => {
+            writeln!(hints, "hint: a name of {} bytes", file.len())
+        }
         Kind::Template { parts } if broken.number == 15 && !is_one_to_32(parts.len()) => {
             writeln!(hints, "hint: {} parts", parts.len())
         }
@@ -107,6 +110,9 @@ fn put_numbers_of_column(
         }
         Kind::Ref { spread, .. } if broken.number == 21 => {
             writeln!(hints, "hint: {} numbers", spread.len())
+        }
+        Kind::BornDate { step, .. } | Kind::ChangedDate { step, .. } if broken.number == 26 => {
+            writeln!(hints, "hint: step {step}, units {}", broken.schema.units)
         }
         _ if broken.number == 25 => {
             writeln!(
@@ -145,7 +151,7 @@ fn put_leaf(leaf: &Leaf, hints: &mut String) -> Result<(), AllocError> {
             lo,
             hi,
         } => writeln!(hints, "hint: lo {lo}, hi {hi}"),
-        Leaf::Date { lo: _, hi: _ } => Ok(()),
+        Leaf::Date { lo: _, hi: _ } | Leaf::Uuid => Ok(()),
     }
 }
 
