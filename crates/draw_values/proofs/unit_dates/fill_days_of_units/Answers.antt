@@ -1,4 +1,4 @@
-use Rattle.std.proofs.Common.{◌≡◌, ◌≤ℤ◌, ◌+ℤ◌, ◌*◌, ◌++◌, ℕ, ℤ, pos, List, get_or, w32, w64, to_z, of_z, ap, ◌∙◌, arith}
+use Rattle.std.proofs.Common.{◌≡◌, ◌+ℤ◌, ◌*◌, ◌++◌, ℕ, ℤ, pos, List, get_or, w32, w64, to_z, of_z, ap, ◌∙◌, arith}
 use Rattle.std.proofs.lemmas.Int.{ints, to_z-of_z}
 use Rattle.line_pages.specs.Pieces.{piece_text}
 use Rattle.schema_plan.specs.Limits.{IsDateRange}

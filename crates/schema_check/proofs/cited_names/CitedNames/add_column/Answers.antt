@@ -1,4 +1,4 @@
-use Rattle.std.proofs.Common.{◌≡◌, ◌∙◌, List, ℕ, ap, sym, flat_map, take}
+use Rattle.std.proofs.Common.{◌∙◌, List, ℕ, ap, sym, flat_map, take}
 use Rattle.std.specs.List.{fold}
 use Rattle.schema_plan.specs.Citations.{names_in_leaf, with_name}
 use Rattle.schema_check.proofs.RuleLemmas.{names_in_kind-drawn}
