@@ -4,7 +4,7 @@ use request_words::UsageFault;
 use std::alloc::AllocError;
 
 /// The version of the program, the newest one in CHANGELOG.md.
-const VERSION: &str = "0.1.0";
+const VERSION: &str = "0.2.0";
 
 /// The modes, each with its call.
 const CALLS: [(&str, &str); 12] = [
