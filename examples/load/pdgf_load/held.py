@@ -43,6 +43,14 @@ class Source:
         return False
 
 
+def number_told(words):
+    """Returns the number that a client tells for a query."""
+    ran = subprocess.run(words, stdin=subprocess.DEVNULL, capture_output=True, text=True, errors="replace")
+    if ran.returncode != 0:
+        raise Failed(ran.stderr.strip())
+    return int(ran.stdout)
+
+
 class InDatabase(Source):
     """Tables whose columns have the names of the schema's."""
 
@@ -79,10 +87,7 @@ class InPostgres(InDatabase):
         types = "'int2'::regtype, 'int4'::regtype, 'int8'::regtype, 'numeric'::regtype"
         of = f"attrelid = {as_text(self.quoted_name(table))}::regclass AND attname IN ({keys})"
         words = [*self.words, "-c", f"SELECT count(*) FROM pg_attribute WHERE {of} AND atttypid IN ({types})"]
-        ran = subprocess.run(words, stdin=subprocess.DEVNULL, capture_output=True, text=True, errors="replace")
-        if ran.returncode != 0:
-            raise Failed(ran.stderr.strip())
-        return int(ran.stdout) == len(table.keys)
+        return number_told(words) == len(table.keys)
 
     @contextlib.contextmanager
     def lines(self, table, is_sorted):
@@ -112,10 +117,7 @@ class InMariadb(InDatabase):
         place = f"table_schema = {as_text(schema[0]) if schema else 'DATABASE()'} AND table_name = {as_text(name)}"
         keys = f"column_name IN ({', '.join(map(as_text, table.keys))}) AND data_type IN ({self.numbers})"
         words = [*self.words, "-e", f"SELECT count(*) FROM information_schema.columns WHERE {place} AND {keys}"]
-        ran = subprocess.run(words, stdin=subprocess.DEVNULL, capture_output=True, text=True, errors="replace")
-        if ran.returncode != 0:
-            raise Failed(ran.stderr.strip())
-        return int(ran.stdout) == len(table.keys)
+        return number_told(words) == len(table.keys)
 
     @contextlib.contextmanager
     def lines(self, table, is_sorted):
