@@ -1,0 +1,7 @@
+//! Tests of pages in order and of claims, by public calls.
+#![tactic(auto)]
+
+#[cfg(test)]
+mod claims;
+#[cfg(test)]
+mod offers;
