@@ -1,5 +1,5 @@
 -- The lines of a row by what is kept of the columns.
-use Rattle.std.proofs.Common.{◌≡◌, ◌<◌, ◌≤◌, false, ℕ, ℤ, pos, ◌+◌, ◌-◌, ◌*◌, ◌%◌, ◌^◌, ◌-ℤ◌, ◌+ℤ◌, All, List, [], ◌∷◌, ◌++◌, append_assoc, append-nil, codes, decimal, flat_map, get_or, length, length-append, map, max, sum_by, Option, Some, refl, ap, arith, sym, subst, ◌∙◌}
+use Rattle.std.proofs.Common.{◌≡◌, ◌<◌, false, ℕ, pos, ◌+◌, ◌%◌, ◌^◌, ◌-ℤ◌, ◌+ℤ◌, All, List, [], ◌∷◌, ◌++◌, append_assoc, append-nil, decimal, flat_map, get_or, length, map, max, sum_by, Option, Some, refl, ap, arith, sym, ◌∙◌}
 use Rattle.std.specs.Fmt.{signed_decimal}
 use Rattle.std.specs.List.{range_with_len}
 use Rattle.std.proofs.lemmas.List.{get_or-map, length-map}
@@ -7,9 +7,8 @@ use Rattle.std.proofs.lemmas.List.Concat.{flat_map-append, flat_map-cons}
 use Rattle.std.proofs.lemmas.List.Elements.{All-map}
 use Rattle.std.proofs.lemmas.List.Folds.{flat_map-map, fold-map}
 use Rattle.std.proofs.lemmas.List.Sums.{sum_by-cons}
-use Rattle.philox_seeds.specs.SeedTree.{column_seed, draw, row_seed, unit_seed}
+use Rattle.philox_seeds.specs.SeedTree.{draw, row_seed}
 use Rattle.row_text.specs.Fields.{escaped_text, field_text}
-use Rattle.row_text.specs.Lines.{line_text}
 use Rattle.row_text.proofs.DigitLemmas.{escaped_text-decimal}
 use Rattle.schema_plan.specs.Counts.{count}
 use Rattle.draw_values.proofs.PlainLemmas.{escaped_text-plain, plain-signed_decimal}
@@ -19,14 +18,14 @@ use Rattle.detail_plan.specs.declared.detail.Detail.{Detail}
 use Rattle.detail_plan.specs.declared.detail.DetailColumn.{DetailColumn}
 use Rattle.detail_plan.specs.declared.detail.DetailKind.{DetailKind}
 use Rattle.detail_plan.specs.declared.detail.DetailKind.TheVariants.{Int, Pick}
-use Rattle.detail_plan.specs.Limits.{IsColumnInLimits, IsInLimits, IsKindInLimits}
-use Rattle.detail_plan.specs.Rules.{column_size, kind_size, line_size}
+use Rattle.detail_plan.specs.Limits.{IsInLimits, IsKindInLimits}
+use Rattle.detail_plan.specs.Rules.{column_size, kind_size}
 use Rattle.detail_rows.specs.declared.parent_row.ParentRow.{ParentRow}
 use Rattle.detail_rows.specs.declared.values.ReadyValue.{ReadyValue}
-use Rattle.detail_rows.specs.declared.values.ReadyValue.TheVariants.{Number, Entry}
+use Rattle.detail_rows.specs.declared.values.ReadyValue.TheVariants.{Number}
 use Rattle.detail_rows.specs.Lines.{column_at, line_ordinal, value_by}
-use Rattle.detail_rows.specs.Ready.{IsReadyValue, field_size, fields_size, ready_column, ready_columns, ready_field, ready_fields, ready_size, ready_text, ready_value, value_at}
-use Rattle.detail_rows.specs.Told.{AreSeeds, LinesBy, detail_seed, first_key_lines, first_lines, told_fields, told_key_line, told_line, told_unit, told_value}
+use Rattle.detail_rows.specs.Ready.{IsReadyValue, field_size, fields_size, ready_column, ready_columns, ready_field, ready_fields, ready_size, ready_text, ready_value}
+use Rattle.detail_rows.specs.Told.{AreSeeds, LinesBy, told_fields, told_key_line, told_line, told_value}
 
 -- ---- values
 

@@ -1,11 +1,11 @@
 -- The lines of rows of the parent, by their ordinals.
-use Rattle.std.proofs.Common.{◌≡◌, ◌<◌, ◌≤◌, ℕ, zero, suc, ◌+◌, ◌-◌, ◌*◌, Bool, List, [], ◌∷◌, ◌++◌, filter, flat_map, get_or, if◌then◌else◌, length, map, take, drop, refl, ap, arith, sym, ◌∙◌}
+use Rattle.std.proofs.Common.{◌≡◌, ◌<◌, ◌≤◌, ℕ, ◌+◌, Bool, List, [], ◌∷◌, ◌++◌, filter, flat_map, get_or, if◌then◌else◌, length, map, take, drop, refl, ap, arith, sym, ◌∙◌}
 use Rattle.std.specs.List.{range_with_len}
 use Rattle.std.proofs.Math.Seq.{take-add}
 use Rattle.std.proofs.lemmas.List.Concat.{flat_map-append}
 use Rattle.std.proofs.lemmas.List.Folds.{flat_map-map}
 use Rattle.std.proofs.lemmas.List.FromFn.{fill_by_all}
-use Rattle.cohort_sizes.specs.Births.{Births, LiesIn, birth, born_count}
+use Rattle.cohort_sizes.specs.Births.{Births, LiesIn, birth}
 use Rattle.cohort_sizes.proofs.CohortLemmas.{birth-only}
 use Rattle.schema_plan.specs.Dictionaries.{Project}
 use Rattle.schema_plan.specs.Layout.{layout_of}

@@ -89,7 +89,8 @@ fn put_range<L: Ledger>(
     requires within { end ≤ rows_in lines.now.plan lines.now.detail told.now }
     requires empty { page.old.text ≡ [] }
     requires room { (end - first) * reach_of lines.now.plan lines.now.detail ≤ page.old.room }
-    ensures { page.new ≡ record page.old { text = range_text lines.now.plan lines.now.detail told.now first end } }
+    ensures text { page.new ≡ record page.old { text = range_text lines.now.plan lines.now.detail told.now first end } }
+    ensures size { length (range_text lines.now.plan lines.now.detail told.now first end) ≤ (end - first) * reach_of lines.now.plan lines.now.detail }
 {
     match told {
         PackedRows::All { unit } => lines.put_living(*unit, first, end - first, page, steps),
@@ -145,7 +146,8 @@ impl<'a> DetailPacker<'a> {
         requires number { n < count_of self.now }
         requires empty { page.old.text ≡ [] }
         requires room { room_of self.now ≤ page.old.room }
-        ensures { page.new ≡ record page.old { text = text_numbered self.now n } }
+        ensures text { page.new ≡ record page.old { text = text_numbered self.now n } }
+        ensures size { length (text_numbered self.now n) ≤ room_of self.now }
     {
         let mut steps = Steps::<B>::new(blank);
         let first = n * self.size;
@@ -158,7 +160,8 @@ impl<'a> DetailPacker<'a> {
         requires number { n < count_of self.now }
         requires empty { page.old.text ≡ [] }
         requires room { room_of self.now ≤ page.old.room }
-        ensures { page.new ≡ record page.old { text = text_numbered self.now n } }
+        ensures text { page.new ≡ record page.old { text = text_numbered self.now n } }
+        ensures size { length (text_numbered self.now n) ≤ room_of self.now }
     {
         self.put_package::<Brand>(n, page, Blank::new(1));
     }

@@ -224,7 +224,8 @@ impl<'a> ParentLines<'a> {
         requires unit { t ≤ last_unit self.now.plan }
         requires rows { (i : ℕ) → i < length ordinals.now → get_or ordinals.now i 0 < born_by self.now.plan self.now.detail t }
         requires room { length page.old.text + length ordinals.now * reach_of self.now.plan self.now.detail ≤ page.old.room }
-        ensures { page.new ≡ record page.old { text = page.old.text ++ listed_text self.now.plan self.now.detail kind t ordinals.now } }
+        ensures text { page.new ≡ record page.old { text = page.old.text ++ listed_text self.now.plan self.now.detail kind t ordinals.now } }
+        ensures size { length (listed_text self.now.plan self.now.detail kind t ordinals.now) ≤ length ordinals.now * reach_of self.now.plan self.now.detail }
     {
         let mut done = 0;
         while done < ordinals.len() {
@@ -336,7 +337,8 @@ impl<'a> ParentLines<'a> {
         requires unit { t ≤ last_unit self.now.plan }
         requires rows { first + count ≤ born_by self.now.plan self.now.detail t }
         requires room { length page.old.text + count * reach_of self.now.plan self.now.detail ≤ page.old.room }
-        ensures { page.new ≡ record page.old { text = page.old.text ++ listed_text self.now.plan self.now.detail LineKind.Whole t (living_from self.now.plan self.now.detail t first count) } }
+        ensures text { page.new ≡ record page.old { text = page.old.text ++ listed_text self.now.plan self.now.detail LineKind.Whole t (living_from self.now.plan self.now.detail t first count) } }
+        ensures size { length (listed_text self.now.plan self.now.detail LineKind.Whole t (living_from self.now.plan self.now.detail t first count)) ≤ count * reach_of self.now.plan self.now.detail }
     {
         let _most = self.born(t); // there are at most 2^40
         let mut done = 0;

@@ -1,6 +1,6 @@
 //! What makes the packages of a job.
 
-ghost use Rattle.std.specs.Prelude.{◌≡◌, ◌<◌, ◌≤◌, ◌^◌, [], ℕ, List};
+ghost use Rattle.std.specs.Prelude.{◌≡◌, ◌<◌, ◌≤◌, ◌^◌, [], ℕ, List, length};
 
 use line_pages::PageBuf;
 
@@ -24,10 +24,11 @@ pub trait Packer {
     fn room(&self) -> usize
         ensures { result ≡ room self.now };
 
-    /// Makes package `n` and puts its text on an empty page. Takes no memory.
+    /// Makes package `n` and puts its text on an empty page. The text has at most as many bytes as the packer's room. Takes no memory.
     fn pack(&self, n: u64, page: &mut PageBuf)
         requires number { n < count self.now }
         requires empty { page.old.text ≡ [] }
         requires room { room self.now ≤ page.old.room }
-        ensures { page.new ≡ record page.old { text = text self.now n } };
+        ensures text { page.new ≡ record page.old { text = text self.now n } }
+        ensures size { length (text self.now n) ≤ room self.now };
 }

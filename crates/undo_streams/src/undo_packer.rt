@@ -264,7 +264,8 @@ fn put_undo<B: Ledger>(
     requires ordered { lines.first ≤ lines.end }
     requires empty { page.old.text ≡ [] }
     requires room { min (lines.end - lines.first) (length (undo_lines_of rows.now unit table)) * most_bytes rows.now table ≤ page.old.room }
-    ensures { page.new ≡ record page.old { text = concat (slice_range (undo_lines_of rows.now unit table) lines.first lines.end) } }
+    ensures text { page.new ≡ record page.old { text = concat (slice_range (undo_lines_of rows.now unit table) lines.first lines.end) } }
+    ensures size { length (concat (slice_range (undo_lines_of rows.now unit table) lines.first lines.end)) ≤ min (lines.end - lines.first) (length (undo_lines_of rows.now unit table)) * most_bytes rows.now table }
 {
     let mut steps = Steps::<B>::new(blank);
     let steps = &mut steps;
@@ -349,7 +350,8 @@ impl<'a> UndoPacker<'a> {
         requires number { n < count_of self.now }
         requires empty { page.old.text ≡ [] }
         requires room { room_of self.now ≤ page.old.room }
-        ensures { page.new ≡ record page.old { text = text_numbered self.now n } }
+        ensures text { page.new ≡ record page.old { text = text_numbered self.now n } }
+        ensures size { length (text_numbered self.now n) ≤ room_of self.now }
     {
         self.pack_with(n, &mut RunBuf::new(), page);
     }
@@ -359,7 +361,8 @@ impl<'a> UndoPacker<'a> {
         requires number { n < count_of self.now }
         requires empty { page.old.text ≡ [] }
         requires room { room_of self.now ≤ page.old.room }
-        ensures { page.new ≡ record page.old { text = text_numbered self.now n } }
+        ensures text { page.new ≡ record page.old { text = text_numbered self.now n } }
+        ensures size { length (text_numbered self.now n) ≤ room_of self.now }
     {
         let first = n * self.size;
         let lines = Entries {

@@ -1,5 +1,5 @@
 -- Packages as the code finds and makes them, and the files that are due by their marks.
-use Rattle.std.proofs.Common.{◌≡◌, ◌≤◌, ◌<◌, ℕ, zero, suc, ◌+◌, ◌-◌, ◌*◌, ◌^◌, List, [], ◌∷◌, ◌++◌, map, min, take, get_or, length, All, Option, Some, None, inl, inr, refl, ap, ap₂, sym, arith, subst, ◌∙◌}
+use Rattle.std.proofs.Common.{◌≡◌, ◌≤◌, ◌<◌, ℕ, zero, suc, ◌+◌, ◌-◌, ◌*◌, ◌^◌, List, [], ◌∷◌, ◌++◌, map, min, take, drop, get_or, length, length-take, All, Option, Some, None, inl, inr, refl, ap, ap₂, sym, arith, subst, ◌∙◌}
 use Rattle.std.specs.List.{flat_map, range_with_len, sum_by}
 use Rattle.std.proofs.Math.ListN.{get_or-map}
 use Rattle.std.proofs.Math.Nat.{mul-le-mul_right}
@@ -168,6 +168,27 @@ put-text before after text whole empty put is = put ∙ ap₂ (λ (front back : 
 -- where none may be alive, it stays as it is
 pub put-none : (before : Page) (whole : List ℕ) → before.text ≡ [] → [] ≡ whole → before ≡ record { text = whole; room = before.room }
 put-none before whole empty is = ap (λ (text : List ℕ). record { text = text; room = before.room }) (empty ∙ is)
+
+-- ---- sizes
+
+-- a text has as many bytes as the one that it is
+pub text-size : (text whole : List ℕ) (most : ℕ) → text ≡ whole → length text ≤ most → length whole ≤ most
+text-size text whole most is few = subst (λ (t : List ℕ). length t ≤ most) is few
+
+-- no more rows are taken of a list than asked for
+pub few-taken : (listed : List ℕ) (first end most : ℕ) → length (take (end - first) (drop first listed)) * most ≤ (end - first) * most
+few-taken listed first end most =
+    let few : length (take (end - first) (drop first listed)) ≤ end - first = omega (arith, length-take (end - first) (drop first listed)) in
+    mul-le-mul_right most few
+
+-- a package has at most as many bytes as its packer's room
+pub package-size : (plan : Project) (tables : Prepared) (unit n : ℕ) (shares : Shares) (kept : KeptShare) (entries : Entries) → AreKeptShares plan tables unit shares → IsPackage shares n kept entries →
+    length (range_text plan unit kept.place kept.content entries.first entries.end) ≤ (entries.end - entries.first) * most_bytes plan kept.place kept.content →
+    length (text_numbered (packages_by plan unit shares) n) ≤ room_of (packages_by plan unit shares)
+package-size plan tables unit n shares kept entries are found few =
+    let room : ℕ = room_of (packages_by plan unit shares) in
+    let fits = package-room plan tables unit n room shares kept entries are found (omega arith) in
+    text-size _ _ room (sym (package-text plan tables unit n shares kept entries are found)) (omega (arith, few, fits))
 
 -- ---- marks
 

@@ -182,7 +182,8 @@ fn put_deleted<B: Ledger>(
     requires within { entries.end ≤ length listed.now }
     requires empty { page.old.text ≡ [] }
     requires room { (entries.end - entries.first) * KEY_LINE ≤ page.old.room }
-    ensures { page.new ≡ record page.old { text = range_text rows.now unit place Content.Deleted entries.first entries.end } }
+    ensures text { page.new ≡ record page.old { text = range_text rows.now unit place Content.Deleted entries.first entries.end } }
+    ensures size { length (range_text rows.now unit place Content.Deleted entries.first entries.end) ≤ (entries.end - entries.first) * KEY_LINE }
 {
     let _sound = rows.plan().schema(); // so each of them is born before
     let listed = &listed[entries.first as usize..entries.end as usize];
@@ -207,7 +208,8 @@ fn put_updated<B: Ledger>(
     requires within { entries.end ≤ length listed.now }
     requires empty { page.old.text ≡ [] }
     requires room { (entries.end - entries.first) * max_line (layout_of plan.now) lines.now.table ≤ page.old.room }
-    ensures { page.new ≡ record page.old { text = range_text plan.now lines.now.unit lines.now.table Content.Updated entries.first entries.end } }
+    ensures text { page.new ≡ record page.old { text = range_text plan.now lines.now.unit lines.now.table Content.Updated entries.first entries.end } }
+    ensures size { length (range_text plan.now lines.now.unit lines.now.table Content.Updated entries.first entries.end) ≤ (entries.end - entries.first) * max_line (layout_of plan.now) lines.now.table }
 {
     let _sound = plan.schema(); // so each of them is born before, and alive
     let listed = &listed[entries.first as usize..entries.end as usize];
@@ -232,7 +234,8 @@ fn put_inserted<B: Ledger>(
     requires within { entries.end ≤ cohort_size (table_of plan.now place).births unit }
     requires empty { page.old.text ≡ [] }
     requires room { (entries.end - entries.first) * max_line (layout_of plan.now) place ≤ page.old.room }
-    ensures { page.new ≡ record page.old { text = range_text plan.now unit place Content.Inserted entries.first entries.end } }
+    ensures text { page.new ≡ record page.old { text = range_text plan.now unit place Content.Inserted entries.first entries.end } }
+    ensures size { length (range_text plan.now unit place Content.Inserted entries.first entries.end) ≤ (entries.end - entries.first) * max_line (layout_of plan.now) place }
 {
     let _sound = plan.schema(); // so each of them is alive
     let begin = cohort(plan, place, unit).first;
@@ -257,7 +260,8 @@ fn put_held<B: Ledger>(
     requires within { entries.end ≤ born_count (table_of plan.now place).births unit }
     requires empty { page.old.text ≡ [] }
     requires room { (entries.end - entries.first) * max_line (layout_of plan.now) place ≤ page.old.room }
-    ensures { page.new ≡ record page.old { text = range_text plan.now unit place Content.Snapshot entries.first entries.end } }
+    ensures text { page.new ≡ record page.old { text = range_text plan.now unit place Content.Snapshot entries.first entries.end } }
+    ensures size { length (range_text plan.now unit place Content.Snapshot entries.first entries.end) ≤ (entries.end - entries.first) * max_line (layout_of plan.now) place }
 {
     let _sound = plan.schema(); // so the simulation is its closed form
     let count = entries.end - entries.first;
@@ -287,7 +291,8 @@ fn put_entries<B: Ledger>(
     requires within { entries.end ≤ content_count plan.now unit share.now.place share.now.content }
     requires empty { page.old.text ≡ [] }
     requires room { (entries.end - entries.first) * most_bytes plan.now share.now.place share.now.content ≤ page.old.room }
-    ensures { page.new ≡ record page.old { text = range_text plan.now unit share.now.place share.now.content entries.first entries.end } }
+    ensures text { page.new ≡ record page.old { text = range_text plan.now unit share.now.place share.now.content entries.first entries.end } }
+    ensures size { length (range_text plan.now unit share.now.place share.now.content entries.first entries.end) ≤ (entries.end - entries.first) * most_bytes plan.now share.now.place share.now.content }
 {
     let mut steps = Steps::<B>::new(blank);
     let place = share.place;
@@ -360,7 +365,8 @@ impl<'a> ListPacker<'a> {
         requires number { n < count_of self.now }
         requires empty { page.old.text ≡ [] }
         requires room { room_of self.now ≤ page.old.room }
-        ensures { page.new ≡ record page.old { text = text_numbered self.now n } }
+        ensures text { page.new ≡ record page.old { text = text_numbered self.now n } }
+        ensures size { length (text_numbered self.now n) ≤ room_of self.now }
     {
         self.pack_with(n, &mut RunBuf::new(), page);
     }
@@ -370,7 +376,8 @@ impl<'a> ListPacker<'a> {
         requires number { n < count_of self.now }
         requires empty { page.old.text ≡ [] }
         requires room { room_of self.now ≤ page.old.room }
-        ensures { page.new ≡ record page.old { text = text_numbered self.now n } }
+        ensures text { page.new ≡ record page.old { text = text_numbered self.now n } }
+        ensures size { length (text_numbered self.now n) ≤ room_of self.now }
     {
         let (share, entries) = self.shares.package(n);
         put_entries::<Brand>(

@@ -142,7 +142,8 @@ impl<'a> SnapshotPacker<'a> {
         requires number { n < count_of self.now }
         requires empty { page.old.text ≡ [] }
         requires room { room_of self.now ≤ page.old.room }
-        ensures { page.new ≡ record page.old { text = text_numbered self.now n } }
+        ensures text { page.new ≡ record page.old { text = text_numbered self.now n } }
+        ensures size { length (text_numbered self.now n) ≤ room_of self.now }
     {
         self.pack_with(n, &mut RunBuf::new(), page);
     }
@@ -152,7 +153,8 @@ impl<'a> SnapshotPacker<'a> {
         requires number { n < count_of self.now }
         requires empty { page.old.text ≡ [] }
         requires room { room_of self.now ≤ page.old.room }
-        ensures { page.new ≡ record page.old { text = text_numbered self.now n } }
+        ensures text { page.new ≡ record page.old { text = text_numbered self.now n } }
+        ensures size { length (text_numbered self.now n) ≤ room_of self.now }
     {
         let (share, range) = self.shares.package(n);
         put_living::<Brand>(
@@ -207,7 +209,8 @@ fn put_living<B: Ledger>(
     requires rows { end ≤ born_count (table_of plan.now share.now.place).births unit }
     requires empty { page.old.text ≡ [] }
     requires room { (end - first) * max_line (layout_of plan.now) share.now.place ≤ page.old.room }
-    ensures { page.new ≡ record page.old { text = range_text plan.now unit share.now.place Content.Snapshot first end } }
+    ensures text { page.new ≡ record page.old { text = range_text plan.now unit share.now.place Content.Snapshot first end } }
+    ensures size { length (range_text plan.now unit share.now.place Content.Snapshot first end) ≤ (end - first) * max_line (layout_of plan.now) share.now.place }
 {
     let _sound = plan.schema(); // so the simulation is its closed form
     let begin = begin_at(first, end, share.living);

@@ -1,4 +1,4 @@
-use Rattle.std.proofs.Common.{◌++◌, ◌∷◌, [], ◌<◌, ◌≤◌, ℕ, List, ap, arith, decimal, length, length-append}
+use Rattle.std.proofs.Common.{◌∷◌, ◌≤◌, ℕ, List, ap, arith, decimal, length, length-append}
 use Rattle.std.proofs.lemmas.Fmt.{length-decimal-le}
 use Rattle.line_pages.specs.Pages.{Page}
 use Rattle.line_pages.specs.Pieces.{piece_text}

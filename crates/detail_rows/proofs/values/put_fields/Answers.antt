@@ -1,9 +1,9 @@
-use Rattle.std.proofs.Common.{◌≡◌, ◌<◌, ◌≤◌, ◌+◌, ℕ, List, length, length-append, ap, arith, subst, sym, ◌∙◌}
+use Rattle.std.proofs.Common.{ℕ, List, length, length-append, ap, arith, ◌∙◌}
 use Rattle.philox_seeds.specs.SeedTree.{draw}
 use Rattle.line_pages.specs.Pages.{Page}
 use Rattle.line_pages.specs.Pieces.{piece_text}
 use Rattle.detail_rows.specs.declared.values.ReadyValue.{ReadyValue}
-use Rattle.detail_rows.specs.Ready.{field_size, ready_field, ready_fields, ready_size, ready_text, value_at}
+use Rattle.detail_rows.specs.Ready.{ready_field, ready_fields, ready_size, ready_text, value_at}
 use Rattle.row_lines.proofs.RunTextLemmas.{appended-more}
 use Rattle.detail_rows.proofs.ReadyLemmas.{field-put, fields-more, fields_size-more, room-for_field, value_is}
 use Rattle.detail_rows.proofs.values.put_fields.Goals as goal

@@ -1,4 +1,4 @@
-use Rattle.std.proofs.Common.{◌≡◌, ◌+◌, ◌-◌, ◌*◌, ◌++◌, ◌<◌, ◌≤◌, ℕ, All, List, [], true, length, length-take, take, drop, ap, ap₂, arith, subst, sym, ◌∙◌}
+use Rattle.std.proofs.Common.{◌≡◌, ◌+◌, ◌-◌, ◌*◌, ◌++◌, ◌<◌, ◌≤◌, ℕ, All, List, [], true, length, length-append, length-take, min, take, drop, ap, ap₂, arith, subst, sym, ◌∙◌}
 use Rattle.std.proofs.Math.Nat.{mul-le-mul_right}
 use Rattle.std.specs.List.{concat, range_with_len}
 use Rattle.std.proofs.lemmas.List.Elements.{All-drop, All-take}
@@ -16,6 +16,7 @@ use Rattle.undo_streams.specs.UndoText.{undo_lines_of}
 use Rattle.undo_streams.proofs.ListLemmas.{page-length, page-room, page-two, part}
 use Rattle.undo_streams.proofs.UndoLineLemmas.{deleted-born, deleted-live, room-parts, text-lists, updated-born, updated-live}
 use Rattle.undo_streams.proofs.undo_packer.put_undo.Goals as goal
+use Rattle.undo_streams.proofs.undo_packer.put_undo.Goals.{After-put_adds}
 
 pub put_drops-requires-clause-rows : goal.put_drops-requires-clause-rows
 put_drops-requires-clause-rows g c =
@@ -134,8 +135,14 @@ put_adds-requires-clause-room g c =
       alike c.args.before.now _ c.requires.before (length listed),
     )
 
-pub returns : goal.returns
-returns g c =
+-- the texts of the three parts are that of the lines
+parts_are : (g : _) (c : After-put_adds g) →
+    (dropping_each c.args.rows.now c.args.table (range_with_len (c.args.changes.now.inserted.first + c.taken-first.result.first) (c.taken-first.result.end - c.taken-first.result.first))
+    ++ setting_each c.args.before.now (part c.args.changes.now.updated.now c.taken-first-2.result.first c.taken-first-2.result.end))
+    ++ adding_each c.args.before.now (part c.args.changes.now.deleted.now c.taken-first-3.result.first c.taken-first-3.result.end)
+    (part c.args.changes.now.places.now c.taken-first-3.result.first c.taken-first-3.result.end)
+    ≡ concat (part (undo_lines_of c.args.rows.now c.args.unit c.args.table) c.args.lines.first c.args.lines.end)
+parts_are g c =
     let plan : Project = c.args.rows.now in
     let limits : IsInLimits plan = subst IsInLimits c.plan-plan.ensures c.schema-sound.ensures.limits in
     let lines : RunLinesOf = c.args.before.now in
@@ -143,12 +150,46 @@ returns g c =
     let drops : ℕ → ℕ → List ℕ = λ first end. dropping_each plan c.args.table (range_with_len (changes.inserted.first + first) (end - first)) in
     let sets : ℕ → ℕ → List ℕ = λ first end. setting_each lines (part changes.updated.now first end) in
     let adds : ℕ → ℕ → List ℕ = λ first end. adding_each lines (part changes.deleted.now first end) (part changes.places.now first end) in
+    ap₂ (λ (x y : List ℕ). x ++ y)
+    (ap₂ (λ (x y : List ℕ). x ++ y) (ap₂ drops c.taken-first.ensures.first c.taken-first.ensures.end) (ap₂ sets c.taken-first-2.ensures.first c.taken-first-2.ensures.end))
+    (ap₂ adds c.taken-first-3.ensures.first c.taken-first-3.ensures.end)
+    ∙ text-lists plan limits c.args.table c.requires.table c.args.unit c.requires.later c.requires.unit c.args.changes.now c.requires.changes lines c.requires.before c.args.lines.first c.args.lines.end c.requires.ordered
+
+pub returns-clause-text : goal.returns-clause-text
+returns-clause-text g c =
     let two = page-two c.args.page.now c.put_drops.new.page c.put_sets.new.page _ _ c.put_drops.ensures.text c.put_sets.ensures.text in
     let three = page-two c.args.page.now c.put_sets.new.page c.put_adds.new.page _ _ two c.put_adds.ensures.text in
     three
-    ∙ ap (λ (text : List ℕ). record { text = text ++ ((drops c.taken-first.result.first c.taken-first.result.end ++ sets c.taken-first-2.result.first c.taken-first-2.result.end) ++ adds c.taken-first-3.result.first c.taken-first-3.result.end); room = c.args.page.now.room }) c.requires.empty
-    ∙ ap (λ (text : List ℕ). record { text = text; room = c.args.page.now.room })
-    (ap₂ (λ (x y : List ℕ). x ++ y)
-    (ap₂ (λ (x y : List ℕ). x ++ y) (ap₂ drops c.taken-first.ensures.first c.taken-first.ensures.end) (ap₂ sets c.taken-first-2.ensures.first c.taken-first-2.ensures.end))
-    (ap₂ adds c.taken-first-3.ensures.first c.taken-first-3.ensures.end)
-    ∙ text-lists plan limits c.args.table c.requires.table c.args.unit c.requires.later c.requires.unit c.args.changes.now c.requires.changes lines c.requires.before c.args.lines.first c.args.lines.end c.requires.ordered)
+    ∙ ap₂ (λ (front back : List ℕ). record { text = front ++ back; room = c.args.page.now.room }) c.requires.empty (parts_are g (goal.at.returns-clause-text g c).After-put_adds)
+
+pub returns-clause-size : goal.returns-clause-size
+returns-clause-size g c =
+    let plan : Project = c.args.rows.now in
+    let limits : IsInLimits plan = subst IsInLimits c.plan-plan.ensures c.schema-sound.ensures.limits in
+    let changes = c.args.changes.now in
+    let most : ℕ = most_bytes plan c.args.table in
+    let first_set : ℕ = c.taken-first-2.result.first in
+    let first_added : ℕ = c.taken-first-3.result.first in
+    let set_rows : List ℕ = part changes.updated.now first_set c.taken-first-2.result.end in
+    let added_rows : List ℕ = part changes.deleted.now first_added c.taken-first-3.result.end in
+    let drops : List ℕ = dropping_each plan c.args.table (range_with_len (changes.inserted.first + c.taken-first.result.first) (c.taken-first.result.end - c.taken-first.result.first)) in
+    let sets : List ℕ = setting_each c.args.before.now set_rows in
+    let adds : List ℕ = adding_each c.args.before.now added_rows (part changes.places.now first_added c.taken-first-3.result.end) in
+    omega (
+      arith,
+      room-parts plan limits c.args.table c.requires.table c.args.unit c.requires.later c.requires.unit changes c.requires.changes c.args.lines.first c.args.lines.end
+          (min (c.args.lines.end - c.args.lines.first) (length (undo_lines_of plan c.args.unit c.args.table)) * most) c.requires.ordered (omega arith),
+      ap₂ (λ (first end : ℕ). (end - first) * most) c.taken-first.ensures.first c.taken-first.ensures.end,
+      ap₂ (λ (first end : ℕ). (end - first) * most) c.taken-first-2.ensures.first c.taken-first-2.ensures.end,
+      ap₂ (λ (first end : ℕ). (end - first) * most) c.taken-first-3.ensures.first c.taken-first-3.ensures.end,
+      c.put_drops.ensures.size,
+      c.put_sets.ensures.size,
+      c.put_adds.ensures.size,
+      few changes.updated.now first_set c.taken-first-2.result.end most,
+      alike c.args.before.now _ c.requires.before (length set_rows),
+      few changes.deleted.now first_added c.taken-first-3.result.end most,
+      alike c.args.before.now _ c.requires.before (length added_rows),
+      length-append (drops ++ sets) adds,
+      length-append drops sets,
+      ap (λ (text : List ℕ). length text) (parts_are g (goal.at.returns-clause-size g c).After-put_adds),
+    )

@@ -1,6 +1,6 @@
-use Rattle.std.proofs.Common.{◌≡◌, ◌++◌, ◌∷◌, [], ◌<◌, ◌^◌, ℕ, List, ap, arith, decimal, length, length-append, sym, ◌∙◌}
+use Rattle.std.proofs.Common.{◌≡◌, ◌++◌, ◌∷◌, [], ℕ, List, ap, arith, decimal, length, length-append, ◌∙◌}
 use Rattle.line_pages.specs.Pieces.{piece_text}
-use Rattle.detail_rows.specs.Told.{LinesBy, told_key_line}
+use Rattle.detail_rows.specs.Told.{told_key_line}
 use Rattle.detail_rows.proofs.LineLemmas.{key_line-told}
 use Rattle.detail_rows.proofs.TextLemmas.{put-twice}
 use Rattle.detail_rows.proofs.detail_lines.DetailLines.put_key_line.Goals as goal

@@ -1,10 +1,9 @@
-use Rattle.std.proofs.Common.{◌≡◌, ◌++◌, ◌∷◌, [], ◌<◌, ◌-◌, ◌^◌, All, ℕ, List, ap, arith, decimal, length, length-append, refl, subst, sym, ◌∙◌}
+use Rattle.std.proofs.Common.{◌≡◌, ◌++◌, ◌∷◌, [], All, ℕ, List, ap, arith, decimal, length, length-append, refl, subst, sym, ◌∙◌}
 use Rattle.line_pages.specs.Pages.{Page}
 use Rattle.line_pages.specs.Pieces.{piece_text}
-use Rattle.detail_plan.specs.Rules.{line_size}
 use Rattle.detail_rows.specs.declared.values.ReadyValue.{ReadyValue}
 use Rattle.detail_rows.specs.Lines.{line_ordinal}
-use Rattle.detail_rows.specs.Ready.{IsReadyValue, fields_size, ready_columns, ready_fields}
+use Rattle.detail_rows.specs.Ready.{IsReadyValue, fields_size, ready_fields}
 use Rattle.detail_rows.specs.Told.{LinesBy, told_line}
 use Rattle.detail_rows.proofs.LineLemmas.{fields-kept, fields_size-columns, line-told, ready-columns}
 use Rattle.detail_rows.proofs.TextLemmas.{put-twice}

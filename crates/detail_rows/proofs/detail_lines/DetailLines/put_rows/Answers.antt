@@ -1,4 +1,4 @@
-use Rattle.std.proofs.Common.{◌≡◌, ◌+◌, ◌-◌, ℕ, List, ap, arith, subst, sym}
+use Rattle.std.proofs.Common.{◌≡◌, ◌+◌, ◌-◌, ℕ, List, arith, subst, sym}
 use Rattle.life_intervals.proofs.Ranges.{flat_map-range_with_len_more}
 use Rattle.detail_plan.specs.Rules.{reach_by}
 use Rattle.row_lines.proofs.RunTextLemmas.{appended-more, room-more, sizes-more}

@@ -1,5 +1,4 @@
-use Rattle.std.proofs.Common.{◌≡◌, ◌<◌, ◌∙◌, ℕ, List, [], false, ap, arith, get_or, length, map, pos, sym}
-use Rattle.std.specs.List.{range_with_len}
+use Rattle.std.proofs.Common.{◌≡◌, ◌<◌, ◌∙◌, ℕ, List, [], false, ap, arith, get_or, length, pos}
 use Rattle.std.proofs.lemmas.List.{get_or_default}
 use Rattle.std.proofs.lemmas.List.FromFn.{get_or-map-range_with_len, length-map-range_with_len}
 use Rattle.detail_plan.specs.declared.detail.Detail.{Detail}
@@ -7,7 +6,7 @@ use Rattle.detail_plan.specs.declared.detail.DetailColumn.{DetailColumn}
 use Rattle.detail_plan.specs.declared.detail.DetailKind.TheVariants.{Int}
 use Rattle.philox_seeds.specs.SeedTree.{column_seed, unit_seed}
 use Rattle.detail_rows.specs.Lines.{column_at}
-use Rattle.detail_rows.specs.Told.{column_seeds, detail_seed, told_unit}
+use Rattle.detail_rows.specs.Told.{detail_seed, told_unit}
 use Rattle.detail_rows.proofs.TextLemmas.{set-more}
 use Rattle.detail_rows.proofs.detail_lines.DetailLines.put_seeds.Goals as goal
 use Rattle.detail_rows.proofs.detail_lines.DetailLines.put_seeds.Goals.{After-seeds-columns_seeds}

@@ -1,4 +1,4 @@
-use Rattle.std.proofs.Common.{◌≡◌, ◌<◌, ℕ, get_or, length}
+use Rattle.std.proofs.Common.{◌≡◌, ◌<◌, ℕ, get_or}
 use Rattle.philox_seeds.specs.SeedTree.{column_seed, unit_seed}
 use Rattle.detail_rows.specs.Lines.{column_at}
 use Rattle.detail_rows.specs.Told.{detail_seed, told_unit}

@@ -1,4 +1,4 @@
-use Rattle.std.proofs.Common.{◌<◌, ℕ, List, Bool, ap, arith, filter, get_or, length, map, sym, ◌∙◌}
+use Rattle.std.proofs.Common.{◌<◌, ℕ, List, Bool, ap, arith, filter, get_or, length, ◌∙◌}
 use Rattle.std.specs.List.{range_with_len}
 use Rattle.std.proofs.lemmas.List.FromFn.{get_or-range_with_len}
 use Rattle.cohort_sizes.specs.Births.{born_count}

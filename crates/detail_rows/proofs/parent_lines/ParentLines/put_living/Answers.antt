@@ -1,4 +1,4 @@
-use Rattle.std.proofs.Common.{◌≡◌, ◌+◌, ◌-◌, ◌*◌, ℕ, List, arith, sym}
+use Rattle.std.proofs.Common.{ℕ, List, arith, sym}
 use Rattle.schema_plan.specs.Dictionaries.{Project}
 use Rattle.row_lines.proofs.RunTextLemmas.{appended-more, room-more, sizes-more}
 use Rattle.detail_plan.specs.declared.detail.Detail.{Detail}

@@ -1,4 +1,4 @@
-use Rattle.std.proofs.Common.{◌≡◌, ◌<◌, ◌≤◌, ◌*◌, ℕ, All, List, ap, arith, get_or, length, length-take, take, subst, sym}
+use Rattle.std.proofs.Common.{◌<◌, ◌≤◌, ℕ, All, List, ap, arith, length, length-take, take, subst, sym}
 use Rattle.std.specs.List.{range_with_len}
 use Rattle.std.proofs.Math.Nat.{mul-le-mul_right}
 use Rattle.std.proofs.lemmas.List.Elements.{All-filter}

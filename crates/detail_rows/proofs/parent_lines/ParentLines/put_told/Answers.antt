@@ -1,8 +1,7 @@
-use Rattle.std.proofs.Common.{◌≡◌, ◌<◌, ◌*◌, ◌++◌, ℕ, List, ap, arith, length, sym, ◌∙◌, subst}
+use Rattle.std.proofs.Common.{◌≡◌, ◌<◌, ◌*◌, ◌++◌, ℕ, List, ap, arith, length, ◌∙◌, subst}
 use Rattle.schema_plan.specs.Dictionaries.{Project}
 use Rattle.detail_plan.specs.declared.detail.Detail.{Detail}
 use Rattle.detail_plan.specs.Rules.{reach_by}
-use Rattle.detail_rows.specs.Lines.{parent_place}
 use Rattle.detail_rows.specs.Packages.{listed_text}
 use Rattle.detail_rows.specs.Told.{LinesBy, first_rows}
 use Rattle.detail_rows.proofs.ParentLemmas.{rows-told}
