@@ -1,6 +1,7 @@
 //! The line and the key line of one row.
 
-ghost use Rattle.std.specs.Prelude.{◌≡◌, ◌<◌, ◌≤◌, ◌+◌, ◌++◌, true, length};
+ghost use Rattle.std.specs.Prelude.{◌≡◌, ◌<◌, ◌≤◌, ◌+◌, ◌++◌, true, Some, length};
+ghost use Rattle.std.specs.Option.{option_map};
 ghost use Rattle.cohort_sizes.specs.Births.{born_count};
 ghost use Rattle.schema_plan.specs.Layout.{layout_of};
 ghost use Rattle.schema_plan.specs.Lineage.{death_cost, one_if};
@@ -9,7 +10,7 @@ ghost use Rattle.life_intervals.specs.Generator.{generator_of, last_unit, rows_i
 ghost use Rattle.life_intervals.specs.Intervals.{is_live};
 ghost use Rattle.life_intervals.specs.Simulation.{holds_row, rows_at};
 ghost use Rattle.row_lines.specs.declared.run_keys.TheConstants.{KEY_LINE};
-ghost use Rattle.row_lines.specs.Lines.{key_line_of, line_of};
+ghost use Rattle.row_lines.specs.Lines.{held_row, key_line_of, line, line_of};
 
 use crate::cohort_lines::CohortLines;
 use life_intervals::{Rows, birth, born, cohort, death, key};
@@ -38,8 +39,9 @@ pub fn live<L: Ledger>(plan: &Plan, table: u32, j: u64, t: u64, steps: &mut Step
     }
 }
 
-/// Appends the line at unit `t` of the row of ordinal `j`, which must be born by the unit and alive. The size of the table's
-/// greatest line must be free. Takes at most as many permutations as the cost of a row counts for its line.
+/// Appends the line at unit `t` of the row of ordinal `j`, which must be born by the unit and alive. It is the line of the row that the
+/// simulation holds. The size of the table's greatest line must be free. Takes at most as many permutations as the cost of a row counts
+/// for its line.
 pub fn put_line<L: Ledger>(
     plan: &Plan,
     table: u32,
@@ -54,9 +56,12 @@ pub fn put_line<L: Ledger>(
     requires alive { is_live (generator_of plan.now) table t j ≡ true }
     requires room { length buf.old.text + max_line (layout_of plan.now) table ≤ buf.old.room }
     ensures line { buf.new ≡ record buf.old { text = buf.old.text ++ line_of (generator_of plan.now) t table j } }
+    ensures simulated { option_map (line (generator_of plan.now) t table) (held_row (generator_of plan.now) table t j)
+        ≡ Some (line_of (generator_of plan.now) t table j) }
     ensures size { length (line_of (generator_of plan.now) t table j) ≤ max_line (layout_of plan.now) table }
     ensures steps { steps.new ≤ steps.old + line_cost (layout_of plan.now) table }
 {
+    let _sound = plan.schema(); // so the simulation is its closed form
     let born = birth(plan, table, j);
     let index = j - cohort(plan, table, born).first;
     let rows = Rows::of(plan);

@@ -5,6 +5,10 @@ use Rattle.schema_plan.specs.TableFacts.{max_line}
 use Rattle.life_intervals.specs.Generator.{generator_of, last_unit, table_of}
 use Rattle.life_intervals.specs.Intervals.{is_live}
 use Rattle.cohort_sizes.proofs.CohortLemmas.{born_count-le}
+use Rattle.std.specs.Option.{option_map}
+use Rattle.life_intervals.proofs.AcceptedLemmas.{AreSound-accepted}
+use Rattle.row_lines.specs.Lines.{line}
+use Rattle.row_lines.proofs.HeldRowLemmas.{held_row-live}
 use Rattle.row_lines.specs.CohortLines.{LinesOf, line_in_cohort, ordinal_of}
 use Rattle.row_lines.proofs.CohortLineLemmas.{line_in_cohort-line_of, ordinal_of-index}
 use Rattle.row_lines.proofs.LineLemmas.{birth-within}
@@ -47,3 +51,9 @@ returns-clause-size g c =
     subst (λ (line : List ℕ). length line ≤ max_line (layout_of c.args.plan.now) c.args.table)
     (line_in_cohort-line_of c.new.result _ (c.args.j - c.cohort.result.first) c.args.j (lines_are g here) (ordinal_of-index _ _ _ c.cohort.ensures.first c.birth-born.ensures.lies.begun))
     (subst (λ (lines : LinesOf). length (line_in_cohort c.new.result (c.args.j - c.cohort.result.first)) ≤ max_line (layout_of lines.plan) lines.table) (lines_are g here) c.put_line.ensures.size)
+
+pub returns-clause-simulated : goal.returns-clause-simulated
+returns-clause-simulated g c =
+    ap (option_map (line (generator_of c.args.plan.now) c.args.t c.args.table))
+    (held_row-live (last_unit c.args.plan.now) (generator_of c.args.plan.now) c.args.table c.args.t c.args.j
+    (AreSound-accepted c.args.plan.now c.schema-sound.ensures.limits) c.requires.unit c.requires.born c.requires.alive)
