@@ -12,9 +12,10 @@ use range_workers::{Marks, Packer};
 use schema_model::Texts;
 use std::alloc::Global;
 
-/// Packers of one type, joined. The packages are those of the first packer, then those of the next, and so on.
+/// Packers of one type, joined. The packages are those of the first packer, then those of the next, and so on. The room is the greatest of
+/// theirs, and 0 if there is none.
 #[derive(Drop)]
-pub(crate) struct Joined<P: Packer + Drop> {
+pub struct Joined<P: Packer + Drop> {
     parts: Vec<P>,
     count: u64,
     room: usize,
@@ -25,7 +26,7 @@ pub(crate) struct Joined<P: Packer + Drop> {
 
 impl<P: Packer + Drop> Joined<P> {
     /// Returns a list of no packers.
-    pub(crate) fn new(alloc: Global) -> Joined<P>
+    pub fn new(alloc: Global) -> Joined<P>
         ensures { result.parts.items ≡ [] }
     {
         Joined {
@@ -35,8 +36,8 @@ impl<P: Packer + Drop> Joined<P> {
         }
     }
 
-    /// Appends a packer. At `Memory` the packers are as before.
-    pub(crate) fn push(&mut self, packer: P) -> Result<(), Memory>
+    /// Appends a packer. The counts of packages together must be at most 2^60. If memory runs out, the packers are as before.
+    pub fn push(&mut self, packer: P) -> Result<(), Memory>
         requires { sum_by P.count self.old.parts.items + P.count packer ≤ 2 ^ 60 }
         ensures ok { OnOk result (self.new.parts.items ≡ self.old.parts.items ++ packer ∷ []) }
         ensures err { OnErr result (self.new.parts.items ≡ self.old.parts.items) }
@@ -49,8 +50,9 @@ impl<P: Packer + Drop> Joined<P> {
         Ok(())
     }
 
-    /// Returns the marks that give each packer a file of its own. Fails with `Memory` if memory runs out.
-    pub(crate) fn marks(&self, alloc: Global, names: &Texts) -> Result<Marks, Memory>
+    /// Returns the marks that give each packer a file of its own, of the name at its place. There must be as many names as packers, and at
+    /// least one. Returns `Memory` if memory runs out.
+    pub fn marks(&self, alloc: Global, names: &Texts) -> Result<Marks, Memory>
         requires alike { length names.now ≡ length self.now.parts.items }
         requires some { 0 < length names.now }
         ensures marks { IfOk result (AreMarksOf (sum_by P.count self.now.parts.items)) }
@@ -65,8 +67,8 @@ impl<P: Packer + Drop> Joined<P> {
         }
         Ok(marks)
     }
-    /// Returns the one mark that gives all packers one file. Fails with `Memory` if memory runs out.
-    pub(crate) fn mark_of_all(&self, alloc: Global, name: &str) -> Result<Marks, Memory>
+    /// Returns the one mark that gives all packers one file. Returns `Memory` if memory runs out.
+    pub fn mark_of_all(&self, alloc: Global, name: &str) -> Result<Marks, Memory>
         ensures marks { IfOk result (AreMarksOf (sum_by P.count self.now.parts.items)) }
         ensures files { IfOk result (λ marks. due_files (text_in P.count P.text self.now.parts.items) (sum_by P.count self.now.parts.items) marks
             ≡ record { name = name.now; bytes = joined_text P.count P.text self.now.parts.items } ∷ []) }

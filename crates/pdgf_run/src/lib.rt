@@ -23,6 +23,7 @@ mod unit_sources;
 
 pub use asked::default_package;
 pub use command_line::run_program;
+pub use joined::Joined;
 pub use refusals::{DictionaryCause, DictionaryFault, JobFault, PlanFault, Refusal};
 pub use report::Report;
 pub use request_words::{Format, Mode, OptionName, Request, UsageFault, read_words};
