@@ -28,7 +28,7 @@ pub struct Ended<'a> {
 }
 
 impl<'a> Ended<'a> {
-    /// Returns what stands in the message behind these words, if it begins with them.
+    /// Returns what stands in the message after these words, if it begins with them.
     pub(crate) fn behind(&self, words: &str) -> Option<&'a str> {
         let message = std::str::from_utf8(self.message).ok()?;
         let rest = message.strip_prefix("pdgf: ")?.strip_prefix(words)?;

@@ -86,7 +86,7 @@ fn header_of(line: &str) -> Option<&str> {
     Some(name.trim())
 }
 
-/// Returns what stands behind a key and its `=`, if the line begins with them.
+/// Returns what stands after a key and its `=`, if the line begins with them.
 fn value_of<'a>(line: &'a str, key: &str) -> Option<&'a str> {
     let behind = line.strip_prefix(key)?.trim_start();
     Some(behind.strip_prefix("=")?.trim())
