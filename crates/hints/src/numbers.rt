@@ -2,7 +2,7 @@
 
 use crate::grouped::put_grouped;
 use crate::rules::{Broken, put_name};
-use schema_model::{Column, Kind, Leaf, Schema, Table, Text, Window};
+use schema_model::{Column, Kind, Leaf, Part, Parts, Schema, Table, Text, Window};
 use schema_plan::{TableFacts, cohort_size, place_of_table};
 use std::alloc::AllocError;
 
@@ -99,6 +99,7 @@ fn put_numbers_of_column(
         Kind::Template { parts } if broken.number == 15 && !is_one_to_32(parts.len()) => {
             writeln!(hints, "hint: {} parts", parts.len())
         }
+        Kind::Template { parts } if broken.number == 29 => put_widths(parts, hints),
         Kind::Case { branches, .. } if broken.number == 16 => {
             writeln!(hints, "hint: {} branches", branches.len())
         }
@@ -128,6 +129,16 @@ fn put_numbers_of_column(
 /// Whether a template can have so many parts.
 fn is_one_to_32(parts: usize) -> bool {
     1 <= parts && parts <= 32
+}
+
+/// Appends the columns that are padded, and their widths.
+fn put_widths(parts: &Parts, hints: &mut String) -> Result<(), AllocError> {
+    for part in parts.as_slice() {
+        if let Part::Padded { column, width } = part {
+            writeln!(hints, "hint: column \"{}\", width {width}", column.as_str())?;
+        }
+    }
+    Ok(())
 }
 
 /// Appends the numbers of a leaf.

@@ -100,6 +100,8 @@ fn rule_words(number: u32) -> &'static str {
         25 =>
             "`null` is 0 to 999, and `null` and `changes = true` stand only with kinds that take them",
         26 => "`step` is 0 to 3,660, and the day of unit `units` is at most 9999-12-31",
+        29 =>
+            "the `width` of a part is 1 to 64, and it cites a `key`, `born`, `changed`, `int`, `skew` or `ref`",
         _ => "",
     }
 }

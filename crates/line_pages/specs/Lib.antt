@@ -1,4 +1,5 @@
 pub mod Digits
+pub mod Padding
 pub mod Pages
 pub mod Pieces
 pub mod Rows

@@ -4,6 +4,7 @@
 
 mod digits;
 mod numbers;
+mod padding;
 mod page_buf;
 mod piece;
 mod rows;

@@ -84,7 +84,7 @@ key_first delimiter tables table _ is = absurd (cc)
 asked_by_part-le : (known : Bool) (delimiter : ℕ) (tables : List TableLayout) (table : TableLayout) (part : PartLayout) →
     asked_by_part known delimiter tables table part ≤ null_cost_of_part (lineages tables) table.columns part + (bounds_of_part delimiter tables table part).permutations
 asked_by_part-le known delimiter tables table (literal_part bytes) = omega arith
-asked_by_part-le known delimiter tables table (cited_part column) = asked_alone-le known delimiter tables table (column_at table.columns column).kind
+asked_by_part-le known delimiter tables table (cited_part column width) = asked_alone-le known delimiter tables table (column_at table.columns column).kind
 
 pub asked_by-le : (known : Bool) (delimiter : ℕ) (tables : List TableLayout) (table : TableLayout) (kind : KindLayout) →
     asked_by known delimiter tables table kind ≤ null_cost_of_field (lineages tables) table.columns kind + (bounds_of delimiter tables table kind).permutations

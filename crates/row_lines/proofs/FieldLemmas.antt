@@ -3,6 +3,8 @@ use Rattle.std.proofs.Common.{◌≡◌, ◌<◌, ◌≤◌, ◌^◌, ◌*◌, �
 use Rattle.std.specs.Prelude.{slice_index_or}
 use Rattle.std.proofs.lemmas.Bool.Decides.{nat_tests}
 use Rattle.std.proofs.lemmas.Fmt.{length-decimal-le}
+use Rattle.std.specs.Option.{option_map}
+use Rattle.line_pages.specs.Padding.{padded}
 use Rattle.row_text.specs.Fields.{field_text}
 use Rattle.cohort_sizes.specs.Births.{born_count}
 use Rattle.schema_plan.specs.Layout.{ColumnLayout, KindLayout, LeafLayout, PartLayout, born_kind, case_kind, changed_kind, cited_part, column_at, key_kind, leaf_kind, lookup_kind, list_kind, unit_date_kind, reference_kind, table_at, template_kind}
@@ -124,9 +126,9 @@ field-cited generator unit place column row cited =
     ∙ in_table-cited generator place column row cited
 
 pub part_text-cited : (generator : Generator) (unit place column : ℕ) (row : Row) → is_cited (column_at (table_at generator.tables place).columns column).kind ≡ true →
-    part_text generator place row (cited_part column) ≡ unwrap_or (field generator unit place row column) []
-part_text-cited generator unit place column row cited =
-    ap (λ (held : Option (List ℕ)). unwrap_or held []) (sym (field-cited generator unit place column row cited))
+    (width : ℕ) → part_text generator place row (cited_part column width) ≡ unwrap_or (option_map (padded width) (field generator unit place row column)) []
+part_text-cited generator unit place column row cited width =
+    ap (λ (held : Option (List ℕ)). unwrap_or (option_map (padded width) held) []) (sym (field-cited generator unit place column row cited))
 
 -- the parts of a template
 pub field-template : (generator : Generator) (unit place ordinal column : ℕ) (parts : List PartLayout) → (column_at (table_at generator.tables place).columns column).kind ≡ template_kind parts →

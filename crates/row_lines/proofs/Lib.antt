@@ -6,6 +6,7 @@ pub mod ReferenceFieldLemmas
 mod NullCostLemmas
 pub mod CohortLineLemmas
 pub mod CohortFieldLemmas
+pub mod PaddedLemmas
 pub mod PartLemmas
 mod StillLemmas
 mod LookupLemmas

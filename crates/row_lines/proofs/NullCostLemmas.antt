@@ -56,7 +56,7 @@ module _ (plan : Project) (limits : IsInLimits plan) (place : ℕ) (below : plac
 
   of_part : (part : PartLayout) → null_cost_of_part (take place all) own part ≡ null_cost_of_part all own part
   of_part (literal_part bytes) = refl
-  of_part (cited_part column) = of_column column
+  of_part (cited_part column width) = of_column column
 
   of_field : (kind : KindLayout) → null_cost_of (take place all) kind ≡ null_cost_of all kind → null_cost_of_field (take place all) own kind ≡ null_cost_of_field all own kind
   of_field (template_kind parts) same = ap (λ (cost : PartLayout → ℕ). sum_by cost parts) (fun_ext of_part)
@@ -95,7 +95,7 @@ still-kind lineages (unit_date_kind changed start step) still = refl
 
 still-part : (lineages : List Lineage) (columns : List ColumnLayout) (part : PartLayout) → IsStillPart columns part → null_cost_of_part lineages columns part ≡ 0
 still-part lineages columns (literal_part bytes) still = refl
-still-part lineages columns (cited_part column) still =
+still-part lineages columns (cited_part column width) still =
     still-kind lineages (column_at columns column).kind (still_parts (column_at columns column).changes (is_moving_kind (column_at columns column).kind) still).1
 
 still-parts : (lineages : List Lineage) (columns : List ColumnLayout) (parts : List PartLayout) → All (IsStillPart columns) parts → sum_by (null_cost_of_part lineages columns) parts ≡ 0

@@ -1,9 +1,10 @@
 -- The parts of a template, as they are written by what is kept of them.
-use Rattle.std.proofs.Common.{◌≡◌, ◌<◌, ◌≤◌, ◌^◌, ℕ, ◌+◌, ◌++◌, true, false, max, List, [], ◌∷◌, map, flat_map, sum_by, length, codes, decimal, All, Bool, Option, Some, None, if◌then◌else◌, unwrap_or, get_or, take, refl, ap, sym, subst, ◌∙◌, arith}
+use Rattle.std.proofs.Common.{◌≡◌, ◌<◌, ◌≤◌, ◌^◌, ℕ, ◌+◌, ◌++◌, true, false, max, List, [], ◌∷◌, map, flat_map, sum_by, length, codes, decimal, All, Bool, Option, Some, None, if◌then◌else◌, get_or, take, refl, ap, ap₂, sym, subst, ◌∙◌, arith}
 use std.Path.{fun_ext}
 use Rattle.std.proofs.lemmas.Grind.{flat_map-append}
 use Rattle.std.proofs.lemmas.List.{flat_map_more, take_more}
-use Rattle.std.proofs.lemmas.List.Elements.{All-map}
+use Rattle.std.proofs.lemmas.List.Concat.{flat_map-cons}
+use Rattle.std.proofs.lemmas.List.Elements.{All-head, All-map, All-tail}
 use Rattle.std.proofs.lemmas.List.Folds.{flat_map-map, fold-map}
 use Rattle.row_text.specs.Fields.{escaped, field_text, escaped_text}
 use Rattle.row_text.proofs.DigitLemmas.{escaped_text-decimal}
@@ -13,7 +14,7 @@ use Rattle.schema_plan.specs.declared.ready.ReadyReference.{ReadyReference}
 use Rattle.cohort_sizes.specs.Births.{cohort_size}
 use Rattle.schema_plan.specs.FieldBounds.{bounds_alone, bounds_of, bounds_of_part}
 use Rattle.schema_plan.specs.Layout.{KindLayout, PartLayout, TableLayout, born_kind, changed_kind, cited_part, column_at, key_kind, layout_of, leaf_kind, list_kind, unit_date_kind, literal_part, reference_kind, template_kind}
-use Rattle.schema_plan.specs.Limits.{AreParts, IsKindInLimits, IsPart, is_cited}
+use Rattle.schema_plan.specs.Limits.{AreFilledParts, AreParts, IsFilledPart, IsKindInLimits, IsPart, is_cited}
 use Rattle.schema_plan.specs.Ready.{ready_kind, ready_part}
 use Rattle.draw_values.specs.CohortValues.{ValuesOf, is_null_for, value_for}
 use Rattle.draw_values.specs.Values.{is_null, is_own, written}
@@ -24,6 +25,7 @@ use Rattle.row_lines.specs.Lines.{draws_of, part_text}
 use Rattle.row_lines.specs.Parts.{IsCitable, IsPartOfTemplate, cited_for, cited_size, cited_text, part_asked, part_size, written_part}
 use Rattle.row_lines.proofs.CohortFieldLemmas.{held-own, held_in_table, of_units}
 use Rattle.row_lines.proofs.FieldLemmas.{in_table-cited, in_table-template}
+use Rattle.row_lines.proofs.PaddedLemmas.{whole-plain, written-padded}
 
 -- ---- a column that is cited
 
@@ -94,23 +96,28 @@ escaped_text-parts generator place row (part ∷ parts) =
     flat_map-append (escaped generator.delimiter) (part_text generator place row part) (flat_map (part_text generator place row) parts)
     ∙ ap (λ (rest : List ℕ). escaped_text generator.delimiter (part_text generator place row part) ++ rest) (escaped_text-parts generator place row parts)
 
-written-unwrap_or : (delimiter : ℕ) (value : Option (List ℕ)) → written delimiter value ≡ escaped_text delimiter (unwrap_or value [])
-written-unwrap_or delimiter None = refl
-written-unwrap_or delimiter (Some text) = refl
-
 -- a part is written as it is kept
-part-written : (lines : LinesOf) (index changed : ℕ) (part : PartLayout) →
+part-written : (lines : LinesOf) (index changed : ℕ) (part : PartLayout) → IsFilledPart (layout_for lines).columns part →
     written_part lines index changed (ready_part (layout_of lines.plan).delimiter part)
     ≡ escaped_text (layout_of lines.plan).delimiter (part_text (generator_of lines.plan) lines.table (row_changed lines index changed) part)
-part-written lines index changed (literal_part bytes) = refl
-part-written lines index changed (cited_part column) = written-unwrap_or (layout_of lines.plan).delimiter (cited_for lines index changed column)
+part-written lines index changed (literal_part bytes) filled = refl
+part-written lines index changed (cited_part column width) filled =
+    written-padded (layout_of lines.plan).delimiter width (cited_for lines index changed column)
+    (λ some. whole-plain (layout_of lines.plan).delimiter (generator_of lines.plan) lines.table (row_changed lines index changed) column (filled some).whole)
 
-parts-written : (lines : LinesOf) (index changed : ℕ) (parts : List PartLayout) →
+flat_map-same : {A : Type 0} (P : A → Type 0) (write other : A → List ℕ) → ((x : A) → P x → write x ≡ other x) → (xs : List A) → All P xs → flat_map write xs ≡ flat_map other xs
+flat_map-same P write other same [] all = refl
+flat_map-same P write other same (x ∷ xs) all =
+    flat_map-cons write x xs
+    ∙ ap₂ (λ (first rest : List ℕ). first ++ rest) (same x (All-head P x xs all)) (flat_map-same P write other same xs (All-tail P x xs all))
+    ∙ sym (flat_map-cons other x xs)
+
+parts-written : (lines : LinesOf) (index changed : ℕ) (parts : List PartLayout) → All (IsFilledPart (layout_for lines).columns) parts →
     escaped_text (layout_of lines.plan).delimiter (flat_map (part_text (generator_of lines.plan) lines.table (row_changed lines index changed)) parts)
     ≡ flat_map (written_part lines index changed) (map (ready_part (layout_of lines.plan).delimiter) parts)
-parts-written lines index changed parts =
+parts-written lines index changed parts filled =
     escaped_text-parts (generator_of lines.plan) lines.table (row_changed lines index changed) parts
-    ∙ ap (λ (write : PartLayout → List ℕ). flat_map write parts) (sym (fun_ext (part-written lines index changed)))
+    ∙ sym (flat_map-same (IsFilledPart (layout_for lines).columns) (λ part. written_part lines index changed (ready_part (layout_of lines.plan).delimiter part)) _ (part-written lines index changed) parts filled)
     ∙ sym (flat_map-map (written_part lines index changed) (ready_part (layout_of lines.plan).delimiter) parts)
 
 -- it takes what the schema counts for it
@@ -118,7 +125,7 @@ part-size : (lines : LinesOf) (part : PartLayout) →
     part_size lines (ready_part (layout_of lines.plan).delimiter part)
     ≡ (bounds_of_part (layout_of lines.plan).delimiter (layout_of lines.plan).tables (layout_for lines) part).size
 part-size lines (literal_part bytes) = refl
-part-size lines (cited_part column) = refl
+part-size lines (cited_part column width) = refl
 
 parts-size : (lines : LinesOf) (parts : List PartLayout) →
     sum_by (part_size lines) (map (ready_part (layout_of lines.plan).delimiter) parts)
@@ -129,9 +136,10 @@ parts-size lines parts =
 
 -- and cites what may be cited
 part-citable : (lines : LinesOf) (place : ℕ) → place < length (layout_for lines).columns → (part : PartLayout) → IsPart (layout_for lines).columns place part →
-    IsPartOfTemplate lines (ready_part (layout_of lines.plan).delimiter part)
-part-citable lines place within (literal_part bytes) is = tt
-part-citable lines place within (cited_part column) is = record { within = omega (arith, is.0); cited = is.1 }
+    IsFilledPart (layout_for lines).columns part → IsPartOfTemplate lines (ready_part (layout_of lines.plan).delimiter part)
+part-citable lines place within (literal_part bytes) is filled = tt
+part-citable lines place within (cited_part column width) is filled =
+    record { citable = record { within = omega (arith, is.0); cited = is.1 }; filled = filled }
 
 -- one more part
 pub parts-more : {A : Type 0} (write : A → List ℕ) (parts : List A) (i : ℕ) (d : A) → i < length parts → (old text : List ℕ) →
@@ -161,13 +169,19 @@ template_of lines column ready is =
     let found = parts_of (layout_of lines.plan).delimiter (column_at (layout_for lines).columns column).kind ready is in
     record { parts = found.0; is = found.1; ready_are = found.2 }
 
+-- whose parts fill whole numbers alone
+parts_filled : (lines : LinesOf) (column : ℕ) (ready : List ReadyPart) (template : IsTemplateOf lines column ready) →
+    AreFilledParts (layout_for lines).columns (column_at (layout_for lines).columns column).kind → All (IsFilledPart (layout_for lines).columns) template.parts
+parts_filled lines column ready template filled = subst (AreFilledParts (layout_for lines).columns) template.is filled
+
 pub parts_citable : (lines : LinesOf) (column : ℕ) (ready : List ReadyPart) → IsTemplateOf lines column ready → column < length (layout_for lines).columns →
-    IsKindInLimits (layout_for lines).columns column (column_at (layout_for lines).columns column).kind → All (IsPartOfTemplate lines) ready
-parts_citable lines column ready template within limits =
+    IsKindInLimits (layout_for lines).columns column (column_at (layout_for lines).columns column).kind →
+    AreFilledParts (layout_for lines).columns (column_at (layout_for lines).columns column).kind → All (IsPartOfTemplate lines) ready
+parts_citable lines column ready template within limits filled =
     let are : AreParts (layout_for lines).columns column template.parts = subst (λ (kind : KindLayout). IsKindInLimits (layout_for lines).columns column kind) template.is limits in
     subst (λ (parts : List ReadyPart). All (IsPartOfTemplate lines) parts) (sym template.ready_are)
     (All-map (IsPartOfTemplate lines) (ready_part (layout_of lines.plan).delimiter) template.parts
-    (λ i d below. part-citable lines column within (get_or template.parts i d) (are.each i d below)))
+    (λ i d below. part-citable lines column within (get_or template.parts i d) (are.each i d below) (parts_filled lines column ready template filled i d below)))
 
 -- what it takes
 pub size-template : (lines : LinesOf) (column : ℕ) (ready : List ReadyPart) → IsTemplateOf lines column ready → size_for lines column ≡ max 2 (sum_by (part_size lines) ready)
@@ -178,7 +192,7 @@ size-template lines column ready template =
 -- and asks
 part-asked : (known : Bool) (lines : LinesOf) (part : PartLayout) → part_asked known lines (ready_part (layout_of lines.plan).delimiter part) ≡ asked_by_part known (layout_of lines.plan).delimiter (layout_of lines.plan).tables (layout_for lines) part
 part-asked known lines (literal_part bytes) = refl
-part-asked known lines (cited_part column) = refl
+part-asked known lines (cited_part column width) = refl
 
 pub asked-template : (known : Bool) (lines : LinesOf) (column : ℕ) (ready : List ReadyPart) → IsTemplateOf lines column ready → sum_by (part_asked known lines) ready ≡ asked_for known lines column
 asked-template known lines column ready template =
@@ -199,10 +213,11 @@ null-drawn lines values column index changed ordinal values_are ordinal_is withi
 
 -- how it is written
 pub text-template : (lines : LinesOf) (values : ValuesOf) (column index changed ordinal : ℕ) (ready : List ReadyPart) (null : Bool) → IsTemplateOf lines column ready →
+    AreFilledParts (layout_for lines).columns (column_at (layout_for lines).columns column).kind →
     values ≡ values_at lines changed → ordinal ≡ ordinal_of lines index → lines.born ≤ lines.unit → index < cohort_size (layout_for lines).births lines.born →
     is_null_for values column ordinal ≡ null →
     text_in_table lines index changed column ≡ (if null then codes "\\N" else flat_map (written_part lines index changed) ready)
-text-template lines values column index changed ordinal ready null template values_are ordinal_is within below null_is =
+text-template lines values column index changed ordinal ready null template filled values_are ordinal_is within below null_is =
     let generator : Generator = generator_of lines.plan in
     let d : ℕ = (layout_of lines.plan).delimiter in
     let row : Row = row_changed lines index changed in
@@ -211,7 +226,7 @@ text-template lines values column index changed ordinal ready null template valu
     ∙ ap (λ (null : Bool). field_text d (if null then None else Some text)) (null-drawn lines values column index changed ordinal values_are ordinal_is within below ∙ null_is)
     ∙ field_text-if d null text
     ∙ ap (λ (bytes : List ℕ). if null then codes "\\N" else bytes)
-    (parts-written lines index changed template.parts ∙ ap (λ (parts : List ReadyPart). flat_map (written_part lines index changed) parts) (sym template.ready_are))
+    (parts-written lines index changed template.parts (parts_filled lines column ready template filled) ∙ ap (λ (parts : List ReadyPart). flat_map (written_part lines index changed) parts) (sym template.ready_are))
   where
     field_text-if : (d : ℕ) (null : Bool) (text : List ℕ) → field_text d (if null then None else Some text) ≡ (if null then codes "\\N" else escaped_text d text)
     field_text-if d true text = refl

@@ -4,6 +4,7 @@ use Rattle.std.proofs.Common.{◌≡◌, ◌<◌, ◌≤◌, ℕ, pos, ◌-◌, 
 use Rattle.std.specs.Option.{option_and_then, option_map}
 use Rattle.std.proofs.lemmas.Bool.{true≢false}
 use Rattle.std.proofs.lemmas.List.Elements.{All-head, All-tail}
+use Rattle.line_pages.specs.Padding.{padded}
 use Rattle.cohort_sizes.specs.Births.{first_ordinal}
 use Rattle.schema_plan.specs.Layout.{ColumnLayout, KindLayout, PartLayout, TableLayout, born_kind, case_kind, changed_kind, cited_part, column_at, key_kind, leaf_kind, literal_part, lookup_kind, list_kind, unit_date_kind, reference_kind, table_at, template_kind}
 use Rattle.schema_plan.specs.Limits.{CitesStill, IsKindInLimits, IsPart, IsStillPart, IsTableInLimits, is_moving_kind, moves}
@@ -70,8 +71,8 @@ module _ (generator : Generator) (place : ℕ) (row later : Row) (units : ℕ) (
   still_part : (bound : ℕ) → bound ≤ length columns → (part : PartLayout) → IsPart columns bound part → IsStillPart columns part →
       part_text generator place later part ≡ part_text generator place row part
   still_part bound within (literal_part bytes) is still = refl
-  still_part bound within (cited_part column) is still =
-      ap (λ (held : Option (List ℕ)). unwrap_or held []) (still_field_alone column (omega (arith, is.0, within)) still)
+  still_part bound within (cited_part column width) is still =
+      ap (λ (held : Option (List ℕ)). unwrap_or (option_map (padded width) held) []) (still_field_alone column (omega (arith, is.0, within)) still)
 
   still_template : (bound : ℕ) → bound ≤ length columns → (parts : List PartLayout) → All (IsPart columns bound) parts →
       All (IsStillPart columns) parts →

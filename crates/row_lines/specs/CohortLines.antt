@@ -124,7 +124,7 @@ asked_alone known delimiter tables table kind =
 -- how many a part of a template takes
 abbrev pub asked_by_part : Bool → ℕ → List TableLayout → TableLayout → PartLayout → ℕ
 asked_by_part known delimiter tables table (literal_part bytes) = 0
-asked_by_part known delimiter tables table (cited_part column) =
+asked_by_part known delimiter tables table (cited_part column width) =
     asked_alone known delimiter tables table (column_at table.columns column).kind
 
 -- how many a field takes at most, by whether the row's key is known

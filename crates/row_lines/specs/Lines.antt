@@ -2,6 +2,7 @@
 use Rattle.std.specs.Prelude.{ℕ, ◌==◌, List, [], ◌++◌, filter, find, map, flat_map, length, zip, Option, Some, codes, decimal, if◌then◌else◌, unwrap_or}
 use Rattle.std.specs.List.{join_with_byte, range_with_len}
 use Rattle.std.specs.Option.{option_and_then, option_map}
+use Rattle.line_pages.specs.Padding.{padded}
 use Rattle.row_text.specs.Fields.{field_text}
 use Rattle.cohort_sizes.specs.Births.{cohort_size, first_ordinal}
 use Rattle.schema_plan.specs.Dictionaries.{Project}
@@ -51,10 +52,11 @@ field_alone generator place row column =
     unless_null (column_at (table_at generator.tables place).columns column).null (draws_of generator place row column)
     (value_alone generator place row column (column_at (table_at generator.tables place).columns column).kind)
 
--- the text of a part of a template: a literal, or what the row holds in the column that is cited; nothing where that is null
+-- the text of a part of a template: a literal, or what the row holds in the column that is cited, filled with zeros up to so many bytes;
+-- nothing where that is null
 abbrev pub part_text : Generator → ℕ → Row → PartLayout → List ℕ
 part_text generator place row (literal_part bytes) = bytes
-part_text generator place row (cited_part column) = unwrap_or (field_alone generator place row column) []
+part_text generator place row (cited_part column width) = unwrap_or (option_map (padded width) (field_alone generator place row column)) []
 
 -- what a row of the table at a place holds in the column at a place, which is of this kind and no lookup, where that isn't null by its own
 -- draw: in a template its parts, one after the other

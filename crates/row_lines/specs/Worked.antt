@@ -54,11 +54,11 @@ nulled kind = record { kind = kind; changes = false; null = 1 }
 abbrev pub labels : Generator
 labels = record {
   tables = keyed_table 1 1 1 false (nulled born_kind
-      ∷ plain_column (template_kind (literal_part (codes "r") ∷ cited_part 0 ∷ literal_part (codes "!") ∷ []))
-      ∷ plain_column (template_kind (literal_part (codes "[") ∷ cited_part 1 ∷ literal_part (codes "]") ∷ []))
+      ∷ plain_column (template_kind (literal_part (codes "r") ∷ cited_part 0 0 ∷ literal_part (codes "!") ∷ []))
+      ∷ plain_column (template_kind (literal_part (codes "[") ∷ cited_part 1 0 ∷ literal_part (codes "]") ∷ []))
       ∷ plain_column (template_kind (literal_part (codes "a\tb\\") ∷ []))
-      ∷ plain_column (template_kind (cited_part 0 ∷ cited_part 0 ∷ []))
-      ∷ nulled (template_kind (cited_part 0 ∷ [])) ∷ []) ∷ [];
+      ∷ plain_column (template_kind (cited_part 0 0 ∷ cited_part 0 0 ∷ []))
+      ∷ nulled (template_kind (cited_part 0 0 ∷ [])) ∷ []) ∷ [];
   order = in_place;
   draw = no_draw;
   delimiter = 9;
@@ -68,7 +68,7 @@ labels = record {
 -- counted from 1, the city that is born with it, and of that the birth, the template and the key, which is null; tabs between
 abbrev pub land : Generator
 land = record {
-  tables = keyed_table 1 1 5 false (plain_column (template_kind (literal_part (codes "c") ∷ cited_part 0 ∷ [])) ∷ plain_column born_kind ∷ [])
+  tables = keyed_table 1 1 5 false (plain_column (template_kind (literal_part (codes "c") ∷ cited_part 0 0 ∷ [])) ∷ plain_column born_kind ∷ [])
       ∷ keyed_table 1 1 1 false (plain_column (reference_kind 0 (Some 0) (1 ∷ []) false) ∷ plain_column (lookup_kind 1 0 2) ∷ plain_column (lookup_kind 1 0 1)
       ∷ nulled (lookup_kind 1 0 0) ∷ []) ∷ [];
   order = in_place;
@@ -82,7 +82,7 @@ abbrev pub owned : Generator
 owned = record {
   tables = record (keyed_table 1 1 1 false []) { life = Some (record { least = 2; most = 2 }) }
       ∷ keyed_table 1 1 1 false (plain_column (reference_kind 0 (Some 0) (1 ∷ []) true) ∷ plain_column changed_kind
-      ∷ plain_column (template_kind (literal_part (codes "of ") ∷ cited_part 1 ∷ [])) ∷ []) ∷ [];
+      ∷ plain_column (template_kind (literal_part (codes "of ") ∷ cited_part 1 0 ∷ [])) ∷ []) ∷ [];
   order = in_place;
   draw = no_draw;
   delimiter = 9;

@@ -13,7 +13,7 @@ ghost use Rattle.life_intervals.specs.CohortParents.{IsReferenceOf, held_cost, r
 ghost use Rattle.life_intervals.specs.Found.{IsFound};
 ghost use Rattle.life_intervals.specs.Generator.{last_unit, table_of};
 ghost use Rattle.row_lines.specs.CohortLines.{asked_for, held_key_for, key_for, layout_for, ordinal_of, parent_for, reference_value, size_for, text_in_table, values_at};
-ghost use Rattle.row_lines.specs.Parts.{IsCitable, IsPartOfTemplate, cited_asked, cited_size, cited_text, part_asked, part_size, written_part};
+ghost use Rattle.row_lines.specs.Parts.{IsCitable, IsCitation, IsPartOfTemplate, cited_asked, cited_for, cited_size, cited_text, padded_size, part_asked, part_size, written_padded, written_part};
 
 use draw_values::{CohortValues, Put};
 use life_intervals::{FoundRow, Rows, cohort};
@@ -316,9 +316,38 @@ impl<'a> CohortFields<'a> {
     {
         match part {
             ReadyPart::Literal(written) => buf.put(written.as_slice()),
-            ReadyPart::Cited(column) => {
-                self.put_cited(*column as usize, index, key, values, buf, steps)
+            ReadyPart::Cited { column, width } => {
+                self.put_padded(*column as usize, *width, index, key, values, buf, steps)
             }
+        }
+    }
+
+    /// Appends the field of the column at a place, which must be citable, filled with zeros up to `width` bytes. A null field appends
+    /// nothing.
+    #[inline(always)]
+    fn put_padded<L: Ledger>(
+        &self,
+        column: usize,
+        width: u64,
+        index: u64,
+        key: Option<u64>,
+        values: &CohortValues<'_>,
+        buf: &mut PageBuf,
+        steps: &mut Steps<L>,
+    )
+        requires citation { IsCitation self.now column width }
+        requires row { index < cohort_size (layout_for self.now).births self.now.born }
+        requires values { values.now ≡ values_at self.now values.now.changed }
+        requires key { IfSome key (λ k. k ≡ key_for self.now index) }
+        requires room { length buf.old.text + padded_size self.now column width ≤ buf.old.room }
+        ensures text { buf.new ≡ record buf.old { text = buf.old.text ++ written_padded (layout_of self.now.plan).delimiter width (cited_for self.now index values.now.changed column) } }
+        ensures size { length (written_padded (layout_of self.now.plan).delimiter width (cited_for self.now index values.now.changed column)) ≤ padded_size self.now column width }
+        ensures steps { steps.new ≤ steps.old + cited_asked (is_some key) self.now column }
+    {
+        let from = buf.text().len();
+        match self.put_cited(column, index, key, values, buf, steps) {
+            Put::Text => buf.pad(from, width as usize),
+            Put::Null => {}
         }
     }
 
@@ -332,25 +361,27 @@ impl<'a> CohortFields<'a> {
         values: &CohortValues<'_>,
         buf: &mut PageBuf,
         steps: &mut Steps<L>,
-    )
+    ) -> Put
         requires column { IsCitable self.now column }
         requires row { index < cohort_size (layout_for self.now).births self.now.born }
         requires values { values.now ≡ values_at self.now values.now.changed }
         requires key { IfSome key (λ k. k ≡ key_for self.now index) }
         requires room { length buf.old.text + cited_size self.now column ≤ buf.old.room }
+        ensures put { result ≡ put_of (cited_for self.now index values.now.changed column) }
         ensures text { buf.new ≡ record buf.old { text = buf.old.text ++ cited_text self.now index values.now.changed column } }
         ensures size { length (cited_text self.now index values.now.changed column) ≤ cited_size self.now column }
         ensures steps { steps.new ≤ steps.old + cited_asked (is_some key) self.now column }
     {
         let columns = self.columns;
         match &columns[column].kind {
-            ReadyKind::Key => buf.put_number(self.key(index, key, steps)),
+            ReadyKind::Key => {
+                buf.put_number(self.key(index, key, steps));
+                Put::Text
+            }
             ReadyKind::Reference(reference) => {
-                self.put_parent(column as u32, reference, index, buf, steps);
+                self.put_parent(column as u32, reference, index, buf, steps)
             }
-            _ => {
-                values.put(column, self.ordinal(index), buf);
-            }
+            _ => values.put(column, self.ordinal(index), buf),
         }
     }
 

@@ -19,6 +19,7 @@ ghost use Rattle.life_intervals.specs.Intervals.{held_parent, is_live, living, p
 ghost use Rattle.life_intervals.specs.Keys.{key_of};
 ghost use Rattle.life_intervals.specs.Rows.{Row};
 ghost use Rattle.life_intervals.specs.Sound.{AreSound};
+ghost use Rattle.line_pages.specs.Padding.{padded};
 ghost use Rattle.row_lines.specs.Lines.{cohort_text, draws_of, field, first_lines, key_line_of, line, line_if_live, line_of, part_text, table_text, text_before};
 ghost use Rattle.row_lines.specs.Worked.{first_house, first_note, first_note_alone, labels, land, one, owned, pairs};
 
@@ -70,7 +71,8 @@ pub fn text_so_far_begins_the_text()
 ///   holds the entry with the number of the row's ordinal modulo that of the entries. A column of drawn values holds what its draws
 ///   give. A template holds its parts, one after the other.
 /// - Draw 0 can make the field of a lookup or of one of these columns null.
-/// - A part of a template is a text or the row's field in the cited column. A null field gives nothing.
+/// - A part of a template is a text or the row's field in the cited column. A padded part is that field, filled with zeros up to its
+///   width. A null field gives nothing.
 /// - A column that changes takes its draws at the unit of the row's last change. Any other column takes them at the row's birth.
 /// - A parent by a cascading reference is never lost.
 pub fn fields_of_a_row()
@@ -140,7 +142,10 @@ pub fn fields_of_a_row()
         part_text generator place row (literal_part bytes) ≡ bytes }
     ensures cited { (generator : Generator) (unit place column : ℕ) (row : Row) →
         is_cited (column_at (table_at generator.tables place).columns column).kind ≡ true →
-        part_text generator place row (cited_part column) ≡ unwrap_or (field generator unit place row column) [] }
+        part_text generator place row (cited_part column 0) ≡ unwrap_or (field generator unit place row column) [] }
+    ensures padded { (generator : Generator) (unit place column : ℕ) (row : Row) →
+        is_cited (column_at (table_at generator.tables place).columns column).kind ≡ true → (width : ℕ) →
+        part_text generator place row (cited_part column width) ≡ unwrap_or (option_map (padded width) (field generator unit place row column)) [] }
     ensures drawn_at_change { (generator : Generator) (place column : ℕ) (row : Row) →
         (column_at (table_at generator.tables place).columns column).changes ≡ true →
         draws_of generator place row column ≡ generator.draw place column row.changed row.ordinal }

@@ -276,6 +276,35 @@ column = [
 ]
 "#;
 
+/// An owner at each unit, who lives for two units, and a row of theirs. Its code has padded numbers: the key, a number below 0, one that is
+/// longer than its width, a drawn one, the owner, and the unit of birth.
+const PADDED: &str = r#"
+seed = 7
+units = 5
+[[table]]
+name = "owners"
+rows = 1
+insert = 1
+life = [2, 2]
+column = [{ name = "id", kind = "key", base = 40 }]
+[[table]]
+name = "t"
+rows = 1
+insert = 1
+column = [
+    { name = "id", kind = "key", base = 1 },
+    { name = "below", kind = "int", lo = -5, hi = -5 },
+    { name = "long", kind = "int", lo = 12345, hi = 12345 },
+    { name = "drawn", kind = "skew", lo = 42, size = 1, power = 1 },
+    { name = "owner", kind = "ref", table = "owners", window = 0, on_delete = "null" },
+    { name = "born", kind = "born" },
+    { name = "code", kind = "template", changes = true, parts = [
+        "c", { column = "id", width = 3 }, "/", { column = "below", width = 4 }, "/", { column = "long", width = 3 }, "/",
+        { column = "drawn", width = 4 }, "/", { column = "owner", width = 3 }, "/", { column = "born", width = 2 },
+    ] },
+]
+"#;
+
 /// Four parents with scrambled keys, and four children of any of the parents.
 const SCRAMBLED_PARENTS: &str = r#"
 seed = 7
@@ -334,7 +363,7 @@ const ONE_ROWS: &[(u32, u64, Told<'static>)] = &[
     (0, 2, Told::KeyLine("3\n")),
 ];
 
-// By hand: a cohort of one row has its key in place. From the Python program: the last key of the large table, scrambled; a label, a label
+// By hand: a cohort of one row has its key in place, and padded numbers. From the Python program: the last key of the large table, scrambled; a label, a label
 // that cites a null unit, and a null label; and the checksums of texts of 1,050 lines.
 const LINES: &[(&[&str], &[(u32, u64, Told<'static>)])] = &[
     (&[ONE, BIRTHS], ONE_ROWS),
@@ -371,6 +400,26 @@ const LINES: &[(&[&str], &[(u32, u64, Told<'static>)])] = &[
             (0, 4, Told::KeyLine("6\n")),
             (0, 5, Told::Line(2, "5\t\\N\tr5\\t!5\n")),
             (0, 5, Told::KeyLine("5\n")),
+        ],
+    ),
+    (
+        &[PADDED],
+        &[
+            (
+                1,
+                0,
+                Told::Line(1, "1\t-5\t12345\t42\t40\t0\tc001/-005/12345/0042/040/00\n"),
+            ),
+            (
+                1,
+                0,
+                Told::Line(2, "1\t-5\t12345\t42\t\\N\t0\tc001/-005/12345/0042//00\n"),
+            ),
+            (
+                1,
+                1,
+                Told::Line(2, "2\t-5\t12345\t42\t41\t1\tc002/-005/12345/0042/041/01\n"),
+            ),
         ],
     ),
     (

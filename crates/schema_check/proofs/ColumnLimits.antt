@@ -18,9 +18,9 @@ use Rattle.schema_plan.specs.Citations.{leaves_of}
 use Rattle.schema_plan.specs.Counts.{count}
 use Rattle.schema_plan.specs.Dictionaries.{AreWordLists, Dictionary, Project}
 use Rattle.schema_plan.specs.Layout.{ColumnLayout, column_at, column_layout, kind_layout, leaf_layout, no_column, part_layout, place_of_column}
-use Rattle.schema_plan.specs.Limits.{AreParts, CitesStill, IsCase, IsDateRange, IsKindInLimits, IsUnitDateInLimits, IsLeafInLimits, IsPart, IsPickOf, IsStillPart, can_change, is_cited, is_moving_kind as is_moving_layout, moves}
+use Rattle.schema_plan.specs.Limits.{AreFilledParts, AreParts, CitesStill, IsCase, IsDateRange, IsKindInLimits, IsUnitDateInLimits, IsFilledPart, IsLeafInLimits, IsPart, IsPickOf, IsStillPart, can_change, is_cited, is_moving_kind as is_moving_layout, is_whole_kind as is_whole_layout, is_whole_leaf as is_whole_leaf_layout, moves}
 use Rattle.schema_plan.specs.References.{Reference, reference_of}
-use Rattle.schema_plan.specs.Rules.{are_supplied, are_unit_days, is_supplied_kind, is_unit_date, is_redrawn_at, cites_still, is_between, is_case, is_change, is_citable, is_date_range, is_key_in_range, is_length_range, is_moving_kind, is_null_share, is_number_range, is_part, is_pick_of, is_skew_range, is_spread, is_still_kind, is_still_part, is_template, is_weighted, kind_at, may_be_redrawn, moves_at, null_at}
+use Rattle.schema_plan.specs.Rules.{are_paddings, are_supplied, are_unit_days, is_supplied_kind, is_unit_date, is_redrawn_at, cites_still, is_between, is_case, is_change, is_citable, is_date_range, is_key_in_range, is_length_range, is_moving_kind, is_null_share, is_number_range, is_padding, is_part, is_pick_of, is_skew_range, is_spread, is_still_kind, is_still_part, is_template, is_weighted, is_whole_kind, is_whole_leaf, kind_at, may_be_redrawn, moves_at, null_at}
 use Rattle.schema_check.proofs.FromTests.{le_from_test, limit_from_test, passes_each}
 use Rattle.schema_check.proofs.LeafLimits.{leaf_in_limits, leaves_in_limits, words_supplied}
 use Rattle.schema_check.proofs.ReferenceLimits.{asked_units, spread_from_test}
@@ -52,13 +52,19 @@ is_cited-layout dictionaries tables columns (kind.Case on branches) = refl
 is_cited-layout dictionaries tables columns (kind.Lookup via column) = refl
 is_cited-layout dictionaries tables columns _ = refl
 
-part_from_test : (dictionaries : List Dictionary) (tables : List Table) (columns : List Column) (place : ℕ) → place ≤ length columns → (of : Part) → is_part columns place of ≡ true → IsPart (columns_layout dictionaries tables columns) place (part_layout columns of)
-part_from_test dictionaries tables columns place within (part.Literal text) h = tt
-part_from_test dictionaries tables columns place within (part.Cited name) h =
+cited_from_test : (dictionaries : List Dictionary) (tables : List Table) (columns : List Column) (place : ℕ) → place ≤ length columns → (name : List ℕ) →
+    (nat_lt (place_of_column columns name) place && is_citable (kind_at columns (place_of_column columns name))) ≡ true →
+    (place_of_column columns name < place) × (is_cited (column_at (columns_layout dictionaries tables columns) (place_of_column columns name)).kind ≡ true)
+cited_from_test dictionaries tables columns place within name h =
     let cited = place_of_column columns name in
     let parts = and_parts (nat_lt cited place) (is_citable (kind_at columns cited)) h in
     let earlier : cited < place = ltb-true cited place parts.0 in
     (earlier, ap is_cited (kind_at-layout dictionaries tables columns cited (omega arith)) ∙ is_cited-layout dictionaries tables columns (kind_at columns cited) ∙ parts.1)
+
+part_from_test : (dictionaries : List Dictionary) (tables : List Table) (columns : List Column) (place : ℕ) → place ≤ length columns → (of : Part) → is_part columns place of ≡ true → IsPart (columns_layout dictionaries tables columns) place (part_layout columns of)
+part_from_test dictionaries tables columns place within (part.Literal text) h = tt
+part_from_test dictionaries tables columns place within (part.Cited name) h = cited_from_test dictionaries tables columns place within name h
+part_from_test dictionaries tables columns place within (part.Padded name width) h = cited_from_test dictionaries tables columns place within name h
 
 template_from_test : (dictionaries : List Dictionary) (tables : List Table) (columns : List Column) (place : ℕ) → place ≤ length columns → (parts : List Part) → is_template columns place (kind.Template parts) ≡ true → AreParts (columns_layout dictionaries tables columns) place (map (part_layout columns) parts)
 template_from_test dictionaries tables columns place within parts h =
@@ -73,6 +79,48 @@ template_from_test dictionaries tables columns place within parts h =
           subst (IsPart (columns_layout dictionaries tables columns) place) (sym (get_or-map (part_layout columns) parts i (part.Literal []) d at))
           (part_from_test dictionaries tables columns place within (get_or parts i (part.Literal [])) (passes_each (is_part columns place) parts i (part.Literal []) at v.1));
     }
+
+-- ---- padded parts
+
+is_whole_leaf-layout : (dictionaries : List Dictionary) (leaf : Leaf) → is_whole_leaf_layout (leaf_layout dictionaries leaf) ≡ is_whole_leaf leaf
+is_whole_leaf-layout dictionaries (drawn.Int lo hi step) = refl
+is_whole_leaf-layout dictionaries (drawn.Skew lo size power) = refl
+is_whole_leaf-layout dictionaries _ = refl
+
+is_whole_kind-layout : (dictionaries : List Dictionary) (tables : List Table) (columns : List Column) (kind : Kind) → is_whole_layout (kind_layout dictionaries tables columns kind) ≡ is_whole_kind kind
+is_whole_kind-layout dictionaries tables columns (kind.Leaf leaf) = is_whole_leaf-layout dictionaries leaf
+is_whole_kind-layout dictionaries tables columns _ = refl
+
+filled_part : (dictionaries : List Dictionary) (tables : List Table) (columns : List Column) (place : ℕ) → place ≤ length columns → (of : Part) → is_part columns place of ≡ true → is_padding columns of ≡ true →
+    IsFilledPart (columns_layout dictionaries tables columns) (part_layout columns of)
+filled_part dictionaries tables columns place within (part.Literal text) is h = tt
+filled_part dictionaries tables columns place within (part.Cited name) is h = λ some. absurd (omega arith)
+filled_part dictionaries tables columns place within (part.Padded name width) is h = λ some.
+    let cited = place_of_column columns name in
+    let earlier = (cited_from_test dictionaries tables columns place within name is).0 in
+    let parts = and_parts (is_between 1 64 width) (is_whole_kind (kind_at columns cited)) h in
+    let ends = and_parts (int_le (pos 1) width) (int_le width (pos 64)) parts.0 in
+    record {
+      whole = ap is_whole_layout (kind_at-layout dictionaries tables columns cited (omega arith)) ∙ is_whole_kind-layout dictionaries tables columns (kind_at columns cited) ∙ parts.1;
+      few = limit_from_test width 64 ends.1;
+    }
+
+-- the parts of a template, and those of any other kind
+filled_parts : (dictionaries : List Dictionary) (tables : List Table) (columns : List Column) (place : ℕ) → place ≤ length columns → (kind : Kind) → is_template columns place kind ≡ true → are_paddings columns kind ≡ true →
+    AreFilledParts (columns_layout dictionaries tables columns) (kind_layout dictionaries tables columns kind)
+filled_parts dictionaries tables columns place within (kind.Template parts) are h = λ i d lt.
+    let at : i < length parts = omega (arith, lt, length-map parts (part_layout columns)) in
+    let each = (and_parts (nat_le 1 (length parts) && nat_le (length parts) 32) (list_all (is_part columns place) parts) are).1 in
+    subst (IsFilledPart (columns_layout dictionaries tables columns)) (sym (get_or-map (part_layout columns) parts i (part.Literal []) d at))
+    (filled_part dictionaries tables columns place within (get_or parts i (part.Literal [])) (passes_each (is_part columns place) parts i (part.Literal []) at each)
+    (passes_each (is_padding columns) parts i (part.Literal []) at h))
+filled_parts dictionaries tables columns place within _ are h = tt
+
+pub filled_from_test : (dictionaries : List Dictionary) (tables : List Table) (columns : List Column) (place : ℕ) → place < length columns → is_template columns place (kind_at columns place) ≡ true →
+    are_paddings columns (kind_at columns place) ≡ true → AreFilledParts (columns_layout dictionaries tables columns) (column_at (columns_layout dictionaries tables columns) place).kind
+filled_from_test dictionaries tables columns place within are h =
+    subst (AreFilledParts (columns_layout dictionaries tables columns)) (sym (kind_at-layout dictionaries tables columns place within))
+    (filled_parts dictionaries tables columns place (omega arith) (kind_at columns place) are h)
 
 -- ---- cases
 
@@ -179,6 +227,7 @@ still_from_test dictionaries tables columns j h = moves_in dictionaries tables c
 still_part : (dictionaries : List Dictionary) (tables : List Table) (columns : List Column) (of : Part) → is_still_part columns of ≡ true → IsStillPart (columns_layout dictionaries tables columns) (part_layout columns of)
 still_part dictionaries tables columns (part.Literal text) h = tt
 still_part dictionaries tables columns (part.Cited name) h = still_from_test dictionaries tables columns (place_of_column columns name) h
+still_part dictionaries tables columns (part.Padded name width) h = still_from_test dictionaries tables columns (place_of_column columns name) h
 
 still_kind : (dictionaries : List Dictionary) (tables : List Table) (columns : List Column) (kind : Kind) → is_still_kind columns kind ≡ true → CitesStill (columns_layout dictionaries tables columns) (kind_layout dictionaries tables columns kind)
 still_kind dictionaries tables columns (kind.Template parts) h = λ i d lt.

@@ -10,7 +10,7 @@ use Rattle.schema_model.specs.declared.column.Column.{Column}
 use Rattle.schema_model.specs.declared.column.Kind.{Kind}
 use Rattle.schema_model.specs.declared.column.Kind.TheVariants.{Key}
 use Rattle.schema_plan.specs.declared.rules.Rule.{Rule}
-use Rattle.schema_plan.specs.declared.rules.Rule.TheVariants.{Dictionaries, SeedAndUnits, TableCount, Columns, KeyColumn, RowCount, LifeRange, UpdatePeriod, NumberRange, DateRange, PickEntries, SkewRange, LengthRange, TemplateParts, CaseBranches, StillCitations, ReferenceTargets, ReferenceWindows, ParentRows, SpreadWeights, LookupColumns, RowCost, LineSize, ChangesAndNulls, UnitDates}
+use Rattle.schema_plan.specs.declared.rules.Rule.TheVariants.{Dictionaries, SeedAndUnits, TableCount, Columns, KeyColumn, RowCount, LifeRange, UpdatePeriod, NumberRange, DateRange, PickEntries, SkewRange, LengthRange, TemplateParts, CaseBranches, StillCitations, ReferenceTargets, ReferenceWindows, ParentRows, SpreadWeights, LookupColumns, RowCost, LineSize, ChangesAndNulls, UnitDates, PaddedParts}
 use Rattle.schema_plan.specs.declared.site.Site.TheVariants.{Whole, OfTable, OfColumn}
 use Rattle.cohort_sizes.specs.Births.{born_count}
 use Rattle.schema_plan.specs.Counts.{count}
@@ -18,10 +18,10 @@ use Rattle.schema_plan.specs.Dictionaries.{AreWordLists, Dictionary, Project}
 use Rattle.schema_plan.specs.Layout.{ColumnLayout, TableLayout, births_of, column_at, column_layout, key_kind, keys_of_kind, kind_layout, layout_of, span_of, table_at, table_layout}
 use Rattle.schema_plan.specs.Limits.{IsKindInLimits, IsLife, IsLookupInLimits, IsTableInLimits, IsInLimits, IsUnitDateInLimits, IsUpdatePeriod}
 use Rattle.schema_plan.specs.References.{IsReferenceInLimits, reference_of, references_of}
-use Rattle.schema_plan.specs.Rules.{are_phases, broken_rule, first_broken, rule_number, rules, is_redrawn_at, cites_still, is_between, is_change, is_key, is_key_in_range, is_key_first, is_life, is_null_share, is_one_to_64, is_unit_date, is_update_period, kind_at, null_at, references_before, schema_table, IsAccepted, Keeps}
+use Rattle.schema_plan.specs.Rules.{are_paddings, are_phases, broken_rule, first_broken, rule_number, rules, is_redrawn_at, cites_still, is_between, is_change, is_key, is_key_in_range, is_key_first, is_life, is_null_share, is_one_to_64, is_template, is_unit_date, is_update_period, kind_at, null_at, references_before, schema_table, IsAccepted, Keeps}
 use Rattle.schema_plan.specs.Sites.{columns_at}
 use Rattle.schema_plan.specs.TableFacts.{cost, max_line}
-use Rattle.schema_check.proofs.ColumnLimits.{cites_still_columns, columns_layout, key_never_null, kind_at-layout, kind_in_limits, null_at-layout, null_limit, reference_never_null, unchanged, unit_date_from_test}
+use Rattle.schema_check.proofs.ColumnLimits.{cites_still_columns, columns_layout, filled_from_test, key_never_null, kind_at-layout, kind_in_limits, null_at-layout, null_limit, reference_never_null, unchanged, unit_date_from_test}
 use Rattle.schema_plan.proofs.FactsLemmas.{table_at-is}
 use Rattle.schema_check.proofs.FirstBreak.{none_of_rule}
 use Rattle.schema_check.proofs.FromTests.{count_from_test, least_from_test, limit_from_test}
@@ -107,6 +107,8 @@ table_in_limits project lists accepted units i h =
     let v17 = λ (j : ℕ) (lt : j < length t.columns). ap (λ columns. cites_still columns j) (sym same) ∙ keeps project accepted StillCitations refl (OfColumn i j) (h, subst (λ (columns : List Column). j < length columns) (sym same) lt) in
     let v25 = λ (j : ℕ) (lt : j < length t.columns). and_parts (is_null_share (kind_at t.columns j) (null_at t.columns j)) (is_change (kind_at t.columns j) (is_redrawn_at t.columns j)) (ap (λ columns. is_null_share (kind_at columns j) (null_at columns j) && is_change (kind_at columns j) (is_redrawn_at columns j)) (sym same) ∙ keeps project accepted ChangesAndNulls refl (OfColumn i j) (h, subst (λ (columns : List Column). j < length columns) (sym same) lt)) in
     let v26 = λ (j : ℕ) (lt : j < length t.columns). ap (λ columns. is_unit_date project.schema.units (kind_at columns j)) (sym same) ∙ keeps project accepted UnitDates refl (OfColumn i j) (h, subst (λ (columns : List Column). j < length columns) (sym same) lt) in
+    let v15 = λ (j : ℕ) (lt : j < length t.columns). ap (λ columns. is_template columns j (kind_at columns j)) (sym same) ∙ keeps project accepted TemplateParts refl (OfColumn i j) (h, subst (λ (columns : List Column). j < length columns) (sym same) lt) in
+    let v29 = λ (j : ℕ) (lt : j < length t.columns). ap (λ columns. are_paddings columns (kind_at columns j)) (sym same) ∙ keeps project accepted PaddedParts refl (OfColumn i j) (h, subst (λ (columns : List Column). j < length columns) (sym same) lt) in
     let layouts : length (columns_layout project.dictionaries project.schema.tables t.columns) ≡ length t.columns = length-map t.columns (column_layout project.dictionaries project.schema.tables t.columns) in
     record {
       births = record {
@@ -132,6 +134,9 @@ table_in_limits project lists accepted units i h =
           let within : place < length t.columns = omega (arith, layouts, lt) in
           subst (IsUnitDateInLimits (count project.schema.units)) (sym (kind_at-layout project.dictionaries project.schema.tables t.columns place within))
           (unit_date_from_test project.dictionaries project.schema.tables t.columns project.schema.units units (kind_at t.columns place) (v26 place within));
+      filled = λ place lt.
+          let within : place < length t.columns = omega (arith, layouts, lt) in
+          filled_from_test project.dictionaries project.schema.tables t.columns place within (v15 place within) (v29 place within);
       nulls = λ place lt.
           let within : place < length t.columns = omega (arith, layouts, lt) in
           omega (arith, null_at-layout project.dictionaries project.schema.tables t.columns place within, null_limit (kind_at t.columns place) (null_at t.columns place) (v25 place within).0);

@@ -44,7 +44,7 @@ fn is_part(columns: &[Column], place: usize, part: &Part) -> bool
 {
     match part {
         Part::Literal(_) => true,
-        Part::Cited(name) => {
+        Part::Cited(name) | Part::Padded { column: name, .. } => {
             let cited = place_of_column(columns, name);
             cited < place && is_citable(&columns[cited].kind)
         }
@@ -116,7 +116,7 @@ fn is_still_part(columns: &[Column], part: &Part) -> bool
 {
     match part {
         Part::Literal(_) => true,
-        Part::Cited(name) => !is_moving(columns, name),
+        Part::Cited(name) | Part::Padded { column: name, .. } => !is_moving(columns, name),
     }
 }
 

@@ -12,6 +12,7 @@ pub mod laws;
 mod leaf_rules;
 mod lookup_rules;
 mod names;
+mod padding_rules;
 mod phase_rules;
 mod reference_rules;
 mod rules;

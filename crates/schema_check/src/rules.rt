@@ -15,6 +15,7 @@ use crate::leaf_rules::{
 };
 use crate::lookup_rules::is_lookup;
 use crate::names::is_name;
+use crate::padding_rules::are_paddings;
 use crate::phase_rules::is_row_count;
 use crate::reference_rules::{has_parents, is_spread, is_target, is_window};
 use crate::unit_date_rules::is_unit_date;
@@ -40,7 +41,7 @@ const MAX_COST: u64 = 4_096;
 const MAX_LINE: u64 = 65_536;
 
 /// The rules in the order in which they are tried.
-const ORDER: [Rule; 26] = [
+const ORDER: [Rule; 27] = [
     Rule::Dictionaries,
     Rule::SeedAndUnits,
     Rule::TableCount,
@@ -67,6 +68,7 @@ const ORDER: [Rule; 26] = [
     Rule::LineSize,
     Rule::ChangesAndNulls,
     Rule::UnitDates,
+    Rule::PaddedParts,
 ];
 
 /// Returns the first rule that a schema breaks with its dictionaries, at its first site. The whole schema comes before the tables, and
@@ -189,6 +191,7 @@ fn holds_of_column(rule: Rule, candidate: &Candidate<'_>, table: usize, column: 
         Rule::LookupColumns => is_lookup(schema.tables.as_slice(), columns, column),
         Rule::ChangesAndNulls => is_null_share(&columns[column]) && is_change(&columns[column]),
         Rule::UnitDates => is_unit_date(schema.units, &columns[column].kind),
+        Rule::PaddedParts => are_paddings(columns, &columns[column].kind),
         _ => true,
     }
 }

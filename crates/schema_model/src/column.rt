@@ -179,12 +179,16 @@ pub enum Part {
     Literal(Text),
     /// The field of the column of this name.
     Cited(Text),
+    /// The field of the column of this name, filled with zeros up to `width` bytes. The zeros stand after a minus sign, and before
+    /// all else.
+    Padded { column: Text, width: i64 },
 }
 
 impl Drop for Part {
     fn drop(self) {
         match self {
             Part::Literal(text) | Part::Cited(text) => drop(text),
+            Part::Padded { column, width: _ } => drop(column),
         }
     }
 }

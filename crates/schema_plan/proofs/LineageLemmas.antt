@@ -112,7 +112,7 @@ null_cost_of-capped given (unit_date_kind changed start step) = refl
 
 null_cost_of_part-capped : (given : List Lineage) (columns : List ColumnLayout) (part : PartLayout) → capped (null_cost_of_part (map capped_lineage given) columns part) ≡ capped (null_cost_of_part given columns part)
 null_cost_of_part-capped given columns (literal_part bytes) = refl
-null_cost_of_part-capped given columns (cited_part column) =
+null_cost_of_part-capped given columns (cited_part column width) =
     ap capped (null_cost_of-capped given (column_at columns column).kind) ∙ capped-capped (null_cost_of given (column_at columns column).kind)
 
 null_cost_of_field-capped : (given : List Lineage) (columns : List ColumnLayout) (kind : KindLayout) → capped (null_cost_of_field (map capped_lineage given) columns kind) ≡ capped (null_cost_of_field given columns kind)

@@ -1,5 +1,5 @@
 -- What a field and a line take at most: bytes as they are written, and permutations.
-use Rattle.std.specs.Prelude.{ℕ, ◌+◌, ◌*◌, ◌-◌, max, List, sum_by, length, map, encode_utf8}
+use Rattle.std.specs.Prelude.{ℕ, ◌+◌, ◌*◌, ◌-◌, max, min, List, sum_by, length, map, encode_utf8}
 use Rattle.std.specs.List.{fold}
 use Rattle.std.specs.Str.{chars}
 use Rattle.dictionaries.specs.WordList.{WordList}
@@ -59,11 +59,16 @@ bounds_alone delimiter tables table (lookup_kind via parent column) = of_cited
 bounds_alone delimiter tables table (list_kind words) = bounds (entry_size delimiter words) 0
 bounds_alone delimiter tables table (unit_date_kind changed start step) = bounds 10 0
 
--- what a part of a template takes; a cited column counts once for each part that cites it
+-- at least so many bytes
+abbrev pub at_least : ℕ → FieldBounds → FieldBounds
+at_least size of = record of { size = max of.size size }
+
+-- what a part of a template takes: a cited column its own field, or the bytes to which that is filled. It counts once for each part that
+-- cites it. Past 64 bytes, where a rule is broken, no more are counted
 abbrev pub bounds_of_part : ℕ → List TableLayout → TableLayout → PartLayout → FieldBounds
 bounds_of_part delimiter tables table (literal_part bytes) = record { size = written_size delimiter bytes; permutations = 0 }
-bounds_of_part delimiter tables table (cited_part column) =
-    bounds_alone delimiter tables table (column_at table.columns column).kind
+bounds_of_part delimiter tables table (cited_part column width) =
+    at_least (min width 64) (bounds_alone delimiter tables table (column_at table.columns column).kind)
 
 -- what all parts of a template take
 abbrev pub bounds_of_parts : ℕ → List TableLayout → TableLayout → List PartLayout → FieldBounds

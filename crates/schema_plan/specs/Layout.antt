@@ -42,10 +42,11 @@ pub data LeafLayout : Type 0 where
   chars_leaf : List ℕ → ℕ → ℕ → LeafLayout
   uuid_leaf : LeafLayout
 
--- a part of a template: a text, or the place of a column of the same table
+-- a part of a template: a text, or the place of a column of the same table, and up to how many bytes its field is filled with zeros: 0
+-- where it stands as it is
 pub data PartLayout : Type 0 where
   literal_part : List ℕ → PartLayout
-  cited_part : ℕ → PartLayout
+  cited_part : ℕ → ℕ → PartLayout
 
 -- what a column holds. A case has the place of its pick column; a reference the place of its parent's table, the units by which
 -- a parent may be older (None: any), its spread, and whether it becomes null where the parent is deleted; a lookup the places of its
@@ -152,7 +153,8 @@ leaf_layout dictionaries drawn.Uuid = uuid_leaf
 
 abbrev pub part_layout : List Column → Part → PartLayout
 part_layout columns (part.Literal bytes) = literal_part bytes
-part_layout columns (part.Cited name) = cited_part (place_of_column columns name)
+part_layout columns (part.Cited name) = cited_part (place_of_column columns name) 0
+part_layout columns (part.Padded name width) = cited_part (place_of_column columns name) (count width)
 
 abbrev pub window_layout : Window → Option ℕ
 window_layout (window.Units units) = Some (count units)

@@ -10,7 +10,7 @@ use Rattle.cohort_sizes.specs.Births.{Births, born_count}
 use Rattle.cohort_sizes.specs.Rates.{AreRates}
 use Rattle.schema_plan.specs.Counts.{count}
 use Rattle.schema_plan.specs.Dictionaries.{Dictionary, Project, words_named}
-use Rattle.schema_plan.specs.Layout.{LeafLayout, int_leaf, fixed_leaf, date_leaf, pick_leaf, skew_leaf, dict_leaf, words_leaf, chars_leaf, uuid_leaf, PartLayout, literal_part, cited_part, KindLayout, key_kind, changed_kind, leaf_kind, template_kind, case_kind, reference_kind, lookup_kind, ColumnLayout, column_at, TableLayout, layout_of, leaf_layout, table_at, list_kind, unit_date_kind}
+use Rattle.schema_plan.specs.Layout.{LeafLayout, int_leaf, fixed_leaf, date_leaf, pick_leaf, skew_leaf, dict_leaf, words_leaf, chars_leaf, uuid_leaf, PartLayout, literal_part, cited_part, KindLayout, key_kind, born_kind, changed_kind, leaf_kind, template_kind, case_kind, reference_kind, lookup_kind, ColumnLayout, column_at, TableLayout, layout_of, leaf_layout, table_at, list_kind, unit_date_kind}
 use Rattle.schema_plan.specs.References.{IsReferenceInLimits, IsSpread, Reference, reference_at, references_of}
 use Rattle.schema_plan.specs.TableFacts.{cost, max_line}
 
@@ -91,7 +91,7 @@ pub record CanBeReady (dictionaries : List Dictionary) (kind : Kind) : Type 0 wh
 -- a part of the template at a place: a text, or an earlier column that may be cited
 abbrev pub IsPart : List ColumnLayout → ℕ → PartLayout → Type 0
 IsPart columns place (literal_part bytes) = ⊤
-IsPart columns place (cited_part column) = (column < place) × (is_cited (column_at columns column).kind ≡ true)
+IsPart columns place (cited_part column width) = (column < place) × (is_cited (column_at columns column).kind ≡ true)
 
 -- a template's parts
 pub record AreParts (columns : List ColumnLayout) (place : ℕ) (parts : List PartLayout) : Type 0 where
@@ -133,6 +133,34 @@ abbrev pub IsUnitDateInLimits : ℕ → KindLayout → Type 0
 IsUnitDateInLimits units (unit_date_kind changed start step) = IsDateRange start (start +ℤ pos (step * units))
 IsUnitDateInLimits units _ = ⊤
 
+-- a kind whose fields are whole numbers
+abbrev pub is_whole_leaf : LeafLayout → Bool
+is_whole_leaf (int_leaf lo hi step) = true
+is_whole_leaf (skew_leaf lo size power) = true
+is_whole_leaf _ = false
+
+abbrev pub is_whole_kind : KindLayout → Bool
+is_whole_kind key_kind = true
+is_whole_kind born_kind = true
+is_whole_kind changed_kind = true
+is_whole_kind (leaf_kind leaf) = is_whole_leaf leaf
+is_whole_kind (reference_kind parent window spread nulls) = true
+is_whole_kind _ = false
+
+-- a part of a template that fills nothing, or a whole number up to at most 64 bytes
+pub record IsFilled (columns : List ColumnLayout) (column width : ℕ) : Type 0 where
+  pub whole : is_whole_kind (column_at columns column).kind ≡ true
+  pub few : width ≤ 64
+
+abbrev pub IsFilledPart : List ColumnLayout → PartLayout → Type 0
+IsFilledPart columns (literal_part bytes) = ⊤
+IsFilledPart columns (cited_part column width) = 1 ≤ width → IsFilled columns column width
+
+-- the column at a place, where it is a template
+abbrev pub AreFilledParts : List ColumnLayout → KindLayout → Type 0
+AreFilledParts columns (template_kind parts) = All (IsFilledPart columns) parts
+AreFilledParts columns _ = ⊤
+
 -- a kind whose fields may be drawn anew where a row changes: no key, no unit, no list, and none that other rows tell
 abbrev pub can_change : KindLayout → Bool
 can_change (leaf_kind leaf) = true
@@ -155,7 +183,7 @@ moves column = column.changes || is_moving_kind column.kind
 -- a part of a template that cites no column that moves
 abbrev pub IsStillPart : List ColumnLayout → PartLayout → Type 0
 IsStillPart columns (literal_part bytes) = ⊤
-IsStillPart columns (cited_part column) = moves (column_at columns column) ≡ false
+IsStillPart columns (cited_part column width) = moves (column_at columns column) ≡ false
 
 -- a kind that cites no column that moves
 abbrev pub CitesStill : List ColumnLayout → KindLayout → Type 0
@@ -212,6 +240,7 @@ pub record IsTableInLimits (units : ℕ) (table : TableLayout) : Type 0 where
   pub no_other_key : (place : ℕ) → suc place < length table.columns → (column_at table.columns (suc place)).kind ≢ key_kind
   pub kinds : (place : ℕ) → place < length table.columns → IsKindInLimits table.columns place (column_at table.columns place).kind
   pub unit_dates : (place : ℕ) → place < length table.columns → IsUnitDateInLimits units (column_at table.columns place).kind
+  pub filled : (place : ℕ) → place < length table.columns → AreFilledParts table.columns (column_at table.columns place).kind
   pub nulls : (place : ℕ) → place < length table.columns → (column_at table.columns place).null ≤ 999
   pub changes : (place : ℕ) → place < length table.columns → can_change (column_at table.columns place).kind ≡ false → (column_at table.columns place).changes ≡ false
   pub still : (place : ℕ) → place < length table.columns → (column_at table.columns place).changes ≡ false → CitesStill table.columns (column_at table.columns place).kind

@@ -63,7 +63,7 @@ null_cost_of earlier _ = 0
 -- the same for what a part of a template cites
 abbrev pub null_cost_of_part : List Lineage → List ColumnLayout → PartLayout → ℕ
 null_cost_of_part earlier columns (literal_part bytes) = 0
-null_cost_of_part earlier columns (cited_part column) = null_cost_of earlier (column_at columns column).kind
+null_cost_of_part earlier columns (cited_part column width) = null_cost_of earlier (column_at columns column).kind
 
 -- for a field of one of some columns: for its own reference, or for those that its parts cite
 abbrev pub null_cost_of_field : List Lineage → List ColumnLayout → KindLayout → ℕ

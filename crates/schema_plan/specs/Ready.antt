@@ -29,10 +29,10 @@ ready_leaf delimiter (chars_leaf alphabet lo hi) =
     leaf.Chars lo (hi - lo + 1) (map (λ c. escaped_text delimiter (encode_utf8 c)) (chars alphabet)) (length (chars alphabet))
 ready_leaf delimiter uuid_leaf = leaf.Uuid
 
--- a part of a template: a text as it is written, or the place of the column that it cites
+-- a part of a template: a text as it is written, or the place of the column that it cites, and up to how many bytes it is filled
 abbrev pub ready_part : ℕ → PartLayout → ReadyPart
 ready_part delimiter (literal_part bytes) = part.Literal (escaped_text delimiter bytes)
-ready_part delimiter (cited_part column) = part.Cited column
+ready_part delimiter (cited_part column width) = part.Cited column width
 
 -- a reference: the weights of its spread with their number and their sum
 abbrev pub ready_reference : ℕ → Option ℕ → List ℕ → Bool → ReadyReference

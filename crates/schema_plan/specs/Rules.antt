@@ -21,7 +21,7 @@ use Rattle.schema_model.specs.declared.column.Window.TheVariants as window
 use Rattle.schema_plan.specs.declared.broken.Broken.{Broken}
 use Rattle.cohort_sizes.specs.Births.{Births, born_count, cohort_size}
 use Rattle.schema_plan.specs.declared.rules.Rule.{Rule}
-use Rattle.schema_plan.specs.declared.rules.Rule.TheVariants.{Dictionaries, CitedNames, SeedAndUnits, TableCount, TableNames, Columns, KeyColumn, RowCount, LifeRange, UpdatePeriod, NumberRange, DateRange, PickEntries, SkewRange, LengthRange, TemplateParts, CaseBranches, StillCitations, ReferenceTargets, ReferenceWindows, ParentRows, SpreadWeights, LookupColumns, RowCost, LineSize, ChangesAndNulls, UnitDates}
+use Rattle.schema_plan.specs.declared.rules.Rule.TheVariants.{Dictionaries, CitedNames, SeedAndUnits, TableCount, TableNames, Columns, KeyColumn, RowCount, LifeRange, UpdatePeriod, NumberRange, DateRange, PickEntries, SkewRange, LengthRange, TemplateParts, CaseBranches, StillCitations, ReferenceTargets, ReferenceWindows, ParentRows, SpreadWeights, LookupColumns, RowCost, LineSize, ChangesAndNulls, UnitDates, PaddedParts}
 use Rattle.schema_plan.specs.declared.site.Site.{Site}
 use Rattle.schema_plan.specs.declared.site.Site.TheVariants.{Whole, OfTable, OfColumn}
 use Rattle.schema_plan.specs.Citations.{cited_names, leaves_of, may_cite, may_cite_of_kind, names_in_leaf}
@@ -198,6 +198,8 @@ abbrev pub is_part : List Column → ℕ → Part → Bool
 is_part columns place (part.Literal text) = true
 is_part columns place (part.Cited name) =
     nat_lt (place_of_column columns name) place && is_citable (kind_at columns (place_of_column columns name))
+is_part columns place (part.Padded name width) =
+    nat_lt (place_of_column columns name) place && is_citable (kind_at columns (place_of_column columns name))
 
 -- a template has 1 to 32 parts
 abbrev pub is_template : List Column → ℕ → Kind → Bool
@@ -236,6 +238,7 @@ moves_at columns place = is_redrawn_at columns place || is_moving_kind (kind_at 
 abbrev pub is_still_part : List Column → Part → Bool
 is_still_part columns (part.Literal text) = true
 is_still_part columns (part.Cited name) = not (moves_at columns (place_of_column columns name))
+is_still_part columns (part.Padded name width) = not (moves_at columns (place_of_column columns name))
 
 -- a kind that cites no column that moves
 abbrev pub is_still_kind : List Column → Kind → Bool
@@ -278,6 +281,33 @@ abbrev pub is_unit_date : ℤ → Kind → Bool
 is_unit_date units (kind.BornDate start step) = are_unit_days units start step
 is_unit_date units (kind.ChangedDate start step) = are_unit_days units start step
 is_unit_date units _ = true
+
+-- ---- what rules ask of padded parts
+
+-- a kind whose fields are whole numbers
+abbrev pub is_whole_leaf : Leaf → Bool
+is_whole_leaf (drawn.Int lo hi step) = true
+is_whole_leaf (drawn.Skew lo size power) = true
+is_whole_leaf _ = false
+
+abbrev pub is_whole_kind : Kind → Bool
+is_whole_kind (kind.Key base scramble) = true
+is_whole_kind kind.Born = true
+is_whole_kind kind.Changed = true
+is_whole_kind (kind.Leaf leaf) = is_whole_leaf leaf
+is_whole_kind (kind.Ref table window spread on_delete) = true
+is_whole_kind _ = false
+
+-- a part pads a whole number to 1 to 64 bytes, or nothing
+abbrev pub is_padding : List Column → Part → Bool
+is_padding columns (part.Padded name width) =
+    is_between 1 64 width && is_whole_kind (kind_at columns (place_of_column columns name))
+is_padding columns _ = true
+
+-- the parts of a template do
+abbrev pub are_paddings : List Column → Kind → Bool
+are_paddings columns (kind.Template parts) = list_all (is_padding columns) parts
+are_paddings columns _ = true
 
 -- ---- what rules ask of references
 
@@ -424,6 +454,9 @@ holds ChangesAndNulls project (OfColumn table column) =
     && is_change (kind_at (columns_at project.schema table) column) (is_redrawn_at (columns_at project.schema table) column)
 -- V26: a date of units is from 0001-01-01 to 9999-12-31 at each unit, and its step is 0 to 3,660 days
 holds UnitDates project (OfColumn table column) = is_unit_date project.schema.units (kind_at (columns_at project.schema table) column)
+-- V29: a padded part of a template has a width of 1 to 64, and cites a column of whole numbers
+holds PaddedParts project (OfColumn table column) =
+    are_paddings (columns_at project.schema table) (kind_at (columns_at project.schema table) column)
 holds _ project site = true
 
 -- the number of a rule in messages, as 1 for V1
@@ -455,13 +488,15 @@ rule_number RowCost = 23
 rule_number LineSize = 24
 rule_number ChangesAndNulls = 25
 rule_number UnitDates = 26
+rule_number PaddedParts = 29
 
--- the rules in the order in which they are tried: V13, V1 to V12, V14 to V26. Of V13 the part that a
+-- the rules in the order in which they are tried: V13, V1 to V12, V14 to V26, V29. Of V13 the part that a
 -- schema alone tells is no rule beside the whole
 abbrev pub rules : List Rule
 rules = Dictionaries ∷ SeedAndUnits ∷ TableCount ∷ TableNames ∷ Columns ∷ KeyColumn ∷ RowCount
     ∷ LifeRange ∷ UpdatePeriod ∷ NumberRange ∷ DateRange ∷ PickEntries ∷ SkewRange ∷ LengthRange ∷ TemplateParts ∷ CaseBranches
-    ∷ StillCitations ∷ ReferenceTargets ∷ ReferenceWindows ∷ ParentRows ∷ SpreadWeights ∷ LookupColumns ∷ RowCost ∷ LineSize ∷ ChangesAndNulls ∷ UnitDates ∷ []
+    ∷ StillCitations ∷ ReferenceTargets ∷ ReferenceWindows ∷ ParentRows ∷ SpreadWeights ∷ LookupColumns ∷ RowCost ∷ LineSize ∷ ChangesAndNulls ∷ UnitDates
+    ∷ PaddedParts ∷ []
 
 -- ---- the first broken rule
 

@@ -5,11 +5,12 @@ ghost use Rattle.std.specs.Str.{chars};
 ghost use Rattle.schema_plan.specs.Capped.{capped, capped_bounds};
 ghost use Rattle.schema_plan.specs.Dictionaries.{Dictionary};
 ghost use Rattle.schema_plan.specs.Layout.{column_at, columns_of, kind_layout, leaf_layout, part_layout, place_of_column, table_at, table_layout, table_layouts};
-ghost use Rattle.schema_plan.specs.FieldBounds.{bounds, bounds_alone, bounds_at, bounds_in_table, bounds_of, bounds_of_part, bounds_of_parts, greatest_by, joined_size, leaf_size, written_size};
+ghost use Rattle.schema_plan.specs.FieldBounds.{at_least, bounds, bounds_alone, bounds_at, bounds_in_table, bounds_of, bounds_of_part, bounds_of_parts, greatest_by, joined_size, leaf_size, written_size};
 ghost use Rattle.schema_plan.specs.Lineage.{one_if};
 
 use crate::counts::count;
 use crate::places::{keys_of, parent_via, place_of_column, place_of_table};
+use crate::rules::MAX_WIDTH;
 use crate::word_lists::Dictionaries;
 use row_text::field_size;
 use schema_model::{Kind, Leaf, Part, Table, Text};
@@ -195,6 +196,16 @@ fn bounds_alone_at(
     }
 }
 
+/// Returns the bounds of a field that takes at least this many bytes.
+fn at_least(size: u64, field: FieldBounds) -> FieldBounds
+    ensures { result ≡ at_least size field }
+{
+    FieldBounds {
+        size: field.size.max(size),
+        permutations: field.permutations,
+    }
+}
+
 /// Returns the bounds of a part of a template.
 fn bounds_of_part(
     delimiter: u8,
@@ -214,6 +225,11 @@ fn bounds_of_part(
         Part::Cited(name) => {
             let column = place_of_column(table.columns.as_slice(), name);
             bounds_alone_at(delimiter, dictionaries, tables, table, column)
+        }
+        Part::Padded { column, width } => {
+            let column = place_of_column(table.columns.as_slice(), column);
+            let cited = bounds_alone_at(delimiter, dictionaries, tables, table, column);
+            at_least(count(*width).min(count(MAX_WIDTH)), cited)
         }
     }
 }

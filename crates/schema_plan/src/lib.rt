@@ -39,6 +39,6 @@ pub use ready::{
     ReadyUnitDate,
 };
 pub use ready_words::ReadyWords;
-pub use rules::{MAX_ITEMS, Rule};
+pub use rules::{MAX_ITEMS, MAX_WIDTH, Rule};
 pub use site::Site;
 pub use word_lists::Dictionaries;

@@ -74,7 +74,7 @@ fn null_cost_of_part(
 {
     match part {
         Part::Literal(_) => 0,
-        Part::Cited(name) => {
+        Part::Cited(name) | Part::Padded { column: name, .. } => {
             null_cost_at(tables, earlier, columns, place_of_column(columns, name))
         }
     }

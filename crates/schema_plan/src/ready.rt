@@ -146,14 +146,17 @@ pub struct ReadyUnitDate {
 pub enum ReadyPart {
     /// A text, as it is written.
     Literal(Sequence<u8>),
-    /// The field of the column at a place.
-    Cited(u64),
+    /// The field of the column at a place, filled with zeros up to `width` bytes. With a width of 0 it stands as it is.
+    Cited { column: u64, width: u64 },
 }
 
 impl Drop for ReadyPart {
     fn drop(self) {
         match self {
-            ReadyPart::Cited(_) => {}
+            ReadyPart::Cited {
+                column: _,
+                width: _,
+            } => {}
             ReadyPart::Literal(it) => drop(it),
         }
     }

@@ -2,14 +2,16 @@
 
 ghost use Rattle.std.specs.Prelude.{◌≡◌, IfOk, map};
 ghost use Rattle.row_text.specs.Fields.{escaped_text};
-ghost use Rattle.schema_plan.specs.Layout.{part_layout};
+ghost use Rattle.schema_plan.specs.declared.ready.ReadyPart.TheVariants.{Cited};
+ghost use Rattle.schema_plan.specs.Layout.{part_layout, place_of_column};
 ghost use Rattle.schema_plan.specs.Ready.{ready_part};
 
+use crate::counts::count;
 use crate::places::place_of_column;
 use crate::ready::ReadyPart;
 use out_of_memory::Memory;
 use row_text::WrittenTexts;
-use schema_model::{Column, Part, Sequence};
+use schema_model::{Column, Part, Sequence, Text};
 use std::alloc::Global;
 
 /// Makes ready the parts of a template, in order. The columns are those of its table.
@@ -42,7 +44,18 @@ fn ready_part(
             delimiter,
             text.as_str().as_bytes(),
         )?)),
-        Part::Cited(name) => Ok(ReadyPart::Cited(place_of_column(columns, name) as u64)),
+        Part::Cited(name) => Ok(cited_part(columns, name, 0)),
+        Part::Padded { column, width } => Ok(cited_part(columns, column, count(*width))),
+    }
+}
+
+/// Makes ready a part that cites the column of a name, filled up to a number of bytes.
+fn cited_part(columns: &[Column], name: &Text, width: u64) -> ReadyPart
+    ensures { result ≡ Cited (place_of_column columns.now name.now) width }
+{
+    ReadyPart::Cited {
+        column: place_of_column(columns, name) as u64,
+        width,
     }
 }
 

@@ -6,6 +6,9 @@ ghost use Rattle.schema_plan.specs.Rules.{rule_number};
 /// The most tables of a schema, and the most columns of a table.
 pub const MAX_ITEMS: usize = 64;
 
+/// The most bytes to which a part of a template is padded.
+pub const MAX_WIDTH: i64 = 64;
+
 /// A rule of a schema, with its number in messages.
 #[derive(Clone, Copy, Debug, PartialEq, Eq)]
 pub enum Rule {
@@ -63,6 +66,8 @@ pub enum Rule {
     ChangesAndNulls,
     /// V26
     UnitDates,
+    /// V29
+    PaddedParts,
 }
 
 impl Rule {
@@ -97,6 +102,7 @@ impl Rule {
             Rule::LineSize => 24,
             Rule::ChangesAndNulls => 25,
             Rule::UnitDates => 26,
+            Rule::PaddedParts => 29,
         }
     }
 }

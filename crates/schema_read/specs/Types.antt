@@ -10,7 +10,7 @@ use Rattle.schema_model.specs.declared.table.Phase.{Phase}
 use Rattle.schema_model.specs.declared.column.OnDelete.{OnDelete}
 use Rattle.schema_model.specs.declared.column.OnDelete.TheVariants.{Cascade, Null}
 use Rattle.schema_model.specs.declared.column.Part.{Part}
-use Rattle.schema_model.specs.declared.column.Part.TheVariants.{Literal, Cited}
+use Rattle.schema_model.specs.declared.column.Part.TheVariants.{Literal, Cited, Padded}
 use Rattle.schema_model.specs.declared.column.Window.{Window}
 use Rattle.schema_model.specs.declared.column.Window.TheVariants.{Units, All}
 use Rattle.schema_read.specs.declared.fault.Expected.{Expected}
@@ -20,7 +20,7 @@ use Rattle.schema_read.specs.declared.kind_name.LeafName.{LeafName}
 use Rattle.schema_read.specs.Dates.{day_named}
 use Rattle.schema_read.specs.Document.{elements, member_names, same_bytes}
 use Rattle.schema_read.specs.Keys.{key_name, is_among}
-use Rattle.schema_read.specs.declared.schema_key.SchemaKey.TheVariants.{Column}
+use Rattle.schema_read.specs.declared.schema_key.SchemaKey.TheVariants.{Column, Width}
 use Rattle.schema_read.specs.Kinds.{kind_named, leaf_named}
 
 -- the items, each read, where each can be
@@ -74,8 +74,19 @@ as_day d = option_and_then day_named (as_str d)
 abbrev pub cited : Members → Option (List ℕ)
 cited ms = if list_all (is_among (Column ∷ [])) (member_names ms) then option_and_then as_str (get_member (key_name Column) ms) else None
 
+-- the column that a table with the two keys `column` and `width` cites, and the width
+abbrev pub padded : Members → Option (List ℕ × ℤ)
+padded ms =
+    if list_all (is_among (Column ∷ Width ∷ [])) (member_names ms)
+    then option_and_then (λ name. option_map (λ width. (name, width)) (option_and_then as_integer (get_member (key_name Width) ms)))
+    (option_and_then as_str (get_member (key_name Column) ms))
+    else None
+
+abbrev pub part_of_table : Members → Option Part
+part_of_table ms = option_or (option_map Cited (cited ms)) (option_map (λ at. Padded at.0 at.1) (padded ms))
+
 abbrev pub as_part : Data → Option Part
-as_part d = option_or (option_map Literal (as_str d)) (option_map Cited (option_and_then cited (as_table d)))
+as_part d = option_or (option_map Literal (as_str d)) (option_and_then part_of_table (as_table d))
 
 abbrev pub window_named : List ℕ → Option Window
 window_named name = if same_bytes name (codes "all") then Some All else None

@@ -3,15 +3,15 @@
 ghost use Rattle.std.specs.Prelude.{◌≡◌, is_some};
 ghost use Rattle.std.specs.List.{list_all};
 ghost use Rattle.toml.specs.Data.{as_integer, as_str};
-ghost use Rattle.toml.specs.View.{view};
-ghost use Rattle.schema_read.specs.Types.{as_list_of, as_part, as_phase, fits};
+ghost use Rattle.toml.specs.View.{view, table_view};
+ghost use Rattle.schema_read.specs.Types.{as_list_of, as_part, as_phase, fits, part_of_table};
 
 use crate::fault::Expected;
 use crate::types::{
     array_elements, cited_name, day_of, deletion_of, delimiter_of, kind_of, leaf_kind_of,
-    life_of_value, phase_of_value, table_elements, window_of,
+    life_of_value, padded_column, phase_of_value, table_elements, window_of,
 };
-use toml::Value;
+use toml::{Table, Value};
 
 fn are_texts(items: &[Value]) -> bool
     ensures { result ≡ list_all (λ v. is_some (as_str (view v))) items.now }
@@ -61,13 +61,23 @@ fn is_phase_list(value: &Value) -> bool
     }
 }
 
+/// Whether a table is a part of a template, which cites a column as it stands or padded.
+fn is_citation(members: &Table) -> bool
+    ensures { result ≡ is_some (part_of_table (table_view members.now)) }
+{
+    match cited_name(members) {
+        Some(_) => true,
+        None => padded_column(members).is_some(),
+    }
+}
+
 fn is_part(value: &Value) -> bool
     ensures { result ≡ is_some (as_part (view value.now)) }
 {
     match value.as_str() {
         Some(_) => true,
         None => match value.as_table() {
-            Some(members) => cited_name(members).is_some(),
+            Some(members) => is_citation(members),
             None => false,
         },
     }

@@ -3,12 +3,12 @@
 ghost use Rattle.std.specs.Prelude.{◌≡◌, [], map, Option, IfOk};
 ghost use Rattle.toml.specs.Data.{Data, as_integer, as_str};
 ghost use Rattle.toml.specs.View.{view, table_view};
-ghost use Rattle.schema_read.specs.Types.{all_read, as_list_of, as_part, as_phase, one_phase, as_phases};
+ghost use Rattle.schema_read.specs.Types.{all_read, as_list_of, as_part, as_phase, one_phase, as_phases, part_of_table};
 ghost use Rattle.schema_read.specs.Values.{value_under, value_or};
 
 use crate::members::member;
 use crate::schema_key::SchemaKey;
-use crate::types::{array_elements, cited_name, phase_of_value};
+use crate::types::{array_elements, cited_name, padded_column, phase_of_value};
 use out_of_memory::Memory;
 use schema_model::{Part, Phase, Phases, Sequence, Text};
 use std::alloc::Global;
@@ -59,13 +59,26 @@ impl Element for Part {
         match value.as_str() {
             Some(text) => Ok(Some(Part::Literal(Text::of(alloc, text)?))),
             None => match value.as_table() {
-                Some(members) => match cited_name(members) {
-                    Some(name) => Ok(Some(Part::Cited(Text::of(alloc, name)?))),
-                    None => Ok(None),
-                },
+                Some(members) => part_of_table(alloc, members),
                 None => Ok(None),
             },
         }
+    }
+}
+
+/// Reads a part that cites a column from a table, or returns None if the table isn't one.
+fn part_of_table(alloc: Global, members: &Table) -> Result<Option<Part>, Memory>
+    ensures { IfOk result (λ found. found ≡ part_of_table (table_view members.now)) }
+{
+    match cited_name(members) {
+        Some(name) => Ok(Some(Part::Cited(Text::of(alloc, name)?))),
+        None => match padded_column(members) {
+            Some((column, width)) => {
+                let column = Text::of(alloc, column)?;
+                Ok(Some(Part::Padded { column, width }))
+            }
+            None => Ok(None),
+        },
     }
 }
 

@@ -72,6 +72,8 @@ pub enum SchemaKey {
     Via,
     /// `start`
     Start,
+    /// `width`
+    Width,
     /// A key that has no place where it stands.
     Other,
 }
@@ -115,6 +117,7 @@ impl SchemaKey {
             SchemaKey::OnDelete => "on_delete",
             SchemaKey::Via => "via",
             SchemaKey::Start => "start",
+            SchemaKey::Width => "width",
             SchemaKey::Other => "",
         }
     }

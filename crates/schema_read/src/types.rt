@@ -6,13 +6,13 @@ ghost use Rattle.std.specs.Option.{option_copied};
 ghost use Rattle.toml.specs.Data.{Data, as_array, as_integer, as_str, as_table};
 ghost use Rattle.toml.specs.View.{view, table_view};
 ghost use Rattle.schema_read.specs.Document.{elements, members_of_values};
-ghost use Rattle.schema_read.specs.Types.{as_list_of, delimiter_named, as_delimiter, pair_of, as_pair, as_life, as_phase, as_kind, as_leaf, as_day, cited, window_named, as_window, deletion_named, as_deletion};
+ghost use Rattle.schema_read.specs.Types.{as_list_of, delimiter_named, as_delimiter, pair_of, as_pair, as_life, as_phase, as_kind, as_leaf, as_day, cited, padded, window_named, as_window, deletion_named, as_deletion};
 
 use crate::date::day_of_text;
 use crate::kind_name::{KindName, LeafName, kind_of_name, leaf_of_name};
 use crate::members::{has_only, member};
 use crate::schema_key::SchemaKey;
-use crate::wanted::PART_KEYS;
+use crate::wanted::{PADDED_KEYS, PART_KEYS};
 use schema_model::{Delimiter, Life, OnDelete, Phase, Window};
 use toml::{Table, Value};
 
@@ -114,6 +114,20 @@ pub fn cited_name(members: &Table) -> Option<&str>
 {
     if has_only(members, &PART_KEYS, &[]) {
         member(members, SchemaKey::Column)?.as_str()
+    } else {
+        None
+    }
+}
+
+/// Returns the column that a table cites and the width to which it is padded, if `column`, a text, and `width`, a whole number, are its
+/// only keys. Returns None otherwise.
+pub fn padded_column(members: &Table) -> Option<(&str, i64)>
+    ensures { option_map (λ at. (at.0.now, at.1)) result ≡ padded (table_view members.now) }
+{
+    if has_only(members, &PART_KEYS, &PADDED_KEYS) {
+        let column = member(members, SchemaKey::Column)?.as_str()?;
+        let width = member(members, SchemaKey::Width)?.as_integer()?;
+        Some((column, width))
     } else {
         None
     }

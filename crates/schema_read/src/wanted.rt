@@ -77,6 +77,9 @@ pub const COLUMN_KEYS: [Wanted; 4] = [
 /// The keys of a part of a template that cites a column.
 pub const PART_KEYS: [Wanted; 1] = [Wanted::Required(SchemaKey::Column, Expected::TextValue)];
 
+/// The further key of a part that pads what it cites.
+pub const PADDED_KEYS: [Wanted; 1] = [Wanted::Required(SchemaKey::Width, Expected::Whole)];
+
 /// The keys of a branch of any kind.
 pub const BRANCH_KEYS: [Wanted; 1] = [Wanted::Required(SchemaKey::Kind, Expected::LeafName)];
 

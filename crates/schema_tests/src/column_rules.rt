@@ -113,6 +113,10 @@ fn columns_that_change(rt: HostRuntime) {
 const DRAWN: &str =
     "seed=1\nunits=2\ntable=[{name='t',rows=1,insert=1,column=[{name='id',kind='key',base=1},{name='born',kind='born'}]},{name='u',rows=1,insert=1,column=[{name='id',kind='key',base=1},{name='born',kind='born'},{name='drawn',kind=";
 
+/// The same two tables, with the name `c` for the third column.
+const DRAWN_NAMED: &str =
+    "seed=1\nunits=2\ntable=[{name='t',rows=1,insert=1,column=[{name='id',kind='key',base=1},{name='born',kind='born'}]},{name='u',rows=1,insert=1,column=[{name='id',kind='key',base=1},{name='born',kind='born'},{name='c',kind=";
+
 const RANGES: [(&str, bool); 19] = [
     ("'int',lo=5,hi=5,step=1", true),
     ("'int',lo=5,hi=4,step=1", false),
@@ -225,6 +229,83 @@ fn dates_of_units(rt: HostRuntime) {
     let alloc = rt.alloc();
     try_rule(&rt, alloc, (26, 2, 3), DRAWN, &UNIT_DATES, "}]}]");
     try_unit_days(&rt, alloc, &UNIT_DAYS);
+}
+
+/// Third columns of the second table, which may be cited, and parts of a fourth one that cites them. Whole numbers can be padded, up to 64
+/// bytes.
+const PADDED: [(&str, &str, Told); 17] = [
+    ("'int',lo=-5,hi=5", "[{column='c',width=1}]", None),
+    ("'int',lo=-5,hi=5", "[{column='c',width=64}]", None),
+    (
+        "'int',lo=-5,hi=5",
+        "[{column='c',width=0}]",
+        Some((29, 2, 4)),
+    ),
+    (
+        "'int',lo=-5,hi=5",
+        "[{column='c',width=-1}]",
+        Some((29, 2, 4)),
+    ),
+    (
+        "'int',lo=-5,hi=5",
+        "[{column='c',width=65}]",
+        Some((29, 2, 4)),
+    ),
+    (
+        "'int',lo=-5,hi=5",
+        "[{column='c',width=-9223372036854775808}]",
+        Some((29, 2, 4)),
+    ),
+    (
+        "'int',lo=-5,hi=5",
+        "['no. ',{column='c',width=2},{column='c',width=9223372036854775807}]",
+        Some((29, 2, 4)),
+    ),
+    ("'skew',lo=1,size=2,power=1", "[{column='c',width=3}]", None),
+    ("'ref',table='t',window=0", "[{column='c',width=3}]", None),
+    (
+        "'born'",
+        "[{column='id',width=3},{column='c',width=3}]",
+        None,
+    ),
+    ("'changed'", "[{column='born',width=3}]", None),
+    // Only whole numbers are padded.
+    (
+        "'fixed',lo=1,hi=2,decimals=1",
+        "[{column='c'},{column='c',width=3}]",
+        Some((29, 2, 4)),
+    ),
+    (
+        "'date',lo='2024-01-01',hi='2024-01-02'",
+        "[{column='c',width=12}]",
+        Some((29, 2, 4)),
+    ),
+    (
+        "'pick',entries=['1']",
+        "[{column='c',width=3}]",
+        Some((29, 2, 4)),
+    ),
+    // Earlier rules come first.
+    ("'born'", "[{column='none',width=65}]", Some((15, 2, 4))),
+    ("'born'", "[{column='later',width=65}]", Some((15, 2, 4))),
+    ("'changed'", "[{column='c',width=65}]", Some((17, 2, 4))),
+];
+
+fn try_padded(rt: &impl Abort, alloc: Global, cases: &[(&str, &str, Told)]) {
+    for (kind, parts, told) in cases {
+        let template = "},{name='later',kind='template',parts=";
+        try_text(
+            rt,
+            alloc,
+            &[DRAWN_NAMED, kind, template, parts, "}]}]"],
+            *told,
+        );
+    }
+}
+
+#[test]
+fn padded_parts(rt: HostRuntime) {
+    try_padded(&rt, rt.alloc(), &PADDED);
 }
 
 /// Makes the table `u`, with a row born at each unit.

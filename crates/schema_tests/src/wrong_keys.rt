@@ -242,10 +242,16 @@ const NO_WINDOWS: [&str; 4] = [
     "Window WindowValue: [1]",
 ];
 
-const NO_PARTS: [&str; 4] = [
+const NO_PARTS: [&str; 10] = [
     "Parts PartList: [1]",
     "Parts PartList: [{}]",
     "Parts PartList: [{column=1}]",
+    "Parts PartList: [{width=9}]",
+    "Parts PartList: [{column=1,width=9}]",
+    "Parts PartList: [{column='a',width='9'}]",
+    "Parts PartList: [{column='a',width=9.0}]",
+    "Parts PartList: [{column='a',width=9,x=1}]",
+    "Parts PartList: [{column='a',size=9}]",
     "Parts PartList: 'a'",
 ];
 

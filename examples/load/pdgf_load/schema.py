@@ -168,7 +168,7 @@ def read_column(column, table, before, earlier):
 
 
 def size_of_part(part, named):
-    return len(part.encode()) if isinstance(part, str) else named[part["column"]].type.size
+    return len(part.encode()) if isinstance(part, str) else max(named[part["column"]].type.size, part.get("width", 0))
 
 
 def type_of(leaf):

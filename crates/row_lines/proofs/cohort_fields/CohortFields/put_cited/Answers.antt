@@ -6,7 +6,7 @@ use Rattle.schema_plan.specs.declared.ready.ReadyReference.{ReadyReference}
 use Rattle.schema_plan.specs.Ready.{ready_column}
 use Rattle.life_intervals.specs.CohortParents.{IsReferenceOf, reference_by}
 use Rattle.draw_values.specs.CohortValues.{ValuesOf, table_for as layout_of_values, value_size_for, value_for}
-use Rattle.draw_values.specs.Values.{is_own, written}
+use Rattle.draw_values.specs.Values.{is_own, put_of, written}
 use Rattle.row_lines.specs.CohortLines.{AreFieldsOf, LinesOf, key_for, layout_for, ordinal_of, reference_value}
 use Rattle.row_lines.specs.Parts.{cited_for, cited_size, cited_text}
 use Rattle.row_lines.proofs.CohortFieldLemmas.{AreFieldsOf-view, asked-key, held-key, key_from_ready, key_never_null, ready_at}
@@ -190,3 +190,29 @@ returns-in-Key-clause-steps g c =
     let at = (goal.at.returns-in-Key-clause-steps g c).After-index-columns-column in
     let held = ap (λ (column : ReadyColumn). column.kind) c.index-columns-column.is ∙ c.in-Key.is in
     omega (arith, c.key.ensures.steps, asked-key (is_some c.args.key) c.args.self.now c.args.column (is_key g at held))
+
+-- whether it is null
+pub returns-in-Key-clause-put : goal.returns-in-Key-clause-put
+returns-in-Key-clause-put g c =
+    let here = (goal.at.returns-in-Key-clause-put g c).After-index-columns-column in
+    let lines : LinesOf = c.args.self.now in
+    let is = is_key g here (ap (λ (column : ReadyColumn). column.kind) c.index-columns-column.is ∙ c.in-Key.is) in
+    let never = key_never_null (layout_for lines).columns c.args.column (known g here).limits.key_never_null (known g here).limits.no_other_key c.requires.column.within is in
+    sym (ap put_of (cited_for-held lines c.args.index c.args.values.now.changed c.args.column c.requires.column
+    ∙ held-key lines c.args.column c.args.index c.args.values.now.changed c.key.result is never (known g here).born c.requires.row c.key.ensures.key))
+
+pub returns-in-Reference-clause-put : goal.returns-in-Reference-clause-put
+returns-in-Reference-clause-put g c =
+    let at = (goal.at.returns-in-Reference-clause-put g c).After-index-columns-column in
+    let lines : LinesOf = c.args.self.now in
+    let is_known = known g at in
+    let is = here g at c.in-Reference.reference (ap (λ (column : ReadyColumn). column.kind) c.index-columns-column.is ∙ c.in-Reference.is) in
+    c.put_parent.ensures.put
+    ∙ sym (ap put_of (cited_for-held lines c.args.index c.args.values.now.changed c.args.column c.requires.column
+    ∙ held-reference lines is_known.sound is_known.limits is_known.table is_known.born is_known.unit c.args.column c.args.index c.args.values.now.changed c.in-Reference.reference is c.requires.row))
+
+pub returns-in_default-clause-put : goal.returns-in_default-clause-put
+returns-in_default-clause-put g c =
+    c.put.ensures.put
+    ∙ sym (ap put_of (held_is g (goal.at.returns-in_default-clause-put g c).After-index-columns-column c.ordinal.result c.ordinal.ensures.ordinal
+    (λ key. c.in_default.not-Key (ap (λ (column : ReadyColumn). column.kind) (sym c.index-columns-column.is) ∙ key)) (λ reference held. c.in_default.not-Reference reference (ap (λ (column : ReadyColumn). column.kind) (sym c.index-columns-column.is) ∙ held))))

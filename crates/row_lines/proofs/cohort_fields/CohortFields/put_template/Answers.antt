@@ -8,7 +8,7 @@ use Rattle.row_lines.proofs.cohort_fields.CohortFields.put_template.Goals.{After
 pub put_parts-requires-clause-parts : goal.put_parts-requires-clause-parts
 put_parts-requires-clause-parts g c =
     parts_citable c.args.self.now c.args.column c.args.parts.now (template_of c.args.self.now c.args.column c.args.parts.now c.requires.template) c.requires.column
-    (c.ordinal.ensures.limits.kinds c.args.column c.requires.column)
+    (c.ordinal.ensures.limits.kinds c.args.column c.requires.column) (c.ordinal.ensures.limits.filled c.args.column c.requires.column)
 
 pub put_parts-requires-clause-room : goal.put_parts-requires-clause-room
 put_parts-requires-clause-room g c =
@@ -23,7 +23,7 @@ text_is : (g : _) (c : After-is_null g) → (null : Bool) → c.is_null.result �
     text_in_table c.args.self.now c.args.index c.args.values.now.changed c.args.column ≡ (if null then codes "\\N" else flat_map (written_part c.args.self.now c.args.index c.args.values.now.changed) c.args.parts.now)
 text_is g c null is =
     text-template c.args.self.now c.args.values.now c.args.column c.args.index c.args.values.now.changed c.ordinal.result c.args.parts.now null
-    (template_of c.args.self.now c.args.column c.args.parts.now c.requires.template)
+    (template_of c.args.self.now c.args.column c.args.parts.now c.requires.template) (c.ordinal.ensures.limits.filled c.args.column c.requires.column)
     c.requires.values c.ordinal.ensures.ordinal c.ordinal.ensures.early c.requires.row (sym c.is_null.ensures ∙ is)
 
 pub returns-then-is_null-clause-text : goal.returns-then-is_null-clause-text
