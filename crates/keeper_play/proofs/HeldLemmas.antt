@@ -28,9 +28,9 @@ use Rattle.life_intervals.proofs.SoundLemmas.{change_unit-last}
 use Rattle.row_lines.specs.Lines.{field_texts, line}
 use Rattle.row_lines.proofs.LineLemmas.{key_of-by}
 use Rattle.row_lines.proofs.RestedLineLemmas.{field_texts-next}
-use Rattle.keeper_play.specs.Kept.{KeptRow}
+use Rattle.row_keeper.specs.Kept.{KeptRow}
 use Rattle.keeper_play.specs.Statements.{kept_row, refs_of, reference_to}
-use Rattle.keeper_play.specs.declared.keeper.RefTo.{RefTo}
+use Rattle.row_keeper.specs.declared.keeper.RefTo.{RefTo}
 use Rattle.keeper_play.proofs.RefLemmas.{ref_at, refs_of-row_at}
 
 -- what is found of each item

@@ -1,4 +1,3 @@
-pub mod MapLemmas
 pub mod StoreLemmas
 pub mod RefLemmas
 pub mod UnitLemmas

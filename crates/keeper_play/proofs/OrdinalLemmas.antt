@@ -10,8 +10,8 @@ use Rattle.life_intervals.specs.Generator.{generator_of, last_unit, rows_in_all}
 use Rattle.life_intervals.specs.Keys.{key_of}
 use Rattle.life_intervals.proofs.KeyLemmas.{OrdersCohorts-generator_of, key_of-one_to_one}
 use Rattle.row_lines.specs.Reports.{row_with_key}
-use Rattle.keeper_play.specs.Kept.{KeptRow, KeptRows, NoneDangles, is_row, with_row}
-use Rattle.keeper_play.specs.declared.keeper.RefTo.{RefTo}
+use Rattle.row_keeper.specs.Kept.{KeptRow, KeptRows, NoneDangles, is_row, with_row}
+use Rattle.row_keeper.specs.declared.keeper.RefTo.{RefTo}
 
 -- ---- the first number of a range that passes a test
 

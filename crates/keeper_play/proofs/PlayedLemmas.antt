@@ -24,10 +24,10 @@ use Rattle.life_intervals.proofs.LifeLemmas.{death-later}
 use Rattle.life_intervals.proofs.Ranges.{filter-range_with_len_all, flat_map-range_with_len_more, range_with_len-add}
 use Rattle.life_intervals.proofs.SimulationLemmas.{rows_at-rows_of}
 use Rattle.row_lines.specs.Reports.{row_with_key}
-use Rattle.keeper_play.specs.Kept.{KeptRow, KeptRows, NoneDangles, Statement, after_statements, drop_row, no_rows, put_row, with_row}
+use Rattle.row_keeper.specs.Kept.{KeptRow, KeptRows, NoneDangles, Statement, after_statements, drop_row, no_rows, put_row, with_row}
 use Rattle.keeper_play.specs.Played.{put_at}
 use Rattle.keeper_play.specs.Statements.{deletions, insertions, kept_row, places, refs_of, row_key, rows_after, rows_of_unit, statements_to, unit_statements, updates}
-use Rattle.keeper_play.specs.declared.keeper.RefTo.{RefTo}
+use Rattle.row_keeper.specs.declared.keeper.RefTo.{RefTo}
 use Rattle.keeper_play.proofs.RefLemmas.{row_key-at}
 use Rattle.keeper_play.proofs.UnitLemmas.{changing-alive, changing-born, changing-early, deletions-at, dying-at, dying-born, insertions-at, map-each, newborn-alive, unit_statements-first, unit_statements-parts, updates-at}
 use Rattle.keeper_play.proofs.OrdinalLemmas.{AreThere, IsThere, by_keys, find-only, key-only, row_with_key-at, row_with_key-has}

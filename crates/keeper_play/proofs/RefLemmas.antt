@@ -24,7 +24,7 @@ use Rattle.life_intervals.proofs.FoundLemmas.{found-birth, found-by, found-held}
 use Rattle.life_intervals.proofs.ReferenceLemmas.{references_before, references_before-none, references_before-some}
 use Rattle.row_lines.proofs.LineLemmas.{key_of-by}
 use Rattle.keeper_play.specs.Statements.{reference_to, refs_of, row_key}
-use Rattle.keeper_play.specs.declared.keeper.RefTo.{RefTo}
+use Rattle.row_keeper.specs.declared.keeper.RefTo.{RefTo}
 
 -- ---- a row's references by its ordinal
 

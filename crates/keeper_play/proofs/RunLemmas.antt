@@ -8,8 +8,8 @@ use Rattle.std.proofs.Math.Seq.{take-append-add}
 use Rattle.schema_plan.specs.Dictionaries.{Project}
 use Rattle.life_intervals.specs.Generator.{generator_of, last_unit, rows_in_all}
 use Rattle.life_intervals.specs.Keys.{key_of}
-use Rattle.keeper_play.specs.Kept.{KeptRow, KeptRows, NoneDangles, Statement, after_statement, after_statements, put_row, drop_row, is_row, with_row}
-use Rattle.keeper_play.specs.declared.keeper.RefTo.{RefTo}
+use Rattle.row_keeper.specs.Kept.{KeptRow, KeptRows, NoneDangles, Statement, after_statement, after_statements, put_row, drop_row, is_row, with_row}
+use Rattle.row_keeper.specs.declared.keeper.RefTo.{RefTo}
 use Rattle.keeper_play.proofs.OrdinalLemmas.{AreThere, IsThere, by_keys, by_keys-with, none_dangles}
 
 take-none : {X : Type 0} (n : ℕ) → take {A = X} n [] ≡ []

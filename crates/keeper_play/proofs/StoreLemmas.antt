@@ -7,8 +7,8 @@ use Rattle.std.proofs.lemmas.List.{append-nil, append_assoc, length-append, map-
 use Rattle.std.proofs.lemmas.List.Sums.{fold-append}
 use Rattle.std.proofs.Math.Seq.{drop-cons, take-append-add}
 use Rattle.life_intervals.proofs.Ranges.{range_with_len-add}
-use Rattle.keeper_play.specs.Kept.{KeptRows, Statement, after_statement, after_statements, no_rows}
-use Rattle.keeper_play.specs.Store.{StoppedIn, Store, perform, perform_all}
+use Rattle.row_keeper.specs.Kept.{KeptRows, Statement, after_statement, after_statements, no_rows}
+use Rattle.row_keeper.specs.Store.{StoppedIn, Store, perform, perform_all}
 
 same_rows : (rows : Option KeptRows) → rows ≡ option_map (after_statements []) rows
 same_rows None = refl

@@ -31,7 +31,7 @@ use Rattle.life_intervals.proofs.ParentLemmas.{parents-alive_now}
 use Rattle.life_intervals.proofs.RowLemmas.{death_by-first_ordinal}
 use Rattle.life_intervals.proofs.SimulationLemmas.{rows_at-rows_of}
 use Rattle.life_intervals.proofs.StreamLemmas.{deleted-dying, inserted-newborn, updated-changing}
-use Rattle.keeper_play.specs.Kept.{Statement, drop_row}
+use Rattle.row_keeper.specs.Kept.{Statement, drop_row}
 use Rattle.keeper_play.specs.Played.{changes_of, drop_at, put_at}
 use Rattle.keeper_play.specs.Statements.{deletions, drop_of, insertions, places, put_of, unit_statements, updates}
 use Rattle.keeper_play.proofs.RefLemmas.{row_key-at}

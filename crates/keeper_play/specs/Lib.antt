@@ -1,5 +1,2 @@
-pub mod Kept
-pub mod Store
 pub mod Statements
 pub mod Played
-pub mod MapKeeper

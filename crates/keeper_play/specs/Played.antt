@@ -8,7 +8,7 @@ use Rattle.life_intervals.specs.Intervals.{row_at}
 use Rattle.life_intervals.specs.Keys.{key_of}
 use Rattle.life_intervals.specs.Rows.{Row}
 use Rattle.life_intervals.specs.Streams.{deleted, updated}
-use Rattle.keeper_play.specs.Kept.{Statement, drop_row}
+use Rattle.row_keeper.specs.Kept.{Statement, drop_row}
 use Rattle.keeper_play.specs.Statements.{put_of}
 
 -- what a unit does to a table: the ordinals of the rows that it deletes and of those that it updates, and the cohort that it inserts

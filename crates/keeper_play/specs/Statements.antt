@@ -14,8 +14,8 @@ use Rattle.life_intervals.specs.Rows.{Row}
 use Rattle.life_intervals.specs.Simulation.{rows_at}
 use Rattle.life_intervals.specs.Streams.{deleted, inserted, updated}
 use Rattle.row_lines.specs.Lines.{line}
-use Rattle.keeper_play.specs.Kept.{KeptRow, KeptRows, Statement, put_row, drop_row, after_statements, no_rows}
-use Rattle.keeper_play.specs.declared.keeper.RefTo.{RefTo}
+use Rattle.row_keeper.specs.Kept.{KeptRow, KeptRows, Statement, put_row, drop_row, after_statements, no_rows}
+use Rattle.row_keeper.specs.declared.keeper.RefTo.{RefTo}
 
 -- ---- a row
 

@@ -4,7 +4,7 @@ ghost use Rattle.std.specs.Prelude.{◌≡◌, ◌≤◌, ℕ, length};
 ghost use Rattle.schema_plan.specs.Dictionaries.{Project};
 ghost use Rattle.schema_plan.specs.Limits.{IsInLimits};
 ghost use Rattle.life_intervals.specs.Generator.{generator_of, last_unit};
-ghost use Rattle.keeper_play.specs.Kept.{NoneDangles, no_rows, after_statements};
+ghost use Rattle.row_keeper.specs.Kept.{NoneDangles, no_rows, after_statements};
 ghost use Rattle.keeper_play.specs.Statements.{rows_after, rows_of_unit, statements_to};
 
 /// After each statement of the units up to a given one, each reference of each row leads to a row that is kept then.

@@ -13,12 +13,13 @@ ghost use Rattle.life_intervals.specs.Intervals.{is_live};
 ghost use Rattle.keeper_play.specs.Played.{TellsUnit, drop_at, put_at};
 ghost use Rattle.keeper_play.specs.Statements.{deletions, insertions, places, unit_statements, updates};
 ghost use Rattle.keeper_play.specs.declared.refs.TheConstants.{MOST_REFS};
-ghost use Rattle.keeper_play.specs.Store.{StoppedIn, perform_all};
+ghost use Rattle.row_keeper.specs.Store.{StoppedIn, perform_all};
 
+use crate::UnitSource;
 use crate::refs::{NO_REFS, find_refs};
-use crate::{KeepFailed, Keeper, RefTo, UnitSource};
 use life_intervals::{Cohort, FoundRow, Rows, find};
 use line_pages::PageBuf;
+use row_keeper::{KeepFailed, Keeper, RefTo};
 use row_lines::CohortLines;
 use schema_plan::Plan;
 use std::sync::ledger::Ledger;

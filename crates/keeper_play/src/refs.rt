@@ -8,8 +8,8 @@ ghost use Rattle.life_intervals.specs.Intervals.{row_at};
 ghost use Rattle.keeper_play.specs.Statements.{reference_to, refs_of};
 ghost use Rattle.keeper_play.specs.declared.refs.TheConstants.{MOST_REFS};
 
-use crate::RefTo;
 use life_intervals::{FoundRow, Rows};
+use row_keeper::RefTo;
 use schema_plan::{ReadyKind, ReadyReference};
 use std::sync::ledger::Ledger;
 use step_count::Steps;

@@ -9,10 +9,10 @@ use Rattle.schema_plan.specs.Dictionaries.{Project}
 use Rattle.schema_plan.specs.Limits.{IsInLimits}
 use Rattle.life_intervals.specs.Generator.{generator_of, last_unit, table_of}
 use Rattle.life_intervals.specs.Streams.{deleted, updated}
-use Rattle.keeper_play.specs.Kept.{KeptRows, Statement, after_statements, no_rows}
+use Rattle.row_keeper.specs.Kept.{KeptRows, Statement, after_statements, no_rows}
 use Rattle.keeper_play.specs.Played.{TellsUnit, changes_of}
 use Rattle.keeper_play.specs.Statements.{rows_after, statements_to}
-use Rattle.keeper_play.specs.Store.{StoppedIn, Store, finish_store, perform_all, start_store}
+use Rattle.row_keeper.specs.Store.{StoppedIn, Store, finish_store, perform_all, start_store}
 use Rattle.keeper_play.proofs.PlayedLemmas.{statements-give}
 use Rattle.keeper_play.proofs.StoreLemmas.{made-more, made-none}
 use Rattle.update_box.specs.TableLists.{no_lists, table_lists_at}

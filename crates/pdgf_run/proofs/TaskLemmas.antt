@@ -10,7 +10,7 @@ use Rattle.request_words.specs.declared.usage.Mode.{Mode}
 use Rattle.request_words.specs.declared.usage.Mode.TheVariants as mode
 use Rattle.request_words.specs.declared.usage.Request.{Request}
 use Rattle.request_words.specs.declared.usage.UsageFault.{UsageFault}
-use Rattle.keeper_play.specs.Store.{Store}
+use Rattle.row_keeper.specs.Store.{Store}
 use Rattle.pdgf_run.specs.Playing.{HasBrokenOff, HasPlayed, IsBrokenOff, IsTaskOf, is_play, is_playing, played_store, plays_for}
 use Rattle.pdgf_run.specs.declared.job.Task.{Task}
 use Rattle.pdgf_run.specs.declared.job.Task.TheVariants as task

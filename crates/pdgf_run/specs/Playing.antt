@@ -10,10 +10,10 @@ use Rattle.request_words.specs.declared.usage.UsageFault.{UsageFault}
 use Rattle.schema_plan.specs.Dictionaries.{Project}
 use Rattle.life_intervals.specs.Generator.{generator_of, last_unit}
 use Rattle.life_intervals.specs.JobOrders.{AreOrdersOf}
-use Rattle.keeper_play.specs.Kept.{KeptRows, Statement}
+use Rattle.row_keeper.specs.Kept.{KeptRows, Statement}
 use Rattle.keeper_play.specs.Played.{Changes}
 use Rattle.keeper_play.specs.Statements.{rows_after, rows_of_unit, statements_to}
-use Rattle.keeper_play.specs.Store.{Store, perform_all}
+use Rattle.row_keeper.specs.Store.{Store, perform_all}
 use Rattle.update_box.specs.UnitLists.{TableLists}
 use Rattle.pdgf_run.specs.DueFiles.{text_files}
 use Rattle.pdgf_run.specs.Jobs.{CanFill, due_of}

@@ -14,9 +14,9 @@ use crate::job::{Job, Task};
 use crate::play::{PlayFault, played};
 use crate::report::{done, keeper_failed, refused, write_failed};
 use crate::{JobFault, Refusal, Report};
-use keeper_play::Keeper;
 use pd_outside::{Gate, Shelf};
 use range_workers::RunFault;
+use row_keeper::Keeper;
 use std::alloc::Global;
 use std::thread::Threads;
 

@@ -3,7 +3,7 @@
 ghost use Rattle.std.specs.Prelude.{◌≡◌, ◌<◌, ◌≤◌, [], false, true, IfOk, IsErrOf, IsTrue, OnErr, OnOk};
 ghost use Rattle.pd_outside.specs.Faults.{FailedAtLast, Unfailed};
 ghost use Rattle.keeper_play.specs.Statements.{statements_to, unit_statements};
-ghost use Rattle.keeper_play.specs.Store.{perform_all};
+ghost use Rattle.row_keeper.specs.Store.{perform_all};
 ghost use Rattle.life_intervals.specs.Generator.{generator_of, last_unit};
 ghost use Rattle.schema_plan.specs.Layout.{layout_of};
 ghost use Rattle.schema_plan.specs.TableFacts.{reach};
@@ -13,10 +13,11 @@ ghost use Rattle.pdgf_run.specs.declared.play.PlayFault.TheVariants as fault;
 
 use crate::job::{Job, PlayJob, Task};
 use crate::unit_sources::{Births, Changed};
-use keeper_play::{KeepFailed, Keeper, play_rows};
+use keeper_play::play_rows;
 use life_intervals::Rows;
 use line_pages::PageBuf;
 use out_of_memory::Memory;
+use row_keeper::{KeepFailed, Keeper};
 use std::alloc::Global;
 use std::marker::Brand;
 use std::sync::ledger::{Blank, Ledger};

@@ -23,8 +23,8 @@ use crate::carry_out::carry_out;
 use crate::decide::decide;
 use crate::report::refused;
 use crate::{Refusal, Report};
-use keeper_play::Keeper;
 use pd_outside::{Gate, Library, Shelf};
+use row_keeper::Keeper;
 use std::alloc::Global;
 use std::thread::Threads;
 

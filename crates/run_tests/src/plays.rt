@@ -1,13 +1,13 @@
 //! Mode play over files and a store in memory: what the store holds after a play, and what a failed statement leaves in it.
 
 ghost use Rattle.std.specs.Prelude.{◌≡◌, false};
-ghost use Rattle.keeper_play.specs.MapKeeper.{keeping_of};
+ghost use Rattle.row_keeper.specs.MapKeeper.{keeping_of};
 
 use crate::run::{library_of, words_of};
 use crate::schemas::TRADE;
-use keeper_play::{KeeperFails, MapKeeper, RefTo};
 use pd_outside::{MemShelf, OpenGate, ShelfFail, ShelfFails};
 use pdgf_run::{Report, pdgf};
+use row_keeper::{KeeperFails, MapKeeper, RefTo};
 use std::alloc::Global;
 use std::process::Abort;
 use std::thread::Threads;

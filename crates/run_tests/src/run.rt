@@ -1,12 +1,12 @@
 //! A run of the program over files in memory: what it is given and what it must come to.
 
 ghost use Rattle.std.specs.Prelude.{◌≡◌, false};
-ghost use Rattle.keeper_play.specs.MapKeeper.{keeping_of};
+ghost use Rattle.row_keeper.specs.MapKeeper.{keeping_of};
 
 use crate::schemas::ONE;
-use keeper_play::{KeeperFails, MapKeeper};
 use pd_outside::{Files, LibraryFails, MemLibrary, MemShelf, OpenGate, ShelfFail, ShelfFails};
 use pdgf_run::{Report, pdgf};
+use row_keeper::{KeeperFails, MapKeeper};
 use std::alloc::Global;
 use std::process::Abort;
 use std::thread::Threads;

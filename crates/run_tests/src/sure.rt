@@ -2,17 +2,17 @@
 
 ghost use Rattle.std.specs.Prelude.{◌≡◌, ◌⊎◌, List, Ok, map, string_bytes, false};
 ghost use Rattle.pd_outside.specs.Files.{File};
-ghost use Rattle.keeper_play.specs.MapKeeper.{keeping_of};
+ghost use Rattle.row_keeper.specs.MapKeeper.{keeping_of};
 ghost use Rattle.pdgf_run.specs.Playing.{plays_for};
 ghost use Rattle.pdgf_run.specs.Verdict.{IsVerdict};
 ghost use Rattle.request_words.specs.Words.{request};
 
 use crate::run::{idle_keeper, words_of};
 use crate::schemas::TRADE;
-use keeper_play::MapKeeper;
 use pd_outside::{Files, OpenGate, SureLibrary, SureShelf};
 use pdgf_run::laws::words_and_files_have_one_verdict;
 use pdgf_run::{Report, pdgf};
+use row_keeper::MapKeeper;
 use std::alloc::Global;
 use std::process::Abort;
 use std::thread::Threads;

@@ -4,7 +4,7 @@ ghost use Rattle.std.specs.Prelude.{◌≡◌, Bool, IfOk, false, is_ok};
 
 use crate::Refused;
 use crate::tables::Tables;
-use keeper_play::RefTo;
+use row_keeper::RefTo;
 use sqlite::{Connection, MemStore};
 use std::alloc::Global;
 

@@ -5,7 +5,7 @@ ghost use Rattle.std.specs.Option.{option_map};
 ghost use Rattle.pd_outside.specs.Faults.{counted, exact_counts, faults_after};
 
 use crate::{Databases, Refused, RowTables};
-use keeper_play::{KeepFailed, Keeper, RefTo};
+use row_keeper::{KeepFailed, Keeper, RefTo};
 
 /// A store in a database of SQLite. It tells neither its rows nor its name.
 ///

@@ -7,7 +7,7 @@ use crate::site::Site;
 use crate::tables::{Change, Tables};
 use crate::writer::drop_tables;
 use crate::{Databases, Refused, RowTables};
-use keeper_play::RefTo;
+use row_keeper::RefTo;
 use sqlite::{Connection, File, FileStore, MemStore, Options, Unknown};
 use sqlite_disk::{Disk, Files};
 use sqlite_std_file::OpenError;

@@ -4,7 +4,7 @@ use crate::Refused;
 use crate::numbers::Keys;
 use crate::waiting::Waiting;
 use crate::writer::Writer;
-use keeper_play::RefTo;
+use row_keeper::RefTo;
 use sqlite::{Alter, Connection};
 use std::alloc::Global;
 

@@ -4,7 +4,7 @@ ghost use Rattle.std.specs.Prelude.{◌≡◌, ◌+◌, ◌-◌, [], ◌++◌, I
 
 use crate::Refused;
 use crate::numbers::{Keys, ReferenceNumber, RowNumber};
-use keeper_play::RefTo;
+use row_keeper::RefTo;
 use sqlite::types::ValueRef;
 use std::alloc::Global;
 

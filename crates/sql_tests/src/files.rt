@@ -1,7 +1,7 @@
 //! What stands beside a store in the system's files.
 
 use crate::tables::number;
-use keeper_play::Keeper;
+use row_keeper::Keeper;
 use sql_keeper::{RowTables, SqlKeeper, SystemDatabases};
 use sqlite::Connection;
 use std::fs;

@@ -3,7 +3,7 @@
 ghost use Rattle.std.specs.Prelude.{◌≡◌, IsTrue};
 
 use crate::tables::to_customer;
-use keeper_play::{Keeper, RefTo};
+use row_keeper::{Keeper, RefTo};
 use sql_keeper::{Databases, Refused, RowTables, SqlKeeper};
 use std::cell::Cell;
 

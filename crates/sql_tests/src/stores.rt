@@ -1,7 +1,7 @@
 //! A store over a database in memory.
 
 use crate::tables::to_customer;
-use keeper_play::Keeper;
+use row_keeper::Keeper;
 use sql_keeper::{MemoryDatabases, SqlKeeper};
 use std::test::Fail;
 

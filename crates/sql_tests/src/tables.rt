@@ -1,6 +1,6 @@
 //! Rows and references in a database.
 
-use keeper_play::RefTo;
+use row_keeper::RefTo;
 use sql_keeper::{Databases, MemoryDatabases, MemoryTables, RowTables};
 use sqlite::{Alter, Connection};
 use std::test::Fail;

@@ -5,10 +5,10 @@ use Rattle.std.proofs.lemmas.Result.{err_from_is_err_and}
 use Rattle.schema_plan.specs.Dictionaries.{Project}
 use Rattle.schema_plan.specs.Limits.{IsInLimits}
 use Rattle.life_intervals.specs.Generator.{generator_of}
-use Rattle.keeper_play.specs.Kept.{Statement}
+use Rattle.row_keeper.specs.Kept.{Statement}
 use Rattle.keeper_play.specs.Played.{Changes}
 use Rattle.keeper_play.specs.Statements.{deletions, places}
-use Rattle.keeper_play.specs.Store.{StoppedIn, perform_all}
+use Rattle.row_keeper.specs.Store.{StoppedIn, perform_all}
 use Rattle.keeper_play.proofs.StoreLemmas.{backwards-at, backwards-more, made-more, stopped-behind}
 use Rattle.keeper_play.proofs.UnitLemmas.{deletions-born, deletions-told}
 use Rattle.life_intervals.proofs.AcceptedLemmas.{length-tables}

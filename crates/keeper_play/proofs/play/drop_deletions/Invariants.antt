@@ -3,7 +3,7 @@ use Rattle.std.specs.List.{flat_map, range_with_len}
 use Rattle.life_intervals.specs.Generator.{generator_of}
 use Rattle.pd_outside.specs.Faults.{Unfailed}
 use Rattle.keeper_play.specs.Statements.{deletions}
-use Rattle.keeper_play.specs.Store.{perform_all}
+use Rattle.row_keeper.specs.Store.{perform_all}
 use Rattle.keeper_play.proofs.play.drop_deletions.Given as goal
 
 -- those of the last tables are made

@@ -1,7 +1,7 @@
 use Rattle.std.proofs.Common.{ℕ, suc, ◌-◌, ◌∷◌, [], true, List, map, take, drop, get_or}
 use Rattle.pd_outside.proofs.Counts.{failed_by, failed_then}
 use Rattle.std.proofs.lemmas.Result.{err_from_is_err_and}
-use Rattle.keeper_play.specs.Kept.{Statement}
+use Rattle.row_keeper.specs.Kept.{Statement}
 use Rattle.keeper_play.specs.Played.{drop_at}
 use Rattle.keeper_play.proofs.StoreLemmas.{items-at, stopped-behind, stopped-one}
 use Rattle.keeper_play.proofs.play.drop_listed.Goals as goal

@@ -7,9 +7,9 @@ use Rattle.std.proofs.lemmas.Result.{err_from_is_err_and}
 use Rattle.schema_plan.specs.Dictionaries.{Project}
 use Rattle.schema_plan.specs.Limits.{IsInLimits}
 use Rattle.life_intervals.specs.Generator.{generator_of}
-use Rattle.keeper_play.specs.Kept.{Statement}
+use Rattle.row_keeper.specs.Kept.{Statement}
 use Rattle.keeper_play.specs.Statements.{deletions, insertions, places, unit_statements, updates}
-use Rattle.keeper_play.specs.Store.{perform_all}
+use Rattle.row_keeper.specs.Store.{perform_all}
 use Rattle.keeper_play.proofs.StoreLemmas.{made-more, made-none, on_err, on_ok, stopped-behind}
 use Rattle.keeper_play.proofs.UnitLemmas.{unit_statements-parts}
 use Rattle.keeper_play.proofs.play.play_rows.Goals as goal

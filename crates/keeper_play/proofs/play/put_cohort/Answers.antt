@@ -7,9 +7,9 @@ use Rattle.schema_plan.specs.Limits.{IsInLimits}
 use Rattle.life_intervals.specs.Generator.{generator_of, table_of}
 use Rattle.life_intervals.specs.Intervals.{is_live}
 use Rattle.cohort_sizes.specs.Births.{cohort_size}
-use Rattle.keeper_play.specs.Kept.{Statement}
+use Rattle.row_keeper.specs.Kept.{Statement}
 use Rattle.keeper_play.specs.Played.{put_at}
-use Rattle.keeper_play.specs.Store.{perform_all}
+use Rattle.row_keeper.specs.Store.{perform_all}
 use Rattle.keeper_play.proofs.StoreLemmas.{made-more, numbers-at, numbers-more, stopped-behind}
 use Rattle.keeper_play.proofs.UnitLemmas.{newborn-alive}
 use Rattle.keeper_play.proofs.play.put_cohort.Goals as goal

@@ -2,7 +2,7 @@ use Rattle.std.proofs.Common.{◌≡◌, map}
 use Rattle.std.specs.List.{range_with_len}
 use Rattle.pd_outside.specs.Faults.{Unfailed}
 use Rattle.keeper_play.specs.Played.{put_at}
-use Rattle.keeper_play.specs.Store.{perform_all}
+use Rattle.row_keeper.specs.Store.{perform_all}
 use Rattle.keeper_play.proofs.play.put_cohort.Given as goal
 
 -- the first rows of the cohort are put

@@ -9,9 +9,9 @@ use Rattle.schema_plan.specs.Dictionaries.{Project}
 use Rattle.life_intervals.specs.Generator.{generator_of, last_unit, rows_in_all, table_of}
 use Rattle.life_intervals.specs.Intervals.{is_live}
 use Rattle.cohort_sizes.specs.Births.{born_count}
-use Rattle.keeper_play.specs.Kept.{Statement}
+use Rattle.row_keeper.specs.Kept.{Statement}
 use Rattle.keeper_play.specs.Played.{put_at}
-use Rattle.keeper_play.specs.Store.{StoppedIn, perform_all}
+use Rattle.row_keeper.specs.Store.{StoppedIn, perform_all}
 use Rattle.keeper_play.proofs.StoreLemmas.{items-at, items-more, made-more, stopped-behind}
 use Rattle.keeper_play.proofs.play.put_listed.Goals as goal
 

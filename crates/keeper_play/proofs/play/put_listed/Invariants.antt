@@ -1,7 +1,7 @@
 use Rattle.std.proofs.Common.{◌≡◌, map, take}
 use Rattle.pd_outside.specs.Faults.{Unfailed}
 use Rattle.keeper_play.specs.Played.{put_at}
-use Rattle.keeper_play.specs.Store.{perform_all}
+use Rattle.row_keeper.specs.Store.{perform_all}
 use Rattle.keeper_play.proofs.play.put_listed.Given as goal
 
 -- the rows so far are put

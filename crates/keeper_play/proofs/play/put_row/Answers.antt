@@ -12,11 +12,11 @@ use Rattle.life_intervals.specs.Rows.{Row}
 use Rattle.line_pages.specs.Pages.{Page}
 use Rattle.row_lines.specs.CohortLines.{LinesOf, change_for, is_live_for, key_for, layout_for, line_in_cohort, ordinal_of}
 use Rattle.row_lines.specs.Lines.{line, line_of}
-use Rattle.keeper_play.specs.Kept.{Statement, put_row}
+use Rattle.row_keeper.specs.Kept.{Statement, put_row}
 use Rattle.keeper_play.specs.Played.{put_at}
 use Rattle.keeper_play.specs.Statements.{refs_of, row_key}
-use Rattle.keeper_play.specs.Store.{perform}
-use Rattle.keeper_play.specs.declared.keeper.RefTo.{RefTo}
+use Rattle.row_keeper.specs.Store.{perform}
+use Rattle.row_keeper.specs.declared.keeper.RefTo.{RefTo}
 use Rattle.keeper_play.proofs.RefLemmas.{row_key-found}
 use Rattle.keeper_play.proofs.play.put_row.Goals as goal
 

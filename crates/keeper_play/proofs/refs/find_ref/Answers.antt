@@ -7,7 +7,7 @@ use Rattle.life_intervals.specs.Generator.{generator_of, last_unit, table_of}
 use Rattle.life_intervals.proofs.CohortParentLemmas.{limits_of}
 use Rattle.row_lines.proofs.LineLemmas.{key_of-by}
 use Rattle.keeper_play.specs.Statements.{reference_to}
-use Rattle.keeper_play.specs.declared.keeper.RefTo.{RefTo}
+use Rattle.row_keeper.specs.declared.keeper.RefTo.{RefTo}
 use Rattle.keeper_play.proofs.refs.find_ref.Goals as goal
 
 pub key-requires-clause-table : goal.key-requires-clause-table

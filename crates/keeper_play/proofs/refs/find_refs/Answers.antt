@@ -10,7 +10,7 @@ use Rattle.schema_plan.specs.Ready.{ready_columns}
 use Rattle.life_intervals.specs.Generator.{table_of}
 use Rattle.life_intervals.proofs.AcceptedLemmas.{length-tables}
 use Rattle.life_intervals.proofs.CohortParentLemmas.{length-ready_columns, none_from_columns, reference_from_columns}
-use Rattle.keeper_play.specs.declared.keeper.RefTo.{RefTo}
+use Rattle.row_keeper.specs.declared.keeper.RefTo.{RefTo}
 use Rattle.keeper_play.proofs.RefLemmas.{refs_before, refs_before-all, refs_before-more, refs_before-other}
 use Rattle.keeper_play.proofs.refs.find_refs.Goals as goal
 use Rattle.keeper_play.proofs.refs.find_refs.Goals.{in-Reference+in-Some, in-Reference+in_default-find_ref, in_default}

@@ -4,7 +4,7 @@ use Rattle.std.proofs.lemmas.Result.{err_from_is_err_and}
 use Rattle.schema_plan.specs.Dictionaries.{Project}
 use Rattle.life_intervals.specs.Generator.{generator_of}
 use Rattle.keeper_play.specs.Statements.{statements_to}
-use Rattle.keeper_play.specs.Store.{Store, finish_store, perform_all, start_store}
+use Rattle.row_keeper.specs.Store.{Store, finish_store, perform_all, start_store}
 use Rattle.pdgf_run.specs.Playing.{AreMade}
 use Rattle.pdgf_run.proofs.PlayLemmas.{all-made, broken-off, finished, still-open}
 use Rattle.pdgf_run.proofs.play.play.Goals as goal

@@ -7,9 +7,9 @@ use Rattle.cohort_sizes.specs.Births.{cohort_size, first_ordinal}
 use Rattle.life_intervals.specs.Generator.{generator_of, table_of}
 use Rattle.keeper_play.specs.Played.{TellsUnit}
 use Rattle.life_intervals.proofs.Ranges.{flat_map-range_with_len_more}
-use Rattle.keeper_play.specs.Kept.{Statement}
+use Rattle.row_keeper.specs.Kept.{Statement}
 use Rattle.keeper_play.specs.Statements.{statements_to, unit_statements}
-use Rattle.keeper_play.specs.Store.{perform_all}
+use Rattle.row_keeper.specs.Store.{perform_all}
 use Rattle.keeper_play.proofs.StoreLemmas.{made-more, made-none, places-at}
 use Rattle.pdgf_run.proofs.PlayLemmas.{first-told, made-behind, some-made}
 use Rattle.pdgf_run.proofs.play.play_units.Goals as goal

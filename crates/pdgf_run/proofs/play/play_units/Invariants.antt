@@ -3,7 +3,7 @@ use Rattle.std.specs.List.{flat_map, range_with_len}
 use Rattle.pd_outside.specs.Faults.{Unfailed}
 use Rattle.life_intervals.specs.Generator.{generator_of}
 use Rattle.keeper_play.specs.Statements.{unit_statements}
-use Rattle.keeper_play.specs.Store.{perform_all}
+use Rattle.row_keeper.specs.Store.{perform_all}
 use Rattle.pdgf_run.proofs.play.play_units.Given as goal
 
 -- the units so far are played

@@ -1,7 +1,7 @@
 -- What a keeper tells of its store, and what its calls do to that.
 use Rattle.std.specs.Prelude.{◌≡◌, ◌<◌, ℕ, ◌+◌, Bool, true, false, List, length, take, Option}
 use Rattle.std.specs.Option.{option_map}
-use Rattle.keeper_play.specs.Kept.{KeptRows, Statement, after_statement, after_statements, no_rows}
+use Rattle.row_keeper.specs.Kept.{KeptRows, Statement, after_statement, after_statements, no_rows}
 
 -- the rows, and the name that was last started, each where it is told; whether the store is open; and how many statements were made since
 -- it was started

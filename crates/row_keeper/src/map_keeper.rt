@@ -3,9 +3,9 @@
 ghost use Rattle.std.specs.Prelude.{◌≡◌, ◌<◌, ◌≤◌, ◌+◌, [], ◌∷◌, ◌++◌, ◌↔◌, None, Some, false, true, Contains, IsErr, IsOk, IfOk, IsTrue, OnOk, OnErr, is_err};
 ghost use Rattle.std.specs.Option.{option_map};
 ghost use Rattle.pd_outside.specs.Faults.{CallMade, counted, last_count};
-ghost use Rattle.keeper_play.specs.Kept.{KeptRow, no_rows, put_row, drop_row, with_row};
-ghost use Rattle.keeper_play.specs.MapKeeper.{IsCounted, counts_of, keeping_of, row_of, store_of};
-ghost use Rattle.keeper_play.specs.Store.{finish_store, perform, start_store};
+ghost use Rattle.row_keeper.specs.Kept.{KeptRow, no_rows, put_row, drop_row, with_row};
+ghost use Rattle.row_keeper.specs.MapKeeper.{IsCounted, counts_of, keeping_of, row_of, store_of};
+ghost use Rattle.row_keeper.specs.Store.{finish_store, perform, start_store};
 
 use crate::{KeepFailed, Keeper, RefTo};
 use out_of_memory::Memory;

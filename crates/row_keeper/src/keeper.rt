@@ -2,8 +2,8 @@
 
 ghost use Rattle.std.specs.Prelude.{◌≡◌, ◌≤◌, ℕ, Bool, true, false, IsTrue, OnOk, OnErr, Some, None, is_err};
 ghost use Rattle.pd_outside.specs.Faults.{CallMade, Counts};
-ghost use Rattle.keeper_play.specs.Kept.{put_row, drop_row};
-ghost use Rattle.keeper_play.specs.Store.{Store, finish_store, perform, start_store};
+ghost use Rattle.row_keeper.specs.Kept.{put_row, drop_row};
+ghost use Rattle.row_keeper.specs.Store.{Store, finish_store, perform, start_store};
 
 /// A reference that isn't null.
 #[derive(Clone, Copy, Debug, PartialEq, Eq)]

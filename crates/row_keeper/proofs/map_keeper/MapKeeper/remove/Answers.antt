@@ -1,9 +1,9 @@
 use Rattle.std.proofs.Common.{◌≡◌, ℕ, None, ap, ◌∙◌}
 use Rattle.std.specs.HashMap.{get}
-use Rattle.keeper_play.specs.Kept.{KeptRows}
-use Rattle.keeper_play.specs.MapKeeper.{keeping_of, same_key}
-use Rattle.keeper_play.proofs.MapLemmas.{rows-updated}
-use Rattle.keeper_play.proofs.map_keeper.MapKeeper.remove.Goals as goal
+use Rattle.row_keeper.specs.Kept.{KeptRows}
+use Rattle.row_keeper.specs.MapKeeper.{keeping_of, same_key}
+use Rattle.row_keeper.proofs.MapLemmas.{rows-updated}
+use Rattle.row_keeper.proofs.map_keeper.MapKeeper.remove.Goals as goal
 
 pub returns : goal.returns
 returns c =

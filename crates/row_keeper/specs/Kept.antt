@@ -1,6 +1,6 @@
 -- The rows that a store keeps, and what a statement makes of them.
 use Rattle.std.specs.Prelude.{ℕ, ◌==◌, Bool, ◌&&◌, List, fold, if◌then◌else◌, All, IfSome, IsSome, Option, Some, None}
-use Rattle.keeper_play.specs.declared.keeper.RefTo.{RefTo}
+use Rattle.row_keeper.specs.declared.keeper.RefTo.{RefTo}
 
 -- a row: where its references lead that aren't null, and its line
 pub record KeptRow : Type 0 where

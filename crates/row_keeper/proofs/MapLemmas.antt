@@ -2,9 +2,9 @@
 use Rattle.std.proofs.Common.{◌≡◌, ℕ, Bool, true, false, Option, cond, refl, ap, option_map, ◌∙◌}
 use Rattle.std.specs.Prelude.{if◌then◌else◌}
 use Rattle.std.proofs.Math.Path.{fun_ext}
-use Rattle.keeper_play.specs.Kept.{KeptRow, KeptRows, with_row}
-use Rattle.keeper_play.specs.MapKeeper.{row_of, same_key}
-use Rattle.keeper_play.specs.declared.map_keeper.Kept.{Kept}
+use Rattle.row_keeper.specs.Kept.{KeptRow, KeptRows, with_row}
+use Rattle.row_keeper.specs.MapKeeper.{row_of, same_key}
+use Rattle.row_keeper.specs.declared.map_keeper.Kept.{Kept}
 
 chosen : (here : Bool) (row other : Option Kept) → option_map row_of (cond here row other) ≡ (if here then option_map row_of row else option_map row_of other)
 chosen true row other = refl

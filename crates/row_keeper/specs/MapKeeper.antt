@@ -3,10 +3,10 @@ use Rattle.std.specs.Prelude.{◌≡◌, ◌&&◌, ◌==◌, ℕ, Bool, List, Re
 use Rattle.std.specs.HashMap.{get}
 use Rattle.std.specs.Option.{option_map}
 use Rattle.pd_outside.specs.Faults.{Counts, exact_counts, faults_after}
-use Rattle.keeper_play.specs.Kept.{KeptRow, KeptRows}
-use Rattle.keeper_play.specs.Store.{Store}
-use Rattle.keeper_play.specs.declared.map_keeper.Kept.{Kept}
-use Rattle.keeper_play.specs.declared.map_keeper.MapKeeper.{MapKeeper}
+use Rattle.row_keeper.specs.Kept.{KeptRow, KeptRows}
+use Rattle.row_keeper.specs.Store.{Store}
+use Rattle.row_keeper.specs.declared.map_keeper.Kept.{Kept}
+use Rattle.row_keeper.specs.declared.map_keeper.MapKeeper.{MapKeeper}
 
 -- a keeper in memory: `calls` counts its puts and drops over its life, and `fails` has the numbers of those that fail
 pub record Keeping : Type 0 where

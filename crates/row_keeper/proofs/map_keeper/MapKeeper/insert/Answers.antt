@@ -1,9 +1,9 @@
 use Rattle.std.proofs.Common.{◌≡◌, ℕ, Some, ap, ◌∙◌}
 use Rattle.std.specs.HashMap.{get}
-use Rattle.keeper_play.specs.Kept.{KeptRow, KeptRows, with_row}
-use Rattle.keeper_play.specs.MapKeeper.{keeping_of, same_key}
-use Rattle.keeper_play.proofs.MapLemmas.{rows-updated}
-use Rattle.keeper_play.proofs.map_keeper.MapKeeper.insert.Goals as goal
+use Rattle.row_keeper.specs.Kept.{KeptRow, KeptRows, with_row}
+use Rattle.row_keeper.specs.MapKeeper.{keeping_of, same_key}
+use Rattle.row_keeper.proofs.MapLemmas.{rows-updated}
+use Rattle.row_keeper.proofs.map_keeper.MapKeeper.insert.Goals as goal
 
 pub returns-clause-ok : goal.returns-clause-ok
 returns-clause-ok c =

@@ -1,0 +1,3 @@
+pub mod Kept
+pub mod Store
+pub mod MapKeeper
