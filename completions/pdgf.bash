@@ -4,8 +4,8 @@
 # The options that a mode takes. Where there is no mode yet, all.
 _pdgf_options() {
     case $1 in
-        snapshot | unit) echo --unit --table --out --format --workers --package --node --nodes ;;
-        apply) echo --from --to --in --table --out --format ;;
+        snapshot | unit) echo --unit --table --out --format --header --workers --package --node --nodes ;;
+        apply) echo --from --to --in --table --out --format --header ;;
         undo) echo --unit --table --out --workers --package ;;
         revert) echo --from --to --in --table --out ;;
         details | details-unit) echo --spec --unit --out --workers --package ;;
@@ -13,7 +13,7 @@ _pdgf_options() {
         row) echo --table --key --unit ;;
         play) echo --to --store ;;
         sample) echo --size --workers --package ;;
-        '') echo --unit --from --to --in --out --table --key --spec --store --size --format --workers --package --node --nodes ;;
+        '') echo --unit --from --to --in --out --table --key --spec --store --size --format --header --workers --package --node --nodes ;;
     esac
 }
 
@@ -46,6 +46,7 @@ _pdgf_value() {
             [ -n "$2" ] || COMPREPLY+=(:memory:)
             ;;
         --format) mapfile -t COMPREPLY < <(compgen -W 'copy csv' -- "$2") ;;
+        --header) mapfile -t COMPREPLY < <(compgen -W 'none names' -- "$2") ;;
         --table) mapfile -t COMPREPLY < <(compgen -W "$(_pdgf_tables "$3")" -- "$2") ;;
     esac
 }

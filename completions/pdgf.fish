@@ -80,6 +80,7 @@ complete -c pdgf -n '__pdgf_takes spec details details-unit details-apply' -l sp
 complete -c pdgf -n '__pdgf_takes store play' -l store -r -F -a :memory: -d 'the path of the database, or :memory:'
 complete -c pdgf -n '__pdgf_takes size sample' -l size -x -d 'the size of the tables, 1 to 1,000'
 complete -c pdgf -n '__pdgf_takes format snapshot unit apply' -l format -x -a 'copy csv' -d 'the format of rows: copy, the default, or csv'
+complete -c pdgf -n '__pdgf_takes header snapshot unit apply' -l header -x -a 'none names' -d 'what CSV begins with: none, the default, or names, the names of the columns'
 complete -c pdgf -n '__pdgf_takes workers snapshot unit undo details details-unit sample' -l workers -x \
     -d 'how many workers make the rows, 1 to 64; the default is 4'
 complete -c pdgf -n '__pdgf_takes package snapshot unit undo details details-unit sample' -l package -x \

@@ -1,6 +1,7 @@
 //! Rows in CSV, worked out by hand after RFC 4180, section 2.
 
-use csv_face::{CsvFault, from_csv, to_csv};
+use csv_face::{CsvFault, from_csv, from_csv_named, names_text, to_csv};
+use schema_model::Text;
 
 /// A line with a comma, a null, the text \N and an empty text, and a line with quotes, line ends and a backslash after the first byte.
 #[test]
@@ -41,4 +42,37 @@ fn bad_records_are_told(rt: HostRuntime) {
     assert!(rt; matches!(fewer, Err(CsvFault::BadRecord { number: 2 })));
     let more = from_csv(rt.alloc(), b"1\n2\n3,4\n", b'\t', 1);
     assert!(rt; matches!(more, Err(CsvFault::BadRecord { number: 3 })));
+}
+
+/// Names are the first record, and what stands after them is read back.
+#[test]
+fn names_are_written_and_read_back(rt: HostRuntime) {
+    let names = [
+        Text::of(rt.alloc(), "id").expect(&rt, "ample memory"),
+        Text::of(rt.alloc(), "city").expect(&rt, "ample memory"),
+    ];
+    let mut csv = names_text(rt.alloc(), names.as_slice()).expect(&rt, "ample memory");
+    assert!(rt; csv.as_slice() == b"id,city\n".as_slice());
+    csv.extend_from_slice(b"7,Rome\n")
+        .expect(&rt, "ample memory");
+    let back = from_csv_named(rt.alloc(), &csv, b'\t', names.as_slice());
+    let back = back.expect(&rt, "no record is bad");
+    assert!(rt; back.as_slice() == b"7\tRome\n".as_slice());
+}
+
+/// Record 1 is bad where it isn't the names, and the rows are counted after it.
+#[test]
+fn other_first_records_are_bad(rt: HostRuntime) {
+    let names = [
+        Text::of(rt.alloc(), "id").expect(&rt, "ample memory"),
+        Text::of(rt.alloc(), "city").expect(&rt, "ample memory"),
+    ];
+    let none = from_csv_named(rt.alloc(), b"", b'\t', names.as_slice());
+    assert!(rt; matches!(none, Err(CsvFault::BadRecord { number: 1 })));
+    let row = from_csv_named(rt.alloc(), b"7,Rome\n", b'\t', names.as_slice());
+    assert!(rt; matches!(row, Err(CsvFault::BadRecord { number: 1 })));
+    let turned = from_csv_named(rt.alloc(), b"city,id\n", b'\t', names.as_slice());
+    assert!(rt; matches!(turned, Err(CsvFault::BadRecord { number: 1 })));
+    let fewer = from_csv_named(rt.alloc(), b"id,city\n7\n", b'\t', names.as_slice());
+    assert!(rt; matches!(fewer, Err(CsvFault::BadRecord { number: 2 })));
 }

@@ -12,10 +12,10 @@ use Rattle.row_text.specs.Fields.{IsDelimiter, escaped_text, field_text}
 use Rattle.row_text.specs.Lines.{line_text}
 use Rattle.row_text.proofs.EscapeLemmas.{itself, escape, form}
 use Rattle.csv_face.specs.Csv.{BeginsWithDigit, IsCopyText, IsCsvOf, Row, csv_field, csv_text, guarded, record_text, records_text, rows_text}
-use Rattle.csv_face.specs.Reading.{AreGood, HasBadRecord, IsReadAs, is_bad_record, row_field}
+use Rattle.csv_face.specs.Reading.{AreGood, HasBadAfter, IsReadAfter, IsReadAs, is_bad_record, row_field}
 use Rattle.csv_face.specs.Scan.{records_behind}
 use Rattle.csv_face.proofs.FieldLemmas.{has_bad_field-csv, rows-csv}
-use Rattle.csv_face.proofs.RecordLemmas.{are_records-records_text, are_records-same, first_bad-same, reached-good}
+use Rattle.csv_face.proofs.RecordLemmas.{are_records-after, are_records-records_text, first_bad-after, reached-good_after}
 use Rattle.csv_face.proofs.ScanLemmas.{records_behind-rows_text}
 
 -- bytes that begin with no byte order mark
@@ -26,7 +26,7 @@ strip-head byte (b ∷ []) no_mark = refl
 strip-head byte (b ∷ c ∷ rest) no_mark = rw no_mark refl
 
 -- a record whose first field begins with another byte
-strip-record : (byte : ℕ) (bytes : List ℕ) (others : List (List ℕ)) (tail : List ℕ) → (byte == 239) ≡ false
+pub strip-record : (byte : ℕ) (bytes : List ℕ) (others : List (List ℕ)) (tail : List ℕ) → (byte == 239) ≡ false
     → strip_bom (record_text ((byte ∷ bytes) ∷ others) ++ tail) ≡ record_text ((byte ∷ bytes) ∷ others) ++ tail
 strip-record byte bytes others tail no_mark = elim (cases_Bool (list_any (needs_byte default_writer) (byte ∷ bytes))) [
   | inl needs ↦ rw needs (strip-head 34 _ refl)
@@ -76,7 +76,7 @@ strip-csv delimiter delimits count some ((field ∷ fields) ∷ rows) alike begi
     ]
 
 -- no record is one of no field
-read_back-same : (count : ℕ) → 0 < count → (rows : List Row) → All (λ (row : Row). length row ≡ count) rows
+pub read_back-same : (count : ℕ) → 0 < count → (rows : List Row) → All (λ (row : Row). length row ≡ count) rows
     → map read_back (map (map csv_field) rows) ≡ map (map csv_field) rows
 read_back-same count some [] alike = refl
 read_back-same count some ([] ∷ rows) alike =
@@ -95,7 +95,7 @@ csv-records delimiter delimits count some rows alike begins =
     (are_records-records_text (map (map csv_field) rows)))
 
 -- none of them is bad
-csv-good : (count : ℕ) (rows : List Row) → All (λ (row : Row). length row ≡ count) rows → AreGood count (map (map csv_field) rows)
+pub csv-good : (count : ℕ) (rows : List Row) → All (λ (row : Row). length row ≡ count) rows → AreGood count (map (map csv_field) rows)
 csv-good count [] alike = All-nil (λ (fields : List (List ℕ)). is_bad_record count fields ≡ false)
 csv-good count (row ∷ rows) alike =
     let same : length (map csv_field row) ≡ count = length-map row csv_field ∙ All-head (λ (r : Row). length r ≡ count) row rows alike in
@@ -114,23 +114,25 @@ csv_text-read delimiter delimits count rows text copy begins = record {
 }
 
 -- bytes are read as one text
-pub read-one : (delimiter count : ℕ) (bytes text other : List ℕ) → IsReadAs delimiter count bytes text → IsReadAs delimiter count bytes other → text ≡ other
-read-one delimiter count bytes text other one two =
+pub read-one : (first : List (List (List ℕ))) (delimiter count : ℕ) (bytes text other : List ℕ) → IsReadAfter first delimiter count bytes text →
+    IsReadAfter first delimiter count bytes other → text ≡ other
+read-one first delimiter count bytes text other one two =
     one.is ∙ ap (λ (r : List (List (List ℕ))). rows_text delimiter (map (map row_field) r))
-    (are_records-same default_config st.StartRecord (strip_bom bytes) one.records two.records one.are two.are) ∙ sym two.is
+    (are_records-after default_config st.StartRecord (strip_bom bytes) first one.records two.records one.are two.are) ∙ sym two.is
 
 -- bytes that are read have no bad record
-pub read-none_bad : (delimiter count : ℕ) (bytes text : List ℕ) (number : ℕ) → IsReadAs delimiter count bytes text → HasBadRecord count bytes number → ⊥
-read-none_bad delimiter count bytes text number read found =
-    let fine = reached-good default_config count st.StartRecord found.state (strip_bom bytes) found.rest found.before found.bad read.records found.reached read.are read.good in
+pub read-none_bad : (first : List (List (List ℕ))) (delimiter count : ℕ) (bytes text : List ℕ) (number : ℕ) → IsReadAfter first delimiter count bytes text →
+    HasBadAfter first count bytes number → ⊥
+read-none_bad first delimiter count bytes text number read found =
+    let fine = reached-good_after default_config count st.StartRecord found.state (strip_bom bytes) found.rest first found.before found.bad read.records found.reached read.are read.good in
     cc (found.is_bad, fine)
 
 -- one record is the first bad one
-pub bad-one : (count : ℕ) (bytes : List ℕ) (number other : ℕ) → HasBadRecord count bytes number → HasBadRecord count bytes other → number ≡ other
-bad-one count bytes number other one two =
-    let same = first_bad-same default_config count st.StartRecord one.state two.state (strip_bom bytes) one.rest two.rest one.before two.before one.bad two.bad
+pub bad-one : (first : List (List (List ℕ))) (count : ℕ) (bytes : List ℕ) (number other : ℕ) → HasBadAfter first count bytes number → HasBadAfter first count bytes other → number ≡ other
+bad-one first count bytes number other one two =
+    let same = first_bad-after default_config count st.StartRecord one.state two.state (strip_bom bytes) one.rest two.rest first one.before two.before one.bad two.bad
     one.reached two.reached one.good two.good one.is_bad two.is_bad in
-    one.at ∙ ap (λ n. n + 1) same ∙ sym two.at
+    one.at ∙ ap (λ n. length first + (n + 1)) same ∙ sym two.at
 
 -- a text has one CSV
 pub csv-one : (delimiter : ℕ) (text csv other : List ℕ) → IsDelimiter delimiter → IsCsvOf delimiter text csv → IsCsvOf delimiter text other → csv ≡ other

@@ -91,3 +91,50 @@ first_bad-same config count s s2 s3 text rest rest_3 (x ∷ before) (y ∷ other
     ap suc (first_bad-same config count p.1 s2 s3 p.2 rest rest_3 before others last other more
     (subst (λ (r : Read). Reached config r.1 r.2 (others ++ other ∷ []) s3 rest_3) (sym same) more_q)
     (good-tail count x before good) (good-tail count y others good_2) bad bad_2)
+
+-- ---- after some first records
+
+without_first : (first xs ys : List (List (List ℕ))) → first ++ xs ≡ first ++ ys → xs ≡ ys
+without_first [] xs ys same = same
+without_first (x ∷ first) xs ys same = without_first first xs ys (cc same)
+
+pub are_records-after : (config : Config) (s : State) (text : List ℕ) (first xs ys : List (List (List ℕ)))
+    → AreRecords config s text (first ++ xs) → AreRecords config s text (first ++ ys) → xs ≡ ys
+are_records-after config s text first xs ys one other = without_first first xs ys (are_records-same config s text (first ++ xs) (first ++ ys) one other)
+
+pub reached-good_after : (config : Config) (count : ℕ) (s s2 : State) (text rest : List ℕ) (first before : List (List (List ℕ))) (last : List (List ℕ)) (records : List (List (List ℕ)))
+    → Reached config s text (first ++ (before ++ last ∷ [])) s2 rest → AreRecords config s text (first ++ records) → AreGood count records → is_bad_record count last ≡ false
+unfolding Reached
+reached-good_after config count s s2 text rest [] before last records reached are good = reached-good config count s s2 text rest before last records reached are good
+reached-good_after config count s s2 text rest (x ∷ first) before last records (p, is, _, more) (s3, t3, (q, is_q, _, more_q), none) good =
+    let both : Some p ≡ Some q = sym is ∙ is_q in
+    let same : p ≡ q = cc both in
+    reached-good_after config count p.1 s2 p.2 rest first before last records more
+    (s3, t3, subst (λ (r : Read). Reached config r.1 r.2 (first ++ records) s3 t3) (sym same) more_q, none) good
+
+pub first_bad-after : (config : Config) (count : ℕ) (s s2 s3 : State) (text rest rest_3 : List ℕ) (first before others : List (List (List ℕ))) (last other : List (List ℕ))
+    → Reached config s text (first ++ (before ++ last ∷ [])) s2 rest → Reached config s text (first ++ (others ++ other ∷ [])) s3 rest_3
+    → AreGood count before → AreGood count others → is_bad_record count last ≡ true → is_bad_record count other ≡ true → length before ≡ length others
+unfolding Reached
+first_bad-after config count s s2 s3 text rest rest_3 [] before others last other one two good good_2 bad bad_2 =
+    first_bad-same config count s s2 s3 text rest rest_3 before others last other one two good good_2 bad bad_2
+first_bad-after config count s s2 s3 text rest rest_3 (x ∷ first) before others last other (p, is, _, more) (q, is_q, _, more_q) good good_2 bad bad_2 =
+    let both : Some p ≡ Some q = sym is ∙ is_q in
+    let same : p ≡ q = cc both in
+    first_bad-after config count p.1 s2 s3 p.2 rest rest_3 first before others last other more
+    (subst (λ (r : Read). Reached config r.1 r.2 (first ++ (others ++ other ∷ [])) s3 rest_3) (sym same) more_q) good good_2 bad bad_2
+
+-- the first record is one
+pub first-same : (config : Config) (s s2 s3 : State) (text rest rest_3 : List ℕ) (x y : List (List ℕ)) (xs ys : List (List (List ℕ)))
+    → Reached config s text (x ∷ xs) s2 rest → Reached config s text (y ∷ ys) s3 rest_3 → x ≡ y
+unfolding Reached
+first-same config s s2 s3 text rest rest_3 x y xs ys (p, is, first, more) (q, is_q, first_q, more_q) =
+    let both : Some p ≡ Some q = sym is ∙ is_q in
+    let same : p ≡ q = cc both in
+    first ∙ ap (λ (r : Read). r.0) same ∙ sym first_q
+
+-- bytes without a record reach none
+pub none-reached : (config : Config) (s s2 : State) (text rest : List ℕ) (x : List (List ℕ)) (xs : List (List (List ℕ)))
+    → AreRecords config s text [] → Reached config s text (x ∷ xs) s2 rest → ⊥
+unfolding Reached
+none-reached config s s2 text rest x xs (s3, t3, here, none) (p, is, first, more) = at_end config s s3 text t3 p here none is

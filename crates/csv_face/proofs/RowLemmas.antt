@@ -1,6 +1,8 @@
 -- The fields of a record in turn, and the lines of records.
-use Rattle.std.proofs.Common.{◌≡◌, ℕ, zero, suc, ◌+◌, ◌<◌, ◌≤◌, Bool, List, [], ◌∷◌, ◌++◌, Option, None, Some, true, false, length, map, drop, take, refl, sym, ap, ◌∙◌, arith, append_assoc, add-one}
-use Rattle.std.specs.Prelude.{flat_map}
+use Rattle.std.proofs.Common.{◌≡◌, ℕ, zero, suc, ◌+◌, ◌<◌, ◌≤◌, Bool, List, [], ◌∷◌, ◌++◌, Option, None, Some, true, false, get_or, length, map, drop, take, refl, sym, ap, ◌∙◌, arith, append_assoc, add-one}
+use Rattle.std.specs.Prelude.{flat_map, not}
+use Rattle.std.specs.Str.{bytes_eq}
+use Rattle.std.proofs.lemmas.Slice.Eq.{bytes_eq-Decides}
 use Rattle.std.specs.List.{list_any}
 use Rattle.std.proofs.lemmas.List.{append-nil, map-append}
 use Rattle.std.proofs.lemmas.List.Concat.{flat_map-append}
@@ -99,3 +101,44 @@ rows_text-more delimiter records fields =
     ap (rows_text delimiter) (map-append (map row_field) records (fields ∷ []))
     ∙ flat_map-append line (map (map row_field) records) (map row_field fields ∷ [])
     ∙ ap (λ (t : List ℕ). rows_text delimiter (map (map row_field) records) ++ t) (append-nil (line (map row_field fields)))
+
+-- ---- a record beside names
+
+names-more : (names : List (List ℕ)) (i : ℕ) (d : List ℕ) → i < length names → take (i + 1) names ≡ take i names ++ get_or names i d ∷ []
+names-more names i d below = ap (λ (n : ℕ). take n names) (add-one i) ∙ go names i below
+  where
+    go : (names : List (List ℕ)) (i : ℕ) → i < length names → take (suc i) names ≡ take i names ++ get_or names i d ∷ []
+    go [] i below = absurd (omega (arith, below))
+    go (name ∷ names) zero below = refl
+    go (name ∷ names) (suc i) below = ap (λ (rest : List (List ℕ)). name ∷ rest) (go names i (omega (arith, below)))
+
+field-item : (fields : List (List ℕ)) (i : ℕ) (field d : List ℕ) → field_at fields i ≡ Some field → get_or fields i d ≡ field
+unfolding field_at
+field-item [] i field d is = absurd (cc)
+field-item (first ∷ fields) zero field d is = cc
+field-item (first ∷ fields) (suc i) field d is = field-item fields i field d is
+
+same-field : (field name : List ℕ) → false ≡ not (bytes_eq field name) → field ≡ name
+same-field field name is = (bytes_eq-Decides field name).0 (of (bytes_eq field name) is)
+  where
+    of : (b : Bool) → false ≡ not b → b ≡ true
+    of true is = refl
+    of false is = absurd (cc)
+
+-- one more field is a name
+pub same-more : (fields names : List (List ℕ)) (i : ℕ) (field name d : List ℕ) → field_at fields i ≡ Some field → i < length names → name ≡ get_or names i d →
+    false ≡ not (bytes_eq field name) → take i fields ≡ take i names → take (i + 1) fields ≡ take (i + 1) names
+same-more fields names i field name d is below name_is same so_far =
+    take-Some fields i field is ∙ ap (λ (front : List (List ℕ)). front ++ field ∷ []) so_far
+    ∙ ap (λ (f : List ℕ). take i names ++ f ∷ []) (same-field field name same ∙ name_is) ∙ sym (names-more names i d below)
+
+-- a field is none
+pub other-names : (fields names : List (List ℕ)) (i : ℕ) (field name d : List ℕ) → field_at fields i ≡ Some field → name ≡ get_or names i d →
+    true ≡ not (bytes_eq field name) → fields ≡ names → ⊥
+other-names fields names i field name d is name_is differs same =
+    let equal : field ≡ name = sym (field-item fields i field d is) ∙ ap (λ (l : List (List ℕ)). get_or l i d) same ∙ sym name_is in
+    never (bytes_eq field name) ((bytes_eq-Decides field name).1 equal) differs
+  where
+    never : (b : Bool) → b ≡ true → true ≡ not b → ⊥
+    never true is differs = absurd (cc)
+    never false is differs = absurd (cc)

@@ -33,6 +33,16 @@ records_text records = flat_map record_text records
 abbrev pub csv_text : List Row → List ℕ
 csv_text rows = records_text (map (map csv_field) rows)
 
+-- names as the first record of CSV
+abbrev pub names_text : List (List ℕ) → List ℕ
+names_text names = record_text names
+
+-- the first of some names begins with a byte of ASCII, as the name of a column does
+abbrev pub BeginInAscii : List (List ℕ) → Type 0
+BeginInAscii [] = ⊥
+BeginInAscii ([] ∷ names) = ⊥
+BeginInAscii ((byte ∷ bytes) ∷ names) = byte < 128
+
 -- a text is the lines of rows, which have so many fields each, one or more
 pub record IsCopyText (delimiter fields : ℕ) (rows : List Row) (text : List ℕ) : Type 0 where
   pub some : 0 < fields

@@ -1,4 +1,5 @@
 pub mod Csv
+pub mod Readers
 pub mod Reading
 pub mod Scan
 pub mod Scanners

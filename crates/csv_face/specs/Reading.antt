@@ -1,5 +1,5 @@
 -- What CSV is read as.
-use Rattle.std.specs.Prelude.{◌≡◌, ◌+◌, ◌==◌, ℕ, All, Bool, true, false, not, ◌&&◌, ◌||◌, if◌then◌else◌, List, [], ◌∷◌, ◌++◌, length, map, Option, Some, None}
+use Rattle.std.specs.Prelude.{◌≡◌, ◌≢◌, ◌⊎◌, ◌+◌, ◌==◌, ℕ, All, Bool, true, false, not, ◌&&◌, ◌||◌, if◌then◌else◌, List, [], ◌∷◌, ◌++◌, length, map, Option, Some, None}
 use Rattle.std.specs.List.{list_any}
 use Rattle.csv.specs.Reading.{AreRecords, Reached, default_config, strip_bom}
 use Rattle.csv.specs.declared.parser.State.{State}
@@ -40,25 +40,63 @@ is_bad_record count fields = not (length fields == count) || list_any is_bad_fie
 abbrev pub AreGood : ℕ → List (List (List ℕ)) → Type 0
 AreGood count records = All (λ fields. is_bad_record count fields ≡ false) records
 
--- bytes are the CSV of a text: of the records that the crate `csv` reads, none is bad, and their rows are the text's
-pub record IsReadAs (delimiter count : ℕ) (bytes text : List ℕ) : Type 0 where
+-- after some first records, bytes are the CSV of a text: of the other records that the crate `csv` reads, none is bad, and their rows are the
+-- text's
+pub record IsReadAfter (first : List (List (List ℕ))) (delimiter count : ℕ) (bytes text : List ℕ) : Type 0 where
   pub records : List (List (List ℕ))
-  pub are : AreRecords default_config st.StartRecord (strip_bom bytes) records
+  pub are : AreRecords default_config st.StartRecord (strip_bom bytes) (first ++ records)
   pub good : AreGood count records
   pub is : text ≡ rows_text delimiter (map (map row_field) records)
 
--- the record of a number, counted from 1, is the first that is bad
-pub record HasBadRecord (count : ℕ) (bytes : List ℕ) (number : ℕ) : Type 0 where
+-- after some first records, the record of a number, counted from 1, is the first that is bad
+pub record HasBadAfter (first : List (List (List ℕ))) (count : ℕ) (bytes : List ℕ) (number : ℕ) : Type 0 where
   pub before : List (List (List ℕ))
   pub bad : List (List ℕ)
   pub state : State
   pub rest : List ℕ
-  pub reached : Reached default_config st.StartRecord (strip_bom bytes) (before ++ bad ∷ []) state rest
+  pub reached : Reached default_config st.StartRecord (strip_bom bytes) (first ++ (before ++ bad ∷ [])) state rest
   pub good : AreGood count before
   pub is_bad : is_bad_record count bad ≡ true
-  pub at : number ≡ length before + 1
+  pub at : number ≡ length first + (length before + 1)
+
+-- a fault that bytes have after some first records
+abbrev pub IsFaultAfter : List (List (List ℕ)) → ℕ → List ℕ → CsvFault → Type 0
+IsFaultAfter first count bytes (BadRecord number) = HasBadAfter first count bytes number
+IsFaultAfter first count bytes Memory = Unit {0}
+
+-- ---- without names
+
+abbrev pub IsReadAs : ℕ → ℕ → List ℕ → List ℕ → Type 0
+IsReadAs delimiter count bytes text = IsReadAfter [] delimiter count bytes text
+
+abbrev pub HasBadRecord : ℕ → List ℕ → ℕ → Type 0
+HasBadRecord count bytes number = HasBadAfter [] count bytes number
+
+abbrev pub IsCsvFault : ℕ → List ℕ → CsvFault → Type 0
+IsCsvFault count bytes fault = IsFaultAfter [] count bytes fault
+
+-- ---- with names as the first record, of which each other record has as many fields
+
+abbrev pub IsNamedReadAs : ℕ → List (List ℕ) → List ℕ → List ℕ → Type 0
+IsNamedReadAs delimiter names bytes text = IsReadAfter (names ∷ []) delimiter (length names) bytes text
+
+-- the first record of bytes isn't the names
+pub record HasOtherFirst (names : List (List ℕ)) (bytes : List ℕ) : Type 0 where
+  pub first : List (List ℕ)
+  pub state : State
+  pub rest : List ℕ
+  pub reached : Reached default_config st.StartRecord (strip_bom bytes) (first ∷ []) state rest
+  pub other : first ≢ names
+
+-- bytes have no record, or another first one
+abbrev pub LacksNames : List (List ℕ) → List ℕ → Type 0
+LacksNames names bytes = AreRecords default_config st.StartRecord (strip_bom bytes) [] ⊎ HasOtherFirst names bytes
+
+-- the record of a number is the first that is bad: the first one of all where it isn't the names
+abbrev pub HasBadNamed : List (List ℕ) → List ℕ → ℕ → Type 0
+HasBadNamed names bytes number = ((number ≡ 1) × LacksNames names bytes) ⊎ HasBadAfter (names ∷ []) (length names) bytes number
 
 -- a fault that bytes have
-abbrev pub IsCsvFault : ℕ → List ℕ → CsvFault → Type 0
-IsCsvFault count bytes (BadRecord number) = HasBadRecord count bytes number
-IsCsvFault count bytes Memory = Unit {0}
+abbrev pub IsNamedFault : List (List ℕ) → List ℕ → CsvFault → Type 0
+IsNamedFault names bytes (BadRecord number) = HasBadNamed names bytes number
+IsNamedFault names bytes Memory = Unit {0}

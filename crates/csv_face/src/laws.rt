@@ -1,9 +1,9 @@
 //! The laws of CSV. Each law is the contract of a function that does nothing.
 
-ghost use Rattle.std.specs.Prelude.{◌≡◌, ◌++◌, ℕ, List};
+ghost use Rattle.std.specs.Prelude.{◌≡◌, ◌++◌, ℕ, List, length};
 ghost use Rattle.row_text.specs.Fields.{IsDelimiter};
-ghost use Rattle.csv_face.specs.Csv.{BeginsWithDigit, IsCopyText, IsCsvOf, Row, csv_text};
-ghost use Rattle.csv_face.specs.Reading.{HasBadRecord, IsReadAs};
+ghost use Rattle.csv_face.specs.Csv.{BeginInAscii, BeginsWithDigit, IsCopyText, IsCsvOf, Row, csv_text, names_text};
+ghost use Rattle.csv_face.specs.Reading.{HasBadNamed, HasBadRecord, IsNamedReadAs, IsReadAs};
 
 /// Rows that are written as CSV are read back as their text, if it begins with a digit. It does if its first field is a key. The CSV reads as
 /// no other text, and no record is bad.
@@ -16,10 +16,23 @@ pub fn csv_is_read_back()
         IsReadAs delimiter fields bytes text → ¬ HasBadRecord fields bytes number }
 {}
 
-/// Bytes have at most one record that is the first bad one.
+/// Names and rows that are written as CSV are read back as the rows' text, if the first name begins with a byte of ASCII. The CSV reads as no
+/// other text, and no record is bad.
+pub fn named_csv_is_read_back()
+    ensures read { (delimiter : ℕ) (names : List (List ℕ)) (rows : List Row) (text : List ℕ) → BeginInAscii names →
+        IsCopyText delimiter (length names) rows text → IsNamedReadAs delimiter names (names_text names ++ csv_text rows) text }
+    ensures one { (delimiter : ℕ) (names : List (List ℕ)) (bytes text other : List ℕ) →
+        IsNamedReadAs delimiter names bytes text → IsNamedReadAs delimiter names bytes other → text ≡ other }
+    ensures none_bad { (delimiter : ℕ) (names : List (List ℕ)) (bytes text : List ℕ) (number : ℕ) →
+        IsNamedReadAs delimiter names bytes text → ¬ HasBadNamed names bytes number }
+{}
+
+/// Bytes have at most one record that is the first bad one, with names as the first record or without.
 pub fn one_record_is_the_first_bad_one()
-    ensures { (fields : ℕ) (bytes : List ℕ) (number other : ℕ) →
+    ensures rows { (fields : ℕ) (bytes : List ℕ) (number other : ℕ) →
         HasBadRecord fields bytes number → HasBadRecord fields bytes other → number ≡ other }
+    ensures named { (names : List (List ℕ)) (bytes : List ℕ) (number other : ℕ) →
+        HasBadNamed names bytes number → HasBadNamed names bytes other → number ≡ other }
 {}
 
 /// A text has one CSV.

@@ -2,13 +2,14 @@
 
 ghost use Rattle.std.specs.Prelude.{◌≡◌, ◌∷◌, ◌++◌, [], ℕ, List, IfOk, OnOk, false};
 ghost use Rattle.csv.specs.Records.{fields_of, partial_of};
-ghost use Rattle.csv_face.specs.Csv.{HasRows, IsCsvOf, record_text, records_text};
+ghost use Rattle.csv_face.specs.Csv.{HasRows, IsCsvOf, names_text, record_text, records_text};
 ghost use Rattle.csv_face.specs.Scan.{byte_of, records_behind, with_byte, with_letter};
 ghost use Rattle.csv_face.specs.Scanners.{HasWritten, WillWrite};
 ghost use Rattle.row_text.specs.Fields.{IsDelimiter};
 
 use csv::{ByteRecord, Writer, WriterBuilder};
 use out_of_memory::Memory;
+use schema_model::Text;
 use std::alloc::Global;
 
 /// A text that is being read, and the CSV written so far.
@@ -178,4 +179,30 @@ pub fn to_csv(alloc: Global, text: &[u8], delimiter: u8) -> Result<Vec<u8>, Memo
     ensures { IfOk result (λ csv. IsCsvOf delimiter text.now csv.items) }
 {
     scanned(alloc, text, delimiter)
+}
+
+/// Returns a record whose fields are names.
+fn record_of(alloc: Global, names: &[Text]) -> Result<ByteRecord, Memory>
+    ensures { IfOk result (λ fields. fields_of fields ≡ names.now) }
+{
+    let mut fields = ByteRecord::new(alloc);
+    for place in 0..names.len() {
+        fields.push_field(names[place].as_str().as_bytes())?;
+    }
+    Ok(fields)
+}
+
+/// Returns names as the first record of CSV: with a comma between two of them, and a line feed at the end.
+pub fn names_text(alloc: Global, names: &[Text]) -> Result<Vec<u8>, Memory>
+    ensures { IfOk result (λ text. text.items ≡ names_text names.now) }
+{
+    let fields = record_of(alloc, names)?;
+    let mut writer = WriterBuilder::new().from_writer(Vec::new(alloc));
+    let Ok(()) = writer.write_byte_record(&fields) else {
+        return Err(Memory);
+    };
+    match writer.into_inner() {
+        Ok(text) => Ok(text),
+        Err(_) => Err(Memory),
+    }
 }

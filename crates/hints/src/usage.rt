@@ -10,15 +10,15 @@ const VERSION: &str = "0.2.0";
 const CALLS: [(&str, &str); 12] = [
     (
         "snapshot",
-        "SCHEMA --unit T [--table N] [--out DIR] [--format F] [--workers W] [--package R] [--node I --nodes M]",
+        "SCHEMA --unit T [--table N] [--out DIR] [--format F] [--header H] [--workers W] [--package R] [--node I --nodes M]",
     ),
     (
         "unit",
-        "SCHEMA --unit T [--table N] [--out DIR] [--format F] [--workers W] [--package R] [--node I --nodes M]",
+        "SCHEMA --unit T [--table N] [--out DIR] [--format F] [--header H] [--workers W] [--package R] [--node I --nodes M]",
     ),
     (
         "apply",
-        "SCHEMA --from S --to T --in DIR [--table N] [--out DIR2] [--format F]",
+        "SCHEMA --from S --to T --in DIR [--table N] [--out DIR2] [--format F] [--header H]",
     ),
     (
         "undo",

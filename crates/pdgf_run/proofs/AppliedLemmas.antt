@@ -1,10 +1,11 @@
 -- Inputs that a plain simulation gives make what it holds later.
-use Rattle.std.proofs.Common.{◌≡◌, ◌≢◌, ◌<◌, ◌≤◌, ◌+◌, ◌-◌, ◌*◌, ℕ, zero, suc, All, Bool, true, false, List, [], ◌++◌, flat_map, get_or, length, length-append, map, take, Option, None, Some, Result, Ok, Err, cond, inl, inr, ap, arith, refl, subst, sym, ◌∙◌}
+use Rattle.std.proofs.Common.{◌≡◌, ◌<◌, ◌≤◌, ◌+◌, ◌-◌, ◌*◌, ℕ, zero, suc, All, Bool, true, false, List, [], ◌++◌, flat_map, get_or, length, length-append, map, take, Option, None, Some, Result, Ok, Err, cond, inl, inr, ap, arith, refl, subst, sym, ◌∙◌}
 use Rattle.std.specs.Prelude.{IfOk, IfSome, nat_lt, if◌then◌else◌}
 use Rattle.std.specs.Option.{option_map}
 use Rattle.std.specs.List.{AllZip, position_or_len, range_with_len}
 use Rattle.std.proofs.lemmas.Bool.{cases_lt, le-ltb, lt-ltb, true≢false}
 use Rattle.std.proofs.lemmas.List.{get_or-map, length-map}
+use Rattle.std.proofs.lemmas.List.Elements.{All-map}
 use Rattle.std.proofs.lemmas.List.FromFn.{get_or-range_with_len, length-range_with_len}
 use Rattle.std.proofs.lemmas.List.Sums.{sum_by-take-drop}
 use Rattle.pd_outside.specs.Files.{File}
@@ -31,6 +32,7 @@ use Rattle.schema_plan.specs.Dictionaries.{Project}
 use Rattle.schema_plan.specs.Layout.{layout_of}
 use Rattle.schema_plan.specs.Limits.{IsInLimits}
 use Rattle.schema_plan.specs.Names.{same_text}
+use Rattle.schema_plan.specs.Rules.{IsAccepted, column_names}
 use Rattle.schema_plan.specs.Planned.{table_named}
 use Rattle.stream_apply.specs.InTurn.{IsAppliedText}
 use Rattle.stream_apply.specs.declared.key_fields.KeyFields.TheVariants.{One}
@@ -43,15 +45,16 @@ use Rattle.pdgf_run.specs.Verdict.{IsInMode, IsVerdict}
 use Rattle.pdgf_run.specs.declared.report.Report.{Report}
 use Rattle.update_box.specs.Packages.{chosen_places}
 use Rattle.update_box.specs.Parts.{name_at}
-use Rattle.csv_face.specs.Csv.{HasRows}
+use Rattle.csv_face.specs.Csv.{BeginInAscii, HasRows}
 use Rattle.request_words.specs.declared.usage.Format.{Format}
 use Rattle.request_words.specs.declared.usage.Format.TheVariants.{Copy, Csv}
-use Rattle.pdgf_run.specs.Formats.{AreWritten, made_files}
-use Rattle.pdgf_run.specs.Replay.{AreReplayed, IsMadeIn, IsMadeOf, format_of, input_fields, input_limit, input_paths, inputs_at, text_name}
+use Rattle.pdgf_run.specs.Formats.{AreWritten, each_after, made_files}
+use Rattle.pdgf_run.specs.Replay.{AreReplayed, IsMadeIn, IsMadeOf, format_of, input_columns, input_headings, input_limit, input_paths, inputs_at, text_headings, text_name}
 use Rattle.pdgf_run.specs.declared.replay.Replay.{Replay}
 use Rattle.pdgf_run.specs.declared.replay.Way.TheVariants as way
 use Rattle.pdgf_run.specs.modes.Apply.{AreLaterFiles, HoldInputs, IsApplyDue, apply_of, columns_by, of_choice, table_inputs, tables_asked}
-use Rattle.pdgf_run.proofs.KeyedTextLemmas.{IsKeyedText, columns_at, format_is, inputs-keyed, later-rows, some-csvs, texts-read}
+use Rattle.pdgf_run.proofs.ColumnLemmas.{accepted, names-ascii}
+use Rattle.pdgf_run.proofs.KeyedTextLemmas.{IsKeyedOf, chosen-within, columns-are, columns_at, format_is, input_columns-ascii, inputs-keyed, later-rows, some-csvs, texts-read}
 use Rattle.pdgf_run.proofs.ChunkLemmas.{chunk}
 use Rattle.pdgf_run.proofs.ApplyLemmas.{due_asked}
 use Rattle.pdgf_run.proofs.ReplayLemmas.{long_behind, read_and_made}
@@ -132,7 +135,7 @@ later_applied plan r table inputs limits order units within are = record {
       let at_end : r.from + (r.to - r.from) ≤ last_unit plan = omega (arith, sum, units) in
       let own : inputs_at (1 + 3 * (r.to - r.from)) inputs i ≡ table_inputs plan r.from (r.to - r.from) place =
       ap (λ (l : List (List ℕ)). inputs_at (1 + 3 * (r.to - r.from)) l i) are
-      ∙ chunk (table_inputs plan r.from (r.to - r.from)) (1 + 3 * (r.to - r.from)) places i (length-table_inputs plan r) inside in
+      ∙ chunk (table_inputs plan r.from (r.to - r.from)) (1 + 3 * (r.to - r.from)) places i 0 (length-table_inputs plan r) inside in
       let text : get_or (map (table_text (generator_of plan) r.to) places) i [] ≡ table_text (generator_of plan) r.to place =
       get_or-map (table_text (generator_of plan) r.to) places i 0 [] inside in
       let made : IsAppliedText One (layout_of plan).delimiter (table_inputs plan r.from (r.to - r.from) place) (table_text (generator_of plan) r.to place) =
@@ -159,22 +162,39 @@ all_read files paths within =
     ap (λ (long : Option ℕ). unless_too_long long (inputs_of files paths)) (none_too_long (inputs_of files paths) (first_too_long input_limit [] (inputs_of files paths)) refl within)
 
 -- what they come to in a format
-written_made : (format : Format) (plan : Project) (r : Request) (replay : Replay) (places : List ℕ) (texts inputs : List (List ℕ)) (answer : Result (List File) JobFault) →
-    IsDelimiter (layout_of plan).delimiter → AllZip (IsKeyedText (layout_of plan).delimiter) (input_fields r (columns_at plan places)) texts → AreWritten format (layout_of plan).delimiter texts inputs →
+written_made : (format : Format) (plan : Project) (r : Request) (replay : Replay) (places : List ℕ) (texts rows inputs : List (List ℕ)) (answer : Result (List File) JobFault) →
+    IsDelimiter (layout_of plan).delimiter → All BeginInAscii (columns_at plan places) → AllZip (IsKeyedOf (layout_of plan).delimiter) (input_columns r (columns_at plan places)) texts →
+    AreWritten format (layout_of plan).delimiter texts rows → inputs ≡ each_after (input_headings r (columns_by format plan places)) rows →
     IsMadeOf (layout_of plan).delimiter r replay texts answer → IsMadeIn (columns_by format plan places) (layout_of plan).delimiter r replay inputs answer
-written_made Copy plan r replay places texts inputs answer delimits of are made =
-    subst (λ (l : List (List ℕ)). IsMadeOf (layout_of plan).delimiter r replay l answer) (sym are) made
-written_made Csv plan r replay places texts inputs answer delimits of are made =
-    inl (texts, texts-read (layout_of plan).delimiter delimits (input_fields r (columns_at plan places)) texts inputs of are, made)
+written_made Copy plan r replay places texts rows inputs answer delimits ascii of are headed made =
+    subst (λ (l : List (List ℕ)). IsMadeOf (layout_of plan).delimiter r replay l answer) (sym (headed ∙ are)) made
+written_made Csv plan r replay places texts rows inputs answer delimits ascii of are headed made =
+    subst (λ (l : List (List ℕ)). IsMadeIn (columns_by Csv plan places) (layout_of plan).delimiter r replay l answer) (sym headed)
+    (inl (
+      texts,
+      texts-read r.header (layout_of plan).delimiter delimits (input_columns r (columns_at plan places)) texts rows (input_columns-ascii r (columns_at plan places) ascii) of are,
+      made,
+    ))
+
+-- the names of columns of an accepted schema begin with a letter
+columns-ascii : (plan : Project) → IsAccepted plan → IsInLimits plan → (table : Option ℕ) → IfSome table (λ place. place < length plan.schema.tables) →
+    All BeginInAscii (columns_at plan (chosen_places plan table))
+columns-ascii plan is limits table choice =
+    let places : List ℕ = chosen_places plan table in
+    let columns = columns-are plan limits table choice in
+    All-map BeginInAscii (column_names plan.schema) places (λ k d inside.
+    let below : k < length (columns_at plan places) = omega (arith, inside, length-map places (column_names plan.schema)) in
+    names-ascii plan is (get_or places k d) (chosen-within plan table choice k d inside)
+    (subst (λ (names : List (List ℕ)). 0 < length names) (get_or-map (column_names plan.schema) places k d [] inside) (columns k [] below).some))
 
 -- what is written of texts with rows, in a format
 some_written : (format : Format) (delimiter : ℕ) (texts : List (List ℕ)) → All (λ (text : List ℕ). HasRows delimiter text) texts → (written : List (List ℕ)) × AreWritten format delimiter texts written
 some_written Copy delimiter texts all = (texts, refl)
 some_written Csv delimiter texts all = some-csvs delimiter texts all
 
-later_due : (plan : Project) (r : Request) (files : List File) (table : Option ℕ) → IsDelimiter (layout_of plan).delimiter → IsInLimits plan → tables_asked plan r ≡ Ok table →
+later_due : (plan : Project) (r : Request) (files : List File) (table : Option ℕ) → IsDelimiter (layout_of plan).delimiter → IsAccepted plan → IsInLimits plan → tables_asked plan r ≡ Ok table →
     HoldInputs plan r table files → (due : List File) × AreLaterFiles plan r table due × IsApplyDue plan r files (Ok due)
-later_due plan r files table delimits limits asked hold =
+later_due plan r files table delimits is_accepted limits asked hold =
     let first = passes (nat_lt r.to r.from) (job.Range option.From) _ table asked in
     let second = passes (nat_lt (layout_of plan).units r.to) (job.Range option.To) _ table first.1 in
     let chosen : chosen_table plan.schema r.table ≡ Some table = choice_is (chosen_table plan.schema r.table) table second.1 in
@@ -185,7 +205,7 @@ later_due plan r files table delimits limits asked hold =
     let texts : List (List ℕ) = flat_map (table_inputs plan r.from (r.to - r.from)) places in
     let later : List (List ℕ) = map (table_text (generator_of plan) r.to) places in
     let written = some_written r.format delimiter later (later-rows plan limits r.to table (there table chosen)) in
-    let due : List File = made_files (text_name (format_of replay)) r.out replay.names written.0 in
+    let due : List File = made_files (text_name (format_of replay)) r.out replay.names (each_after (text_headings r.header replay.csv) written.0) in
     let are : AreLaterFiles plan r table due =
     record { written = written.0; are = subst (λ (f : Format). AreWritten f delimiter later written.0) (sym (format_is r.format plan places)) written.1; due_is = refl } in
     let within : r.to ≤ last_unit plan = not_less (layout_of plan).units r.to second.0 in
@@ -200,7 +220,8 @@ later_due plan r files table delimits limits asked hold =
       are,
       due_asked (apply_of plan r) delimiter delimiter r files (tables_asked plan r) table replay (Ok due) (sym asked) refl refl
           (read_and_made delimiter r replay files (Ok inputs) (Ok due) (all_read files (input_paths r replay) hold.within)
-          (written_made r.format plan r replay places texts inputs (Ok due) delimits (inputs-keyed plan limits r table order within (there table chosen)) hold.texts made)),
+          (written_made r.format plan r replay places texts hold.written inputs (Ok due) delimits (columns-ascii plan is_accepted limits table (there table chosen))
+          (inputs-keyed plan limits r table order within (there table chosen)) hold.texts hold.are made)),
     )
   where
     there : (table : Option ℕ) → chosen_table plan.schema r.table ≡ Some table → IfSome table (λ place. place < length plan.schema.tables)
@@ -222,7 +243,7 @@ of_asked : (words : List (List ℕ)) (files : List File) (r : Request) (plan : P
     IfOk asked (λ (table : Option ℕ). HoldInputs plan r table files → (due : List File) × AreLaterFiles plan r table due × Carries (Ok due) report before now)
 of_asked words files r plan (Err fault) verdict report before now given mode planned asked limits is carries = tt
 of_asked words files r plan (Ok table) verdict report before now given mode planned asked limits is carries = λ hold.
-    let found = later_due plan r files table (delimits plan) limits asked hold in
+    let found = later_due plan r files table (delimits plan) (accepted files r.schema plan planned) limits asked hold in
     let due : IsInMode r.mode r plan files (Ok found.0) = subst (λ (m : Mode). IsInMode m r plan files (Ok found.0)) (sym mode) found.2 in
     (found.0, found.1, due_carried delimits words files r plan found.0 verdict report before now given (ap reads_schema mode) planned due is carries)
 

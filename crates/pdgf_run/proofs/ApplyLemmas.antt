@@ -3,19 +3,19 @@ use Rattle.std.proofs.Common.{◌≡◌, ◌<◌, ◌≤◌, ℕ, All, List, len
 use Rattle.std.specs.List.{range_with_len}
 use Rattle.std.proofs.lemmas.List.FromFn.{length-map-range_with_len}
 use Rattle.detail_plan.specs.declared.detail.Detail.{Detail}
-use Rattle.life_intervals.specs.Generator.{table_of}
 use Rattle.request_words.specs.declared.usage.Format.{Format}
 use Rattle.request_words.specs.declared.usage.Format.TheVariants.{Copy, Csv}
 use Rattle.schema_plan.specs.Dictionaries.{Project}
 use Rattle.schema_plan.specs.Layout.{layout_of}
 use Rattle.schema_plan.specs.Limits.{IsInLimits}
+use Rattle.schema_plan.specs.Rules.{column_names}
 use Rattle.stream_apply.specs.declared.key_fields.KeyFields.TheVariants.{One}
 use Rattle.update_box.specs.Packages.{chosen_places}
 use Rattle.update_box.specs.Parts.{name_at}
 use Rattle.pdgf_run.specs.declared.replay.Way.TheVariants as way
 use Rattle.pdgf_run.specs.modes.Apply.{columns_by}
 use Rattle.pdgf_run.specs.modes.DetailsApply.{apply_of_detail}
-use Rattle.pdgf_run.proofs.KeyedTextLemmas.{columns-some}
+use Rattle.pdgf_run.proofs.KeyedTextLemmas.{columns-are}
 use Rattle.std.specs.Prelude.{IfSome}
 use Rattle.pd_outside.specs.Files.{File}
 use Rattle.pd_outside.specs.Library.{AskedPrefixOf}
@@ -24,7 +24,7 @@ use Rattle.refusals.specs.declared.refusal.JobFault.{JobFault}
 use Rattle.refusals.specs.declared.refusal.JobFault.TheVariants as job
 use Rattle.request_words.specs.declared.usage.Request.{Request}
 use Rattle.pdgf_run.specs.Jobs.{due_of}
-use Rattle.pdgf_run.specs.Replay.{CanReplay, IsCsvOfTables, IsReplayDue, IsReplayOf, input_paths, paths_of, paths_read, possible_of}
+use Rattle.pdgf_run.specs.Replay.{AreColumns, CanReplay, IsCsvOfTables, IsReplayDue, IsReplayOf, input_paths, paths_of, paths_read, possible_of}
 use Rattle.pdgf_run.specs.Verdict.{IsDecided}
 use Rattle.pdgf_run.specs.declared.job.Job.{Job}
 use Rattle.pdgf_run.specs.declared.replay.Replay.{Replay}
@@ -102,18 +102,18 @@ module _ (plan : Project) (limits : IsInLimits plan) (table : Option ℕ) (first
   csv-can Copy choice long is = tt
   csv-can Csv choice long is = record {
     applies = refl;
-    alike = length-map-range_with_len (λ place. length (table_of plan place).columns) first count ∙ sym is;
-    some = subst (λ (list : List ℕ). All (λ fields. 0 < fields) (map (λ place. length (table_of plan place).columns) list)) (sym places) (columns-some plan limits table choice);
+    alike = length-map-range_with_len (column_names plan.schema) first count ∙ sym is;
+    columns = subst (λ (list : List ℕ). All AreColumns (map (column_names plan.schema) list)) (sym places) (columns-are plan limits table choice);
   }
 
-  pub can-apply : (r : Request) (names : List (List ℕ)) (csv : Option (List ℕ)) → IfSome table (λ place. place < length plan.schema.tables) → r.from ≤ r.to → r.to ≤ (layout_of plan).units →
+  pub can-apply : (r : Request) (names : List (List ℕ)) (csv : Option (List (List (List ℕ)))) → IfSome table (λ place. place < length plan.schema.tables) → r.from ≤ r.to → r.to ≤ (layout_of plan).units →
       names ≡ map (name_at plan.schema) (range_with_len first count) → csv ≡ columns_by r.format plan (range_with_len first count) →
       CanReplay r (record { way = way.Apply One; names = names; csv = csv })
   can-apply r names csv choice order within named told = record {
     some = names-some names named;
     few = names-few names named;
     units = record { order = order; most = omega (arith, within, limits.unit_limit) };
-    csv = subst (λ (columns : Option (List ℕ)). IfSome columns (IsCsvOfTables (way.Apply One) (length names))) (sym told)
+    csv = subst (λ (tables : Option (List (List (List ℕ)))). IfSome tables (IsCsvOfTables (way.Apply One) (length names))) (sym told)
         (csv-can r.format choice (length names) (ap length named ∙ length-map-range_with_len (name_at plan.schema) first count));
   }
 

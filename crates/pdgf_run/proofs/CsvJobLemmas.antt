@@ -20,9 +20,9 @@ use Rattle.update_box.specs.Packages.{chosen_places, packages_of, share_file, sh
 use Rattle.update_box.specs.Parts.{parts_of}
 use Rattle.update_box.specs.declared.parts.Content.{Content}
 use Rattle.update_box.specs.declared.parts.Job.{Job}
-use Rattle.pdgf_run.specs.CsvFiles.{IsCsvOfJob, IsCsvUnless, csv_limit, texts_asked}
+use Rattle.pdgf_run.specs.CsvFiles.{IsCsvOfJob, IsCsvUnless, csv_limit, job_headings, texts_asked}
 use Rattle.pdgf_run.specs.DueFiles.{table_files}
-use Rattle.pdgf_run.specs.Formats.{AreCsvOf, file_name, made_files}
+use Rattle.pdgf_run.specs.Formats.{AreCsvOf, each_after, file_name, made_files}
 use Rattle.pdgf_run.specs.InMemory.{bytes_held, file_length, no_files}
 use Rattle.pdgf_run.proofs.TextShelfLemmas.{held-finished, held-prefix, lengths-of_bytes}
 
@@ -58,7 +58,8 @@ past_due contents plan r job past =
 pub within_due : (contents : List Content) (plan : Project) (r : Request) (job : Job) (csvs : List (List ℕ)) (due : List File) →
     sum_by file_length (table_files contents plan (Some []) job) ≤ csv_limit →
     AreCsvOf (layout_of plan).delimiter (map (λ (file : File). file.bytes) (table_files contents plan (Some []) job)) csvs →
-    due ≡ made_files (file_name Csv plan.schema job.unit) r.out (parts_of contents (chosen_places plan job.table)) csvs → IsCsvOfJob contents plan r job (Ok due)
+    due ≡ made_files (file_name Csv plan.schema job.unit) r.out (parts_of contents (chosen_places plan job.table)) (each_after (job_headings contents plan r job) csvs) →
+    IsCsvOfJob contents plan r job (Ok due)
 within_due contents plan r job csvs due within are due_is =
     let total : ℕ = sum_by length (texts_asked contents plan job) in
     let short : nat_lt csv_limit total ≡ false = le-ltb csv_limit total (omega (arith, within, length-texts contents plan job)) in

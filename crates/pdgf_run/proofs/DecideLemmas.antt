@@ -69,6 +69,7 @@ words_status (usage.Missing name) = inl refl
 words_status (usage.Number name) = inl refl
 words_status (usage.EmptyDirectory name) = inl refl
 words_status usage.Format = inl refl
+words_status usage.Header = inl refl
 
 -- nothing was done to the library
 pub untouched : (reads : Bool) (status : ℕ) (IsLimit : ℕ → Type 0) (content : Option Content) (taken : ℕ) (is_started : Bool) (counts : Counts) →
@@ -347,6 +348,7 @@ fault-status (usage.Missing name) other = refl
 fault-status (usage.Number name) other = refl
 fault-status (usage.EmptyDirectory name) other = refl
 fault-status usage.Format other = refl
+fault-status usage.Header other = refl
 
 usage_status : (q : Result Request UsageFault) (r : Refusal) → IfErr q (λ fault. fault ≢ usage.Memory) →
     IfErr q (λ fault. ◌≡◌ {A = Result Task Refusal} (Err r) (Err (refusal.Words fault))) → OnOk q (status_of r ≢ 2) → (status_of r ≡ 2) ↔ IsErr q

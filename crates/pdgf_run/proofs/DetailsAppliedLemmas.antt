@@ -102,7 +102,7 @@ later_replayed plan r detail limits keeps order within = record {
       let all : flat_map (λ (place : ℕ). own) (0 ∷ []) ≡ own = append-nil own in
       let part : inputs_at (1 + 3 * count) own 0 ≡ own =
       ap (λ (l : List (List ℕ)). inputs_at (1 + 3 * count) l 0) (sym all)
-      ∙ chunk (λ (place : ℕ). own) (1 + 3 * count) (0 ∷ []) 0 (λ place. length-inputs plan detail r.from count) (omega arith) in
+      ∙ chunk (λ (place : ℕ). own) (1 + 3 * count) (0 ∷ []) 0 0 (λ place. length-inputs plan detail r.from count) (omega arith) in
       let sum : r.from + count ≡ r.to = omega (arith, order) in
       let made : IsAppliedText Two (layout_of plan).delimiter own (detail_text plan detail r.to) =
       subst (λ (t : ℕ). IsAppliedText Two (layout_of plan).delimiter own (detail_text plan detail t)) sum

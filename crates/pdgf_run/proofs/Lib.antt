@@ -17,6 +17,7 @@ mod OutcomeLemmas
 mod RowLemmas
 mod KeyedTextLemmas
 mod ChunkLemmas
+mod ColumnLemmas
 mod TextShelfLemmas
 mod CarriedLemmas
 mod AppliedLemmas

@@ -11,7 +11,7 @@ use Rattle.schema_plan.proofs.WordListLemmas.{take_more_got}
 use Rattle.update_box.specs.Parts.{Part, parts_at, parts_of}
 use Rattle.update_box.specs.declared.parts.Content.{Content}
 use Rattle.pdgf_run.specs.Formats.{undo_name_of}
-use Rattle.pdgf_run.specs.Replay.{change_fields, fields_in, format_of, input_names, inputs_by, inputs_each, names_by, stream_names, text_name, undo_names}
+use Rattle.pdgf_run.specs.Replay.{change_names, format_of, input_names, inputs_by, inputs_each, names_by, names_in, stream_names, text_name, undo_names}
 use Rattle.pdgf_run.specs.declared.replay.Replay.{Replay}
 use Rattle.pdgf_run.specs.declared.replay.Way.{Way}
 use Rattle.pdgf_run.specs.declared.replay.Way.TheVariants as way
@@ -29,16 +29,20 @@ flat_map_more f first (suc count) =
     ∙ ap (λ rest. f first ++ rest) (flat_map_more f (first + 1) count ∙ ap (λ n. flat_map f (range_with_len (first + 1) count) ++ f n) there)
     ∙ sym (append_assoc (f first) (flat_map f (range_with_len (first + 1) count)) (f (first + suc count)))
 
--- how many fields the inputs of one more unit have
-pub fields_more : (columns unit : ℕ) (before mid now : List ℕ) → mid ≡ before ++ fields_in unit columns → now ≡ ((mid ++ 1 ∷ []) ++ columns ∷ []) ++ columns ∷ [] →
-    now ≡ before ++ fields_in (unit + 1) columns
-fields_more columns unit before mid now so_far step =
+-- one more item, as it is seen
+pub viewed_more : {A B : Type 0} (view : A → B) (before now : List A) (item : A) → now ≡ before ++ item ∷ [] → map view now ≡ map view before ++ view item ∷ []
+viewed_more view before now item is = ap (map view) is ∙ map-append view before (item ∷ [])
+
+-- the names of the columns of the inputs of one more unit
+pub columns_more : (names : List (List ℕ)) (unit : ℕ) (before mid now : List (List (List ℕ))) → mid ≡ before ++ names_in unit names →
+    now ≡ ((mid ++ take 1 names ∷ []) ++ names ∷ []) ++ names ∷ [] → now ≡ before ++ names_in (unit + 1) names
+columns_more names unit before mid now so_far step =
     step
-    ∙ append_assoc (mid ++ 1 ∷ []) (columns ∷ []) (columns ∷ [])
-    ∙ append_assoc mid (1 ∷ []) (columns ∷ columns ∷ [])
-    ∙ ap (λ front. front ++ change_fields columns) so_far
-    ∙ append_assoc before (fields_in unit columns) (change_fields columns)
-    ∙ ap (λ rest. before ++ columns ∷ rest) (sym (flat_map_more (λ (u : ℕ). change_fields columns) 0 unit))
+    ∙ append_assoc (mid ++ take 1 names ∷ []) (names ∷ []) (names ∷ [])
+    ∙ append_assoc mid (take 1 names ∷ []) (names ∷ names ∷ [])
+    ∙ ap (λ (front : List (List (List ℕ))). front ++ change_names names) so_far
+    ∙ append_assoc before (names_in unit names) (change_names names)
+    ∙ ap (λ (rest : List (List (List ℕ))). before ++ names ∷ rest) (sym (flat_map_more (λ (u : ℕ). change_names names) 0 unit))
 
 -- the parts of one more table
 pub parts_more : (name : Part → List ℕ) (contents : List Content) (first number : ℕ) (mid now : List (List ℕ)) → mid ≡ map name (parts_of contents (range_with_len first number)) →
@@ -100,9 +104,9 @@ listed_more f items place item mid now at so_far step =
     step ∙ ap (λ front. front ++ f item) so_far ∙ sym (flat_map_got f items place item at)
     ∙ ap (λ (n : ℕ). flat_map f (take n items)) (let more : suc place ≡ place + 1 = omega arith in more)
 
-pub listed_at : {B : Type 0} (f : ℕ → List B) (items : List ℕ) (place : ℕ) (mid now : List B) → place < length items → mid ≡ flat_map f (take place items) →
-    now ≡ mid ++ f (get_or items place 0) → now ≡ flat_map f (take (place + 1) items)
-listed_at f items place mid now within so_far step = listed_more f items place (get_or items place 0) mid now (slice_get-get_or items place 0 within) so_far step
+pub listed_at : {A B : Type 0} (f : A → List B) (items : List A) (place : ℕ) (d : A) (mid now : List B) → place < length items → mid ≡ flat_map f (take place items) →
+    now ≡ mid ++ f (get_or items place d) → now ≡ flat_map f (take (place + 1) items)
+listed_at f items place d mid now within so_far step = listed_more f items place (get_or items place d) mid now (slice_get-get_or items place d within) so_far step
 
 pub all_listed : {A B : Type 0} (f : A → List B) (items : List A) (place : ℕ) (now : List B) → length items ≤ place → now ≡ flat_map f (take place items) → now ≡ flat_map f items
 all_listed f items place now all so_far = so_far ∙ ap (flat_map f) (take_all place items all)

@@ -25,9 +25,9 @@ use Rattle.update_box.specs.Packages.{chosen_places}
 use Rattle.update_box.specs.Parts.{parts_of, snapshot_contents, unit_contents}
 use Rattle.update_box.specs.declared.parts.Content.{Content}
 use Rattle.update_box.specs.declared.parts.Job.{Job}
-use Rattle.pdgf_run.specs.CsvFiles.{IsCsvAsked, IsCsvUnless, IsDueIn, csv_limit, texts_asked}
+use Rattle.pdgf_run.specs.CsvFiles.{IsCsvAsked, IsCsvUnless, IsDueIn, csv_limit, job_headings, texts_asked}
 use Rattle.pdgf_run.specs.DueFiles.{most_page_bytes, package_of, page_bytes, text_files}
-use Rattle.pdgf_run.specs.Formats.{file_name, made_files}
+use Rattle.pdgf_run.specs.Formats.{each_after, file_name, made_files}
 use Rattle.pdgf_run.specs.modes.Apply.{apply_of, tables_asked}
 use Rattle.pdgf_run.specs.modes.Sample.{IsLaterText, IsSampleUnless, later_units, summary_of, text_and_changes}
 use Rattle.detail_plan.specs.declared.detail.Detail.{Detail}
@@ -48,7 +48,7 @@ one_csv_unless : (past : Bool) (contents : List Content) (plan : Project) (r : R
 one_csv_unless true contents plan r job answer other delimits is other_is = is ∙ sym other_is
 one_csv_unless false contents plan r job answer other delimits is other_is =
     is.2
-    ∙ ap (λ (csvs : List (List ℕ)). Ok (made_files (file_name Csv plan.schema job.unit) r.out (parts_of contents (chosen_places plan job.table)) csvs))
+    ∙ ap (λ (csvs : List (List ℕ)). Ok (made_files (file_name Csv plan.schema job.unit) r.out (parts_of contents (chosen_places plan job.table)) (each_after (job_headings contents plan r job) csvs)))
     (one_written Csv (layout_of plan).delimiter (texts_asked contents plan job) is.0 other_is.0 delimits is.1 other_is.1)
     ∙ sym other_is.2
 

@@ -21,8 +21,8 @@ use Rattle.stream_apply.specs.declared.key_fields.KeyFields.{KeyFields}
 use Rattle.undo_streams.proofs.TurnOutcomeLemmas.{one-revert_fault, one-reverted, reverted-no_fault}
 use Rattle.undo_streams.specs.declared.fault.RevertFault.{RevertFault}
 use Rattle.undo_streams.specs.declared.fault.RevertFault.TheVariants.{Memory}
-use Rattle.pdgf_run.specs.Formats.{made_files}
-use Rattle.pdgf_run.specs.Replay.{AreDueFor, AreReplayed, IsCsvMade, IsFirstFault, IsMadeIn, IsMadeOf, IsReadAndMade, IsReplayFaultAt, IsReplayOf, IsReplayedText, fault_at, fault_of_reason, fault_told, format_of, input_fields, input_limit, input_paths, inputs_at, inputs_each, text_name}
+use Rattle.pdgf_run.specs.Formats.{each_after, made_files}
+use Rattle.pdgf_run.specs.Replay.{AreDueFor, AreReplayed, IsCsvMade, IsFirstFault, IsMadeIn, IsMadeOf, IsReadAndMade, IsReplayFaultAt, IsReplayOf, IsReplayedText, cause_after, fault_at, fault_of_reason, fault_told, format_of, input_columns, input_limit, input_paths, inputs_at, inputs_each, records_before, text_headings, text_name}
 use Rattle.pdgf_run.specs.declared.replay.Replay.{Replay}
 use Rattle.pdgf_run.specs.declared.replay.Way.{Way}
 use Rattle.pdgf_run.specs.declared.replay.Way.TheVariants as way
@@ -156,7 +156,8 @@ one_due : (delimiter : ℕ) (r : Request) (replay : Replay) (texts : List (List 
     AreDueFor delimiter r replay texts due → AreDueFor delimiter r replay texts other → due ≡ other
 one_due delimiter r replay texts due other delimits is other_is =
     is.due_is
-    ∙ ap (made_files (text_name (format_of replay)) r.out replay.names) (one_written (format_of replay) delimiter texts is.written other_is.written delimits is.are other_is.are)
+    ∙ ap (λ (rows : List (List ℕ)). made_files (text_name (format_of replay)) r.out replay.names (each_after (text_headings r.header replay.csv) rows))
+    (one_written (format_of replay) delimiter texts is.written other_is.written delimits is.are other_is.are)
     ∙ sym other_is.due_is
 
 one_made : (delimiter : ℕ) (r : Request) (replay : Replay) (inputs : List (List ℕ)) (answer other : Result (List File) JobFault) → IsDelimiter delimiter →
@@ -174,25 +175,27 @@ one_made delimiter r replay inputs (Err fault) (Ok due) delimits made other_made
     (omega (arith, made.2.within, other_made.1)))
 one_made delimiter r replay inputs (Err fault) (Err other) delimits made other_made =
     let one = one_fault replay.way delimiter (inputs_each r replay) inputs _ made.0 other_made.0 made.1 other_made.1 delimits made.2 other_made.2 in
-    ap Err (made.3 ∙ ap (λ (n : ℕ). fault_at r replay n made.1) one.0 ∙ ap (fault_at r replay other_made.0) one.1 ∙ sym other_made.3)
+    let records : ℕ = records_before r.header replay.csv in
+    ap Err (made.3 ∙ ap (λ (n : ℕ). fault_at r replay n (cause_after records made.1)) one.0 ∙ ap (λ (cause : InputCause). fault_at r replay other_made.0 (cause_after records cause)) one.1
+    ∙ sym other_made.3)
 
 -- inputs in CSV
-one_csv_made : (delimiter : ℕ) (r : Request) (replay : Replay) (fields : List ℕ) (inputs : List (List ℕ)) (answer other : Result (List File) JobFault) → IsDelimiter delimiter →
-    IsCsvMade delimiter r replay fields inputs answer → IsCsvMade delimiter r replay fields inputs other → answer ≡ other
-one_csv_made delimiter r replay fields inputs answer other delimits (inl made) (inl other_made) =
-    let same : made.0 ≡ other_made.0 = one_copies delimiter _ made.0 other_made.0 made.1 other_made.1 in
+one_csv_made : (delimiter : ℕ) (r : Request) (replay : Replay) (columns : List (List (List ℕ))) (inputs : List (List ℕ)) (answer other : Result (List File) JobFault) → IsDelimiter delimiter →
+    IsCsvMade delimiter r replay columns inputs answer → IsCsvMade delimiter r replay columns inputs other → answer ≡ other
+one_csv_made delimiter r replay columns inputs answer other delimits (inl made) (inl other_made) =
+    let same : made.0 ≡ other_made.0 = one_copies r.header delimiter _ made.0 other_made.0 made.1 other_made.1 in
     one_made delimiter r replay made.0 answer other delimits made.2
     (subst (λ (copies : List (List ℕ)). IsMadeOf delimiter r replay copies other) (sym same) other_made.2)
-one_csv_made delimiter r replay fields inputs answer other delimits (inl made) (inr bad) = absurd (no_bad delimiter _ made.0 bad.0 bad.1 made.1 bad.2)
-one_csv_made delimiter r replay fields inputs answer other delimits (inr bad) (inl made) = absurd (no_bad delimiter _ made.0 bad.0 bad.1 made.1 bad.2)
-one_csv_made delimiter r replay fields inputs answer other delimits (inr bad) (inr other_bad) =
-    let one = one_bad delimiter _ bad.0 other_bad.0 bad.1 other_bad.1 bad.2 other_bad.2 in
+one_csv_made delimiter r replay columns inputs answer other delimits (inl made) (inr bad) = absurd (no_bad r.header delimiter _ made.0 bad.0 bad.1 made.1 bad.2)
+one_csv_made delimiter r replay columns inputs answer other delimits (inr bad) (inl made) = absurd (no_bad r.header delimiter _ made.0 bad.0 bad.1 made.1 bad.2)
+one_csv_made delimiter r replay columns inputs answer other delimits (inr bad) (inr other_bad) =
+    let one = one_bad r.header delimiter _ bad.0 other_bad.0 bad.1 other_bad.1 bad.2 other_bad.2 in
     bad.3 ∙ ap Err (ap (λ (n : ℕ). fault_at r replay n (BadRecord bad.1)) one.0 ∙ ap (λ (at : ℕ). fault_at r replay other_bad.0 (BadRecord at)) one.1) ∙ sym other_bad.3
 
-one_made_in : (csv : Option (List ℕ)) (delimiter : ℕ) (r : Request) (replay : Replay) (inputs : List (List ℕ)) (answer other : Result (List File) JobFault) → IsDelimiter delimiter →
+one_made_in : (csv : Option (List (List (List ℕ)))) (delimiter : ℕ) (r : Request) (replay : Replay) (inputs : List (List ℕ)) (answer other : Result (List File) JobFault) → IsDelimiter delimiter →
     IsMadeIn csv delimiter r replay inputs answer → IsMadeIn csv delimiter r replay inputs other → answer ≡ other
 one_made_in None delimiter r replay inputs answer other delimits is other_is = one_made delimiter r replay inputs answer other delimits is other_is
-one_made_in (Some columns) delimiter r replay inputs answer other delimits is other_is = one_csv_made delimiter r replay (input_fields r columns) inputs answer other delimits is other_is
+one_made_in (Some tables) delimiter r replay inputs answer other delimits is other_is = one_csv_made delimiter r replay (input_columns r tables) inputs answer other delimits is other_is
 
 one_read : (delimiter : ℕ) (r : Request) (replay : Replay) (inputs : Result (List (List ℕ)) UnreadInput) (answer other : Result (List File) JobFault) → IsDelimiter delimiter →
     IsReadAndMade delimiter r replay inputs answer → IsReadAndMade delimiter r replay inputs other → answer ≡ other

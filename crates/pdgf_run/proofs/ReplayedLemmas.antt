@@ -1,5 +1,5 @@
 -- What the inputs of tables make that are replayed, table by table.
-use Rattle.std.proofs.Common.{◌≡◌, ◌≢◌, ◌<◌, ◌≤◌, ◌+◌, ◌-◌, ◌*◌, ℕ, zero, suc, false, List, [], ◌∷◌, ◌++◌, drop, get_or, length, map, take, Option, Some, Result, Ok, Err, inl, inr, ap, refl, sym, subst, ◌∙◌, arith}
+use Rattle.std.proofs.Common.{◌≡◌, ◌≢◌, ◌<◌, ◌≤◌, ◌+◌, ◌*◌, ℕ, zero, suc, false, List, [], ◌∷◌, ◌++◌, drop, get_or, length, map, take, Option, Some, Result, Ok, Err, inl, inr, ap, refl, sym, subst, ◌∙◌, arith}
 use Rattle.std.proofs.Math.Seq.{get_or-append_seam}
 use Rattle.std.proofs.lemmas.Bool.{cases_lt}
 use Rattle.std.specs.Prelude.{◌⊎◌, IfErr, zip}
@@ -13,12 +13,12 @@ use Rattle.refusals.specs.declared.refusal.JobFault.{JobFault}
 use Rattle.stream_apply.specs.declared.fault.ApplyFault.{ApplyFault}
 use Rattle.stream_apply.specs.declared.fault.ApplyFault.TheVariants as fault
 use Rattle.refusals.specs.Statuses.{applying_status, is_free, job_status}
+use Rattle.request_words.specs.declared.usage.Header.{Header}
 use Rattle.request_words.specs.declared.usage.Request.{Request}
-use Rattle.pdgf_run.specs.Formats.{AreWritten, in_directory, made_files, named_files}
+use Rattle.pdgf_run.specs.Formats.{AreWritten, each_after, in_directory, made_files, named_files}
 use Rattle.pdgf_run.specs.Jobs.{due_of}
-use Rattle.request_words.specs.declared.usage.Format.{Format}
 use Rattle.schema_plan.proofs.Lists.{map-map}
-use Rattle.pdgf_run.specs.Replay.{AreDueFor, AreReadAs, AreReplayed, IsCsvMade, IsFirstFault, IsMadeOf, IsReplayFaultAt, IsReplayedText, IsUnreadRecord, IsUnreplayed, input_names, inputs_at, inputs_each, named_fault, format_of, text_name}
+use Rattle.pdgf_run.specs.Replay.{AreDueFor, AreReadAs, AreReplayed, IsCsvMade, IsFirstFault, IsMadeOf, IsReplayFaultAt, IsReplayedText, IsUnreadRecord, IsUnreplayed, cause_after, fault_after, input_names, inputs_at, inputs_each, named_fault, format_of, records_before, text_headings, text_name}
 use Rattle.pdgf_run.specs.Verdict.{IsDecided}
 use Rattle.pdgf_run.specs.declared.job.Job.{Job}
 use Rattle.pdgf_run.specs.declared.replay.Replay.{Replay}
@@ -69,10 +69,11 @@ in_all count each texts place number within below is =
     omega (arith, rows, next, is, below)
 
 -- why a table's inputs aren't replayed
-pub unreplayed_at : (w : Way) (delimiter : ℕ) (names : List (List ℕ)) (each : ℕ) (inputs texts : List (List ℕ)) (count place number : ℕ) (cause : InputCause) (told : JobFault) →
+pub unreplayed_at : (w : Way) (delimiter records : ℕ) (names : List (List ℕ)) (each : ℕ) (inputs texts : List (List ℕ)) (count place number : ℕ) (cause : InputCause) (told : JobFault) →
     AreReplayed w delimiter each inputs texts → length texts < count → place < each → number ≡ length texts * each + place →
-    IsReplayFaultAt w delimiter (inputs_at each inputs (length texts)) place cause → told ≡ named_fault names number cause → IsUnreplayed w delimiter names each inputs count told
-unreplayed_at w delimiter names each inputs texts count place number cause told before within below is has told_is =
+    IsReplayFaultAt w delimiter (inputs_at each inputs (length texts)) place cause → told ≡ named_fault names number (cause_after records cause) →
+    IsUnreplayed w delimiter records names each inputs count told
+unreplayed_at w delimiter records names each inputs texts count place number cause told before within below is has told_is =
     inr (
       number,
       cause,
@@ -81,17 +82,20 @@ unreplayed_at w delimiter names each inputs texts count place number cause told 
     )
 
 -- what is due in a directory for texts that are written
-pub due_in_directory : (delimiter : ℕ) (r : Request) (replay : Replay) (texts written names paths : List (List ℕ)) (directory : List ℕ) (format : Format) → format ≡ format_of replay →
-    r.out ≡ Some directory → AreWritten format delimiter texts written → names ≡ map (text_name (format_of replay)) replay.names → paths ≡ map (in_directory directory) names →
-    AreDueFor delimiter r replay texts (named_files paths written)
-due_in_directory delimiter r replay texts written names paths directory format format_is out_is are named in_there = record {
-  written = written;
-  are = subst (λ (f : Format). AreWritten f delimiter texts written) format_is are;
-  due_is =
-      ap (λ (p : List (List ℕ)). named_files p written)
-      (in_there ∙ ap (map (in_directory directory)) named ∙ map-map (in_directory directory) (text_name (format_of replay)) replay.names)
-      ∙ ap (λ (o : Option (List ℕ)). made_files (text_name (format_of replay)) o replay.names written) (sym out_is);
-}
+pub due_in_directory : (delimiter : ℕ) (r : Request) (replay : Replay) (texts rows written names paths : List (List ℕ)) (directory : List ℕ) →
+    r.out ≡ Some directory → AreWritten (format_of replay) delimiter texts rows → written ≡ each_after (text_headings r.header replay.csv) rows →
+    names ≡ map (text_name (format_of replay)) replay.names → paths ≡ map (in_directory directory) names → AreDueFor delimiter r replay texts (named_files paths written)
+due_in_directory delimiter r replay texts rows written names paths directory out_is are headed named in_there =
+    let whole : List (List ℕ) = each_after (text_headings r.header replay.csv) rows in
+    record {
+      written = rows;
+      are = are;
+      due_is =
+          ap (named_files paths) headed
+          ∙ ap (λ (p : List (List ℕ)). named_files p whole)
+          (in_there ∙ ap (map (in_directory directory)) named ∙ map-map (in_directory directory) (text_name (format_of replay)) replay.names)
+          ∙ ap (λ (o : Option (List ℕ)). made_files (text_name (format_of replay)) o replay.names whole) (sym out_is);
+    }
 
 -- texts that are made, as they are written
 pub made_of_texts : (delimiter : ℕ) (r : Request) (replay : Replay) (each : ℕ) (inputs texts : List (List ℕ)) (due : List File) → each ≡ inputs_each r replay →
@@ -100,40 +104,41 @@ made_of_texts delimiter r replay each inputs texts due each_is many are due_for 
     (texts, many, subst (λ (e : ℕ). AreReplayed replay.way delimiter e inputs texts) each_is are, due_for)
 
 -- why none are
-pub unreplayed_decided : (delimiter : ℕ) (r : Request) (replay : Replay) (each count : ℕ) (names inputs : List (List ℕ)) (fault : JobFault) → each ≡ inputs_each r replay →
-    count ≡ length replay.names → names ≡ input_names r replay → IsUnreplayed replay.way delimiter names each inputs count fault → is_free (job_status fault) ≡ false →
-    IsMadeOf delimiter r replay inputs (Err fault)
-unreplayed_decided delimiter r replay each count names inputs fault each_is count_is named (inl memory) =
+pub unreplayed_decided : (delimiter : ℕ) (r : Request) (replay : Replay) (records each count : ℕ) (names inputs : List (List ℕ)) (fault : JobFault) →
+    records ≡ records_before r.header replay.csv → each ≡ inputs_each r replay → count ≡ length replay.names → names ≡ input_names r replay →
+    IsUnreplayed replay.way delimiter records names each inputs count fault → is_free (job_status fault) ≡ false → IsMadeOf delimiter r replay inputs (Err fault)
+unreplayed_decided delimiter r replay records each count names inputs fault records_are each_is count_is named (inl memory) =
     λ free. let never = ap (λ (f : JobFault). is_free (job_status f)) memory in absurd (cc)
-unreplayed_decided delimiter r replay each count names inputs fault each_is count_is named (inr found) = λ free. (
+unreplayed_decided delimiter r replay records each count names inputs fault records_are each_is count_is named (inr found) = λ free. (
   found.0,
   found.1,
   subst (λ (e : ℕ). IsFirstFault replay.way delimiter e inputs (length replay.names) found.0 found.1) each_is
       (subst (λ (n : ℕ). IsFirstFault replay.way delimiter each inputs n found.0 found.1) count_is found.2),
-  found.3 ∙ ap (λ (n : List (List ℕ)). named_fault n found.0 found.1) named,
+  found.3 ∙ ap (λ (n : List (List ℕ)). named_fault n found.0 (cause_after records found.1)) named
+      ∙ ap (λ (n : ℕ). named_fault (input_names r replay) found.0 (cause_after n found.1)) records_are,
 )
 
 -- it is want of memory, or a line at fault
-applying : (cause : ApplyFault) → (applying_status cause ≡ 7) ⊎ (applying_status cause ≡ 9)
-applying (fault.BadLine line) = inr refl
-applying (fault.DoubleKey line) = inr refl
-applying (fault.NoSuchKey line) = inr refl
-applying (fault.KeyExists line) = inr refl
-applying fault.Memory = inl refl
+applying : (records : ℕ) (cause : ApplyFault) → (applying_status (fault_after records cause) ≡ 7) ⊎ (applying_status (fault_after records cause) ≡ 9)
+applying records (fault.BadLine line) = inr refl
+applying records (fault.DoubleKey line) = inr refl
+applying records (fault.NoSuchKey line) = inr refl
+applying records (fault.KeyExists line) = inr refl
+applying records fault.Memory = inl refl
 
-replaying : (w : Way) (delimiter : ℕ) (inputs names : List (List ℕ)) (place number : ℕ) (cause : InputCause) → IsReplayFaultAt w delimiter inputs place cause →
-    (job_status (named_fault names number cause) ≡ 7) ⊎ (job_status (named_fault names number cause) ≡ 9)
-replaying w delimiter inputs names place number (Applying fault) has = applying fault
-replaying w delimiter inputs names place number (Reverting fault) has = inr refl
-replaying w delimiter inputs names place number (Reading cause) has = absurd has
-replaying w delimiter inputs names place number (BadRecord at) has = absurd has
+replaying : (w : Way) (delimiter records : ℕ) (inputs names : List (List ℕ)) (place number : ℕ) (cause : InputCause) → IsReplayFaultAt w delimiter inputs place cause →
+    (job_status (named_fault names number (cause_after records cause)) ≡ 7) ⊎ (job_status (named_fault names number (cause_after records cause)) ≡ 9)
+replaying w delimiter records inputs names place number (Applying fault) has = applying records fault
+replaying w delimiter records inputs names place number (Reverting fault) has = inr refl
+replaying w delimiter records inputs names place number (Reading cause) has = absurd has
+replaying w delimiter records inputs names place number (BadRecord at) has = absurd has
 
-pub unreplayed_status : (w : Way) (delimiter : ℕ) (names : List (List ℕ)) (each : ℕ) (inputs : List (List ℕ)) (count : ℕ) (fault : JobFault) →
-    IsUnreplayed w delimiter names each inputs count fault → (job_status fault ≡ 7) ⊎ (job_status fault ≡ 9)
-unreplayed_status w delimiter names each inputs count fault (inl memory) = inl (ap job_status memory)
-unreplayed_status w delimiter names each inputs count fault (inr found) =
+pub unreplayed_status : (w : Way) (delimiter records : ℕ) (names : List (List ℕ)) (each : ℕ) (inputs : List (List ℕ)) (count : ℕ) (fault : JobFault) →
+    IsUnreplayed w delimiter records names each inputs count fault → (job_status fault ≡ 7) ⊎ (job_status fault ≡ 9)
+unreplayed_status w delimiter records names each inputs count fault (inl memory) = inl (ap job_status memory)
+unreplayed_status w delimiter records names each inputs count fault (inr found) =
     subst (λ (s : ℕ). (s ≡ 7) ⊎ (s ≡ 9)) (sym (ap job_status found.3))
-    (replaying w delimiter (inputs_at each inputs (length found.2.texts)) names found.2.place found.0 found.1 found.2.has)
+    (replaying w delimiter records (inputs_at each inputs (length found.2.texts)) names found.2.place found.0 found.1 found.2.has)
 
 -- what is made tells of no read
 pub made_of_itself : (made : Result Job JobFault) → IfErr made (λ fault. (job_status fault ≡ 7) ⊎ (job_status fault ≡ 9)) →
@@ -145,20 +150,22 @@ made_of_itself (Err fault) (inr nine) = (λ e. absurd (omega (arith, nine, e)), 
 -- ---- inputs in CSV
 
 -- the first bad record refuses the inputs
-pub unread_record_decided : (delimiter : ℕ) (r : Request) (replay : Replay) (names : List (List ℕ)) (fields : List ℕ) (inputs : List (List ℕ)) (fault : JobFault) → names ≡ input_names r replay →
-    IsUnreadRecord delimiter names (zip fields inputs) fault → is_free (job_status fault) ≡ false → IsCsvMade delimiter r replay fields inputs (Err fault)
-unread_record_decided delimiter r replay names fields inputs fault named (inl memory) =
+pub unread_record_decided : (delimiter : ℕ) (r : Request) (replay : Replay) (names : List (List ℕ)) (columns : List (List (List ℕ))) (inputs : List (List ℕ)) (fault : JobFault) →
+    names ≡ input_names r replay → IsUnreadRecord r.header delimiter names (zip columns inputs) fault → is_free (job_status fault) ≡ false →
+    IsCsvMade delimiter r replay columns inputs (Err fault)
+unread_record_decided delimiter r replay names columns inputs fault named (inl memory) =
     λ free. let never = ap (λ (f : JobFault). is_free (job_status f)) memory in absurd (cc)
-unread_record_decided delimiter r replay names fields inputs fault named (inr found) = λ free.
+unread_record_decided delimiter r replay names columns inputs fault named (inr found) = λ free.
     inr (found.0, found.1, found.2, ap Err (found.3 ∙ ap (λ (n : List (List ℕ)). named_fault n found.0 (BadRecord found.1)) named))
 
-pub unread_record_status : (delimiter : ℕ) (names : List (List ℕ)) (inputs : List (ℕ × List ℕ)) (fault : JobFault) →
-    IsUnreadRecord delimiter names inputs fault → (job_status fault ≡ 7) ⊎ (job_status fault ≡ 9)
-unread_record_status delimiter names inputs fault (inl memory) = inl (ap job_status memory)
-unread_record_status delimiter names inputs fault (inr found) = inr (ap job_status found.3)
+pub unread_record_status : (asked : Header) (delimiter : ℕ) (names : List (List ℕ)) (inputs : List (List (List ℕ) × List ℕ)) (fault : JobFault) →
+    IsUnreadRecord asked delimiter names inputs fault → (job_status fault ≡ 7) ⊎ (job_status fault ≡ 9)
+unread_record_status asked delimiter names inputs fault (inl memory) = inl (ap job_status memory)
+unread_record_status asked delimiter names inputs fault (inr found) = inr (ap job_status found.3)
 
 -- what the inputs are in COPY text form decides
-pub copies_decided : (delimiter : ℕ) (r : Request) (replay : Replay) (fields : List ℕ) (inputs copies : List (List ℕ)) (made : Result Job JobFault) →
-    AreReadAs delimiter (zip fields inputs) copies → IsDecided job_status due_of (IsMadeOf delimiter r replay copies) made → IsDecided job_status due_of (IsCsvMade delimiter r replay fields inputs) made
-copies_decided delimiter r replay fields inputs copies (Ok job) are decided = inl (copies, are, decided)
-copies_decided delimiter r replay fields inputs copies (Err fault) are decided = λ free. inl (copies, are, decided free)
+pub copies_decided : (delimiter : ℕ) (r : Request) (replay : Replay) (columns : List (List (List ℕ))) (inputs copies : List (List ℕ)) (made : Result Job JobFault) →
+    AreReadAs r.header delimiter (zip columns inputs) copies → IsDecided job_status due_of (IsMadeOf delimiter r replay copies) made →
+    IsDecided job_status due_of (IsCsvMade delimiter r replay columns inputs) made
+copies_decided delimiter r replay columns inputs copies (Ok job) are decided = inl (copies, are, decided)
+copies_decided delimiter r replay columns inputs copies (Err fault) are decided = λ free. inl (copies, are, decided free)

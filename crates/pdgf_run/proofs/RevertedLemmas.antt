@@ -65,7 +65,7 @@ earlier_reverted plan r table inputs limits order units within are = record {
       let at_start : r.to + (r.from - r.to) ≤ last_unit plan = omega (arith, order, units) in
       let own : inputs_at (1 + (r.from - r.to)) inputs i ≡ undo_inputs plan r.to (r.from - r.to) place =
       ap (λ (l : List (List ℕ)). inputs_at (1 + (r.from - r.to)) l i) are
-      ∙ chunk (undo_inputs plan r.to (r.from - r.to)) (1 + (r.from - r.to)) places i (length-undo_inputs plan r) inside in
+      ∙ chunk (undo_inputs plan r.to (r.from - r.to)) (1 + (r.from - r.to)) places i 0 (length-undo_inputs plan r) inside in
       let text : get_or (map (table_text (generator_of plan) r.to) places) i [] ≡ table_text (generator_of plan) r.to place =
       get_or-map (table_text (generator_of plan) r.to) places i 0 [] inside in
       subst (λ (t : List ℕ). IsRevertedText (layout_of plan).delimiter (inputs_at (1 + (r.from - r.to)) inputs i) t) (sym text)

@@ -1,5 +1,5 @@
 -- The rows of texts that tell of tables, and of texts that inputs make.
-use Rattle.std.proofs.Common.{◌≡◌, ◌<◌, ◌+◌, ℕ, zero, suc, All, List, [], ◌∷◌, ◌++◌, append-nil, append_assoc, decimal, flat_map, get_or, length, map, Option, None, Some, ap, arith, refl, subst, sym, ◌∙◌}
+use Rattle.std.proofs.Common.{◌≡◌, ◌<◌, ◌≤◌, ◌+◌, ℕ, zero, suc, All, List, [], ◌∷◌, ◌++◌, append-nil, append_assoc, decimal, flat_map, get_or, length, map, Option, None, Some, ap, arith, refl, subst, sym, ◌∙◌}
 use Rattle.std.specs.Prelude.{Contains}
 use Rattle.std.specs.List.{AllZip, join_with_byte, range_with_len}
 use Rattle.std.proofs.lemmas.List.{length-map}
@@ -32,8 +32,8 @@ use Rattle.update_box.specs.declared.parts.Content.{Content}
 use Rattle.update_box.specs.declared.parts.Content.TheVariants as content
 use Rattle.update_box.specs.declared.parts.Job.{Job}
 use Rattle.pdgf_run.specs.DueFiles.{table_files}
-use Rattle.pdgf_run.specs.Formats.{IsOfFields}
-use Rattle.pdgf_run.specs.Replay.{change_fields, fields_in}
+use Rattle.pdgf_run.specs.Formats.{IsOfFields, IsOfNames}
+use Rattle.pdgf_run.specs.Replay.{change_names, names_in}
 
 -- ---- lines of rows
 
@@ -103,6 +103,9 @@ keys-copy generator last place rows = (
 module _ (plan : Project) (limits : IsInLimits plan) where
   pub some_column : (place : ℕ) → place < length plan.schema.tables → 0 < length (table_of plan place).columns
   some_column place below = omega (arith, (limits.tables place no_table (place-below plan place below)).some_column)
+
+  pub few_columns : (place : ℕ) → place < length plan.schema.tables → length (table_of plan place).columns ≤ 64
+  few_columns place below = omega (arith, (limits.tables place no_table (place-below plan place below)).column_limit)
 
   has_rows : (count : ℕ) (text : List ℕ) → IsOfFields (generator_of plan).delimiter count text → HasRows (layout_of plan).delimiter text
   has_rows count text of = record { fields = count; rows = of.0; copy = of.1 }
@@ -188,26 +191,26 @@ stream-fields delimiter count delimits bytes of kind table lines stream =
     lines-of_fields delimiter count delimits of.1.some lines of.0
     (λ k d inside. keyed-line_feed One delimiter delimits kind _ (stream.keyed k d inside)) of.1.alike (sym stream.text ∙ of.1.written)
 
-changes-fields : (delimiter columns : ℕ) → IsDelimiter delimiter → (first units : ℕ) (inputs : List (List ℕ)) →
-    AllZip (IsOfFields delimiter) (flat_map (λ (unit : ℕ). change_fields columns) (range_with_len first units)) inputs → AreTrueOfChanges (HasFields delimiter columns) One delimiter inputs
-changes-fields delimiter columns delimits first zero [] are = tt
-changes-fields delimiter columns delimits first zero (input ∷ inputs) are = absurd are
-changes-fields delimiter columns delimits first (suc units) [] are = absurd are
-changes-fields delimiter columns delimits first (suc units) (deletes ∷ []) are = absurd are.1
-changes-fields delimiter columns delimits first (suc units) (deletes ∷ updates ∷ []) are = absurd are.1.1
-changes-fields delimiter columns delimits first (suc units) (deletes ∷ updates ∷ inserts ∷ inputs) are = (
+changes-fields : (delimiter : ℕ) (names : List (List ℕ)) → IsDelimiter delimiter → (first units : ℕ) (inputs : List (List ℕ)) →
+    AllZip (IsOfNames delimiter) (flat_map (λ (unit : ℕ). change_names names) (range_with_len first units)) inputs → AreTrueOfChanges (HasFields delimiter (length names)) One delimiter inputs
+changes-fields delimiter names delimits first zero [] are = tt
+changes-fields delimiter names delimits first zero (input ∷ inputs) are = absurd are
+changes-fields delimiter names delimits first (suc units) [] are = absurd are
+changes-fields delimiter names delimits first (suc units) (deletes ∷ []) are = absurd are.1
+changes-fields delimiter names delimits first (suc units) (deletes ∷ updates ∷ []) are = absurd are.1.1
+changes-fields delimiter names delimits first (suc units) (deletes ∷ updates ∷ inserts ∷ inputs) are = (
   tt,
   (
-    stream-fields delimiter columns delimits updates are.1.0,
-    (stream-fields delimiter columns delimits inserts are.1.1.0, changes-fields delimiter columns delimits (first + 1) units inputs are.1.1.1),
+    stream-fields delimiter (length names) delimits updates are.1.0,
+    (stream-fields delimiter (length names) delimits inserts are.1.1.0, changes-fields delimiter names delimits (first + 1) units inputs are.1.1.1),
   ),
 )
 
-table-fields : (delimiter columns units : ℕ) → IsDelimiter delimiter → (inputs : List (List ℕ)) → AllZip (IsOfFields delimiter) (fields_in units columns) inputs →
-    AreTrueOfTable (HasFields delimiter columns) One delimiter inputs
-table-fields delimiter columns units delimits [] are = absurd are
-table-fields delimiter columns units delimits (text ∷ inputs) are =
-    (stream-fields delimiter columns delimits text are.0, changes-fields delimiter columns delimits 0 units inputs are.1)
+table-fields : (delimiter : ℕ) (names : List (List ℕ)) (units : ℕ) → IsDelimiter delimiter → (inputs : List (List ℕ)) → AllZip (IsOfNames delimiter) (names_in units names) inputs →
+    AreTrueOfTable (HasFields delimiter (length names)) One delimiter inputs
+table-fields delimiter names units delimits [] are = absurd are
+table-fields delimiter names units delimits (text ∷ inputs) are =
+    (stream-fields delimiter (length names) delimits text are.0, changes-fields delimiter names delimits 0 units inputs are.1)
 
 -- lines with as many fields are rows
 rows-of_lines : (delimiter count : ℕ) (lines : List KeyedLine) → AllTexts (HasFields delimiter count) lines →
@@ -222,9 +225,9 @@ rows-of_lines delimiter count (line ∷ lines) all =
       All-cons (λ (row : csv.Row). length row ≡ count) own.0 rest.0 own.2 rest.2,
     )
 
-pub applied-rows : (delimiter columns units : ℕ) → IsDelimiter delimiter → 0 < columns → (inputs : List (List ℕ)) (text : List ℕ) → AllZip (IsOfFields delimiter) (fields_in units columns) inputs →
-    IsAppliedText One delimiter inputs text → HasRows delimiter text
-applied-rows delimiter columns units delimits some inputs text are is =
-    let all = applied-all (HasFields delimiter columns) One delimiter inputs text (table-fields delimiter columns units delimits inputs are) is in
-    let rows = rows-of_lines delimiter columns is.lines all in
-    record { fields = columns; rows = rows.0; copy = record { some = some; alike = rows.2; written = is.is ∙ rows.1 } }
+pub applied-rows : (delimiter : ℕ) (names : List (List ℕ)) (units : ℕ) → IsDelimiter delimiter → 0 < length names → (inputs : List (List ℕ)) (text : List ℕ) →
+    AllZip (IsOfNames delimiter) (names_in units names) inputs → IsAppliedText One delimiter inputs text → HasRows delimiter text
+applied-rows delimiter names units delimits some inputs text are is =
+    let all = applied-all (HasFields delimiter (length names)) One delimiter inputs text (table-fields delimiter names units delimits inputs are) is in
+    let rows = rows-of_lines delimiter (length names) is.lines all in
+    record { fields = length names; rows = rows.0; copy = record { some = some; alike = rows.2; written = is.is ∙ rows.1 } }

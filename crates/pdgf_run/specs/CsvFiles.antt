@@ -6,17 +6,20 @@ use Rattle.refusals.specs.declared.refusal.JobFault.{JobFault}
 use Rattle.refusals.specs.declared.refusal.JobFault.TheVariants.{Range}
 use Rattle.request_words.specs.declared.usage.Format.{Format}
 use Rattle.request_words.specs.declared.usage.Format.TheVariants.{Copy, Csv}
+use Rattle.request_words.specs.declared.usage.Header.{Header}
 use Rattle.request_words.specs.declared.usage.OptionName.TheVariants as option
 use Rattle.request_words.specs.declared.usage.Request.{Request}
+use Rattle.schema_model.specs.declared.table.Schema.{Schema}
 use Rattle.schema_plan.specs.Dictionaries.{Project}
 use Rattle.schema_plan.specs.Layout.{layout_of}
+use Rattle.schema_plan.specs.Rules.{column_names}
 use Rattle.update_box.specs.Packages.{chosen_places, packages_of, share_text}
-use Rattle.update_box.specs.Parts.{parts_of}
+use Rattle.update_box.specs.Parts.{Part, parts_of}
 use Rattle.update_box.specs.declared.parts.Content.{Content}
 use Rattle.update_box.specs.declared.parts.Job.{Job}
 use Rattle.plan_stages.specs.Stages.{on_ok}
 use Rattle.pdgf_run.specs.DueFiles.{table_files}
-use Rattle.pdgf_run.specs.Formats.{AreCsvOf, file_name, made_files}
+use Rattle.pdgf_run.specs.Formats.{AreCsvOf, each_after, file_name, header_at, heading_of, made_files, names_for}
 
 -- the most bytes that the texts in COPY text form have together of which CSV is made
 abbrev pub csv_limit : ℕ
@@ -26,12 +29,21 @@ csv_limit = 268435456
 abbrev pub texts_asked : List Content → Project → Job → List (List ℕ)
 texts_asked contents plan job = map (share_text plan job.unit) (packages_of contents plan job).shares
 
--- they have more bytes together than they may, or each is written as CSV
+-- what the file of a part begins with
+abbrev pub part_heading : Header → Schema → Part → List ℕ
+part_heading asked schema part = heading_of asked (names_for (column_names schema part.place) part.content)
+
+abbrev pub job_headings : List Content → Project → Request → Job → List (List ℕ)
+job_headings contents plan request job =
+    map (part_heading (header_at job.node request.header) plan.schema) (parts_of contents (chosen_places plan job.table))
+
+-- they have more bytes together than they may, or each is written as CSV, after its heading
 abbrev pub IsCsvUnless : Bool → List Content → Project → Request → Job → Result (List File) JobFault → Type 0
 IsCsvUnless true contents plan request job answer = answer ≡ Err (Range option.Format)
 IsCsvUnless false contents plan request job answer =
     (csvs : List (List ℕ)) × AreCsvOf (layout_of plan).delimiter (texts_asked contents plan job) csvs
-    × (answer ≡ Ok (made_files (file_name Csv plan.schema job.unit) request.out (parts_of contents (chosen_places plan job.table)) csvs))
+    × (answer ≡ Ok (made_files (file_name Csv plan.schema job.unit) request.out (parts_of contents (chosen_places plan job.table))
+    (each_after (job_headings contents plan request job) csvs)))
 
 abbrev pub IsCsvOfJob : List Content → Project → Request → Job → Result (List File) JobFault → Type 0
 IsCsvOfJob contents plan request job answer =

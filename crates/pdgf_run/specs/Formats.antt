@@ -1,10 +1,12 @@
 -- Rows in a format: the names of their files, and their texts.
-use Rattle.std.specs.Prelude.{◌≡◌, ℕ, ◌++◌, List, [], ◌∷◌, codes, decimal, flat_map, map, Option, Some, None}
+use Rattle.std.specs.Prelude.{◌≡◌, ℕ, zero, suc, ◌++◌, List, [], ◌∷◌, codes, decimal, flat_map, length, map, take, Option, Some, None}
 use Rattle.std.specs.List.{AllZip}
 use Rattle.pd_outside.specs.Files.{File}
-use Rattle.csv_face.specs.Csv.{IsCopyText, IsCsvOf, Row}
+use Rattle.csv_face.specs.Csv.{IsCopyText, IsCsvOf, Row, names_text}
 use Rattle.request_words.specs.declared.usage.Format.{Format}
 use Rattle.request_words.specs.declared.usage.Format.TheVariants.{Copy, Csv}
+use Rattle.request_words.specs.declared.usage.Header.{Header}
+use Rattle.request_words.specs.declared.usage.Header.TheVariants as header
 use Rattle.schema_model.specs.declared.table.Schema.{Schema}
 use Rattle.update_box.specs.Parts.{Part, ending_of, name_at}
 use Rattle.update_box.specs.declared.parts.Content.{Content}
@@ -44,14 +46,43 @@ abbrev pub made_files : {A : Type 0} → (A → List ℕ) → Option (List ℕ) 
 made_files name None things texts = text_files (flat_map (λ text. text) texts)
 made_files name (Some directory) things texts = named_files (map (λ thing. in_directory directory (name thing)) things) texts
 
+-- ---- the names of columns
+
+-- those of a file that holds nothing but this content of a table with such columns: what a unit deletes has the key alone
+abbrev pub names_for : List (List ℕ) → Content → List (List ℕ)
+names_for names content.Deleted = take 1 names
+names_for names content.Snapshot = names
+names_for names content.Updated = names
+names_for names content.Inserted = names
+
+-- the first record of a file with such columns
+abbrev pub heading_of : Header → List (List ℕ) → List ℕ
+heading_of header.None names = []
+heading_of header.Names names = names_text names
+
+-- of a file that is shared out over nodes share 0 alone begins with names
+abbrev pub header_at : ℕ → Header → Header
+header_at zero asked = asked
+header_at (suc node) asked = header.None
+
+-- texts, each after its heading
+abbrev pub each_after : List (List ℕ) → List (List ℕ) → List (List ℕ)
+each_after [] texts = texts
+each_after (heading ∷ headings) [] = []
+each_after (heading ∷ headings) (text ∷ texts) = (heading ++ text) ∷ each_after headings texts
+
 -- ---- texts
 
 -- texts in COPY text form whose rows have so many fields each
 abbrev pub IsOfFields : ℕ → ℕ → List ℕ → Type 0
 IsOfFields delimiter fields text = (rows : List Row) × IsCopyText delimiter fields rows text
 
-abbrev pub AreRowsOf : ℕ → List ℕ → List (List ℕ) → Type 0
-AreRowsOf delimiter fields texts = AllZip (IsOfFields delimiter) fields texts
+-- the same of a text whose rows have a field for each of some names, and of texts
+abbrev pub IsOfNames : ℕ → List (List ℕ) → List ℕ → Type 0
+IsOfNames delimiter names text = IsOfFields delimiter (length names) text
+
+abbrev pub AreRowsOf : ℕ → List (List (List ℕ)) → List (List ℕ) → Type 0
+AreRowsOf delimiter names texts = AllZip (IsOfNames delimiter) names texts
 
 -- texts in COPY text form, and each of them as CSV
 abbrev pub AreCsvOf : ℕ → List (List ℕ) → List (List ℕ) → Type 0

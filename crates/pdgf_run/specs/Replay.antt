@@ -1,7 +1,7 @@
 -- Texts, and what makes others of them, are read from files, replayed table by table, and the texts that come of it are written.
 use Rattle.std.specs.Prelude.{◌≡◌, ◌≢◌, ◌<◌, ◌≤◌, ◌⊎◌, ℕ, ◌+◌, ◌-◌, ◌*◌, zero, suc, zip, All, List, [], ◌∷◌, ◌++◌, IfSome, drop, flat_map, get_or, length, map, take, Option, Some, None, Result, Ok, Err}
 use Rattle.std.specs.List.{AllZip, range_with_len}
-use Rattle.csv_face.specs.Reading.{HasBadRecord, IsReadAs}
+use Rattle.csv_face.specs.Reading.{HasBadNamed, HasBadRecord, IsNamedReadAs, IsReadAs}
 use Rattle.pd_outside.specs.Files.{File}
 use Rattle.plan_stages.specs.Inputs.{inputs_in}
 use Rattle.plan_stages.specs.declared.inputs.UnreadInput.{UnreadInput}
@@ -14,6 +14,8 @@ use Rattle.refusals.specs.declared.refusal.LineReason.{LineReason}
 use Rattle.refusals.specs.declared.refusal.LineReason.TheVariants as reason
 use Rattle.request_words.specs.declared.usage.Format.{Format}
 use Rattle.request_words.specs.declared.usage.Format.TheVariants.{Copy, Csv}
+use Rattle.request_words.specs.declared.usage.Header.{Header}
+use Rattle.request_words.specs.declared.usage.Header.TheVariants as header
 use Rattle.request_words.specs.declared.usage.Request.{Request}
 use Rattle.stream_apply.specs.InTurn.{IsAppliedText, IsFaultAt}
 use Rattle.stream_apply.specs.declared.fault.ApplyFault.{ApplyFault}
@@ -25,7 +27,7 @@ use Rattle.undo_streams.specs.declared.fault.RevertFault.TheVariants as revert
 use Rattle.update_box.specs.Parts.{unit_contents}
 use Rattle.update_box.specs.declared.parts.Content.{Content}
 use Rattle.update_box.specs.declared.parts.Content.TheVariants as content
-use Rattle.pdgf_run.specs.Formats.{AreWritten, ending_in, in_directory, made_files, undo_name_of}
+use Rattle.pdgf_run.specs.Formats.{AreWritten, each_after, ending_in, heading_of, in_directory, made_files, names_for, undo_name_of}
 use Rattle.pdgf_run.specs.declared.replay.Replay.{Replay}
 use Rattle.pdgf_run.specs.declared.replay.Way.{Way}
 use Rattle.pdgf_run.specs.declared.replay.Way.TheVariants as way
@@ -59,10 +61,10 @@ abbrev pub inputs_by : Way → ℕ → ℕ → ℕ
 inputs_by (way.Apply keys) from to = 1 + 3 * (to - from)
 inputs_by way.Undo from to = 1 + (from - to)
 
--- how the inputs and the texts are written: as CSV where it is told how many fields the rows of each table have
-abbrev pub format_by : Option (List ℕ) → Format
+-- how the inputs and the texts are written: as CSV where the names of the columns of each table are told
+abbrev pub format_by : Option (List (List (List ℕ))) → Format
 format_by None = Copy
-format_by (Some columns) = Csv
+format_by (Some tables) = Csv
 
 abbrev pub format_of : Replay → Format
 format_of replay = format_by replay.csv
@@ -88,11 +90,16 @@ abbrev pub AreUnitsOf : Way → ℕ → ℕ → Type 0
 AreUnitsOf (way.Apply keys) from to = IsInOrder from to
 AreUnitsOf way.Undo from to = IsInOrder to from
 
+-- so many columns as a table has: one at least, and few
+pub record AreColumns (names : List (List ℕ)) : Type 0 where
+  pub some : 0 < length names
+  pub few : length names ≤ 64
+
 -- CSV is of tables whose keys have one field
-pub record IsCsvOfTables (w : Way) (count : ℕ) (columns : List ℕ) : Type 0 where
+pub record IsCsvOfTables (w : Way) (count : ℕ) (tables : List (List (List ℕ))) : Type 0 where
   pub applies : w ≡ way.Apply One
-  pub alike : length columns ≡ count
-  pub some : All (λ fields. 0 < fields) columns
+  pub alike : length tables ≡ count
+  pub columns : All AreColumns tables
 
 pub record CanReplay (request : Request) (replay : Replay) : Type 0 where
   pub some : 1 ≤ length replay.names
@@ -153,26 +160,60 @@ pub record IsFirstFault (w : Way) (delimiter each : ℕ) (inputs : List (List �
 
 -- ---- inputs in CSV
 
--- how many fields each row has of what a unit deletes, updates and inserts in a table of so many columns: only the key of what it deletes
-abbrev pub change_fields : ℕ → List ℕ
-change_fields columns = 1 ∷ columns ∷ columns ∷ []
+-- the names of the columns of what a unit deletes, updates and inserts in a table with such columns
+abbrev pub change_names : List (List ℕ) → List (List (List ℕ))
+change_names names = map (names_for names) unit_contents
 
--- how many each row has of the inputs of a table: of its text, and of what each of so many units changes
-abbrev pub fields_in : ℕ → ℕ → List ℕ
-fields_in units columns = columns ∷ flat_map (λ unit. change_fields columns) (range_with_len 0 units)
+-- those of the inputs of a table: of its text, and of what each of so many units changes
+abbrev pub names_in : ℕ → List (List ℕ) → List (List (List ℕ))
+names_in units names = names_for names content.Snapshot ∷ flat_map (λ unit. change_names names) (range_with_len 0 units)
 
--- bytes in CSV that have so many fields in each row, and what they are in COPY text form
-abbrev pub IsReadIn : ℕ → ℕ × List ℕ → List ℕ → Type 0
-IsReadIn delimiter input copy = IsReadAs delimiter input.0 input.1 copy
+-- bytes in CSV with such columns, and what they are in COPY text form
+abbrev pub IsReadIn : Header → ℕ → List (List ℕ) × List ℕ → List ℕ → Type 0
+IsReadIn header.None delimiter input copy = IsReadAs delimiter (length input.0) input.1 copy
+IsReadIn header.Names delimiter input copy = IsNamedReadAs delimiter input.0 input.1 copy
 
-abbrev pub AreReadAs : ℕ → List (ℕ × List ℕ) → List (List ℕ) → Type 0
-AreReadAs delimiter inputs copies = AllZip (IsReadIn delimiter) inputs copies
+abbrev pub AreReadAs : Header → ℕ → List (List (List ℕ) × List ℕ) → List (List ℕ) → Type 0
+AreReadAs asked delimiter inputs copies = AllZip (IsReadIn asked delimiter) inputs copies
+
+-- of bytes in CSV with such columns, the record of a number is the first bad one
+abbrev pub HasBadIn : Header → List (List ℕ) → List ℕ → ℕ → Type 0
+HasBadIn header.None names bytes at = HasBadRecord (length names) bytes at
+HasBadIn header.Names names bytes at = HasBadNamed names bytes at
 
 -- of the input of a number, counted from 0, which is the first with a bad record, the record of another number is the first bad one
-abbrev pub HasBadAt : ℕ → List (ℕ × List ℕ) → ℕ → ℕ → Type 0
-HasBadAt delimiter [] number at = ⊥
-HasBadAt delimiter (input ∷ rest) zero at = HasBadRecord input.0 input.1 at
-HasBadAt delimiter (input ∷ rest) (suc number) at = ((copy : List ℕ) × IsReadIn delimiter input copy) × HasBadAt delimiter rest number at
+abbrev pub HasBadAt : Header → ℕ → List (List (List ℕ) × List ℕ) → ℕ → ℕ → Type 0
+HasBadAt asked delimiter [] number at = ⊥
+HasBadAt asked delimiter (input ∷ rest) zero at = HasBadIn asked input.0 input.1 at
+HasBadAt asked delimiter (input ∷ rest) (suc number) at = ((copy : List ℕ) × IsReadIn asked delimiter input copy) × HasBadAt asked delimiter rest number at
+
+-- the records before the rows are counted with them
+abbrev pub fault_after : ℕ → ApplyFault → ApplyFault
+fault_after records (apply.BadLine line) = apply.BadLine (line + records)
+fault_after records (apply.DoubleKey line) = apply.DoubleKey (line + records)
+fault_after records (apply.NoSuchKey line) = apply.NoSuchKey (line + records)
+fault_after records (apply.KeyExists line) = apply.KeyExists (line + records)
+fault_after records apply.Memory = apply.Memory
+
+abbrev pub cause_after : ℕ → InputCause → InputCause
+cause_after records (Applying fault) = Applying (fault_after records fault)
+cause_after records (Reverting fault) = Reverting fault
+cause_after records (Reading cause) = Reading cause
+cause_after records (BadRecord at) = BadRecord at
+
+-- how many these are
+abbrev pub records_of : Header → ℕ
+records_of header.None = 0
+records_of header.Names = 1
+
+abbrev pub records_before : Header → Option (List (List (List ℕ))) → ℕ
+records_before asked None = 0
+records_before asked (Some tables) = records_of asked
+
+-- what the texts of tables begin with
+abbrev pub text_headings : Header → Option (List (List (List ℕ))) → List (List ℕ)
+text_headings asked None = []
+text_headings asked (Some tables) = map (heading_of asked) tables
 
 -- ---- what comes of it
 
@@ -188,21 +229,21 @@ abbrev pub fault_at : Request → Replay → ℕ → InputCause → JobFault
 fault_at request replay number cause = named_fault (input_names request replay) number cause
 
 -- why inputs in CSV aren't read as rows: memory ran out, or the first bad record
-abbrev pub IsUnreadRecord : ℕ → List (List ℕ) → List (ℕ × List ℕ) → JobFault → Type 0
-IsUnreadRecord delimiter names inputs fault =
-    (fault ≡ job.Memory) ⊎ ((number : ℕ) × (at : ℕ) × HasBadAt delimiter inputs number at × (fault ≡ named_fault names number (BadRecord at)))
+abbrev pub IsUnreadRecord : Header → ℕ → List (List ℕ) → List (List (List ℕ) × List ℕ) → JobFault → Type 0
+IsUnreadRecord asked delimiter names inputs fault =
+    (fault ≡ job.Memory) ⊎ ((number : ℕ) × (at : ℕ) × HasBadAt asked delimiter inputs number at × (fault ≡ named_fault names number (BadRecord at)))
 
 -- why the inputs of so many tables aren't replayed: memory ran out, or the first fault
-abbrev pub IsUnreplayed : Way → ℕ → List (List ℕ) → ℕ → List (List ℕ) → ℕ → JobFault → Type 0
-IsUnreplayed w delimiter names each inputs count fault =
+abbrev pub IsUnreplayed : Way → ℕ → ℕ → List (List ℕ) → ℕ → List (List ℕ) → ℕ → JobFault → Type 0
+IsUnreplayed w delimiter records names each inputs count fault =
     (fault ≡ job.Memory) ⊎ ((number : ℕ) × (cause : InputCause) × IsFirstFault w delimiter each inputs count number cause
-    × (fault ≡ named_fault names number cause))
+    × (fault ≡ named_fault names number (cause_after records cause)))
 
 -- what is due for texts of the tables: one file for each in a directory, or all joined on the standard output
 pub record AreDueFor (delimiter : ℕ) (request : Request) (replay : Replay) (texts : List (List ℕ)) (due : List File) : Type 0 where
   pub written : List (List ℕ)
   pub are : AreWritten (format_of replay) delimiter texts written
-  pub due_is : due ≡ made_files (text_name (format_of replay)) request.out replay.names written
+  pub due_is : due ≡ made_files (text_name (format_of replay)) request.out replay.names (each_after (text_headings request.header replay.csv) written)
 
 -- inputs in COPY text form give the due files, or the first fault
 abbrev pub IsMadeOf : ℕ → Request → Replay → List (List ℕ) → Result (List File) JobFault → Type 0
@@ -213,21 +254,27 @@ IsMadeOf delimiter request replay inputs (Ok due) =
 IsMadeOf delimiter request replay inputs (Err fault) =
     (number : ℕ) × (cause : InputCause)
     × IsFirstFault replay.way delimiter (inputs_each request replay) inputs (length replay.names) number cause
-    × (fault ≡ fault_at request replay number cause)
+    × (fault ≡ fault_at request replay number (cause_after (records_before request.header replay.csv) cause))
 
 -- the first bad record refuses inputs in CSV, and else they are what they are in COPY text form
-abbrev pub IsCsvMade : ℕ → Request → Replay → List ℕ → List (List ℕ) → Result (List File) JobFault → Type 0
-IsCsvMade delimiter request replay fields inputs answer =
-    ((copies : List (List ℕ)) × AreReadAs delimiter (zip fields inputs) copies × IsMadeOf delimiter request replay copies answer)
-    ⊎ ((number : ℕ) × (at : ℕ) × HasBadAt delimiter (zip fields inputs) number at × (answer ≡ Err (fault_at request replay number (BadRecord at))))
+abbrev pub IsCsvMade : ℕ → Request → Replay → List (List (List ℕ)) → List (List ℕ) → Result (List File) JobFault → Type 0
+IsCsvMade delimiter request replay columns inputs answer =
+    ((copies : List (List ℕ)) × AreReadAs request.header delimiter (zip columns inputs) copies × IsMadeOf delimiter request replay copies answer)
+    ⊎ ((number : ℕ) × (at : ℕ) × HasBadAt request.header delimiter (zip columns inputs) number at
+    × (answer ≡ Err (fault_at request replay number (BadRecord at))))
 
--- how many fields the rows of the inputs of tables have, which have so many columns
-abbrev pub input_fields : Request → List ℕ → List ℕ
-input_fields request columns = flat_map (fields_in (request.to - request.from)) columns
+-- the names of the columns of the inputs of tables with such columns
+abbrev pub input_columns : Request → List (List (List ℕ)) → List (List (List ℕ))
+input_columns request tables = flat_map (names_in (request.to - request.from)) tables
 
-abbrev pub IsMadeIn : Option (List ℕ) → ℕ → Request → Replay → List (List ℕ) → Result (List File) JobFault → Type 0
+abbrev pub IsMadeIn : Option (List (List (List ℕ))) → ℕ → Request → Replay → List (List ℕ) → Result (List File) JobFault → Type 0
 IsMadeIn None delimiter request replay inputs answer = IsMadeOf delimiter request replay inputs answer
-IsMadeIn (Some columns) delimiter request replay inputs answer = IsCsvMade delimiter request replay (input_fields request columns) inputs answer
+IsMadeIn (Some tables) delimiter request replay inputs answer = IsCsvMade delimiter request replay (input_columns request tables) inputs answer
+
+-- what inputs begin with
+abbrev pub input_headings : Request → Option (List (List (List ℕ))) → List (List ℕ)
+input_headings request None = []
+input_headings request (Some tables) = map (heading_of request.header) (input_columns request tables)
 
 abbrev pub IsReadAndMade : ℕ → Request → Replay → Result (List (List ℕ)) UnreadInput → Result (List File) JobFault → Type 0
 IsReadAndMade delimiter request replay (Ok inputs) answer = IsMadeIn replay.csv delimiter request replay inputs answer

@@ -10,13 +10,14 @@ ghost use Rattle.row_text.specs.Fields.{IsDelimiter};
 ghost use Rattle.schema_plan.specs.Layout.{layout_of};
 ghost use Rattle.update_box.specs.Packages.{IsJobOf, chosen_places};
 ghost use Rattle.update_box.specs.Parts.{parts_of};
-ghost use Rattle.pdgf_run.specs.CsvFiles.{IsCsvOfJob};
+ghost use Rattle.pdgf_run.specs.CsvFiles.{IsCsvOfJob, job_headings};
 ghost use Rattle.pdgf_run.specs.DueFiles.{table_files};
-ghost use Rattle.pdgf_run.specs.Formats.{AreCsvOf, file_name, made_files};
+ghost use Rattle.pdgf_run.specs.Formats.{AreCsvOf, each_after, file_name, made_files};
 ghost use Rattle.pdgf_run.specs.InMemory.{no_files};
 ghost use Rattle.pdgf_run.specs.Jobs.{due_of, CanFill};
 ghost use Rattle.pdgf_run.specs.Verdict.{IsDecided};
 
+use crate::headings::job_headings;
 use crate::job::{FilesJob, Job, TablesJob};
 use crate::names::Directory;
 use crate::text_shelf::TextShelf;
@@ -27,40 +28,63 @@ use plan_stages::Inputs;
 use range_workers::RunFault;
 use refusals::JobFault;
 use request_words::{Format, OptionName, Request};
-use schema_model::Text;
 use std::alloc::Global;
 use update_box::{Content, places_of};
 
-/// Appends a text in COPY text form to others, as CSV.
+/// Returns a text after its heading.
+fn after(alloc: Global, heading: &[u8], text: Vec<u8>) -> Result<Vec<u8>, Memory>
+    ensures { IfOk result (λ whole. whole.items ≡ heading.now ++ text.items) }
+{
+    if heading.is_empty() {
+        return Ok(text);
+    }
+    let mut whole = Vec::new(alloc);
+    whole.extend_from_slice(heading)?;
+    whole.extend_from_slice(text.as_slice())?;
+    Ok(whole)
+}
+
+/// Appends a text in COPY text form to others, as CSV after its heading.
 pub(crate) fn push_csv(
     alloc: Global,
     csvs: &mut Inputs,
+    heading: &[u8],
     text: &[u8],
     delimiter: u8,
 ) -> Result<(), Memory>
     requires delimiter { IsDelimiter delimiter }
     requires rows { HasRows delimiter text.now }
-    ensures { OnOk result ((csv : List ℕ) × IsCsvOf delimiter text.now csv × (csvs.new ≡ csvs.old ++ csv ∷ [])) }
+    ensures { OnOk result ((csv : List ℕ) × IsCsvOf delimiter text.now csv × (csvs.new ≡ csvs.old ++ (heading.now ++ csv) ∷ [])) }
 {
-    let csv = match to_csv(alloc, text, delimiter) {
-        Ok(csv) => csv,
-        Err(_) => return Err(Memory),
-    };
+    let csv = after(alloc, heading, to_csv(alloc, text, delimiter)?)?;
     match csvs.push(csv) {
         Ok(()) => Ok(()),
         Err(_) => Err(Memory),
     }
 }
 
-/// Returns files in COPY text form as CSV.
-fn csv_of_files(alloc: Global, files: &Files, delimiter: u8) -> Result<Inputs, Memory>
+/// Returns files in COPY text form as CSV, each after its heading.
+fn csv_of_files(
+    alloc: Global,
+    files: &Files,
+    headings: &Inputs,
+    delimiter: u8,
+) -> Result<Inputs, Memory>
     requires delimiter { IsDelimiter delimiter }
     requires rows { All (λ (file : File). HasRows delimiter file.bytes) files.now }
-    ensures { IfOk result (AreCsvOf delimiter (map (λ (file : File). file.bytes) files.now)) }
+    requires alike { length headings.now ≡ length files.now }
+    ensures csvs { IfOk result (λ csvs. (rows : List (List ℕ)) × AreCsvOf delimiter (map (λ (file : File). file.bytes) files.now) rows × (csvs ≡ each_after headings.now rows)) }
+    ensures count { IfOk result (λ csvs. length csvs ≡ length files.now) }
 {
     let mut csvs = Inputs::new(alloc);
     for place in 0..files.len() {
-        push_csv(alloc, &mut csvs, files.bytes(place), delimiter)?;
+        push_csv(
+            alloc,
+            &mut csvs,
+            headings.get(place),
+            files.bytes(place),
+            delimiter,
+        )?;
     }
     Ok(csvs)
 }
@@ -77,23 +101,25 @@ pub(crate) fn joined(alloc: Global, texts: &Inputs) -> Result<Vec<u8>, Memory>
 }
 
 /// Returns the job that writes files in COPY text form as CSV, one for each of the contents of each of the job's tables. They go to
-/// a directory, or to the standard output if `out` is None.
+/// the request's directory, or to the standard output if there is none.
 fn made_job(
     alloc: Global,
     job: &TablesJob,
     contents: &[Content],
     files: &Files,
-    out: &Option<Text>,
+    request: &Request,
 ) -> Result<Job, Memory>
     requires asked { IsJobOf job.now.plan job.now.asked }
     requires files { files.now ≡ table_files contents.now job.now.plan (Some []) job.now.asked }
     ensures made { IfOk result (λ made. (csvs : List (List ℕ)) × AreCsvOf (layout_of job.now.plan).delimiter (map (λ (file : File). file.bytes) files.now) csvs
-        × (due_of made ≡ made_files (file_name Format.Csv job.now.plan.schema job.now.asked.unit) out.now (parts_of contents.now (chosen_places job.now.plan job.now.asked.table)) csvs)) }
+        × (due_of made ≡ made_files (file_name Format.Csv job.now.plan.schema job.now.asked.unit) request.now.out (parts_of contents.now (chosen_places job.now.plan job.now.asked.table))
+        (each_after (job_headings contents.now job.now.plan request.now job.now.asked) csvs))) }
     ensures can { IfOk result CanFill }
 {
     let _limits = job.plan.schema(); // a table has a column at least
-    let csvs = csv_of_files(alloc, files, job.plan.delimiter())?;
-    let Some(directory) = out else {
+    let headings = job_headings(alloc, job, contents, request)?;
+    let csvs = csv_of_files(alloc, files, &headings, job.plan.delimiter())?;
+    let Some(directory) = &request.out else {
         return Ok(Job::Text(joined(alloc, &csvs)?));
     };
     let directory = Directory {
@@ -132,7 +158,7 @@ pub(crate) fn csv_job(
         Ok(()) => {}
         Err(_) => return Err(JobFault::Memory),
     }
-    match made_job(alloc, job, contents, shelf.finished(), &request.out) {
+    match made_job(alloc, job, contents, shelf.finished(), request) {
         Ok(made) => Ok(made),
         Err(_) => Err(JobFault::Memory),
     }

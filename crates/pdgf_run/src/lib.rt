@@ -8,6 +8,7 @@ mod csv;
 mod decide;
 mod details;
 mod fill;
+mod headings;
 mod job;
 mod joined;
 pub mod laws;

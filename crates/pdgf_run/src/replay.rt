@@ -9,7 +9,7 @@ ghost use Rattle.refusals.specs.Statuses.{job_status};
 ghost use Rattle.row_text.specs.Fields.{IsDelimiter};
 ghost use Rattle.pdgf_run.specs.Jobs.{due_of, CanFill};
 ghost use Rattle.pdgf_run.specs.Formats.{AreRowsOf};
-ghost use Rattle.pdgf_run.specs.Replay.{AreUnitsOf, CanReplay, IsMadeIn, IsMadeOf, IsReplayDue, format_of, input_fields, input_limit, input_names, input_paths, inputs_by, named_fault, paths_read};
+ghost use Rattle.pdgf_run.specs.Replay.{AreUnitsOf, CanReplay, IsMadeIn, IsMadeOf, IsReplayDue, format_of, input_columns, input_limit, input_names, input_paths, inputs_by, named_fault, paths_read, records_before};
 ghost use Rattle.pdgf_run.specs.TopCall.{IsLimitTold, LibraryLeft};
 ghost use Rattle.pdgf_run.specs.Verdict.{IsDecided};
 
@@ -25,7 +25,7 @@ use out_of_memory::Memory;
 use pd_outside::Library;
 use plan_stages::{Inputs, read_in_turn};
 use refusals::{FileName, InputCause, InputFault, JobFault};
-use request_words::{Format, Request};
+use request_words::{Format, Header, Request};
 use schema_model::{Sequence, Texts};
 use std::alloc::Global;
 use stream_apply::KeyFields;
@@ -49,8 +49,8 @@ pub(crate) struct Replay {
     pub(crate) way: Way,
     /// The names of the tables, 1 to 64.
     pub(crate) names: Texts,
-    /// For inputs and texts in CSV, the number of fields in the rows of each table; None for COPY text form.
-    pub(crate) csv: Option<Sequence<u32>>,
+    /// For inputs and texts in CSV, the names of the columns of each table; None for COPY text form.
+    pub(crate) csv: Option<Sequence<Texts>>,
 }
 
 impl Drop for Replay {
@@ -69,6 +69,16 @@ impl Replay {
         match &self.csv {
             None => Format::Copy,
             Some(_) => Format::Csv,
+        }
+    }
+
+    /// Returns how many records stand before the rows of an input, by what files in CSV begin with.
+    fn records_before(&self, header: Header) -> u64
+        ensures { result ≡ records_before header self.now.csv }
+    {
+        match (&self.csv, header) {
+            (None, _) | (Some(_), Header::None) => 0,
+            (Some(_), Header::Names) => 1,
         }
     }
 }
@@ -154,8 +164,8 @@ fn made_in(
 {
     match &replay.csv {
         None => made_of(alloc, delimiter, replay, request, names, inputs),
-        Some(columns) => {
-            let copies = copies_of(alloc, delimiter, columns.as_slice(), request, names, inputs)?;
+        Some(tables) => {
+            let copies = copies_of(alloc, delimiter, tables.as_slice(), request, names, inputs)?;
             made_of(alloc, delimiter, replay, request, names, &copies)
         }
     }
@@ -174,14 +184,17 @@ fn made_of(
     requires can { CanReplay request.now replay.now }
     requires names { names.now ≡ input_names request.now replay.now }
     requires alike { length inputs.now ≡ length names.now }
-    requires rows { IfSome replay.now.csv (λ columns. AreRowsOf delimiter (input_fields request.now columns) inputs.now) }
+    requires rows { IfSome replay.now.csv (λ tables. AreRowsOf delimiter (input_columns request.now tables) inputs.now) }
     ensures made { IsDecided job_status due_of (IsMadeOf delimiter request.now replay.now inputs.now) result }
     ensures refused { IfErr result (λ fault. (job_status fault ≡ 7) ⊎ (job_status fault ≡ 9)) }
     ensures can { IfOk result CanFill }
 {
     let each = inputs_by(replay.way, request.from, request.to);
     let count = replay.names.len();
-    let texts = replayed_texts(alloc, replay.way, delimiter, count, each, names, inputs)?;
+    let records = replay.records_before(request.header);
+    let texts = replayed_texts(
+        alloc, replay.way, delimiter, records, count, each, names, inputs,
+    )?;
     match written_job(alloc, delimiter, replay, request, texts) {
         Ok(job) => Ok(job),
         Err(Memory) => Err(JobFault::Memory),

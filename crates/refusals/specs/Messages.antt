@@ -55,6 +55,7 @@ usage_text (usage.Missing name) = codes "usage: missing " ++ option_text name
 usage_text (usage.Number name) = codes "usage: bad number for " ++ option_text name
 usage_text (usage.EmptyDirectory name) = codes "usage: empty directory for " ++ option_text name
 usage_text usage.Format = codes "usage: bad format"
+usage_text usage.Header = codes "usage: bad header"
 usage_text usage.Memory = codes "out of memory"
 
 -- a place of a schema: a table, a column and a branch, each counted from 1, or 0 where the place isn't inside one

@@ -286,6 +286,7 @@ fn put_usage(message: &mut Message, fault: UsageFault)
             name,
         ),
         UsageFault::Format => message.put(b"usage: bad format"),
+        UsageFault::Header => message.put(b"usage: bad header"),
         UsageFault::Memory => message.put(b"out of memory"),
     }
 }

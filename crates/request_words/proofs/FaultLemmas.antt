@@ -3,14 +3,19 @@ use Rattle.std.proofs.Common.{◌≢◌, ℕ, Bool, true, false, List, [], ◌�
 use Rattle.std.specs.Prelude.{⊤, if◌then◌else◌, IfErr, IfSome, is_some}
 use Rattle.std.specs.Option.{option_and_then, option_or}
 use Rattle.request_words.specs.Form.{given_in, has_form, mode_in}
-use Rattle.request_words.specs.Options.{Given, format_named, is_number_of, mode_named, order, request_of, takes}
-use Rattle.request_words.specs.Words.{first_fault, of_mode, option_fault, request, unless_fault, value_fault}
+use Rattle.request_words.specs.Options.{Given, format_given, format_named, header_given, header_named, is_number_of, mode_named, order, request_of, takes}
+use Rattle.request_words.specs.Words.{fault_of, first_fault, header_fault, of_mode, option_fault, request, unless_fault, value_fault}
 use Rattle.request_words.specs.declared.options.Form.{Form}
-use Rattle.request_words.specs.declared.options.Form.TheVariants.{Text, Number, FromOneTo, Directory, FormatName}
+use Rattle.request_words.specs.declared.options.Form.TheVariants.{Text, Number, FromOneTo, Directory, FormatName, HeaderName}
 use Rattle.request_words.specs.declared.options.Take.{Take}
 use Rattle.request_words.specs.declared.options.Take.TheVariants.{Unwanted, Optional, Preset, Needed}
+use Rattle.request_words.specs.declared.usage.Format.{Format}
+use Rattle.request_words.specs.declared.usage.Format.TheVariants.{Copy, Csv}
+use Rattle.request_words.specs.declared.usage.Header.{Header}
+use Rattle.request_words.specs.declared.usage.Header.TheVariants as header
 use Rattle.request_words.specs.declared.usage.Mode.{Mode}
 use Rattle.request_words.specs.declared.usage.OptionName.{OptionName}
+use Rattle.request_words.specs.declared.usage.OptionName.TheVariants as option
 use Rattle.request_words.specs.declared.usage.Request.{Request}
 use Rattle.request_words.specs.declared.usage.UsageFault.{UsageFault}
 use Rattle.request_words.specs.declared.usage.UsageFault.TheVariants as usage
@@ -28,6 +33,10 @@ format_fault-of_words : (is : Bool) → IfSome (if is then None else Some usage.
 format_fault-of_words true = tt
 format_fault-of_words false = tt
 
+header_name-of_words : (is : Bool) → IfSome (if is then None else Some usage.Header) IsOfWords
+header_name-of_words true = tt
+header_name-of_words false = tt
+
 value_fault-of_words : (form : Form) (name : OptionName) (value : List ℕ) → IfSome (value_fault form name value) IsOfWords
 value_fault-of_words Text name value = tt
 value_fault-of_words Number name value = number_fault-of_words name (is_number_of Number value)
@@ -35,6 +44,7 @@ value_fault-of_words (FromOneTo most) name value = number_fault-of_words name (i
 value_fault-of_words Directory name [] = tt
 value_fault-of_words Directory name (byte ∷ value) = tt
 value_fault-of_words FormatName name value = format_fault-of_words (is_some (format_named value))
+value_fault-of_words HeaderName name value = header_name-of_words (is_some (header_named value))
 
 option_fault-of_words : (take : Take) (name : OptionName) (value : Option (List ℕ)) → IfSome (option_fault take name value) IsOfWords
 option_fault-of_words Unwanted name None = tt
@@ -55,6 +65,15 @@ first_fault-of_words mode given [] = tt
 first_fault-of_words mode given (name ∷ names) =
     option_or-of_words _ _ (option_fault-of_words (takes mode name) name (given name)) (first_fault-of_words mode given names)
 
+header_fault-of_words : (h : Header) (format : Format) → IfSome (header_fault h format) IsOfWords
+header_fault-of_words header.None format = tt
+header_fault-of_words header.Names Copy = tt
+header_fault-of_words header.Names Csv = tt
+
+fault_of-of_words : (mode : Mode) (given : Given) → IfSome (fault_of mode given) IsOfWords
+fault_of-of_words mode given =
+    option_or-of_words _ _ (first_fault-of_words mode given order) (header_fault-of_words (header_given (given option.Header)) (format_given (given option.Format)))
+
 -- that it is no want of memory
 abbrev IsOther : UsageFault → Type 0
 IsOther fault = fault ≢ usage.Memory
@@ -65,7 +84,7 @@ unless_fault-other (Some fault) r of = λ same. subst IsOfWords same of
 
 of_mode-other : (mode : Option Mode) (given : Given) → IfErr (of_mode mode given) IsOther
 of_mode-other None given = λ same. subst IsOfWords same tt
-of_mode-other (Some mode) given = unless_fault-other (first_fault mode given order) (request_of mode given) (first_fault-of_words mode given order)
+of_mode-other (Some mode) given = unless_fault-other (fault_of mode given) (request_of mode given) (fault_of-of_words mode given)
 
 if-other : (is : Bool) (q : Result Request UsageFault) → IfErr q IsOther → IfErr (if is then q else Err usage.Words) IsOther
 if-other true q of = of

@@ -7,7 +7,7 @@ use Rattle.std.proofs.lemmas.Bool.{and_parts, leb-true}
 use Rattle.request_words.specs.Form.{given_in, has_form, mode_in}
 use Rattle.request_words.specs.Options.{Given, is_number, is_number_of, mode_named, number_for, number_given, number_or_zero, order, request_of, takes}
 use Rattle.request_words.specs.Ranges.{AreWithinRanges, IsOfForm, IsTaken}
-use Rattle.request_words.specs.Words.{first_fault, of_mode, option_fault, request, unless_fault}
+use Rattle.request_words.specs.Words.{fault_of, first_fault, of_mode, option_fault, request, unless_fault}
 use Rattle.request_words.specs.declared.options.Form.TheVariants.{FromOneTo}
 use Rattle.request_words.specs.declared.options.Take.TheVariants.{Needed, Optional, Preset}
 use Rattle.request_words.specs.declared.usage.Mode.{Mode}
@@ -162,13 +162,13 @@ request-taken mode given none = record {
 
 -- ---- words
 
-unless_fault-taken : (mode : Mode) (given : Given) (fault : Option UsageFault) → first_fault mode given order ≡ fault → IfOk (unless_fault fault (request_of mode given)) AreWithinRanges
-unless_fault-taken mode given None none = request-taken mode given none
+unless_fault-taken : (mode : Mode) (given : Given) (fault : Option UsageFault) → fault_of mode given ≡ fault → IfOk (unless_fault fault (request_of mode given)) AreWithinRanges
+unless_fault-taken mode given None none = request-taken mode given (first-none (first_fault mode given order) _ none)
 unless_fault-taken mode given (Some fault) is = tt
 
 of_mode-taken : (mode : Option Mode) (given : Given) → IfOk (of_mode mode given) AreWithinRanges
 of_mode-taken None given = tt
-of_mode-taken (Some mode) given = unless_fault-taken mode given (first_fault mode given order) refl
+of_mode-taken (Some mode) given = unless_fault-taken mode given (fault_of mode given) refl
 
 if-taken : (is : Bool) (q : Result Request UsageFault) → IfOk q AreWithinRanges → IfOk (if is then q else Err usage.Words) AreWithinRanges
 if-taken true q of = of

@@ -3,8 +3,8 @@ use Rattle.std.proofs.Common.{◌≡◌, ◌≤◌, ◌-◌, ℕ, ap, true, refl
 use Rattle.std.specs.Option.{option_and_then}
 use Rattle.std.proofs.lemmas.List.{take_all}
 use Rattle.request_words.specs.Form.{given_in, has_form, mode_in}
-use Rattle.request_words.specs.Options.{mode_named, order, request_of}
-use Rattle.request_words.specs.Words.{first_fault, request}
+use Rattle.request_words.specs.Options.{mode_named, request_of}
+use Rattle.request_words.specs.Words.{fault_of, request}
 use Rattle.request_words.specs.declared.usage.Mode.{Mode}
 
 -- the words behind the first one
@@ -13,7 +13,7 @@ behind_first f [] = refl
 behind_first f (word ∷ words) = ap (map f) (take_all (length (word ∷ words) - 1) words (omega arith))
 
 pub request_given : (words : List (List ℕ)) (mode : Mode) → 1 ≤ length words → has_form (drop 1 words) ≡ true →
-    option_and_then mode_named (mode_in (drop 1 words)) ≡ Some mode → first_fault mode (given_in (drop 1 words)) order ≡ None →
+    option_and_then mode_named (mode_in (drop 1 words)) ≡ Some mode → fault_of mode (given_in (drop 1 words)) ≡ None →
     request words ≡ Ok (request_of mode (given_in (drop 1 words)))
 unfolding request
 request_given [] mode some f named right = absurd (omega arith)

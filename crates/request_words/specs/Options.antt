@@ -6,11 +6,13 @@ use Rattle.std.specs.Option.{option_and_then}
 use Rattle.std.specs.Str.{bytes_eq}
 use Rattle.std.specs.Str.Parse.{digits_value}
 use Rattle.request_words.specs.declared.options.Form.{Form}
-use Rattle.request_words.specs.declared.options.Form.TheVariants.{Text, Number, FromOneTo, Directory, FormatName}
+use Rattle.request_words.specs.declared.options.Form.TheVariants.{Text, Number, FromOneTo, Directory, FormatName, HeaderName}
 use Rattle.request_words.specs.declared.options.Take.{Take}
 use Rattle.request_words.specs.declared.options.Take.TheVariants.{Unwanted, Optional, Preset, Needed}
 use Rattle.request_words.specs.declared.usage.Format.{Format}
 use Rattle.request_words.specs.declared.usage.Format.TheVariants.{Copy, Csv}
+use Rattle.request_words.specs.declared.usage.Header.{Header}
+use Rattle.request_words.specs.declared.usage.Header.TheVariants as header
 use Rattle.request_words.specs.declared.usage.Mode.{Mode}
 use Rattle.request_words.specs.declared.usage.Mode.TheVariants.{Check, Snapshot, Unit, Row, Apply, Sample, Play, Details, DetailsUnit, DetailsApply, Undo, Revert}
 use Rattle.request_words.specs.declared.usage.OptionName.{OptionName}
@@ -37,6 +39,10 @@ mode_named word =
 abbrev pub format_named : List ℕ → Option Format
 format_named word = if bytes_eq word (codes "copy") then Some Copy else (if bytes_eq word (codes "csv") then Some Csv else None)
 
+-- what files in CSV begin with, by this name
+abbrev pub header_named : List ℕ → Option Header
+header_named word = if bytes_eq word (codes "none") then Some header.None else (if bytes_eq word (codes "names") then Some header.Names else None)
+
 -- ---- options and modes
 
 -- an option's name, as it stands behind two hyphens, what its value has to be, and the number that stands where it isn't given
@@ -57,6 +63,7 @@ option_line option.Size = (codes "size", FromOneTo 1000, None)
 option_line option.Format = (codes "format", FormatName, None)
 option_line option.Store = (codes "store", Text, None)
 option_line option.Spec = (codes "spec", Text, None)
+option_line option.Header = (codes "header", HeaderName, None)
 
 -- whether a mode needs an option: each but one needs a schema's name
 abbrev pub needs : Mode → OptionName → Bool
@@ -101,6 +108,7 @@ may_share option.Table = true
 may_share option.Node = true
 may_share option.Nodes = true
 may_share option.Format = true
+may_share option.Header = true
 may_share name = may_pack name
 
 -- whether a mode may be given an option that it doesn't need
@@ -110,6 +118,7 @@ may_take Unit name = may_share name
 may_take Apply option.Table = true
 may_take Apply option.Out = true
 may_take Apply option.Format = true
+may_take Apply option.Header = true
 may_take Sample option.Workers = true
 may_take Sample option.Package = true
 may_take Details name = may_pack name
@@ -141,7 +150,7 @@ abbrev pub options : List OptionName
 options =
     option.Unit ∷ option.From ∷ option.To ∷ option.Table ∷ option.Key ∷ option.In ∷ option.Out
     ∷ option.Workers ∷ option.Package ∷ option.Node ∷ option.Nodes
-    ∷ option.Size ∷ option.Format ∷ option.Store ∷ option.Spec ∷ []
+    ∷ option.Size ∷ option.Format ∷ option.Store ∷ option.Spec ∷ option.Header ∷ []
 
 -- and the schema's name before them
 abbrev pub order : List OptionName
@@ -169,6 +178,7 @@ is_number_of (FromOneTo most) word =
     is_number word && nat_le 1 (digits_value 10 word) && nat_le (digits_value 10 word) most
 is_number_of Directory word = false
 is_number_of FormatName word = false
+is_number_of HeaderName word = false
 
 -- the number of this form that a word stands for
 abbrev pub number_in : Form → List ℕ → Option ℕ
@@ -194,6 +204,11 @@ abbrev pub format_given : Option (List ℕ) → Format
 format_given None = Copy
 format_given (Some word) = unwrap_or (format_named word) Copy
 
+-- what is given that files in CSV begin with: their rows where nothing is
+abbrev pub header_given : Option (List ℕ) → Header
+header_given None = header.None
+header_given (Some word) = unwrap_or (header_named word) header.None
+
 -- the request that is given for a mode
 abbrev pub request_of : Mode → Given → Request
 request_of mode given = record {
@@ -214,4 +229,5 @@ request_of mode given = record {
   format = format_given (given option.Format);
   store = unwrap_or (given option.Store) [];
   spec = unwrap_or (given option.Spec) [];
+  header = header_given (given option.Header);
 }

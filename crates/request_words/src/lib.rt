@@ -9,5 +9,5 @@ mod request;
 mod usage;
 mod words;
 
-pub use usage::{Format, Mode, OptionName, Request, UsageFault};
+pub use usage::{Format, Header, Mode, OptionName, Request, UsageFault};
 pub use words::read_words;

@@ -1,9 +1,9 @@
 //! The options: how each is written, and which mode takes it.
 
 ghost use Rattle.std.specs.Prelude.{◌≡◌};
-ghost use Rattle.request_words.specs.Options.{format_named, may_take, mode_named, needs, option_line, takes};
+ghost use Rattle.request_words.specs.Options.{format_named, header_named, may_take, mode_named, needs, option_line, takes};
 
-use crate::usage::{Format, Mode, OptionName};
+use crate::usage::{Format, Header, Mode, OptionName};
 
 /// What an option's value must be.
 #[derive(Clone, Copy, Debug, PartialEq, Eq)]
@@ -18,6 +18,8 @@ pub(crate) enum Form {
     Directory,
     /// The name of a format.
     FormatName,
+    /// The name of what files in CSV begin with.
+    HeaderName,
 }
 
 /// What a mode does with an option.
@@ -34,7 +36,7 @@ pub(crate) enum Take {
 }
 
 /// The options that are written with two hyphens, in the order of trying them.
-pub(crate) const OPTIONS: [OptionName; 15] = [
+pub(crate) const OPTIONS: [OptionName; 16] = [
     OptionName::Unit,
     OptionName::From,
     OptionName::To,
@@ -50,6 +52,7 @@ pub(crate) const OPTIONS: [OptionName; 15] = [
     OptionName::Format,
     OptionName::Store,
     OptionName::Spec,
+    OptionName::Header,
 ];
 
 /// Returns the mode of a name; None if no mode has it.
@@ -80,6 +83,17 @@ pub(crate) fn format_named(word: &str) -> Option<Format>
     match word {
         "copy" => Some(Format::Copy),
         "csv" => Some(Format::Csv),
+        _ => None,
+    }
+}
+
+/// Returns what files in CSV begin with, by its name; None if nothing has the name.
+pub(crate) fn header_named(word: &str) -> Option<Header>
+    ensures { result ≡ header_named word.now }
+{
+    match word {
+        "none" => Some(Header::None),
+        "names" => Some(Header::Names),
         _ => None,
     }
 }
@@ -136,6 +150,7 @@ fn option_line(name: OptionName) -> (&'static str, Form, Option<u64>)
         OptionName::Format => ("format", Form::FormatName, None),
         OptionName::Store => ("store", Form::Text, None),
         OptionName::Spec => ("spec", Form::Text, None),
+        OptionName::Header => ("header", Form::HeaderName, None),
     }
 }
 
@@ -160,14 +175,14 @@ fn needs(mode: Mode, name: OptionName) -> bool
 fn may_take(mode: Mode, name: OptionName) -> bool
     ensures { result ≡ may_take mode name }
 {
-    use OptionName::{Format, Node, Nodes, Out, Package, Table, Workers};
+    use OptionName::{Format, Header, Node, Nodes, Out, Package, Table, Workers};
     match mode {
         Mode::Check | Mode::Row | Mode::Play => false,
         Mode::Snapshot | Mode::Unit => matches!(
             name,
-            Table | Out | Workers | Package | Node | Nodes | Format
+            Table | Out | Workers | Package | Node | Nodes | Format | Header
         ),
-        Mode::Apply => matches!(name, Table | Out | Format),
+        Mode::Apply => matches!(name, Table | Out | Format | Header),
         Mode::Sample => matches!(name, Workers | Package),
         Mode::Details | Mode::DetailsUnit => matches!(name, Out | Workers | Package),
         Mode::DetailsApply => matches!(name, Out),

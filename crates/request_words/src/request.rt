@@ -4,14 +4,14 @@ ghost use Rattle.std.specs.Prelude.{◌≡◌, map, string_bytes, unwrap_or, IfE
 ghost use Rattle.std.specs.Option.{option_and_then, option_copied};
 ghost use Rattle.request_words.specs.Command.{given_by};
 ghost use Rattle.request_words.specs.Form.{given_in, mode_in};
-ghost use Rattle.request_words.specs.Options.{format_given, mode_named, number_for, number_or_zero, order, request_of, takes};
-ghost use Rattle.request_words.specs.Words.{first_fault, option_fault, value_fault};
+ghost use Rattle.request_words.specs.Options.{format_given, header_given, mode_named, number_for, number_or_zero, order, request_of, takes};
+ghost use Rattle.request_words.specs.Words.{fault_of, first_fault, header_fault, option_fault, value_fault};
 
 use crate::command::given_by;
 use crate::form::{given_in, mode_in};
 use crate::numbers::{number_given, number_in};
-use crate::options::{Form, OPTIONS, Take, format_named, mode_named, takes};
-use crate::usage::{Format, Mode, OptionName, Request, UsageFault};
+use crate::options::{Form, OPTIONS, Take, format_named, header_named, mode_named, takes};
+use crate::usage::{Format, Header, Mode, OptionName, Request, UsageFault};
 use clap::ArgMatches;
 use schema_model::Text;
 use std::alloc::Global;
@@ -26,9 +26,28 @@ pub(crate) fn mode_of(words: &[String]) -> Option<Mode>
     }
 }
 
-/// Returns the first fault of what the words give for a mode: of the schema, then of the options in turn. Returns None if there is
-/// no fault.
-pub(crate) fn first_fault(mode: Mode, words: &[String]) -> Option<UsageFault>
+/// Returns the first fault of what the words give for a mode: of the schema, then of the options in turn, and last of names that are
+/// wanted of rows that aren't written as CSV. Returns None if there is no fault.
+pub(crate) fn fault_of(mode: Mode, words: &[String]) -> Option<UsageFault>
+    ensures { result ≡ fault_of mode (given_in (map string_bytes words.now)) }
+{
+    let header = header_given(given_in(words, OptionName::Header));
+    let format = format_given(given_in(words, OptionName::Format));
+    first_fault(mode, words).or(header_fault(header, format))
+}
+
+/// Returns what is wrong with a header in a format; None if nothing is.
+fn header_fault(header: Header, format: Format) -> Option<UsageFault>
+    ensures { result ≡ header_fault header format }
+{
+    match (header, format) {
+        (Header::Names, Format::Copy) => Some(UsageFault::Unwanted(OptionName::Header)),
+        _ => None,
+    }
+}
+
+/// Returns the first fault of the schema and the options, in turn.
+fn first_fault(mode: Mode, words: &[String]) -> Option<UsageFault>
     ensures { result ≡ first_fault mode (given_in (map string_bytes words.now)) order }
 {
     fault_at(mode, words, OptionName::Schema).or(first_of(mode, words, OPTIONS.as_slice()))
@@ -81,6 +100,10 @@ fn value_fault(form: Form, name: OptionName, value: &str) -> Option<UsageFault>
             Some(_) => None,
             None => Some(UsageFault::Format),
         },
+        Form::HeaderName => match header_named(value) {
+            Some(_) => None,
+            None => Some(UsageFault::Header),
+        },
     }
 }
 
@@ -117,6 +140,7 @@ pub(crate) fn request_of(
         format: format_given(given_by(matches, OptionName::Format)),
         store,
         spec,
+        header: header_given(given_by(matches, OptionName::Header)),
     })
 }
 
@@ -127,6 +151,16 @@ fn format_given(word: Option<&str>) -> Format
     match word {
         None => Format::Copy,
         Some(word) => format_named(word).unwrap_or(Format::Copy),
+    }
+}
+
+/// Returns what files in CSV begin with, as it is given; their rows if it isn't.
+fn header_given(word: Option<&str>) -> Header
+    ensures { result ≡ header_given (option_copied word.entry) }
+{
+    match word {
+        None => Header::None,
+        Some(word) => header_named(word).unwrap_or(Header::None),
     }
 }
 

@@ -66,6 +66,8 @@ pub enum OptionName {
     Store,
     /// `--spec`: the name of the file that declares a detail table.
     Spec,
+    /// `--header`: whether files in CSV begin with the names of their columns.
+    Header,
 }
 
 /// How rows are written and read.
@@ -75,6 +77,15 @@ pub enum Format {
     Copy,
     /// `csv`: records in CSV.
     Csv,
+}
+
+/// What files in CSV begin with.
+#[derive(Clone, Copy, Debug, PartialEq, Eq)]
+pub enum Header {
+    /// `none`: their rows.
+    None,
+    /// `names`: the names of their columns, as one record.
+    Names,
 }
 
 /// What the words ask for. If the mode doesn't take an option, its number is 0 or its text is empty. Optional fields are None if
@@ -116,6 +127,8 @@ pub struct Request {
     pub store: Text,
     /// The name of the file that declares a detail table.
     pub spec: Text,
+    /// What files in CSV begin with. Their rows, if the words don't say or the mode doesn't take a header.
+    pub header: Header,
 }
 
 impl Drop for Request {
@@ -138,6 +151,7 @@ impl Drop for Request {
             format: _,
             store,
             spec,
+            header: _,
         } = self;
         drop(schema);
         drop(table);
@@ -155,7 +169,7 @@ pub enum UsageFault {
     Words,
     /// No mode has the name.
     Mode,
-    /// The mode doesn't take the option that is given.
+    /// The mode doesn't take the option that is given, or names are wanted of rows that aren't written as CSV.
     Unwanted(OptionName),
     /// The mode needs the option that isn't given.
     Missing(OptionName),
@@ -165,6 +179,8 @@ pub enum UsageFault {
     EmptyDirectory(OptionName),
     /// The value isn't the name of a format.
     Format,
+    /// The value isn't `none` or `names`.
+    Header,
     /// Memory ran out.
     Memory,
 }

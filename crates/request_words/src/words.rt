@@ -6,7 +6,7 @@ ghost use Rattle.request_words.specs.Words.{request};
 
 use crate::command::matches_of;
 use crate::form::has_form;
-use crate::request::{first_fault, mode_of, request_of};
+use crate::request::{fault_of, mode_of, request_of};
 use crate::usage::{Request, UsageFault};
 use std::alloc::Global;
 
@@ -17,8 +17,8 @@ use std::alloc::Global;
 /// a hyphen, and no value after `=` is empty.
 ///
 /// `Words` comes first, then `Mode`, then the first fault of the schema and of the options, in this order: unit, from, to, table,
-/// key, in, out, workers, package, node, nodes, size, format, store, spec. A fault of the words takes no memory. The numbers of a
-/// request are within the ranges of the options that its mode takes.
+/// key, in, out, workers, package, node, nodes, size, format, store, spec, header. A fault of the words takes no memory. The numbers of
+/// a request are within the ranges of the options that its mode takes.
 #[tactic(auto, unfolding(crate::specs::Words::request))]
 pub fn read_words(alloc: Global, words: &[String]) -> Result<Request, UsageFault>
     ensures read { IfOk result (λ made. request (map string_bytes words.now) ≡ Ok made) }
@@ -37,7 +37,7 @@ pub fn read_words(alloc: Global, words: &[String]) -> Result<Request, UsageFault
     let Some(mode) = mode_of(behind) else {
         return Err(UsageFault::Mode);
     };
-    if let Some(fault) = first_fault(mode, behind) {
+    if let Some(fault) = fault_of(mode, behind) {
         return Err(fault);
     }
     match matches_of(alloc, words) {

@@ -1,8 +1,8 @@
 -- Mode apply: the texts of tables at a unit and the streams of later units, read from files, and the texts that they make.
-use Rattle.std.specs.Prelude.{◌≤◌, ℕ, ◌+◌, ◌-◌, nat_lt, List, ◌∷◌, flat_map, length, map, Option, Some, None, Result, Ok, Err, if◌then◌else◌}
+use Rattle.std.specs.Prelude.{◌≡◌, ◌≤◌, ℕ, ◌+◌, ◌-◌, nat_lt, List, ◌∷◌, flat_map, map, Option, Some, None, Result, Ok, Err, if◌then◌else◌}
 use Rattle.std.specs.List.{range_with_len}
 use Rattle.pd_outside.specs.Files.{File}
-use Rattle.life_intervals.specs.Generator.{generator_of, table_of}
+use Rattle.life_intervals.specs.Generator.{generator_of}
 use Rattle.plan_stages.specs.Inputs.{inputs_of, total_length}
 use Rattle.refusals.specs.declared.refusal.JobFault.{JobFault}
 use Rattle.refusals.specs.declared.refusal.JobFault.TheVariants as job
@@ -13,13 +13,14 @@ use Rattle.request_words.specs.declared.usage.Request.{Request}
 use Rattle.row_lines.specs.Lines.{table_text}
 use Rattle.schema_plan.specs.Dictionaries.{Project}
 use Rattle.schema_plan.specs.Layout.{layout_of}
+use Rattle.schema_plan.specs.Rules.{column_names}
 use Rattle.stream_apply.specs.declared.key_fields.KeyFields.TheVariants.{One}
 use Rattle.update_box.specs.Packages.{chosen_places}
 use Rattle.update_box.specs.Parts.{name_at}
 use Rattle.update_box.specs.TextLaws.{unit_streams}
 use Rattle.pdgf_run.specs.DueFiles.{chosen_table}
-use Rattle.pdgf_run.specs.Formats.{AreWritten}
-use Rattle.pdgf_run.specs.Replay.{AreDueFor, IsReplayOf, input_limit, input_paths, paths_of, possible_of}
+use Rattle.pdgf_run.specs.Formats.{AreWritten, each_after}
+use Rattle.pdgf_run.specs.Replay.{AreDueFor, IsReplayOf, input_headings, input_limit, input_paths, paths_of, possible_of}
 use Rattle.pdgf_run.specs.declared.replay.Replay.{Replay}
 use Rattle.pdgf_run.specs.declared.replay.Way.TheVariants as way
 
@@ -36,10 +37,10 @@ tables_asked plan request =
     if nat_lt request.to request.from then Err (job.Range option.From)
     else (if nat_lt (layout_of plan).units request.to then Err (job.Range option.To) else of_choice (chosen_table plan.schema request.table))
 
--- how many columns each of some tables has, where they are written as CSV
-abbrev pub columns_by : Format → Project → List ℕ → Option (List ℕ)
+-- the names of the columns of some tables, where they are written as CSV
+abbrev pub columns_by : Format → Project → List ℕ → Option (List (List (List ℕ)))
 columns_by Copy plan places = None
-columns_by Csv plan places = Some (map (λ place. length (table_of plan place).columns) places)
+columns_by Csv plan places = Some (map (column_names plan.schema) places)
 
 -- the streams of the chosen tables are applied, to lines whose key is one field
 abbrev pub apply_of : Project → Request → Option ℕ → Replay
@@ -69,12 +70,15 @@ paths_possible plan request = possible_of (apply_of plan request) request (table
 abbrev pub table_inputs : Project → ℕ → ℕ → ℕ → List (List ℕ)
 table_inputs plan from count place = table_text (generator_of plan) from place ∷ flat_map (unit_streams plan place) (range_with_len (from + 1) count)
 
--- files hold these, in its format, as the inputs of a request
+-- files hold these, in its format and each after its heading, as the inputs of a request
 pub record HoldInputs (plan : Project) (request : Request) (table : Option ℕ) (files : List File) : Type 0 where
+  pub written : List (List ℕ)
   pub texts :
       AreWritten request.format (layout_of plan).delimiter
-      (flat_map (table_inputs plan request.from (request.to - request.from)) (chosen_places plan table))
-      (inputs_of files (input_paths request (apply_of plan request table)))
+      (flat_map (table_inputs plan request.from (request.to - request.from)) (chosen_places plan table)) written
+  pub are :
+      inputs_of files (input_paths request (apply_of plan request table))
+      ≡ each_after (input_headings request (apply_of plan request table).csv) written
   pub within : total_length (inputs_of files (input_paths request (apply_of plan request table))) ≤ input_limit
 
 -- files are those of what the tables hold at the last unit that is asked for

@@ -15,6 +15,7 @@ ghost use Rattle.pdgf_run.specs.Verdict.{IsDecided};
 ghost use Rattle.pdgf_run.specs.modes.Apply.{IsApplyDue, apply_of, columns_by, paths_asked, paths_possible, tables_asked};
 
 use crate::asked::{chosen_table, is_past_last};
+use crate::headings::column_names;
 use crate::job::Job;
 use crate::names::table_names;
 use crate::replay::{Replay, Way, replay_files};
@@ -22,7 +23,7 @@ use out_of_memory::Memory;
 use pd_outside::Library;
 use refusals::JobFault;
 use request_words::{Format, OptionName, Request};
-use schema_model::Sequence;
+use schema_model::{Sequence, Texts};
 use schema_plan::Plan;
 use std::alloc::Global;
 use stream_apply::KeyFields;
@@ -98,13 +99,13 @@ fn apply_of(
     })
 }
 
-/// Returns, for CSV, the number of columns of each table; None for COPY text form.
+/// Returns, for CSV, the names of the columns of each table; None for COPY text form.
 fn columns_by(
     alloc: Global,
     format: Format,
     plan: &Plan,
     places: Places,
-) -> Result<Option<Sequence<u32>>, Memory>
+) -> Result<Option<Sequence<Texts>>, Memory>
     requires { places.from + places.count ≤ length plan.now.schema.tables }
     ensures { IfOk result (λ columns. columns ≡ columns_by format plan.now (range_with_len places.from places.count)) }
 {
@@ -112,13 +113,13 @@ fn columns_by(
     if format == Format::Copy {
         return Ok(None);
     }
-    let mut columns = Sequence::new(alloc);
+    let mut tables = Sequence::new(alloc);
     for number in 0..places.count {
-        let own = plan.columns(places.from + number).len() as u32;
-        match columns.push(own) {
+        let names = column_names(alloc, plan, places.from + number)?;
+        match tables.push(names) {
             Ok(()) => {}
             Err(_) => return Err(Memory),
         }
     }
-    Ok(Some(columns))
+    Ok(Some(tables))
 }

@@ -1,95 +1,141 @@
 //! Inputs and texts in CSV, and what they are in COPY text form.
 
-ghost use Rattle.std.specs.Prelude.{◌≡◌, ◌<◌, ◌+◌, ◌-◌, ◌*◌, ◌++◌, All, Err, IfErr, IfOk, OnOk, length, zip};
+ghost use Rattle.std.specs.Prelude.{◌≡◌, ◌+◌, ◌-◌, ◌*◌, ◌++◌, ℕ, All, Err, IfErr, IfOk, IfSome, List, OnOk, length, map, zip};
 ghost use Rattle.csv_face.specs.Csv.{HasRows};
+ghost use Rattle.csv_face.specs.Reading.{IsCsvFault, IsNamedFault};
 ghost use Rattle.row_text.specs.Fields.{IsDelimiter};
-ghost use Rattle.pdgf_run.specs.Formats.{AreCsvOf, AreRowsOf, AreWritten};
-ghost use Rattle.pdgf_run.specs.Replay.{AreReadAs, IsInOrder, IsUnreadRecord, fields_in, input_fields};
+ghost use Rattle.pdgf_run.specs.Formats.{AreCsvOf, AreRowsOf, AreWritten, each_after, heading_of};
+ghost use Rattle.pdgf_run.specs.Replay.{AreColumns, AreReadAs, HasBadIn, IsInOrder, IsReadIn, IsUnreadRecord, format_by, input_columns, names_in, text_headings};
 
 use crate::csv::push_csv;
+use crate::headings::{heading_of, names_for};
 use crate::replay::fault_at;
-use csv_face::{CsvFault, from_csv};
+use csv_face::{CsvFault, from_csv, from_csv_named};
 use out_of_memory::Memory;
 use plan_stages::Inputs;
 use refusals::{InputCause, JobFault};
-use request_words::{Format, Request};
-use schema_model::Texts;
+use request_words::{Header, Request};
+use schema_model::{Sequence, Text, Texts};
 use std::alloc::Global;
+use update_box::Content;
 
-/// Appends the numbers of fields in the rows of a table's inputs: of its text, and of the streams of so many units.
-fn push_fields(fields: &mut Vec<u32>, columns: u32, units: u64) -> Result<(), Memory>
-    ensures { OnOk result (fields.new.items ≡ fields.old.items ++ fields_in units columns) }
+/// Appends the names of the columns of a table's inputs: of its text, and of the streams of so many units. The table has columns with such
+/// names.
+fn push_columns<'a>(
+    columns: &mut Vec<&'a [Text]>,
+    names: &'a [Text],
+    units: u64,
+) -> Result<(), Memory>
+    ensures { OnOk result (map (λ own. own.now) columns.new.items ≡ map (λ own. own.now) columns.old.items ++ names_in units names.entry.now) }
 {
-    fields.push(columns)?;
+    columns.push(names)?;
     for _unit in 0..units {
-        fields.push(1)?;
-        fields.push(columns)?;
-        fields.push(columns)?;
+        columns.push(names_for(names, Content::Deleted))?;
+        columns.push(names)?; // of what is updated
+        columns.push(names)?; // of what is inserted
     }
     Ok(())
 }
 
-/// Returns the number of fields in the rows of each input of tables that have so many columns.
-fn input_fields(alloc: Global, columns: &[u32], request: &Request) -> Result<Vec<u32>, Memory>
+/// Returns the names of the columns of each input of tables with such columns.
+fn input_columns<'a>(
+    alloc: Global,
+    tables: &'a [Texts],
+    request: &Request,
+) -> Result<Vec<&'a [Text]>, Memory>
     requires order { IsInOrder request.now.from request.now.to }
-    requires some { All (λ count. 0 < count) columns.now }
-    ensures fields { IfOk result (λ fields. fields.items ≡ input_fields request.now columns.now) }
-    ensures some { IfOk result (λ fields. All (λ count. 0 < count) fields.items) }
+    ensures { IfOk result (λ columns. map (λ own. own.now) columns.items ≡ input_columns request.now tables.entry.now) }
 {
-    let mut fields = Vec::new(alloc);
-    for place in 0..columns.len() {
-        push_fields(&mut fields, columns[place], request.to - request.from)?;
+    let mut columns = Vec::new(alloc);
+    for place in 0..tables.len() {
+        push_columns(
+            &mut columns,
+            tables[place].as_slice(),
+            request.to - request.from,
+        )?;
     }
-    Ok(fields)
+    Ok(columns)
 }
 
-/// Returns inputs in CSV as they are in COPY text form, for tables that have so many columns. Refuses the first input that has a bad record.
+/// Returns an input in CSV with such columns as it is in COPY text form. Refuses the first bad record.
+fn copy_of(
+    alloc: Global,
+    delimiter: u8,
+    header: Header,
+    names: &[Text],
+    input: &[u8],
+) -> Result<Vec<u8>, CsvFault>
+    requires delimiter { IsDelimiter delimiter }
+    requires columns { AreColumns names.now }
+    ensures read { IfOk result (λ copy. IsReadIn header delimiter (names.now, input.now) copy.items) }
+    ensures bad { IfErr result (λ fault. (at : ℕ) → fault ≡ CsvFault.BadRecord at → HasBadIn header names.now input.now at) }
+{
+    match header {
+        Header::None => from_csv(alloc, input, delimiter, names.len() as u32),
+        Header::Names => from_csv_named(alloc, input, delimiter, names),
+    }
+}
+
+/// Returns inputs in CSV as they are in COPY text form, for tables with such columns. Refuses the first input that has a bad record.
 pub(super) fn copies_of(
     alloc: Global,
     delimiter: u8,
-    columns: &[u32],
+    tables: &[Texts],
     request: &Request,
     names: &Texts,
     inputs: &Inputs,
 ) -> Result<Inputs, JobFault>
     requires delimiter { IsDelimiter delimiter }
     requires order { IsInOrder request.now.from request.now.to }
-    requires some { All (λ count. 0 < count) columns.now }
-    requires fields { length inputs.now ≡ length columns.now * (1 + 3 * (request.now.to - request.now.from)) }
+    requires columns { All AreColumns tables.now }
+    requires fields { length inputs.now ≡ length tables.now * (1 + 3 * (request.now.to - request.now.from)) }
     requires alike { length inputs.now ≡ length names.now }
-    ensures read { IfOk result (AreReadAs delimiter (zip (input_fields request.now columns.now) inputs.now)) }
-    ensures rows { IfOk result (AreRowsOf delimiter (input_fields request.now columns.now)) }
+    ensures read { IfOk result (AreReadAs request.now.header delimiter (zip (input_columns request.now tables.now) inputs.now)) }
+    ensures rows { IfOk result (AreRowsOf delimiter (input_columns request.now tables.now)) }
     ensures count { IfOk result (λ copies. length copies ≡ length inputs.now) }
-    ensures bad { IfErr result (IsUnreadRecord delimiter names.now (zip (input_fields request.now columns.now) inputs.now)) }
+    ensures bad { IfErr result (IsUnreadRecord request.now.header delimiter names.now (zip (input_columns request.now tables.now) inputs.now)) }
 {
-    let fields = match input_fields(alloc, columns, request) {
-        Ok(fields) => fields,
+    let columns = match input_columns(alloc, tables, request) {
+        Ok(columns) => columns,
         Err(Memory) => return Err(JobFault::Memory),
     };
-    read_csv(alloc, delimiter, &fields, names, inputs)
+    read_csv(
+        alloc,
+        delimiter,
+        request.header,
+        columns.as_slice(),
+        names,
+        inputs,
+    )
 }
 
-/// Returns inputs in CSV, with so many fields in the rows of each, as they are in COPY text form. Refuses the first input that has a bad
-/// record.
+/// Returns inputs in CSV, each with its columns, as they are in COPY text form. Refuses the first input that has a bad record.
 fn read_csv(
     alloc: Global,
     delimiter: u8,
-    fields: &[u32],
+    header: Header,
+    columns: &[&[Text]],
     names: &Texts,
     inputs: &Inputs,
 ) -> Result<Inputs, JobFault>
     requires delimiter { IsDelimiter delimiter }
-    requires fields { length fields.now ≡ length inputs.now }
-    requires some { All (λ count. 0 < count) fields.now }
+    requires fields { length columns.now ≡ length inputs.now }
+    requires columns { All AreColumns (map (λ own. own.now) columns.now) }
     requires alike { length inputs.now ≡ length names.now }
-    ensures read { IfOk result (AreReadAs delimiter (zip fields.now inputs.now)) }
-    ensures rows { IfOk result (AreRowsOf delimiter fields.now) }
+    ensures read { IfOk result (AreReadAs header delimiter (zip (map (λ own. own.now) columns.now) inputs.now)) }
+    ensures rows { IfOk result (AreRowsOf delimiter (map (λ own. own.now) columns.now)) }
     ensures count { IfOk result (λ copies. length copies ≡ length inputs.now) }
-    ensures bad { IfErr result (IsUnreadRecord delimiter names.now (zip fields.now inputs.now)) }
+    ensures bad { IfErr result (IsUnreadRecord header delimiter names.now (zip (map (λ own. own.now) columns.now) inputs.now)) }
 {
     let mut copies = Inputs::new(alloc);
     for number in 0..inputs.len() {
-        match from_csv(alloc, inputs.get(number), delimiter, fields[number]) {
+        match copy_of(
+            alloc,
+            delimiter,
+            header,
+            columns[number],
+            inputs.get(number),
+        ) {
             Ok(text) => match copies.push(text) {
                 Ok(()) => {}
                 Err(_) => return Err(JobFault::Memory),
@@ -103,34 +149,51 @@ fn read_csv(
     Ok(copies)
 }
 
-/// Returns texts in COPY text form as they are written in a format.
+/// Returns texts in COPY text form as they are written: as they are, or as CSV if the names of the columns of each table are told.
 pub(super) fn written_in(
     alloc: Global,
-    format: Format,
+    csv: &Option<Sequence<Texts>>,
+    header: Header,
     texts: Inputs,
     delimiter: u8,
 ) -> Result<Inputs, Memory>
     requires delimiter { IsDelimiter delimiter }
-    requires rows { format ≡ Format.Csv → All (HasRows delimiter) texts }
-    ensures written { IfOk result (AreWritten format delimiter texts) }
+    requires alike { IfSome csv.now (λ tables. length tables ≡ length texts) }
+    requires rows { IfSome csv.now (λ tables. All (HasRows delimiter) texts) }
+    ensures written { IfOk result (λ written. (rows : List (List ℕ)) × AreWritten (format_by csv.now) delimiter texts rows
+        × (written ≡ each_after (text_headings header csv.now) rows)) }
     ensures count { IfOk result (λ written. length written ≡ length texts) }
 {
-    match format {
-        Format::Copy => Ok(texts),
-        Format::Csv => csv_of_texts(alloc, &texts, delimiter),
+    match csv {
+        None => Ok(texts),
+        Some(tables) => csv_of_texts(alloc, tables.as_slice(), header, &texts, delimiter),
     }
 }
 
-/// Returns texts in COPY text form as CSV.
-fn csv_of_texts(alloc: Global, texts: &Inputs, delimiter: u8) -> Result<Inputs, Memory>
+/// Returns texts in COPY text form of tables with such columns as CSV, each after its heading.
+fn csv_of_texts(
+    alloc: Global,
+    tables: &[Texts],
+    header: Header,
+    texts: &Inputs,
+    delimiter: u8,
+) -> Result<Inputs, Memory>
     requires delimiter { IsDelimiter delimiter }
+    requires alike { length tables.now ≡ length texts.now }
     requires rows { All (HasRows delimiter) texts.now }
-    ensures csvs { IfOk result (AreCsvOf delimiter texts.now) }
+    ensures csvs { IfOk result (λ csvs. (rows : List (List ℕ)) × AreCsvOf delimiter texts.now rows × (csvs ≡ each_after (map (heading_of header) tables.now) rows)) }
     ensures count { IfOk result (λ csvs. length csvs ≡ length texts.now) }
 {
     let mut csvs = Inputs::new(alloc);
     for place in 0..texts.len() {
-        push_csv(alloc, &mut csvs, texts.get(place), delimiter)?;
+        let heading = heading_of(alloc, header, tables[place].as_slice())?;
+        push_csv(
+            alloc,
+            &mut csvs,
+            heading.as_slice(),
+            texts.get(place),
+            delimiter,
+        )?;
     }
     Ok(csvs)
 }

@@ -6,7 +6,7 @@ ghost use Rattle.refusals.specs.declared.refusal.InputCause.TheVariants as cause
 ghost use Rattle.refusals.specs.declared.refusal.LineFault.{LineFault as Line};
 ghost use Rattle.row_text.specs.Fields.{IsDelimiter};
 ghost use Rattle.pdgf_run.specs.Jobs.{due_of, CanFill};
-ghost use Rattle.pdgf_run.specs.Replay.{AreDueFor, AreReplayed, IsReplayFaultAt, IsReplayedText, IsUnreplayed, fault_told, format_of};
+ghost use Rattle.pdgf_run.specs.Replay.{AreDueFor, AreReplayed, IsCsvOfTables, IsReplayFaultAt, IsReplayedText, IsUnreplayed, cause_after, fault_after, fault_told};
 
 use crate::csv::joined;
 use crate::job::{FilesJob, Job};
@@ -16,7 +16,7 @@ use crate::replay::{Replay, Way, fault_at};
 use out_of_memory::Memory;
 use plan_stages::Inputs;
 use refusals::{InputCause, JobFault, LineFault, LineReason};
-use request_words::{Format, Request};
+use request_words::Request;
 use schema_model::Texts;
 use std::alloc::Global;
 use stream_apply::{ApplyFault, apply_in_turn};
@@ -90,11 +90,46 @@ fn replayed_text(
     }
 }
 
-/// Returns the texts that the inputs of so many tables make, each table having `each` inputs. Refuses the first input at fault.
+/// Returns a fault as it is told if so many records stand before the lines. Returns None if the line's number is past 64 bits.
+fn fault_after(fault: ApplyFault, records: u64) -> Option<ApplyFault>
+    ensures { IfSome result (λ told. told ≡ fault_after records fault) }
+{
+    let told = match fault {
+        ApplyFault::BadLine { line } => ApplyFault::BadLine {
+            line: line.checked_add(records)?,
+        },
+        ApplyFault::DoubleKey { line } => ApplyFault::DoubleKey {
+            line: line.checked_add(records)?,
+        },
+        ApplyFault::NoSuchKey { line } => ApplyFault::NoSuchKey {
+            line: line.checked_add(records)?,
+        },
+        ApplyFault::KeyExists { line } => ApplyFault::KeyExists {
+            line: line.checked_add(records)?,
+        },
+        ApplyFault::Memory => ApplyFault::Memory,
+    };
+    Some(told)
+}
+
+/// Returns what is wrong with an input as it is told if so many records stand before its lines. Returns None if the line's number is past
+/// 64 bits.
+fn cause_after(cause: InputCause, records: u64) -> Option<InputCause>
+    ensures { IfSome result (λ told. told ≡ cause_after records cause) }
+{
+    match cause {
+        InputCause::Applying(fault) => Some(InputCause::Applying(fault_after(fault, records)?)),
+        InputCause::Reading(_) | InputCause::BadRecord(_) | InputCause::Reverting(_) => Some(cause),
+    }
+}
+
+/// Returns the texts that the inputs of so many tables make, each table having `each` inputs. So many records stand before the lines of each
+/// input. Refuses the first input at fault.
 pub(super) fn replayed_texts(
     alloc: Global,
     way: Way,
     delimiter: u8,
+    records: u64,
     count: usize,
     each: usize,
     names: &Texts,
@@ -108,7 +143,7 @@ pub(super) fn replayed_texts(
     requires most { each ≤ 30001 }
     ensures count { IfOk result (λ texts. length texts ≡ count) }
     ensures replayed { IfOk result (AreReplayed way delimiter each inputs.now) }
-    ensures fault { IfErr result (IsUnreplayed way delimiter names.now each inputs.now count) }
+    ensures fault { IfErr result (IsUnreplayed way delimiter records names.now each inputs.now count) }
 {
     let mut texts = Inputs::new(alloc);
     for place in 0..count {
@@ -119,10 +154,15 @@ pub(super) fn replayed_texts(
                 Ok(()) => {}
                 Err(_) => return Err(JobFault::Memory),
             },
-            Err(stop) => match stop.cause {
-                None => return Err(JobFault::Memory),
-                Some(cause) => return Err(fault_at(names, from + stop.place, cause)),
-            },
+            Err(stop) => {
+                let Some(cause) = stop.cause else {
+                    return Err(JobFault::Memory);
+                };
+                let Some(told) = cause_after(cause, records) else {
+                    return Err(JobFault::Memory); // no memory holds so many lines
+                };
+                return Err(fault_at(names, from + stop.place, told));
+            }
         }
     }
     Ok(texts)
@@ -138,11 +178,12 @@ pub(super) fn written_job(
 ) -> Result<Job, Memory>
     requires delimiter { IsDelimiter delimiter }
     requires count { length texts ≡ length replay.now.names }
-    requires rows { format_of replay.now ≡ Format.Csv → All (HasRows delimiter) texts }
+    requires csv { IfSome replay.now.csv (IsCsvOfTables replay.now.way (length replay.now.names)) }
+    requires rows { IfSome replay.now.csv (λ tables. All (HasRows delimiter) texts) }
     ensures made { IfOk result (λ job. AreDueFor delimiter request.now replay.now texts (due_of job)) }
     ensures can { IfOk result CanFill }
 {
-    let written = written_in(alloc, replay.format(), texts, delimiter)?;
+    let written = written_in(alloc, &replay.csv, request.header, texts, delimiter)?;
     let Some(directory) = &request.out else {
         return Ok(Job::Text(joined(alloc, &written)?));
     };

@@ -1,4 +1,4 @@
-use Rattle.std.proofs.Common.{◌*◌, ◌-◌, ◌∙◌, ap, ap₂, length, subst, sym, List, Option, ℕ}
+use Rattle.std.proofs.Common.{◌*◌, ◌∙◌, ap, ap₂, length, subst, sym, List, Option, ℕ}
 use Rattle.std.specs.Prelude.{IfSome}
 use Rattle.pdgf_run.specs.Replay.{IsCsvOfTables, inputs_by}
 use Rattle.pdgf_run.specs.declared.replay.Way.{Way}
@@ -9,6 +9,6 @@ pub copies_of-requires-clause-fields : goal.copies_of-requires-clause-fields
 copies_of-requires-clause-fields c =
     let r = c.args.request.now in
     let replay = c.args.replay.now in
-    let of = subst (λ (csv : Option (List ℕ)). IfSome csv (IsCsvOfTables replay.way (length replay.names))) c.in-Some.is c.requires.can.csv in
+    let of = subst (λ (csv : Option (List (List (List ℕ)))). IfSome csv (IsCsvOfTables replay.way (length replay.names))) c.in-Some.is c.requires.can.csv in
     c.requires.alike ∙ ap length c.requires.names ∙ length-names r replay
     ∙ ap₂ (λ (count : ℕ) (w : Way). count * inputs_by w r.from r.to) (sym of.alike ∙ sym (ap length c.as_slice.ensures)) of.applies

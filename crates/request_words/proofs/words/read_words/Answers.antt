@@ -3,9 +3,9 @@ use Rattle.std.specs.Option.{option_and_then}
 use Rattle.std.proofs.lemmas.List.{length-map}
 use Rattle.std.proofs.lemmas.Result.{IfOk-weaker}
 use Rattle.request_words.specs.Form.{given_in, has_form, mode_in}
-use Rattle.request_words.specs.Options.{mode_named, order, request_of}
+use Rattle.request_words.specs.Options.{mode_named, request_of}
 use Rattle.std.specs.Prelude.{IfErr, IfOk}
-use Rattle.request_words.specs.Words.{first_fault, request}
+use Rattle.request_words.specs.Words.{fault_of, request}
 use Rattle.request_words.specs.declared.usage.Request.{Request}
 use Rattle.request_words.specs.declared.usage.UsageFault.{UsageFault}
 use Rattle.request_words.proofs.FaultLemmas.{request-other}
@@ -23,8 +23,8 @@ given_is c =
     let f : has_form (drop 1 words) ≡ true = cc in
     let named : option_and_then mode_named (mode_in (drop 1 words)) ≡ Some c.in-Some.mode =
     ap (λ (w : List (List ℕ)). option_and_then mode_named (mode_in w)) (sym behind) ∙ (sym c.mode_of.ensures ∙ c.in-Some.is) in
-    let right : first_fault c.in-Some.mode (given_in (drop 1 words)) order ≡ None =
-    ap (λ (w : List (List ℕ)). first_fault c.in-Some.mode (given_in w) order) (sym behind) ∙ (sym c.first_fault.ensures ∙ c.in_default-first_fault.is) in
+    let right : fault_of c.in-Some.mode (given_in (drop 1 words)) ≡ None =
+    ap (λ (w : List (List ℕ)). fault_of c.in-Some.mode (given_in w)) (sym behind) ∙ (sym c.fault_of.ensures ∙ c.in_default-fault_of.is) in
     request_given words c.in-Some.mode some f named right
 
 -- and that is the request that is made
@@ -47,5 +47,5 @@ returns-in-Ok-clause-usage c =
 pub returns-in-Ok-clause-no_memory : goal.returns-in-Ok-clause-no_memory
 returns-in-Ok-clause-no_memory c = request-other (map string_bytes c.args.words.now)
 
-pub returns-in-Some-first_fault-clause-no_memory : goal.returns-in-Some-first_fault-clause-no_memory
-returns-in-Some-first_fault-clause-no_memory c = request-other (map string_bytes c.args.words.now)
+pub returns-in-Some-fault_of-clause-no_memory : goal.returns-in-Some-fault_of-clause-no_memory
+returns-in-Some-fault_of-clause-no_memory c = request-other (map string_bytes c.args.words.now)

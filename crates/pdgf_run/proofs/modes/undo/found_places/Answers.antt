@@ -1,5 +1,4 @@
-use Rattle.std.proofs.Common.{◌≡◌, ◌<◌, ◌≤◌, ◌+◌, ◌-◌, ℕ, Fits, w32, List, [], ◌∷◌, ◌++◌, Vec, Global, get_or, length, map, ap, arith, refl, sym, ◌∙◌}
-use Rattle.std.specs.List.{range_with_len}
+use Rattle.std.proofs.Common.{◌≡◌, ◌<◌, ◌+◌, ◌-◌, ℕ, List, [], ◌∷◌, ◌++◌, Vec, Global, get_or, length, map, ap, arith, refl, sym, ◌∙◌}
 use Rattle.std.proofs.lemmas.List.FromFn.{get_or-range_with_len, length-range_with_len}
 use Rattle.schema_plan.specs.Dictionaries.{Project}
 use Rattle.undo_streams.specs.Places.{places_of}

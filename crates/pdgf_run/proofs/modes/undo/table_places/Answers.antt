@@ -1,11 +1,8 @@
-use Rattle.std.proofs.Common.{◌≡◌, ◌<◌, ◌≤◌, ◌-◌, ℕ, All, List, length, ap, subst, sym, true, ◌∙◌}
-use Rattle.std.specs.List.Sorted.{IsStrictlyIncreasing}
+use Rattle.std.proofs.Common.{◌≡◌, ◌-◌, All, ap, subst, sym, true, ◌∙◌}
 use Rattle.schema_plan.specs.Dictionaries.{Project}
 use Rattle.schema_plan.specs.Limits.{IsInLimits}
 use Rattle.life_intervals.specs.Generator.{generator_of}
 use Rattle.life_intervals.specs.Simulation.{holds_row, rows_at}
-use Rattle.life_intervals.specs.Streams.{deleted}
-use Rattle.undo_streams.specs.Packages.{ordinals_of}
 use Rattle.undo_streams.proofs.UndoLineLemmas.{deleted-held, deleted-rising}
 use Rattle.update_box.specs.UnitLists.{TableLists}
 use Rattle.pdgf_run.proofs.modes.undo.table_places.Goals as goal

@@ -1,4 +1,4 @@
-use Rattle.std.proofs.Common.{◌≡◌, ◌<◌, ◌≤◌, ◌-◌, ℕ, Global, List, Option, Vec, get_or, length, true, ap, arith, subst, sym, ◌∙◌}
+use Rattle.std.proofs.Common.{◌≡◌, ◌<◌, ◌-◌, ℕ, Global, List, Vec, length, ap, arith, subst, sym, ◌∙◌}
 use Rattle.schema_plan.specs.Dictionaries.{Project}
 use Rattle.schema_plan.specs.Limits.{IsInLimits}
 use Rattle.undo_streams.specs.Packages.{AreChanges}
@@ -6,7 +6,7 @@ use Rattle.undo_streams.specs.Places.{places_of}
 use Rattle.undo_streams.specs.declared.changes.Changes.{Changes}
 use Rattle.update_box.specs.Packages.{chosen_places}
 use Rattle.update_box.specs.Prepared.{IsAmong}
-use Rattle.update_box.specs.TableLists.{HasLists, is_chosen, table_lists_at}
+use Rattle.update_box.specs.TableLists.{HasLists, table_lists_at}
 use Rattle.update_box.proofs.EntryLemmas.{chosen_places-among}
 use Rattle.pdgf_run.proofs.UndoLemmas.{at-number, changes-lists, chosen-among}
 use Rattle.pdgf_run.proofs.modes.undo.undo_packer.Goals as goal

@@ -1,12 +1,12 @@
-use Rattle.std.proofs.Common.{◌≡◌, ◌<◌, ◌+◌, ◌-◌, ◌*◌, ℕ, List, [], ◌∷◌, Option, ap, arith, drop, length, length-append, map, refl, subst, sym, take}
+use Rattle.std.proofs.Common.{◌≡◌, ◌<◌, ◌+◌, ◌-◌, ◌*◌, ℕ, List, [], ◌∷◌, Option, ap, arith, drop, length, length-append, map, refl, subst, sym, take, ◌∙◌}
 use Rattle.std.specs.Prelude.{IfSome}
 use Rattle.refusals.specs.declared.refusal.InputCause.{InputCause}
-use Rattle.pdgf_run.specs.Replay.{IsReplayFaultAt, IsReplayedText, inputs_at}
+use Rattle.pdgf_run.specs.Replay.{IsReplayFaultAt, IsReplayedText, inputs_at, named_fault}
 use Rattle.pdgf_run.proofs.ReplayedLemmas.{inputs_in_turn, replayed_more, taken_few, unreplayed_at}
 use Rattle.pdgf_run.proofs.replay.texts.replayed_texts.Goals as goal
 
-pub returns-in-Some-clause-fault : goal.returns-in-Some-clause-fault
-returns-in-Some-clause-fault c =
+pub returns-in-Err-clause-fault : goal.returns-in-Err-clause-fault
+returns-in-Err-clause-fault c =
     let inv = c.loop-place.invariant in
     let each : ℕ = c.args.each in
     let from : ℕ = c.loop-place.place * each in
@@ -20,9 +20,9 @@ returns-in-Some-clause-fault c =
     let has : IsReplayFaultAt c.args.way c.args.delimiter (inputs_at each c.args.inputs.now (length c.loop-place.texts)) c.in-Err.stop.place c.in-Some.cause =
     subst (λ (p : ℕ). IsReplayFaultAt c.args.way c.args.delimiter (inputs_at each c.args.inputs.now p) c.in-Err.stop.place c.in-Some.cause) (sym inv.count)
     (subst (λ (l : List (List ℕ)). IsReplayFaultAt c.args.way c.args.delimiter l c.in-Err.stop.place c.in-Some.cause) own found.1) in
-    unreplayed_at c.args.way c.args.delimiter c.args.names.now each c.args.inputs.now c.loop-place.texts c.args.count c.in-Err.stop.place _ c.in-Some.cause c.fault_at.result
+    unreplayed_at c.args.way c.args.delimiter c.args.records c.args.names.now each c.args.inputs.now c.loop-place.texts c.args.count c.in-Err.stop.place _ c.in-Some.cause c.fault_at.result
     inv.replayed (omega (arith, inv.count, c.loop-place-test.true)) below
-    (ap (λ (p : ℕ). p * each + c.in-Err.stop.place) (sym inv.count)) has c.fault_at.ensures
+    (ap (λ (p : ℕ). p * each + c.in-Err.stop.place) (sym inv.count)) has (c.fault_at.ensures ∙ ap (named_fault c.args.names.now _) c.in-Some-cause_after.ensures)
 
 pub loop-place-preserved : goal.loop-place-preserved
 loop-place-preserved c =
