@@ -1,13 +1,12 @@
 """Logical replication from one PostgreSQL to another, compared with the snapshots on both sides."""
 
-import sys
 import time
 
 from .database import as_text
 from .postgres import Postgres, served
-from .run import Program, Request, Words, say_as, tables_of
-from .schema import Unreadable, read_schema
-from .server import Failed, Missing, end_by_signals, room
+from .run import Program, Request, Words, carried_out, option, say_as, tables_of
+from .schema import read_schema
+from .server import Failed, room
 from .text import lines
 
 USAGE = """usage: examples/load/replicate [--units N] [--publish LIST] FOLDER|SCHEMA
@@ -24,20 +23,9 @@ that is needed isn't installed. The variable PDGF names another program than the
 say = say_as("replicate")
 
 
-def option(words, name, default):
-    if name not in words:
-        return default
-    place = words.index(name)
-    if place + 1 == len(words):
-        raise Words
-    value = words[place + 1]
-    del words[place : place + 2]
-    return value
-
-
-def publish(source, target, actions):
-    """Publishes the tables of one database and subscribes to them in another."""
-    named = source.quoted(*(it.name for it in source.schema.tables))
+def publish(source, target, tables, actions):
+    """Publishes tables of one database, by their names, and subscribes to them in another."""
+    named = source.quoted(*tables)
     source.run(f"CREATE PUBLICATION pdgf FOR TABLE {named} WITH (publish = {as_text(actions)});")
     environment = source.environment
     place = f"host={environment['PGHOST']} port={environment['PGPORT']} user={environment['PGUSER']} dbname={environment['PGDATABASE']}"
@@ -92,7 +80,7 @@ def replicate(words):
             source.play(unit, program.texts("unit" if unit else "snapshot", unit, f"{first}/texts"), lines, is_base=unit == 0)
             if unit == 0:
                 source.settle()
-                publish(source, target, actions)
+                publish(source, target, [it.name for it in schema.tables], actions)
             wait_until_replayed(source, target)
             if not are_equal(program, unit, first, (source, target)):
                 return 1
@@ -100,20 +88,4 @@ def replicate(words):
 
 
 def main(words):
-    if words == ["--help"]:
-        print(USAGE, end="")
-        return 0
-    end_by_signals()
-    try:
-        return replicate(words)
-    except Words:
-        print(USAGE, end="", file=sys.stderr)
-        return 2
-    except Missing as error:
-        print(f"replicate: missing: {error}", file=sys.stderr)
-        return 3
-    except (Failed, Unreadable) as error:
-        print(f"replicate: {error}", file=sys.stderr)
-        return 1
-    except KeyboardInterrupt:
-        return 130
+    return carried_out("replicate", USAGE, replicate, words)

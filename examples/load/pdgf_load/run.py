@@ -209,22 +209,39 @@ def load(words, kind):
     return 0
 
 
-def main(words, kind: type[Database], server):
-    usage = USAGE.format(name=kind.dialect.name, title=kind.title, tables=tables_file(kind), server=server.strip())
+def option(words, name, default):
+    """The value of an option, which is taken out of the words with its name."""
+    if name not in words:
+        return default
+    place = words.index(name)
+    if place + 1 == len(words):
+        raise Words
+    value = words[place + 1]
+    del words[place : place + 2]
+    return value
+
+
+def carried_out(name, usage, do, words):
+    """Does what a script of this name is for, with its words. Returns its status, and tells why that isn't 0."""
     if words[:1] == ["--help"]:
         print(usage, end="")
         return 0
     end_by_signals()
     try:
-        return load(words, kind)
+        return do(words)
     except Words:
         print(usage, end="", file=sys.stderr)
         return 2
     except Missing as error:
-        print(f"load: missing: {error}", file=sys.stderr)
+        print(f"{name}: missing: {error}", file=sys.stderr)
         return 3
     except (Failed, Unreadable, FileNotFoundError) as error:
-        print(f"load: {error}", file=sys.stderr)
+        print(f"{name}: {error}", file=sys.stderr)
         return 1
     except KeyboardInterrupt:
         return 130
+
+
+def main(words, kind: type[Database], server):
+    usage = USAGE.format(name=kind.dialect.name, title=kind.title, tables=tables_file(kind), server=server.strip())
+    return carried_out("load", usage, lambda it: load(it, kind), words)
