@@ -1,7 +1,8 @@
 -- The records that a text in COPY text form is scanned into.
-use Rattle.std.proofs.Common.{◌≡◌, ◌≢◌, ◌<◌, ℕ, ◌==◌, All, List, [], ◌∷◌, ◌++◌, Option, None, Some, false, length, map, refl, sym, ap, subst, ◌∙◌, inl, inr, append_assoc, arith}
-use Rattle.std.specs.Prelude.{flat_map}
-use Rattle.std.proofs.lemmas.Bool.{cases_Bool, eqb-true, ne_eqb}
+use Rattle.std.proofs.Common.{◌≡◌, ◌≢◌, ◌<◌, ◌+◌, ℕ, zero, suc, ◌==◌, All, Bool, List, [], ◌∷◌, ◌++◌, Option, None, Some, false, true, length, get_or, map, take, refl, sym, ap, subst, ◌∙◌, inl, inr, append_assoc, add-one, arith}
+use Rattle.std.specs.Prelude.{◌&&◌, flat_map, not}
+use Rattle.std.specs.List.{list_all}
+use Rattle.std.proofs.lemmas.Bool.{and_parts, cases_Bool, eq-eqb, eqb-true, ne_eqb}
 use Rattle.std.proofs.lemmas.List.{append-nil}
 use Rattle.std.proofs.lemmas.List.Elements.{All-head, All-tail}
 use Rattle.row_text.specs.Fields.{IsDelimiter, escaped, escaped_text, field_text}
@@ -9,7 +10,8 @@ use Rattle.row_text.specs.Lines.{line_text}
 use Rattle.row_text.proofs.EscapeLemmas.{itself, escape, form}
 use Rattle.row_text.proofs.EscapeLemmas as escapes
 use Rattle.csv_face.specs.Csv.{Row, csv_field, guarded, rows_text}
-use Rattle.csv_face.specs.Scan.{records_behind, with_byte, with_letter}
+use Rattle.csv_face.specs.Scan.{is_plain, records_behind, with_byte, with_letter}
+use Rattle.csv_face.specs.Scanners.{ArePlainBy}
 
 -- a text behind what a record's field holds of it
 unfoldable with_bytes : List ℕ → List ℕ → List ℕ
@@ -135,3 +137,44 @@ records_behind-rows_text delimiter delimits count some ((field ∷ fields) ∷ r
     line-behind delimiter delimits field fields (rows_text delimiter rows)
     ∙ ap (λ (r : List (List (List ℕ))). map csv_field (field ∷ fields) ∷ r)
     (records_behind-rows_text delimiter delimits count some rows (All-tail (λ (row : Row). length row ≡ count) (field ∷ fields) rows alike))
+
+-- bytes that stand for themselves
+pub plain-behind : (delimiter : ℕ) (fields : List (List ℕ)) (field bytes rest : List ℕ) → list_all (is_plain delimiter) bytes ≡ true
+    → records_behind delimiter fields field false (bytes ++ rest) ≡ records_behind delimiter fields (field ++ bytes) false rest
+plain-behind delimiter fields field [] rest all = ap (λ (f : List ℕ). records_behind delimiter fields f false rest) (sym (append-nil field))
+plain-behind delimiter fields field (byte ∷ bytes) rest all =
+    let parts = and_parts (is_plain delimiter byte) (list_all (is_plain delimiter) bytes) all in
+    let last = and_parts (not (byte == 92) && not (byte == delimiter)) (not (byte == 10)) parts.0 in
+    let first = and_parts (not (byte == 92)) (not (byte == delimiter)) last.0 in
+    plain delimiter fields field byte (bytes ++ rest) (other byte 92 first.0) (other byte delimiter first.1) (other byte 10 last.1)
+    ∙ plain-behind delimiter fields (field ++ byte ∷ []) bytes rest parts.1
+    ∙ ap (λ (f : List ℕ). records_behind delimiter fields f false rest) (append_assoc field (byte ∷ []) bytes)
+  where
+    other : (a b : ℕ) → not (a == b) ≡ true → a ≢ b
+    other a b apart same = never (a == b) (eq-eqb a b same) apart
+      where
+        never : (t : Bool) → t ≡ true → not t ≡ true → ⊥
+        never true is apart = cc apart
+        never false is apart = cc is
+
+-- the same by what the scanner waits for
+pub plain-read : (delimiter : ℕ) (fields : List (List ℕ)) (field : List ℕ) (escape : Bool) (bytes rest : List ℕ) → ArePlainBy delimiter escape bytes
+    → records_behind delimiter fields field escape (bytes ++ rest) ≡ records_behind delimiter fields (field ++ bytes) escape rest
+plain-read delimiter fields field true bytes rest none =
+    ap (λ (b : List ℕ). records_behind delimiter fields field true (b ++ rest)) none
+    ∙ ap (λ (f : List ℕ). records_behind delimiter fields f true rest) (sym (append-nil field))
+    ∙ ap (λ (b : List ℕ). records_behind delimiter fields (field ++ b) true rest) (sym none)
+plain-read delimiter fields field false bytes rest all = plain-behind delimiter fields field bytes rest all
+
+-- one more byte that stands for itself
+pub plain-more : (delimiter : ℕ) (text : List ℕ) (place d : ℕ) → place < length text → list_all (is_plain delimiter) (take place text) ≡ true
+    → is_plain delimiter (get_or text place d) ≡ true → list_all (is_plain delimiter) (take (place + 1) text) ≡ true
+plain-more delimiter text place d below all next = rw (add-one place) (go text place below all next)
+  where
+    go : (text : List ℕ) (place : ℕ) → place < length text → list_all (is_plain delimiter) (take place text) ≡ true → is_plain delimiter (get_or text place d) ≡ true
+        → list_all (is_plain delimiter) (take (suc place) text) ≡ true
+    go [] place below all next = absurd (omega (arith, below))
+    go (byte ∷ text) zero below all next = rw next refl
+    go (byte ∷ text) (suc place) below all next =
+        let parts = and_parts (is_plain delimiter byte) (list_all (is_plain delimiter) (take place text)) all in
+        rw parts.0 (go text place (omega (arith, below)) parts.1 next)

@@ -1,5 +1,9 @@
 -- A text in COPY text form, read byte by byte.
-use Rattle.std.specs.Prelude.{ℕ, ◌==◌, Bool, true, false, if◌then◌else◌, List, [], ◌∷◌, ◌++◌}
+use Rattle.std.specs.Prelude.{ℕ, ◌==◌, ◌&&◌, Bool, true, false, if◌then◌else◌, List, [], ◌∷◌, ◌++◌, not}
+
+-- a byte that stands for itself, where no backslash stands before it
+abbrev pub is_plain : ℕ → ℕ → Bool
+is_plain delimiter byte = not (byte == 92) && not (byte == delimiter) && not (byte == 10)
 
 -- the byte that a backslash and a letter stand for
 abbrev pub byte_of : ℕ → ℕ

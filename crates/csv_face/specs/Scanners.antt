@@ -1,9 +1,10 @@
 -- What is read of a text in COPY text form, and written of it as CSV.
-use Rattle.std.specs.Prelude.{◌≡◌, ℕ, List, [], ◌++◌, Some, false}
+use Rattle.std.specs.Prelude.{◌≡◌, ℕ, Bool, List, [], ◌++◌, Some, false, true}
+use Rattle.std.specs.List.{list_all}
 use Rattle.csv.specs.Records.{fields_of, partial_of}
 use Rattle.csv.specs.Writing.{default_writer, fields_written, has_written, text_written, writer_setup}
 use Rattle.csv_face.specs.Csv.{records_text}
-use Rattle.csv_face.specs.Scan.{records_behind}
+use Rattle.csv_face.specs.Scan.{is_plain, records_behind}
 use Rattle.csv_face.specs.declared.write.Scanner.{Scanner}
 
 -- its writer stands between two records, behind this text
@@ -20,3 +21,11 @@ pub record WillWrite (delimiter : ℕ) (scanner : Scanner) (whole rest : List �
   pub written : HasWritten scanner text
   pub behind :
       text ++ records_text (records_behind delimiter (fields_of scanner.fields) scanner.field.items scanner.is_escape rest) ≡ whole
+
+-- bytes that stand for themselves where they are read next: none, where the letter behind a backslash comes next
+abbrev pub ArePlainBy : ℕ → Bool → List ℕ → Type 0
+ArePlainBy delimiter true bytes = bytes ≡ []
+ArePlainBy delimiter false bytes = list_all (is_plain delimiter) bytes ≡ true
+
+abbrev pub ArePlain : ℕ → Scanner → List ℕ → Type 0
+ArePlain delimiter scanner bytes = ArePlainBy delimiter scanner.is_escape bytes

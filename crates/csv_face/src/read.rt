@@ -171,16 +171,16 @@ fn reader_of(alloc: Global, bytes: &[u8]) -> Reader<&[u8]>
 }
 
 /// Reads the next record. Tells whether there is one. Fails only if memory runs out.
-fn read_next(reader: &mut Reader<&[u8]>, record: &mut ByteRecord) -> Result<bool, CsvFault>
+fn read_next(reader: &mut Reader<&[u8]>, fields: &mut ByteRecord) -> Result<bool, CsvFault>
     requires { CanRead reader.old }
     ensures can { OnOk result (CanRead reader.new) }
     ensures next { (bytes : List ℕ) (before : List (List (List ℕ))) → StandsAfter bytes before reader.old →
-        IfOk result (λ found. found ≡ true → StandsAfter bytes (before ++ fields_of record.new ∷ []) reader.new) }
+        IfOk result (λ found. found ≡ true → StandsAfter bytes (before ++ fields_of fields.new ∷ []) reader.new) }
     ensures end { (bytes : List ℕ) (before : List (List (List ℕ))) → StandsAfter bytes before reader.old →
         IfOk result (λ found. found ≡ false → AreRecords default_config st.StartRecord (strip_bom bytes) before) }
     ensures memory { IfErr result (λ fault. fault ≡ CsvFault.Memory) }
 {
-    match reader.read_byte_record(record) {
+    match reader.read_byte_record(fields) {
         Ok(found) => Ok(found),
         Err(error) => Err(stopped(error)),
     }

@@ -1,10 +1,11 @@
 //! From COPY text form to CSV.
 
-ghost use Rattle.std.specs.Prelude.{◌≡◌, ◌∷◌, ◌++◌, [], ℕ, List, IfOk, OnOk, false};
+ghost use Rattle.std.specs.Prelude.{◌≡◌, ◌≤◌, ◌∷◌, ◌++◌, [], ℕ, List, IfOk, OnOk, false, length, take, true};
+ghost use Rattle.std.specs.List.{list_all};
 ghost use Rattle.csv.specs.Records.{fields_of, partial_of};
 ghost use Rattle.csv_face.specs.Csv.{HasRows, IsCsvOf, names_text, record_text, records_text};
-ghost use Rattle.csv_face.specs.Scan.{byte_of, records_behind, with_byte, with_letter};
-ghost use Rattle.csv_face.specs.Scanners.{HasWritten, WillWrite};
+ghost use Rattle.csv_face.specs.Scan.{byte_of, is_plain, records_behind, with_byte, with_letter};
+ghost use Rattle.csv_face.specs.Scanners.{ArePlain, HasWritten, WillWrite};
 ghost use Rattle.row_text.specs.Fields.{IsDelimiter};
 
 use csv::{ByteRecord, Writer, WriterBuilder};
@@ -113,6 +114,27 @@ impl Scanner {
         Ok(())
     }
 
+    /// Returns how many bytes at the beginning of what is read next stand for themselves.
+    fn plain_size(&self, text: &[u8], delimiter: u8) -> usize
+        ensures within { result ≤ length text.now }
+        ensures plain { ArePlain delimiter self.now (take result text.now) }
+    {
+        if self.is_escape {
+            0
+        } else {
+            plain_size(text, delimiter)
+        }
+    }
+
+    /// Reads bytes that stand for themselves.
+    fn read_plain(&mut self, bytes: &[u8]) -> Result<(), Memory>
+        ensures { (delimiter : ℕ) (whole rest : List ℕ) → ArePlain delimiter self.old bytes.now → WillWrite delimiter self.old whole (bytes.now ++ rest) →
+            OnOk result (WillWrite delimiter self.new whole rest) }
+    {
+        self.field.extend_from_slice(bytes)?;
+        Ok(())
+    }
+
     /// Completes the current field.
     fn end_field(&mut self) -> Result<(), Memory>
         ensures same { OnOk result (self.new ≡ record self.old { fields = self.new.fields; field = self.new.field }) }
@@ -161,13 +183,40 @@ impl Scanner {
     }
 }
 
+/// Tells whether a byte of a text stands for itself, if no backslash stands before it.
+fn is_plain(byte: u8, delimiter: u8) -> bool
+    ensures { result ≡ is_plain delimiter byte }
+{
+    byte != b'\\' && byte != delimiter && byte != b'\n'
+}
+
+/// Returns how many bytes at the beginning of a text stand for themselves.
+fn plain_size(text: &[u8], delimiter: u8) -> usize
+    ensures within { result ≤ length text.now }
+    ensures plain { list_all (is_plain delimiter) (take result text.now) ≡ true }
+{
+    for place in 0..text.len() {
+        if !is_plain(text[place], delimiter) {
+            return place;
+        }
+    }
+    text.len()
+}
+
 /// Returns the records of a text as CSV.
 fn scanned(alloc: Global, text: &[u8], delimiter: u8) -> Result<Vec<u8>, Memory>
     ensures { IfOk result (λ csv. csv.items ≡ records_text (records_behind delimiter [] [] false text.now)) }
 {
     let mut scanner = Scanner::new(alloc);
-    for byte in text {
-        scanner.read(*byte, delimiter)?;
+    let mut rest = text;
+    while !rest.is_empty() {
+        let size = scanner.plain_size(rest, delimiter);
+        scanner.read_plain(&rest[..size])?;
+        rest = &rest[size..];
+        if let [byte, behind @ ..] = rest {
+            scanner.read(*byte, delimiter)?;
+            rest = behind;
+        }
     }
     scanner.finish()
 }

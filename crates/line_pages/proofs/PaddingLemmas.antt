@@ -1,48 +1,13 @@
 -- Texts that are filled with zeros.
-use Rattle.std.proofs.Common.{◌≡◌, ◌∙◌, ℕ, Bool, ◌+◌, ◌-◌, ◌≤◌, ◌==◌, List, [], ◌∷◌, ◌++◌, arith, ap, drop, drop-drop, if◌then◌else◌, length, refl, replicate, sym, take, true, false}
-use Rattle.std.specs.List.{slice_rotate_right}
-use Rattle.std.proofs.lemmas.List.{append_assoc, drop-append-le, drop-take, length-append, length-drop, length-replicate, length-take-le, take-append-le, take-replicate, take-take}
-use Rattle.std.proofs.Math.Seq.{drop-append_seam, take-add, take-append-add, take-append_seam, take-length}
+use Rattle.std.proofs.Common.{◌≡◌, ◌∙◌, ℕ, Bool, ◌+◌, ◌-◌, ◌≤◌, ◌==◌, List, [], ◌∷◌, ◌++◌, arith, ap, drop, drop-drop, if◌then◌else◌, length, replicate, sym, take, true, false}
+use Rattle.std.proofs.lemmas.List.{append_assoc, drop-take, length-append, length-drop, length-replicate, length-take-le, take-append-le, take-take}
+use Rattle.std.proofs.lemmas.List.Edits.{paste_all}
+use Rattle.std.proofs.lemmas.Slice.{put_mid-paste}
+use Rattle.std.proofs.Math.Seq.{drop-append_seam, take-add, take-append_seam, take-length}
+use lib.Seq.{paste}
+use borrow.Rule.Slice.PartMut.{put_mid}
 use Rattle.line_pages.specs.Padding.{sign_size, with_zeros}
 use Rattle.line_pages.specs.Pages.{Page}
-
--- a part of the bytes is put in another order, and the text ends with it
-pub take-reordered : (bytes part rest : List ℕ) (from n : ℕ) → from ≤ length bytes → length part ≡ n →
-    take (from + n) (take from bytes ++ (part ++ rest)) ≡ take from bytes ++ part
-take-reordered bytes part rest from n within all =
-    ap (λ (k : ℕ). take (k + n) (take from bytes ++ (part ++ rest))) (sym (length-take-le from bytes within))
-    ∙ take-append-add (take from bytes) (part ++ rest) n
-    ∙ ap (λ (k : ℕ). take from bytes ++ take k (part ++ rest)) (sym all)
-    ∙ ap (λ (bytes' : List ℕ). take from bytes ++ bytes') (take-append_seam part rest)
-
--- the bytes stay as many
-pub length-reordered : (bytes part : List ℕ) (from len : ℕ) → from ≤ len → len ≤ length bytes → length part ≡ length (take (len - from) (drop from bytes)) →
-    length (take from bytes ++ (part ++ drop (len - from) (drop from bytes))) ≡ length bytes
-length-reordered bytes part from len before within all =
-    omega (
-      arith,
-      length-append (take from bytes) (part ++ drop (len - from) (drop from bytes)),
-      length-append part (drop (len - from) (drop from bytes)),
-      length-take-le from bytes (omega arith),
-      all,
-      length-take-le (len - from) (drop from bytes) (omega (arith, length-drop from bytes)),
-      length-drop from bytes,
-      length-drop (len - from) (drop from bytes),
-    )
-
--- the last bytes of a text are moved before others
-pub moved : (bytes part rest : List ℕ) (from len count : ℕ) → from ≤ len → len ≤ length bytes →
-    length part ≡ length (take (len - from) (drop from bytes)) → part ≡ slice_rotate_right (take (len - from) (drop from bytes)) count →
-    take len (take from bytes ++ (part ++ rest)) ≡ take from (take len bytes) ++ slice_rotate_right (drop from (take len bytes)) count
-moved bytes part rest from len count before within all is =
-    let again : from + (len - from) ≡ len = omega (arith, before) in
-    let old : drop from (take len bytes) ≡ take (len - from) (drop from bytes) =
-    ap (λ (k : ℕ). drop from (take k bytes)) (sym again) ∙ drop-take from (len - from) bytes in
-    let size : length part ≡ len - from = all ∙ length-take-le (len - from) (drop from bytes) (omega (arith, length-drop from bytes, within)) in
-    ap (λ (k : ℕ). take k (take from bytes ++ (part ++ rest))) (sym again)
-    ∙ take-reordered bytes part rest from (len - from) (omega arith) size
-    ∙ ap (λ (last : List ℕ). take from bytes ++ last) (is ∙ ap (λ (last : List ℕ). slice_rotate_right last count) (sym old))
-    ∙ ap (λ (first : List ℕ). first ++ slice_rotate_right (drop from (take len bytes)) count) (sym (take-take from len bytes before))
 
 pub same_page : (text text' : List ℕ) (room room' : ℕ) → text ≡ text' → room ≡ room' →
     ◌≡◌ {A = Page} (record { text = text; room = room }) (record { text = text'; room = room' })
@@ -51,11 +16,6 @@ same_page text text' room room' texts rooms = cc
 -- the number is the text from its place on
 pub number-part : (text : List ℕ) (from : ℕ) → take (length text - from) (drop from text) ≡ drop from text
 number-part text from = ap (λ (k : ℕ). take k (drop from text)) (sym (length-drop from text)) ∙ take-length (drop from text)
-
--- zeros of the constant are put behind a text
-pub put-zeros : (page after : Page) (missing : ℕ) → missing ≤ 64 → after ≡ record { text = page.text ++ take missing (replicate 64 48); room = page.room } →
-    after ≡ record { text = page.text ++ replicate missing 48; room = page.room }
-put-zeros page after missing few is = is ∙ same_page _ _ _ _ (ap (λ (zeros : List ℕ). page.text ++ zeros) (take-replicate missing 64 48 few)) refl
 
 -- the sign is within its text
 pub sign-within : (text : List ℕ) → sign_size text ≤ length text
@@ -66,42 +26,101 @@ sign-within (byte ∷ bytes) = of_test (byte == 45)
     of_test true = omega arith
     of_test false = omega arith
 
--- zeros that are moved before what stands before them
-rotated-zeros : (digits zeros : List ℕ) → slice_rotate_right (digits ++ zeros) (length zeros) ≡ zeros ++ digits
-rotated-zeros digits zeros =
-    let at : length (digits ++ zeros) - length zeros ≡ length digits = omega (arith, length-append digits zeros) in
-    ap (λ (k : ℕ). drop k (digits ++ zeros) ++ take k (digits ++ zeros)) at
-    ∙ ap (λ (first : List ℕ). first ++ take (length digits) (digits ++ zeros)) (drop-append_seam digits zeros)
-    ∙ ap (λ (last : List ℕ). zeros ++ last) (take-append_seam digits zeros)
+length-zeros : (zeros : ℕ) → length {A = ℕ} (replicate zeros 48) ≡ zeros
+length-zeros zeros = length-replicate zeros 48
 
--- zeros behind a text are moved before its digits
-zeros-moved : (text : List ℕ) (from digits zeros : ℕ) → from ≤ length text → digits ≡ from + sign_size (drop from text) →
-    take digits (text ++ replicate zeros 48) ++ slice_rotate_right (drop digits (text ++ replicate zeros 48)) zeros ≡ take from text ++ with_zeros zeros (drop from text)
-zeros-moved text from digits zeros within digits_are =
-    let number = drop from text in
-    let sign = sign_size number in
-    let last : List ℕ = replicate zeros 48 in
-    let behind : digits ≤ length text = omega (arith, digits_are, length-drop from text, sign-within number) in
-    ap (λ (k : ℕ). take digits (text ++ last) ++ slice_rotate_right (drop digits (text ++ last)) k) (sym (length-replicate zeros 48))
-    ∙ ap (λ (bytes : List ℕ). take digits (text ++ last) ++ slice_rotate_right bytes (length last)) (drop-append-le digits text last behind)
-    ∙ ap (λ (bytes : List ℕ). take digits (text ++ last) ++ bytes) (rotated-zeros (drop digits text) last)
-    ∙ ap (λ (first : List ℕ). first ++ (last ++ drop digits text)) (take-append-le digits text last behind)
-    ∙ ap (λ (k : ℕ). take k text ++ (last ++ drop k text)) digits_are
-    ∙ ap (λ (first : List ℕ). first ++ (last ++ drop (from + sign) text)) (take-add from sign text)
-    ∙ ap (λ (bytes : List ℕ). take from text ++ take sign number ++ (last ++ bytes)) (sym (drop-drop sign from text))
-    ∙ append_assoc (take from text) (take sign number) (last ++ drop sign number)
-    ∙ ap (λ (bytes : List ℕ). take from text ++ bytes) (sym (append_assoc (take sign number) last (drop sign number)))
+-- bytes whose last ones are copied behind a gap: what stands before the gap, and from its end on
+before-gap : (bytes : List ℕ) (digits zeros len : ℕ) → digits ≤ len → len + zeros ≤ length bytes →
+    take digits (paste bytes (digits + zeros) (drop digits bytes) (len - digits)) ≡ take digits bytes
+before-gap bytes digits zeros len before within =
+    let end : ℕ = digits + zeros in
+    let first : List ℕ = take end bytes in
+    let long : length first ≡ end = length-take-le end bytes (omega (arith, before, within)) in
+    let last : List ℕ = take (len - digits) (drop digits bytes) in
+    ap (take digits) (append_assoc first last (drop (end + (len - digits)) bytes))
+    ∙ take-append-le digits first (last ++ drop (end + (len - digits)) bytes) (omega (arith, long))
+    ∙ take-take digits end bytes (omega arith)
 
--- the same of a page: its text, that with the zeros, and that with the zeros moved
-pub page-moved : (page put after : Page) (from sign zeros : ℕ) → from ≤ length page.text → zeros ≤ 64 → sign ≡ sign_size (drop from page.text) →
-    put ≡ record { text = page.text ++ take zeros (replicate 64 48); room = page.room } →
-    after ≡ record { text = take (from + sign) put.text ++ slice_rotate_right (drop (from + sign) put.text) zeros; room = put.room } →
-    after ≡ record { text = take from page.text ++ with_zeros zeros (drop from page.text); room = page.room }
-page-moved page put after from sign zeros within few sign_is put_is after_is =
-    let digits = from + sign in
-    let put_text : put.text ≡ page.text ++ replicate zeros 48 = ap (λ (page : Page). page.text) (put-zeros page put zeros few put_is) in
-    after_is
-    ∙ same_page _ _ _ _
-    (ap (λ (text : List ℕ). take digits text ++ slice_rotate_right (drop digits text) zeros) put_text
-    ∙ zeros-moved page.text from digits zeros within (ap (λ (k : ℕ). from + k) sign_is))
-    (ap (λ (page : Page). page.room) put_is)
+behind-gap : (bytes : List ℕ) (digits zeros len : ℕ) → digits ≤ len → len + zeros ≤ length bytes →
+    drop (digits + zeros) (paste bytes (digits + zeros) (drop digits bytes) (len - digits))
+    ≡ take (len - digits) (drop digits bytes) ++ drop (digits + zeros + (len - digits)) bytes
+behind-gap bytes digits zeros len before within =
+    let end : ℕ = digits + zeros in
+    let first : List ℕ = take end bytes in
+    let long : length first ≡ end = length-take-le end bytes (omega (arith, before, within)) in
+    let last : List ℕ = take (len - digits) (drop digits bytes) in
+    let rest : List ℕ = last ++ drop (end + (len - digits)) bytes in
+    ap (drop end) (append_assoc first last (drop (end + (len - digits)) bytes))
+    ∙ ap (λ (n : ℕ). drop n (first ++ rest)) (sym long)
+    ∙ drop-append_seam first rest
+
+-- the bytes behind a place of the text are copied behind a gap, and zeros fill the gap
+gap-filled : (bytes copied filling : List ℕ) (digits zeros len n : ℕ) → digits ≤ len → len + zeros ≤ length bytes →
+    copied ≡ paste bytes (digits + zeros) (drop digits bytes) (len - digits) → filling ≡ replicate zeros 48 → n ≡ zeros →
+    put_mid digits n copied filling
+    ≡ (take digits bytes ++ (replicate zeros 48 ++ take (len - digits) (drop digits bytes))) ++ drop (digits + zeros + (len - digits)) bytes
+gap-filled bytes copied filling digits zeros len n before within copied_is filling_is size =
+    let fill : List ℕ = replicate zeros 48 in
+    let last : List ℕ = take (len - digits) (drop digits bytes) in
+    let rest : List ℕ = drop (digits + zeros + (len - digits)) bytes in
+    put_mid-paste digits n copied filling fill zeros filling_is (sym size) (sym (length-replicate zeros 48))
+    ∙ paste_all copied digits fill zeros (sym (length-replicate zeros 48))
+    ∙ ap (λ (b : List ℕ). take digits b ++ (fill ++ drop (digits + zeros) b)) copied_is
+    ∙ ap (λ (first : List ℕ). first ++ (fill ++ drop (digits + zeros) (paste bytes (digits + zeros) (drop digits bytes) (len - digits)))) (before-gap bytes digits zeros len before within)
+    ∙ ap (λ (b : List ℕ). take digits bytes ++ (fill ++ b)) (behind-gap bytes digits zeros len before within)
+    ∙ ap (λ (b : List ℕ). take digits bytes ++ b) (sym (append_assoc fill last rest))
+    ∙ sym (append_assoc (take digits bytes) (fill ++ last) rest)
+
+-- the bytes stay as many
+pub length-filled : (bytes copied filling : List ℕ) (digits zeros len n : ℕ) → digits ≤ len → len + zeros ≤ length bytes →
+    copied ≡ paste bytes (digits + zeros) (drop digits bytes) (len - digits) → filling ≡ replicate zeros 48 → n ≡ zeros →
+    length (put_mid digits n copied filling) ≡ length bytes
+length-filled bytes copied filling digits zeros len n before within copied_is filling_is size =
+    let fill : List ℕ = replicate zeros 48 in
+    let last : List ℕ = take (len - digits) (drop digits bytes) in
+    let rest : List ℕ = drop (digits + zeros + (len - digits)) bytes in
+    ap length (gap-filled bytes copied filling digits zeros len n before within copied_is filling_is size)
+    ∙ omega (
+      arith,
+      length-append (take digits bytes ++ (fill ++ last)) rest,
+      length-append (take digits bytes) (fill ++ last),
+      length-append fill last,
+      length-zeros zeros,
+      length-take-le digits bytes (omega (arith, before, within)),
+      length-take-le (len - digits) (drop digits bytes) (omega (arith, length-drop digits bytes, within)),
+      length-drop (digits + zeros + (len - digits)) bytes,
+    )
+
+-- the text with the zeros in it
+pub text-filled : (bytes copied filling : List ℕ) (from sign zeros len n : ℕ) → from + sign ≤ len → len + zeros ≤ length bytes →
+    copied ≡ paste bytes (from + sign + zeros) (drop (from + sign) bytes) (len - (from + sign)) → filling ≡ replicate zeros 48 → n ≡ zeros →
+    sign ≡ sign_size (drop from (take len bytes)) →
+    take (len + zeros) (put_mid (from + sign) n copied filling) ≡ take from (take len bytes) ++ with_zeros zeros (drop from (take len bytes))
+text-filled bytes copied filling from sign zeros len n before within copied_is filling_is size sign_is =
+    let digits : ℕ = from + sign in
+    let text : List ℕ = take len bytes in
+    let number : List ℕ = drop from text in
+    let fill : List ℕ = replicate zeros 48 in
+    let last : List ℕ = take (len - digits) (drop digits bytes) in
+    let whole : List ℕ = take digits bytes ++ (fill ++ last) in
+    let rest : List ℕ = drop (digits + zeros + (len - digits)) bytes in
+    let long : length whole ≡ len + zeros = omega (
+      arith,
+      length-append (take digits bytes) (fill ++ last),
+      length-append fill last,
+      length-zeros zeros,
+      length-take-le digits bytes (omega (arith, before, within)),
+      length-take-le (len - digits) (drop digits bytes) (omega (arith, length-drop digits bytes, within)),
+    ) in
+    let again : digits + (len - digits) ≡ len = omega (arith, before) in
+    let behind : last ≡ drop digits text = sym (ap (λ (k : ℕ). drop digits (take k bytes)) (sym again) ∙ drop-take digits (len - digits) bytes) in
+    ap (take (len + zeros)) (gap-filled bytes copied filling digits zeros len n before within copied_is filling_is size)
+    ∙ ap (λ (k : ℕ). take k (whole ++ rest)) (sym long)
+    ∙ take-append_seam whole rest
+    ∙ ap (λ (first : List ℕ). first ++ (fill ++ last)) (sym (take-take digits len bytes before))
+    ∙ ap (λ (b : List ℕ). take digits text ++ (fill ++ b)) behind
+    ∙ ap (λ (first : List ℕ). first ++ (fill ++ drop digits text)) (take-add from sign text)
+    ∙ ap (λ (b : List ℕ). (take from text ++ take sign number) ++ (fill ++ b)) (sym (drop-drop sign from text))
+    ∙ append_assoc (take from text) (take sign number) (fill ++ drop sign number)
+    ∙ ap (λ (b : List ℕ). take from text ++ b) (sym (append_assoc (take sign number) fill (drop sign number)))
+    ∙ ap (λ (k : ℕ). take from text ++ ((take k number ++ fill) ++ drop k number)) sign_is

@@ -1,7 +1,6 @@
 //! Numbers with zeros before their digits.
 
 ghost use Rattle.std.specs.Prelude.{◌≡◌, ◌≤◌, ◌+◌, ◌++◌, drop, length, take};
-ghost use Rattle.std.specs.List.{slice_rotate_right};
 ghost use Rattle.line_pages.specs.Padding.{padded, sign_size, with_zeros};
 
 use crate::PageBuf;
@@ -36,16 +35,10 @@ impl PageBuf {
         ensures { self.new ≡ record self.old { text = take from self.old.text ++ with_zeros zeros (drop from self.old.text) } }
     {
         let digits = from + sign_size(&self.text()[from..]);
-        self.put(&ZEROS[..zeros]);
-        self.move_last(digits, zeros);
-    }
-
-    /// Moves the last `count` bytes before those that stand from a place on.
-    fn move_last(&mut self, from: usize, count: usize)
-        requires { from + count ≤ length self.old.text }
-        ensures { self.new ≡ record self.old { text = take from self.old.text ++ slice_rotate_right (drop from self.old.text) count } }
-    {
-        self.bytes[from..self.len].rotate_right(count);
+        let end = digits + zeros;
+        self.bytes.copy_within(digits..self.len, end);
+        self.bytes[digits..end].copy_from_slice(&ZEROS[..zeros]);
+        self.len += zeros;
     }
 }
 

@@ -15,7 +15,7 @@ returns-then-not-branch-clause-bad c =
           inl (
             refl,
             inr (record {
-              first = fields_of c.read_next.new.record;
+              first = fields_of c.read_next.new.fields;
               state = c.read_next.new.reader.state;
               rest = there.left;
               reached = there.reached;

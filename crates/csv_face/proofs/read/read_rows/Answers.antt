@@ -23,7 +23,7 @@ returns-then-not-branch-clause-read c = λ bytes first stands.
 pub returns-then-is_bad_record-clause-bad : goal.returns-then-is_bad_record-clause-bad
 returns-then-is_bad_record-clause-bad c = λ bytes first stands next.
     let read = c.loop-number.invariant.1 bytes first stands in
-    let fields = fields_of c.read_next.new.record in
+    let fields = fields_of c.read_next.new.fields in
     let there = next-stands bytes first read.records fields c.read_next.new.reader (c.in_ok-read_next.ensures.next bytes (first ++ read.records) read.stands c.if-not-branch.false) in
     record {
       before = read.records;
@@ -41,7 +41,7 @@ loop-number-preserved c = (
   c.in_ok-read_next.ensures.can,
   λ bytes first stands.
       let read = c.loop-number.invariant.1 bytes first stands in
-      let fields = fields_of c.read_next.new.record in
+      let fields = fields_of c.read_next.new.fields in
       read-more bytes first c.args.delimiter c.args.fields c.args.next c.loop-number.number c.loop-number.lines.text.items c.put_line.new.self.text.items fields c.loop-number.reader c.read_next.new.reader
       read (c.in_ok-read_next.ensures.next bytes (first ++ read.records) read.stands c.if-not-branch.false) (sym c.is_bad_record.ensures ∙ c.if-is_bad_record.false)
       (on-ok c.put_line.result (sym c.if-is_err.ensures.value) c.put_line.ensures),
