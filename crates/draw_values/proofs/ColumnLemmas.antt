@@ -76,7 +76,7 @@ entry_of-ready delimiter (leaf_kind (chars_leaf alphabet lo hi)) draw = refl
 entry_of-ready delimiter (leaf_kind uuid_leaf) draw = refl
 entry_of-ready delimiter (template_kind parts) draw = refl
 entry_of-ready delimiter (case_kind on branches) draw = refl
-entry_of-ready delimiter (reference_kind parent window spread nulls) draw = refl
+entry_of-ready delimiter (reference_kind parent window spread nulls drawn) draw = refl
 entry_of-ready delimiter (lookup_kind via parent name) draw = refl
 entry_of-ready delimiter (list_kind words) draw = refl
 entry_of-ready delimiter (unit_date_kind changed start step) draw = refl
@@ -118,7 +118,7 @@ chooser_of-within delimiter columns place changed_kind of within = within
 chooser_of-within delimiter columns place (leaf_kind leaf) of within = within
 chooser_of-within delimiter columns place (template_kind parts) of within = absurd (let own = of.own in cc)
 chooser_of-within delimiter columns place (case_kind on branches) of within = omega (arith, of.limits.earlier)
-chooser_of-within delimiter columns place (reference_kind parent window spread nulls) of within = absurd (let own = of.own in cc)
+chooser_of-within delimiter columns place (reference_kind parent window spread nulls drawn) of within = absurd (let own = of.own in cc)
 chooser_of-within delimiter columns place (lookup_kind via parent name) of within = absurd (let own = of.own in cc)
 chooser_of-within delimiter columns place (list_kind words) of within = within
 chooser_of-within delimiter columns place (unit_date_kind changed start step) of within = within
@@ -145,7 +145,7 @@ kind_is_ready delimiter columns place (leaf_kind leaf) of all within = leaf_is_r
 kind_is_ready delimiter columns place (template_kind parts) of all within = absurd (let own = of.own in cc)
 kind_is_ready delimiter columns place (case_kind on branches) of all within =
     case_is_ready delimiter on branches columns place of.limits (all on (omega (arith, of.limits.earlier)))
-kind_is_ready delimiter columns place (reference_kind parent window spread nulls) of all within = absurd (let own = of.own in cc)
+kind_is_ready delimiter columns place (reference_kind parent window spread nulls drawn) of all within = absurd (let own = of.own in cc)
 kind_is_ready delimiter columns place (lookup_kind via parent name) of all within = absurd (let own = of.own in cc)
 kind_is_ready delimiter columns place (list_kind words) of all within = list_is_ready delimiter words
 kind_is_ready delimiter columns place (unit_date_kind changed start step) of all within = tt
@@ -159,7 +159,7 @@ bounds_of-ready delimiter tables table columns place changed_kind of = refl
 bounds_of-ready delimiter tables table columns place (leaf_kind leaf) of = ap (max 2) (leaf_size-ready delimiter leaf of.limits)
 bounds_of-ready delimiter tables table columns place (template_kind parts) of = absurd (let own = of.own in cc)
 bounds_of-ready delimiter tables table columns place (case_kind on branches) of = ap (max 2) (greatest_from delimiter 0 branches of.limits.each)
-bounds_of-ready delimiter tables table columns place (reference_kind parent window spread nulls) of = absurd (let own = of.own in cc)
+bounds_of-ready delimiter tables table columns place (reference_kind parent window spread nulls drawn) of = absurd (let own = of.own in cc)
 bounds_of-ready delimiter tables table columns place (lookup_kind via parent name) of = absurd (let own = of.own in cc)
 bounds_of-ready delimiter tables table columns place (list_kind words) of = ap (max 2) (leaf_size-ready delimiter (dict_leaf words) of.limits)
 bounds_of-ready delimiter tables table columns place (unit_date_kind changed start step) of = refl
@@ -193,7 +193,7 @@ own_value-written delimiter columns at draws place (case_kind on branches) of al
     branch_written delimiter branches (draws place) (held_entry pick (draws on)) of.limits.each
     (held_entry-within columns on (length branches) (draws on) of.limits.pick (all on (omega (arith, of.limits.earlier))))
     ∙ ap (option_map (λ entry. ready_text (ready_branch (map (ready_leaf delimiter) branches) entry) (draws place))) (held_entry-ready delimiter pick (draws on))
-own_value-written delimiter columns at draws place (reference_kind parent window spread nulls) of all within = absurd (let own = of.own in cc)
+own_value-written delimiter columns at draws place (reference_kind parent window spread nulls drawn) of all within = absurd (let own = of.own in cc)
 own_value-written delimiter columns at draws place (lookup_kind via parent name) of all within = absurd (let own = of.own in cc)
 own_value-written delimiter columns at draws place (list_kind words) of all within = ap Some (entry-written delimiter words (at.ordinal % length words.entries))
 own_value-written delimiter columns at draws place (unit_date_kind changed start step) of all within =

@@ -112,7 +112,7 @@ own_value columns at draws column (template_kind parts) = not_own
 own_value columns at draws column (case_kind on branches) =
     option_and_then (λ entry. leaf_value (branch_at branches entry) (draws column))
     (held_entry (column_at columns on) (draws on))
-own_value columns at draws column (reference_kind parent window spread nulls) = not_own
+own_value columns at draws column (reference_kind parent window spread nulls drawn) = not_own
 own_value columns at draws column (lookup_kind via parent name) = not_own
 own_value columns at draws column (list_kind words) = Some (entry_in_turn words at.ordinal)
 own_value columns at draws column (unit_date_kind changed start step) = Some (date_text (unit_day changed start step at))

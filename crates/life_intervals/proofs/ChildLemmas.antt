@@ -51,7 +51,7 @@ parent_of-later generator place unit last ordinal reference born within =
 
 -- a reference of a column names the column
 pub column-reference_of : (column : ℕ) (kind : KindLayout) (reference : Reference) → reference_of column kind ≡ Some reference → reference.column ≡ column
-column-reference_of column (reference_kind parent window spread nulls) reference is = cc
+column-reference_of column (reference_kind parent window spread nulls drawn) reference is = cc
 column-reference_of column _ reference is = absurd (cc)
 
 -- a row that is born in a window lies in it by its birth

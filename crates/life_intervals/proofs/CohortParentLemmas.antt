@@ -96,7 +96,7 @@ nullings-ready delimiter start (column ∷ others) =
         list_any is_nulling (map (ready_column delimiter) others) ≡ list_any (λ (reference : Reference). reference.nulls) (references_in (start + 1) others) →
         list_any is_nulling (map (ready_column delimiter) (record { kind = held; changes = changes; null = null } ∷ others))
         ≡ list_any (λ (reference : Reference). reference.nulls) (references_in start (record { kind = held; changes = changes; null = null } ∷ others))
-    nulling-ready delimiter start (reference_kind parent window spread nulls) changes null others rest = ap (λ (b : Bool). nulls || b) rest
+    nulling-ready delimiter start (reference_kind parent window spread nulls drawn) changes null others rest = ap (λ (b : Bool). nulls || b) rest
     nulling-ready delimiter start _ changes null others rest = rest
 
 pub has_nullings-ready : (plan : Project) (table : ℕ) → list_any is_nulling (ready_columns (layout_of plan) table) ≡ has_nullings (table_of plan table)
@@ -345,26 +345,26 @@ pub record Costs (earlier : List Lineage) (columns : List ColumnLayout) (place :
 
 kind-cost : (earlier : List Lineage) (held : KindLayout) (changes : Bool) (null : ℕ) (others : List ColumnLayout) (place : ℕ) (own : Lineage) →
     ((after : Lineage) → Costs earlier others (place + 1) after) → Costs earlier (record { kind = held; changes = changes; null = null } ∷ others) place own
-kind-cost earlier (reference_kind parent window spread false) changes null others place own next =
-    let rest = next (with_kind earlier own (reference_kind parent window spread false)) in
+kind-cost earlier (reference_kind parent window spread false drawn) changes null others place own next =
+    let rest = next (with_kind earlier own (reference_kind parent window spread false drawn)) in
     record {
       death = omega (
         arith,
         rest.death,
         sum_by-cons (λ (reference : Reference). 1 + (lineage_at earlier reference.parent).death_cost)
-            (record { column = place; parent = parent; window = window; spread = spread; nulls = false }) (filter is_cascading (references_in (place + 1) others)),
+            (record { column = place; parent = parent; window = window; spread = spread; nulls = false; drawn = drawn }) (filter is_cascading (references_in (place + 1) others)),
       );
       loss = rest.loss;
     }
-kind-cost earlier (reference_kind parent window spread true) changes null others place own next =
-    let rest = next (with_kind earlier own (reference_kind parent window spread true)) in
+kind-cost earlier (reference_kind parent window spread true drawn) changes null others place own next =
+    let rest = next (with_kind earlier own (reference_kind parent window spread true drawn)) in
     record {
       death = rest.death;
       loss = omega (
         arith,
         rest.loss,
         sum_by-cons (λ (reference : Reference). 1 + (lineage_at earlier reference.parent).death_cost)
-            (record { column = place; parent = parent; window = window; spread = spread; nulls = true }) (filter nulls_of (references_in (place + 1) others)),
+            (record { column = place; parent = parent; window = window; spread = spread; nulls = true; drawn = drawn }) (filter nulls_of (references_in (place + 1) others)),
       );
     }
 kind-cost earlier _ changes null others place own next = record { death = (next own).death; loss = (next own).loss }

@@ -66,14 +66,14 @@ Ends earlier age unit d columns place own x =
 ends-kind : (earlier : List Lineage) (age unit : ℕ) (d : Reference → Option ℕ) (held : KindLayout) (changes : Bool) (null : ℕ) (others : List ColumnLayout) (place : ℕ) (own : Lineage) (x : Bool) →
     ((after : Lineage) (y : Bool) → Ends earlier age unit d others (place + 1) after y) →
     Ends earlier age unit d (record { kind = held; changes = changes; null = null } ∷ others) place own x
-ends-kind earlier age unit d (reference_kind parent window spread true) changes null others place own x next over from_own each =
-    next (with_kind earlier own (reference_kind parent window spread true)) x over from_own each.1
-ends-kind earlier age unit d (reference_kind parent window spread false) changes null others place own x next over from_own each =
-    let reference : Reference = record { column = place; parent = parent; window = window; spread = spread; nulls = false } in
+ends-kind earlier age unit d (reference_kind parent window spread true drawn) changes null others place own x next over from_own each =
+    next (with_kind earlier own (reference_kind parent window spread true drawn)) x over from_own each.1
+ends-kind earlier age unit d (reference_kind parent window spread false drawn) changes null others place own x next over from_own each =
+    let reference : Reference = record { column = place; parent = parent; window = window; spread = spread; nulls = false; drawn = drawn } in
     let rest : Option ℕ = first_death (map d (filter is_cascading (references_in (place + 1) others))) in
     ap (λ (t : Bool). x && t) (is_after-lesser_life (d reference) rest unit)
     ∙ and-assoc x (is_after (d reference) unit) (is_after rest unit)
-    ∙ next (with_kind earlier own (reference_kind parent window spread false)) (x && is_after (d reference) unit) over
+    ∙ next (with_kind earlier own (reference_kind parent window spread false drawn)) (x && is_after (d reference) unit) over
     (λ ended. over-lesser own.longest_life (lineage_at earlier parent).longest_life age x (is_after (d reference) unit) from_own each.0
     (sym (is_after-lesser_life own.longest_life (lineage_at earlier parent).longest_life age) ∙ ended))
     each.1

@@ -180,7 +180,7 @@ not-not true = refl
 not-not false = refl
 
 find_one : (state : State) (column place : ℕ) (window : Option ℕ) (spread : List ℕ) (nulls : Bool) (death : Option ℕ) (parent last : ℕ) → holds_row (get_or state place []) parent ≡ is_after death (suc last) →
-    FindsOne state (record { column = column; parent = place; window = window; spread = spread; nulls = nulls }) death parent last
+    FindsOne state (record { column = column; parent = place; window = window; spread = spread; nulls = nulls; drawn = drawn }) death parent last
 find_one state column place window spread false death parent last holds = record { held = not-not _ ∙ holds; lost = refl; left = refl }
 find_one state column place window spread true death parent last holds = elim (cases_Bool (is_after death last)) [
   | inr passed ↦ record { held = refl; lost = rw passed (sym (is_at-passed death last passed)); left = rw (passed, is_after-suc death last passed) refl }

@@ -29,7 +29,7 @@ pub record IsReady (column : ℕ) (held : KindLayout) (ready : ReadyReference) :
   pub total : ready.total ≡ sum ready.spread
 
 pub reference_from_ready : (delimiter column : ℕ) (held : KindLayout) (ready : ReadyReference) → ready_kind delimiter held ≡ kind.Reference ready → IsReady column held ready
-reference_from_ready delimiter column (reference_kind parent window spread nulls) ready is =
+reference_from_ready delimiter column (reference_kind parent window spread nulls drawn) ready is =
     let same : ready_reference parent window spread nulls ≡ ready = cc in
     record {
       is = ap (λ (r : ReadyReference). Some (reference_by column r)) same;
@@ -40,7 +40,7 @@ reference_from_ready delimiter column _ ready is = absurd (cc)
 
 -- a column that isn't ready as one is none
 pub none_from_ready : (delimiter column : ℕ) (held : KindLayout) → ((ready : ReadyReference) → ready_kind delimiter held ≡ kind.Reference ready → ⊥) → reference_of column held ≡ None
-none_from_ready delimiter column (reference_kind parent window spread nulls) other = absurd (other _ refl)
+none_from_ready delimiter column (reference_kind parent window spread nulls drawn) other = absurd (other _ refl)
 none_from_ready delimiter column _ other = refl
 
 -- ---- of all columns

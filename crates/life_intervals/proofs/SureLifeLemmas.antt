@@ -32,10 +32,10 @@ IsPastParent earlier age reference = is_after (less_window reference.window (lin
 sure_life-kind : (earlier : List Lineage) (own : Lineage) (kind : KindLayout) (place age : ℕ) (others : List Reference) → is_after (with_kind earlier own kind).sure_life age ≡ true →
     AllByRecursion (IsPastParent earlier age) (filter is_cascading others) →
     (is_after own.sure_life age ≡ true) × AllByRecursion (IsPastParent earlier age) (filter is_cascading (cons_option (reference_of place kind) others))
-sure_life-kind earlier own (reference_kind parent window spread false) place age others past rest =
+sure_life-kind earlier own (reference_kind parent window spread false drawn) place age others past rest =
     let parts = is_after-lesser_parts own.sure_life (less_window window (lineage_at earlier parent).sure_life) age past in
     (parts.0, (parts.1, rest))
-sure_life-kind earlier own (reference_kind parent window spread true) place age others past rest = (past, rest)
+sure_life-kind earlier own (reference_kind parent window spread true drawn) place age others past rest = (past, rest)
 sure_life-kind earlier own _ place age others past rest = (past, rest)
 
 sure_life-columns : (earlier : List Lineage) (columns : List ColumnLayout) (place : ℕ) (own : Lineage) (age : ℕ) →

@@ -17,7 +17,7 @@ units_to_due first period unit = if nat_lt unit first then first - unit else per
 
 -- the first unit at which a row of the table at a place is due, by its birth unit, its index and how often rows change
 abbrev pub first_due : Order → ℕ → ℕ → ℕ → ℕ → ℕ
-first_due order place born index period = born + (1 + order place update_column born index % period)
+first_due order place born index period = born + (1 + order.place place update_column born index % period)
 
 -- the last unit up to another at which it is due, or its birth
 abbrev pub due_by : Order → ℕ → TableLayout → ℕ → ℕ → ℕ → ℕ

@@ -6,7 +6,7 @@ use Rattle.schema_plan.specs.declared.ready.ReadyKind.{ReadyKind}
 use Rattle.schema_plan.specs.declared.ready.ReadyKind.TheVariants as kind
 use Rattle.schema_plan.specs.Dictionaries.{Project}
 use Rattle.schema_plan.specs.Layout.{TableLayout, column_at, layout_of, table_at}
-use Rattle.schema_plan.specs.Lineage.{death_cost, loss_cost, one_if}
+use Rattle.schema_plan.specs.Lineage.{choice_cost, death_cost, loss_cost, one_if}
 use Rattle.schema_plan.specs.Ready.{ready_kind}
 use Rattle.schema_plan.specs.References.{Reference, cascades_of, count_in_window, first_in_window, references_of}
 use Rattle.life_intervals.specs.declared.window.CandidateWindow.{CandidateWindow}
@@ -14,11 +14,14 @@ use Rattle.life_intervals.specs.CohortKeys.{CohortOf}
 use Rattle.life_intervals.specs.CohortOrders.{do_lives_differ, do_updates_differ}
 use Rattle.life_intervals.specs.Generator.{generator_of, last_unit, table_of}
 use Rattle.life_intervals.specs.Intervals.{death, first_death, held_until, known_tables, parent_by}
+use Rattle.life_intervals.specs.References.{deal_of}
+use Rattle.philox_seeds.specs.SeedTree.{deal_seed}
+use Rattle.id_permutation.specs.Order.{Arrangement}
 
 -- the reference that is ready in the column at a place
 abbrev pub reference_by : ℕ → ReadyReference → Reference
 reference_by column ready =
-    record { column = column; parent = ready.parent; window = ready.window; spread = ready.spread; nulls = ready.nulls }
+    record { column = column; parent = ready.parent; window = ready.window; spread = ready.spread; nulls = ready.nulls; drawn = ready.drawn }
 
 -- a reference is ready in the column at a place of the table at a place
 pub record IsReferenceOf (plan : Project) (table column : ℕ) (ready : ReadyReference) : Type 0 where
@@ -31,6 +34,11 @@ window_by plan ready unit = record {
   first = first_in_window (table_of plan ready.parent).births ready.window unit;
   count = max 1 (count_in_window (table_of plan ready.parent).births ready.window unit);
 }
+
+-- the order in which the candidates of a unit's cohort are dealt by the reference that is ready in the column at a place
+abbrev pub deal_by : Project → ℕ → ℕ → ReadyReference → ℕ → Arrangement
+deal_by plan table column ready unit =
+    deal_of ready.drawn (deal_seed (layout_of plan).seed table column unit) (window_by plan ready unit).count
 
 abbrev pub is_nulling_kind : ReadyKind → Bool
 is_nulling_kind (kind.Reference ready) = ready.nulls
@@ -68,9 +76,9 @@ abbrev pub parents_death_in : CohortOf → ℕ → Option ℕ
 parents_death_in cohort index =
     first_death (map (parent_death_in cohort index) (cascades_of (table_of cohort.plan cohort.table)))
 
--- how many permutations the death of the parent by a reference takes at most, with the one that finds the parent
+-- how many permutations the death of the parent by a reference takes at most, with those that choose the parent
 abbrev pub parent_cost : List TableLayout → Reference → ℕ
-parent_cost tables reference = 1 + death_cost tables reference.parent
+parent_cost tables reference = choice_cost reference.drawn + death_cost tables reference.parent
 
 -- how many the deaths of all parents take that take a row of the table at a place along
 abbrev pub cascades_cost : List TableLayout → ℕ → ℕ
@@ -78,7 +86,7 @@ cascades_cost tables table = sum_by (parent_cost tables) (cascades_of (table_at 
 
 -- how many permutations tell at most the parent that a row still has by a reference
 abbrev pub held_cost : List TableLayout → Reference → ℕ
-held_cost tables reference = if reference.nulls then parent_cost tables reference else 1
+held_cost tables reference = if reference.nulls then parent_cost tables reference else choice_cost reference.drawn
 
 -- how many permutations the death of a row takes at most, by its cohort: that of its own life where lives of the table differ, and
 -- those of the deaths of all parents that take it along

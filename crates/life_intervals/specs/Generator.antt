@@ -1,14 +1,16 @@
 -- What generated data follow: the tables, the order of places in each cohort, the draws, and the byte between two fields.
 use Rattle.std.specs.Prelude.{ℕ, List}
-use Rattle.philox_seeds.specs.SeedTree.{field_draw, permutation_seed}
+use Rattle.philox_seeds.specs.SeedTree.{deal_seed, field_draw, permutation_seed}
 use Rattle.id_permutation.specs.Placement as placement
 use Rattle.cohort_sizes.specs.Births.{born_count, cohort_size}
 use Rattle.schema_plan.specs.Dictionaries.{Project}
 use Rattle.schema_plan.specs.Layout.{Layout, layout_of, TableLayout, table_at}
 
--- the place of an index, for a table, a purpose, a unit and an index in the unit's cohort
-abbrev pub Order : Type 0
-Order = ℕ → ℕ → ℕ → ℕ → ℕ
+-- the orders of a schema's cohorts: the place of an index, for a table, a purpose, a unit and an index in the unit's cohort; and the seed of
+-- the permutation that deals candidates to a cohort, for a table, the column of a reference and a unit
+pub record Order : Type 0 where
+  pub place : ℕ → ℕ → ℕ → ℕ → ℕ
+  pub deal : ℕ → ℕ → ℕ → ℕ
 
 -- a draw, for a table, a column, a unit, an ordinal and the draw's number
 abbrev pub Draw : Type 0
@@ -21,14 +23,16 @@ pub record Generator : Type 0 where
   pub draw : Draw
   pub delimiter : ℕ
 
--- the order in which each index is its own place
+-- the orders in which each index is its own place
 abbrev pub in_place : Order
-in_place table purpose unit index = index
+in_place = record { place = λ table purpose unit index. index; deal = λ table column unit. 0 }
 
--- the place of an index among those of its cohort, by the permutation that the project's seed gives the cohort
+-- the orders that the project's seed gives: the place of an index among those of its cohort is that of the cohort's permutation
 abbrev pub seeded_order : ℕ → List TableLayout → Order
-seeded_order seed tables table purpose unit index =
-    placement.place (cohort_size (table_at tables table).births unit) (permutation_seed seed table purpose unit) index
+seeded_order seed tables = record {
+  place = λ table purpose unit index. placement.place (cohort_size (table_at tables table).births unit) (permutation_seed seed table purpose unit) index;
+  deal = deal_seed seed;
+}
 
 -- the generator of a layout
 abbrev pub generator_by : Layout → Generator

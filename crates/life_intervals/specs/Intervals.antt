@@ -10,7 +10,7 @@ use Rattle.schema_plan.specs.Lineage.{lesser_life}
 use Rattle.life_intervals.specs.Changes.{change_by, wait_by}
 use Rattle.life_intervals.specs.Generator.{Generator, Order}
 use Rattle.schema_plan.specs.References.{Reference, cascades_of, count_in_window, first_in_window, references_of}
-use Rattle.life_intervals.specs.References.{choice}
+use Rattle.life_intervals.specs.References.{dealt}
 use Rattle.life_intervals.specs.Rows.{Row, State, life_by}
 
 -- ---- parents and deaths, by birth unit and index
@@ -39,15 +39,15 @@ death_by known last ordinal = known.death (birth known.table.births last ordinal
 -- the unit at which a row's own life ends, in the table at a place
 abbrev pub own_death_by : Order → ℕ → TableLayout → ℕ → ℕ → Option ℕ
 own_death_by order place table unit index =
-    option_map (λ life. unit + life) (life_by table.life (order place life_column unit index))
+    option_map (λ life. unit + life) (life_by table.life (order.place place life_column unit index))
 
 -- the ordinal of the parent that a row has by a reference: of the rows born in the window, the one that is chosen
 abbrev pub parent_by : Order → List Known → ℕ → ℕ → Reference → ℕ
 parent_by order earlier unit index reference =
     let births = (known_at earlier reference.parent).table.births in
     first_in_window births reference.window unit
-    + choice reference.spread (count_in_window births reference.window unit)
-    (order (length earlier) reference.column unit index)
+    + dealt reference (order.deal (length earlier) reference.column unit) (count_in_window births reference.window unit)
+    (order.place (length earlier) reference.column unit index)
 
 -- the death of that parent
 abbrev pub parent_death_by : Order → List Known → ℕ → ℕ → Reference → Option ℕ

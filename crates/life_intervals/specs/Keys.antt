@@ -9,7 +9,7 @@ use Rattle.life_intervals.specs.Generator.{Generator}
 -- the place of an index among the keys of a unit's cohort of the table at a place: its own where they aren't scrambled
 abbrev pub place_in_cohort : Generator → ℕ → ℕ → ℕ → ℕ
 place_in_cohort generator place unit index =
-    if (table_at generator.tables place).key.scramble then generator.order place seeds.key_column unit index else index
+    if (table_at generator.tables place).key.scramble then generator.order.place place seeds.key_column unit index else index
 
 -- the key of the row with an index in a unit's cohort of the table at a place
 abbrev pub key_in_cohort : Generator → ℕ → ℕ → ℕ → ℕ
@@ -27,4 +27,4 @@ key_of generator place last ordinal =
 abbrev pub OrdersCohorts : Generator → ℕ → Type 0
 OrdersCohorts generator place =
     (purpose unit : ℕ) → 0 < cohort_size (table_at generator.tables place).births unit →
-    IsBijectionBelow (cohort_size (table_at generator.tables place).births unit) (generator.order place purpose unit)
+    IsBijectionBelow (cohort_size (table_at generator.tables place).births unit) (generator.order.place place purpose unit)

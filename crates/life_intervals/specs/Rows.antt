@@ -8,7 +8,7 @@ use Rattle.cohort_sizes.specs.Births.{cohort_size, first_ordinal}
 use Rattle.schema_plan.specs.Layout.{TableLayout}
 use Rattle.life_intervals.specs.Generator.{Order}
 use Rattle.schema_plan.specs.References.{Reference, references_of}
-use Rattle.life_intervals.specs.References.{choice}
+use Rattle.life_intervals.specs.References.{dealt}
 
 -- a row: its place in the order of birth in its table, its birth unit, the unit of its last change, how many units are left to the
 -- end of its own life and to its next update (None: it has none), and for each reference of its table the ordinal of its parent (None:
@@ -42,10 +42,10 @@ is_in_window (Some units) unit row = nat_le unit (row.born + units)
 abbrev pub candidates : Reference → ℕ → List Row → List ℕ
 candidates reference unit rows = map (λ (row : Row). row.ordinal) (filter (is_in_window reference.window unit) rows)
 
--- the parent that a place chooses among them
-abbrev pub parent_choice : Reference → ℕ → List Row → ℕ → ℕ
-parent_choice reference unit rows place =
-    let found = candidates reference unit rows in slice_index found (choice reference.spread (length found) place)
+-- the parent that a place chooses among them, where a seed deals them
+abbrev pub parent_choice : Reference → ℕ → ℕ → List Row → ℕ → ℕ
+parent_choice reference seed unit rows place =
+    let found = candidates reference unit rows in slice_index found (dealt reference seed (length found) place)
 
 -- the row with an index in a unit's cohort, as it is born; `earlier` is what the tables before its own hold
 abbrev pub new_row : Order → ℕ → State → TableLayout → ℕ → Row
@@ -53,11 +53,11 @@ new_row order unit earlier table index = record {
   ordinal = first_ordinal table.births unit + index;
   born = unit;
   changed = unit;
-  left = life_by table.life (order (length earlier) life_column unit index);
-  wait = first_age_by table.update (order (length earlier) update_column unit index);
+  left = life_by table.life (order.place (length earlier) life_column unit index);
+  wait = first_age_by table.update (order.place (length earlier) update_column unit index);
   parents =
-      map (λ (reference : Reference). Some (parent_choice reference unit (slice_index_or earlier reference.parent [])
-      (order (length earlier) reference.column unit index))) (references_of table);
+      map (λ (reference : Reference). Some (parent_choice reference (order.deal (length earlier) reference.column unit) unit
+      (slice_index_or earlier reference.parent []) (order.place (length earlier) reference.column unit index))) (references_of table);
 }
 
 -- the rows that are born at a unit, in order of index

@@ -71,6 +71,10 @@ life_column = 65
 abbrev pub update_column : ℕ
 update_column = 66
 
+-- what a reference's column is moved on by, for the permutation of the candidates among which its rows find their parents
+abbrev pub deal_columns : ℕ
+deal_columns = 128
+
 -- the seed of the permutation of (table, purpose column, time unit), from the project's seed
 abbrev pub permutation_seed : ℕ → ℕ → ℕ → ℕ → ℕ
 permutation_seed project table column unit =
@@ -91,3 +95,7 @@ update_order_seed project table unit = permutation_seed project table update_col
 -- the seed of the order in which the references of a cohort, in this column, find their rows
 abbrev pub reference_order_seed : ℕ → ℕ → ℕ → ℕ → ℕ
 reference_order_seed project table column unit = permutation_seed project table column unit
+
+-- the seed of the order in which a drawn reference in this column deals its candidates to a cohort
+abbrev pub deal_seed : ℕ → ℕ → ℕ → ℕ → ℕ
+deal_seed project table column unit = permutation_seed project table (deal_columns + column) unit

@@ -2,7 +2,7 @@
 
 ghost use Rattle.std.specs.Prelude.{◌≡◌, ℕ, slice_index};
 ghost use Rattle.philox_seeds.specs.Philox.{high_word, low_word};
-ghost use Rattle.philox_seeds.specs.SeedTree.{number_of_words, keyed_number, child, table_seed, column_seed, unit_seed, row_seed, draw, permutation_seed, key_order_seed, life_order_seed, update_order_seed, reference_order_seed};
+ghost use Rattle.philox_seeds.specs.SeedTree.{number_of_words, keyed_number, child, table_seed, column_seed, unit_seed, row_seed, draw, permutation_seed, key_order_seed, life_order_seed, update_order_seed, reference_order_seed, deal_seed};
 
 use crate::block::{Key, Words, block, high_word, low_word};
 
@@ -14,6 +14,9 @@ const LIFE_COLUMN: u32 = 65;
 
 /// The column that stands for the order of a table's updates.
 const UPDATE_COLUMN: u32 = 66;
+
+/// What a reference's column is moved on by, for the order of its candidates.
+const DEAL_COLUMNS: u32 = 128;
 
 const TABLE_LEVEL: u32 = 1;
 
@@ -153,6 +156,16 @@ pub fn reference_order_seed(seed: u64, table: u32, column: u32, unit: u64) -> u6
     ensures seed { result ≡ reference_order_seed seed table column unit }
 {
     order_seed(seed, table, column, unit)
+}
+
+/// Returns the seed of the order in which the drawn reference in the column with this place deals its candidates to a cohort. A table has
+/// at most 64 columns.
+#[inline]
+pub fn deal_seed(seed: u64, table: u32, column: u32, unit: u64) -> u64
+    requires { column < 64 }
+    ensures seed { result ≡ deal_seed seed table column unit }
+{
+    order_seed(seed, table, DEAL_COLUMNS + column, unit)
 }
 
 /// Returns the seed of an order of a cohort, for a column or for a number that stands for a purpose.

@@ -5,7 +5,7 @@ use Rattle.dictionaries.specs.declared.fault.DictFault.{DictFault}
 use Rattle.dictionaries.specs.declared.fault.DictFault.TheVariants as grammar
 use Rattle.schema_read.specs.Keys.{key_name}
 use Rattle.schema_read.specs.declared.fault.Expected.{Expected}
-use Rattle.schema_read.specs.declared.fault.Expected.TheVariants.{Whole, TextValue, Flag, DelimiterName, TableList, TwoWholes, KindName, LeafName, DateText, TextList, Wholes, PartList, WindowValue, InsertValue, DeleteName, NoSuchKey}
+use Rattle.schema_read.specs.declared.fault.Expected.TheVariants.{Whole, TextValue, Flag, DelimiterName, TableList, TwoWholes, KindName, LeafName, DateText, TextList, Wholes, PartList, WindowValue, InsertValue, DeleteName, DealName, NoSuchKey}
 use Rattle.pd_outside.specs.declared.faults.ReadFault.{ReadFault}
 use Rattle.pd_outside.specs.declared.faults.ReadFault.TheVariants as reading
 use Rattle.schema_check.specs.declared.checker.CheckFault.TheVariants as check
@@ -83,6 +83,7 @@ expected_text PartList = codes "list of texts and cited columns"
 expected_text WindowValue = codes "whole number or \"all\""
 expected_text InsertValue = codes "whole number or list of pairs"
 expected_text DeleteName = codes "\"cascade\" or \"null\""
+expected_text DealName = codes "\"turn\" or \"drawn\""
 expected_text NoSuchKey = codes "no such key"
 
 -- a key and what it wants, behind its place

@@ -453,6 +453,7 @@ fn expected_words(expected: Expected) -> &'static str
         Expected::WindowValue => "whole number or \"all\"",
         Expected::InsertValue => "whole number or list of pairs",
         Expected::DeleteName => "\"cascade\" or \"null\"",
+        Expected::DealName => "\"turn\" or \"drawn\"",
         Expected::NoSuchKey => "no such key",
     }
 }

@@ -59,7 +59,7 @@ own_from_ready delimiter changed_kind no_lookup no_key no_template no_reference 
 own_from_ready delimiter (leaf_kind leaf) no_lookup no_key no_template no_reference = refl
 own_from_ready delimiter (template_kind parts) no_lookup no_key no_template no_reference = absurd (no_template _ refl)
 own_from_ready delimiter (case_kind on branches) no_lookup no_key no_template no_reference = refl
-own_from_ready delimiter (reference_kind parent window spread nulls) no_lookup no_key no_template no_reference = absurd (no_reference _ refl)
+own_from_ready delimiter (reference_kind parent window spread nulls drawn) no_lookup no_key no_template no_reference = absurd (no_reference _ refl)
 own_from_ready delimiter (list_kind words) no_lookup no_key no_template no_reference = refl
 own_from_ready delimiter (unit_date_kind changed start step) no_lookup no_key no_template no_reference = refl
 own_from_ready delimiter _ no_lookup no_key no_template no_reference = cc

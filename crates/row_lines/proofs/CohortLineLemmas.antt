@@ -102,7 +102,7 @@ asked_by-le known delimiter tables table born_kind = omega arith
 asked_by-le known delimiter tables table changed_kind = omega arith
 asked_by-le known delimiter tables table (leaf_kind leaf) = omega arith
 asked_by-le known delimiter tables table (case_kind on branches) = omega arith
-asked_by-le known delimiter tables table (reference_kind parent window spread nulls) = omega arith
+asked_by-le known delimiter tables table (reference_kind parent window spread nulls drawn) = omega arith
 asked_by-le known delimiter tables table (list_kind words) = omega arith
 asked_by-le known delimiter tables table (unit_date_kind changed start step) = omega arith
 

@@ -31,15 +31,15 @@ lookup-parts changed_kind is = absurd (false≢true is)
 lookup-parts (leaf_kind leaf) is = absurd (false≢true is)
 lookup-parts (template_kind parts) is = absurd (false≢true is)
 lookup-parts (case_kind on branches) is = absurd (false≢true is)
-lookup-parts (reference_kind parent window spread nulls) is = absurd (false≢true is)
+lookup-parts (reference_kind parent window spread nulls drawn) is = absurd (false≢true is)
 lookup-parts (list_kind words) is = absurd (false≢true is)
 lookup-parts (unit_date_kind changed start step) is = absurd (false≢true is)
 
 -- a reference to a table, with whose row its own is deleted
 cascade-parts : (column parent : ℕ) (kind : KindLayout) → IsCascadeTo parent kind →
     (reference : Reference) × (reference_of column kind ≡ Some reference) × (reference.parent ≡ parent) × (reference.nulls ≡ false)
-cascade-parts column parent (reference_kind to window spread false) is =
-    (record { column = column; parent = to; window = window; spread = spread; nulls = false }, refl, is, refl)
+cascade-parts column parent (reference_kind to window spread false drawn) is =
+    (record { column = column; parent = to; window = window; spread = spread; nulls = false; drawn = drawn }, refl, is, refl)
 cascade-parts column parent _ is = absurd is
 
 module _ (plan : Project) (limits : IsInLimits plan) where

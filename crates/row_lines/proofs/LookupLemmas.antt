@@ -50,7 +50,7 @@ bounds_of-in_table delimiter tables table changed_kind no_lookup = refl
 bounds_of-in_table delimiter tables table (leaf_kind leaf) no_lookup = refl
 bounds_of-in_table delimiter tables table (template_kind parts) no_lookup = refl
 bounds_of-in_table delimiter tables table (case_kind on branches) no_lookup = refl
-bounds_of-in_table delimiter tables table (reference_kind parent window spread nulls) no_lookup = refl
+bounds_of-in_table delimiter tables table (reference_kind parent window spread nulls drawn) no_lookup = refl
 bounds_of-in_table delimiter tables table (list_kind words) no_lookup = refl
 bounds_of-in_table delimiter tables table (unit_date_kind changed start step) no_lookup = refl
 bounds_of-in_table delimiter tables table _ no_lookup = cc
@@ -63,7 +63,7 @@ room_for_null delimiter tables table changed_kind = omega arith
 room_for_null delimiter tables table (leaf_kind leaf) = omega arith
 room_for_null delimiter tables table (template_kind parts) = omega arith
 room_for_null delimiter tables table (case_kind on branches) = omega arith
-room_for_null delimiter tables table (reference_kind parent window spread nulls) = omega arith
+room_for_null delimiter tables table (reference_kind parent window spread nulls drawn) = omega arith
 room_for_null delimiter tables table (lookup_kind via parent name) = omega arith
 room_for_null delimiter tables table (list_kind words) = omega arith
 room_for_null delimiter tables table (unit_date_kind changed start step) = omega arith
@@ -83,18 +83,18 @@ no_lookup-ready delimiter _ other = refl
 
 -- a reference is ready as one, to the same table
 pub reference_ready : (delimiter place : ℕ) (held : KindLayout) → IsCascadeTo place held → (ready : ReadyReference) × (ready_kind delimiter held ≡ kind.Reference ready)
-reference_ready delimiter place (reference_kind parent window spread false) is = (ready_reference parent window spread false, refl)
+reference_ready delimiter place (reference_kind parent window spread false drawn) is = (ready_reference parent window spread false, refl)
 reference_ready delimiter place _ is = absurd is
 
 pub reference_to : (delimiter place : ℕ) (held : KindLayout) (ready : ReadyReference) → IsCascadeTo place held → ready_kind delimiter held ≡ kind.Reference ready → ready.parent ≡ place
-reference_to delimiter place (reference_kind parent window spread false) ready is held =
+reference_to delimiter place (reference_kind parent window spread false drawn) ready is held =
     let same : ready_reference parent window spread false ≡ ready = cc in
     sym (ap (λ (r : ReadyReference). r.parent) same) ∙ is
 reference_to delimiter place _ ready is held = absurd is
 
 -- that doesn't become null
 pub reference_cascades : (delimiter place : ℕ) (held : KindLayout) (ready : ReadyReference) → IsCascadeTo place held → ready_kind delimiter held ≡ kind.Reference ready → ready.nulls ≡ false
-reference_cascades delimiter place (reference_kind parent window spread false) ready is held =
+reference_cascades delimiter place (reference_kind parent window spread false drawn) ready is held =
     let same : ready_reference parent window spread false ≡ ready = cc in
     sym (ap (λ (r : ReadyReference). r.nulls) same)
 reference_cascades delimiter place _ ready is held = absurd is

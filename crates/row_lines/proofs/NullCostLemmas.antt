@@ -31,11 +31,11 @@ module _ (plan : Project) (limits : IsInLimits plan) (place : ℕ) (below : plac
   own = (table_of plan place).columns
 
   -- a parent's table comes before
-  of_kind : (kind : KindLayout) → ((parent : ℕ) (window : _) (spread : List ℕ) → kind ≡ reference_kind parent window spread true → parent < place) →
+  of_kind : (kind : KindLayout) → ((parent : ℕ) (window : _) (spread : List ℕ) → kind ≡ reference_kind parent window spread true drawn → parent < place) →
       null_cost_of (take place all) kind ≡ null_cost_of all kind
-  of_kind (reference_kind parent window spread true) earlier =
+  of_kind (reference_kind parent window spread true drawn) earlier =
       ap (λ (lineage : Lineage). lineage.death_cost) (get_or-take place all parent endless (earlier parent window spread refl))
-  of_kind (reference_kind parent window spread false) earlier = refl
+  of_kind (reference_kind parent window spread false drawn) earlier = refl
   of_kind key_kind earlier = refl
   of_kind born_kind earlier = refl
   of_kind changed_kind earlier = refl
@@ -60,7 +60,7 @@ module _ (plan : Project) (limits : IsInLimits plan) (place : ℕ) (below : plac
 
   of_field : (kind : KindLayout) → null_cost_of (take place all) kind ≡ null_cost_of all kind → null_cost_of_field (take place all) own kind ≡ null_cost_of_field all own kind
   of_field (template_kind parts) same = ap (λ (cost : PartLayout → ℕ). sum_by cost parts) (fun_ext of_part)
-  of_field (reference_kind parent window spread nulls) same = same
+  of_field (reference_kind parent window spread nulls drawn) same = same
   of_field key_kind same = same
   of_field born_kind same = same
   of_field changed_kind same = same
@@ -81,8 +81,8 @@ module _ (plan : Project) (limits : IsInLimits plan) (place : ℕ) (below : plac
 
 -- show no reference that becomes null
 still-kind : (lineages : List Lineage) (kind : KindLayout) → is_moving_kind kind ≡ false → null_cost_of lineages kind ≡ 0
-still-kind lineages (reference_kind parent window spread true) still = absurd (cc)
-still-kind lineages (reference_kind parent window spread false) still = refl
+still-kind lineages (reference_kind parent window spread true drawn) still = absurd (cc)
+still-kind lineages (reference_kind parent window spread false drawn) still = refl
 still-kind lineages key_kind still = refl
 still-kind lineages born_kind still = refl
 still-kind lineages changed_kind still = refl
@@ -110,7 +110,7 @@ still-parts lineages columns (part ∷ parts) still =
 
 pub null_cost-still : (lineages : List Lineage) (columns : List ColumnLayout) (kind : KindLayout) → is_moving_kind kind ≡ false → CitesStill columns kind → null_cost_of_field lineages columns kind ≡ 0
 null_cost-still lineages columns (template_kind parts) still cites = still-parts lineages columns parts cites
-null_cost-still lineages columns (reference_kind parent window spread nulls) still cites = still-kind lineages (reference_kind parent window spread nulls) still
+null_cost-still lineages columns (reference_kind parent window spread nulls drawn) still cites = still-kind lineages (reference_kind parent window spread nulls drawn) still
 null_cost-still lineages columns key_kind still cites = refl
 null_cost-still lineages columns born_kind still cites = refl
 null_cost-still lineages columns changed_kind still cites = refl

@@ -97,7 +97,7 @@ of_kind delimiter generator place row column key_kind whole = plain-decimal deli
 of_kind delimiter generator place row column born_kind whole = plain-decimal delimiter _
 of_kind delimiter generator place row column changed_kind whole = plain-decimal delimiter _
 of_kind delimiter generator place row column (leaf_kind leaf) whole = of_leaf delimiter leaf (draws_of generator place row column) whole
-of_kind delimiter generator place row column (reference_kind parent window spread nulls) whole =
+of_kind delimiter generator place row column (reference_kind parent window spread nulls drawn) whole =
     of_parent (parent_of_row (table_at generator.tables place) row column)
   where
     of_parent : (held : Option ℕ) → IfSome (option_map (λ ordinal. decimal (key_of generator parent row.born ordinal)) held) (IsPlain delimiter)

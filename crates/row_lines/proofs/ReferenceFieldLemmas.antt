@@ -35,15 +35,15 @@ use Rattle.row_lines.proofs.LineLemmas.{key_of-by}
 -- ---- a column that has a reference
 
 same_reference : (k : ℕ) (held : KindLayout) (reference : Reference) → reference_of k held ≡ Some reference →
-    (held ≡ reference_kind reference.parent reference.window reference.spread reference.nulls) × (reference.column ≡ k)
-same_reference k (reference_kind parent window spread nulls) reference is =
-    let same : record { column = k; parent = parent; window = window; spread = spread; nulls = nulls } ≡ reference = cc in
-    (ap (λ (r : Reference). reference_kind r.parent r.window r.spread r.nulls) same, sym (ap (λ (r : Reference). r.column) same))
+    (held ≡ reference_kind reference.parent reference.window reference.spread reference.nulls reference.drawn) × (reference.column ≡ k)
+same_reference k (reference_kind parent window spread nulls drawn) reference is =
+    let same : record { column = k; parent = parent; window = window; spread = spread; nulls = nulls; drawn = drawn } ≡ reference = cc in
+    (ap (λ (r : Reference). reference_kind r.parent r.window r.spread r.nulls r.drawn) same, sym (ap (λ (r : Reference). r.column) same))
 same_reference k _ reference is = absurd (cc)
 
 -- is of that kind
 pub kind_is : (table : TableLayout) (column : ℕ) (reference : Reference) → reference_at table column ≡ Some reference →
-    (column_at table.columns column).kind ≡ reference_kind reference.parent reference.window reference.spread reference.nulls
+    (column_at table.columns column).kind ≡ reference_kind reference.parent reference.window reference.spread reference.nulls reference.drawn
 kind_is table column reference is = (same_reference column (column_at table.columns column).kind reference is).0
 
 -- ---- the parent of a row, by its column
@@ -156,7 +156,7 @@ reference_here lines column ready of = (ready_is lines.plan lines.table column r
 
 -- what its field takes: the permutations that tell the parent which it still has, and that of the key
 held_cost-null_cost : (tables : List TableLayout) (reference : Reference) (nulls : Bool) → reference.nulls ≡ nulls →
-    held_cost tables reference ≡ null_cost_of (lineages tables) (reference_kind reference.parent reference.window reference.spread nulls) + 1
+    held_cost tables reference ≡ null_cost_of (lineages tables) (reference_kind reference.parent reference.window reference.spread nulls reference.drawn) + 1
 held_cost-null_cost tables reference true is = ap (λ (b : Bool). if b then parent_cost tables reference else 1) is ∙ add_comm 1 (death_cost tables reference.parent)
 held_cost-null_cost tables reference false is = ap (λ (b : Bool). if b then parent_cost tables reference else 1) is
 
@@ -166,7 +166,7 @@ pub asked-reference : (known : Bool) (lines : LinesOf) (column : ℕ) (ready : R
 asked-reference known lines column ready of =
     let tables : List TableLayout = (layout_of lines.plan).tables in
     let reference : Reference = reference_by column ready in
-    let kind : KindLayout = reference_kind reference.parent reference.window reference.spread reference.nulls in
+    let kind : KindLayout = reference_kind reference.parent reference.window reference.spread reference.nulls reference.drawn in
     ap (asked_alone known (layout_of lines.plan).delimiter tables (layout_for lines)) (kind_is (layout_for lines) column reference (reference_here lines column ready of))
     ∙ sum (null_cost_of (lineages tables) kind) (held_cost tables reference) (one_if (table_of lines.plan ready.parent).key.scramble) (held_cost-null_cost tables reference reference.nulls refl)
   where

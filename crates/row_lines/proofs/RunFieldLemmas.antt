@@ -77,7 +77,7 @@ own_no_lookup changed_kind own = refl
 own_no_lookup (leaf_kind leaf) own = refl
 own_no_lookup (template_kind parts) own = refl
 own_no_lookup (case_kind on branches) own = refl
-own_no_lookup (reference_kind parent window spread nulls) own = refl
+own_no_lookup (reference_kind parent window spread nulls drawn) own = refl
 own_no_lookup (list_kind words) own = refl
 own_no_lookup (unit_date_kind changed start step) own = refl
 

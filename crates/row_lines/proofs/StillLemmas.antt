@@ -51,9 +51,9 @@ module _ (generator : Generator) (place : ℕ) (row later : Row) (units : ℕ) (
   still_alone column (case_kind on branches) is still no_unit cites =
       ap (λ (draw : Draws). option_and_then (λ entry. leaf_value (branch_at branches entry) draw) (held_entry (column_at columns on) (draws_of generator place later on))) (still_draws column still)
       ∙ ap (λ (draw : Draws). option_and_then (λ entry. leaf_value (branch_at branches entry) (draws_of generator place row column)) (held_entry (column_at columns on) draw)) (still_draws on cites)
-  still_alone column (reference_kind parent window spread nulls) is still no_unit cites =
+  still_alone column (reference_kind parent window spread nulls drawn) is still no_unit cites =
       ap₂ (λ (born : ℕ) (held : Option ℕ). option_map (λ (ordinal : ℕ). decimal (key_of generator parent born ordinal)) held) same_born
-      (same_parents column (record { column = column; parent = parent; window = window; spread = spread; nulls = nulls }) (ap (reference_of column) is) no_unit)
+      (same_parents column (record { column = column; parent = parent; window = window; spread = spread; nulls = nulls; drawn = drawn }) (ap (reference_of column) is) no_unit)
   still_alone column (lookup_kind via parent name) is still no_unit cites = refl
   still_alone column (list_kind words) is still no_unit cites = ap (λ (ordinal : ℕ). Some (entry_in_turn words ordinal)) same_ordinal
   still_alone column (unit_date_kind true start step) is still no_unit cites = absurd (true≢false no_unit)
@@ -93,8 +93,8 @@ module _ (generator : Generator) (place : ℕ) (row later : Row) (units : ℕ) (
   still_in_table column changed_kind is within still no_unit cites of = absurd (true≢false no_unit)
   still_in_table column (leaf_kind leaf) is within still no_unit cites of = still_alone column (leaf_kind leaf) is still no_unit cites
   still_in_table column (case_kind on branches) is within still no_unit cites of = still_alone column (case_kind on branches) is still no_unit cites
-  still_in_table column (reference_kind parent window spread nulls) is within still no_unit cites of =
-      still_alone column (reference_kind parent window spread nulls) is still no_unit cites
+  still_in_table column (reference_kind parent window spread nulls drawn) is within still no_unit cites of =
+      still_alone column (reference_kind parent window spread nulls drawn) is still no_unit cites
   still_in_table column (lookup_kind via parent name) is within still no_unit cites of = refl
   still_in_table column (list_kind words) is within still no_unit cites of = still_alone column (list_kind words) is still no_unit cites
   still_in_table column (unit_date_kind changed start step) is within still no_unit cites of =

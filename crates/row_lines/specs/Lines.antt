@@ -41,7 +41,7 @@ parent_of_row table row column =
 abbrev pub value_alone : Generator → ℕ → Row → ℕ → KindLayout → Option (List ℕ)
 value_alone generator place row column key_kind =
     Some (decimal (key_in_cohort generator place row.born (index_in_cohort (table_at generator.tables place) row)))
-value_alone generator place row column (reference_kind parent window spread nulls) =
+value_alone generator place row column (reference_kind parent window spread nulls drawn) =
     option_map (λ ordinal. decimal (key_of generator parent row.born ordinal)) (parent_of_row (table_at generator.tables place) row column)
 value_alone generator place row column kind =
     own_value (table_at generator.tables place).columns (at_row row) (draws_of generator place row) column kind

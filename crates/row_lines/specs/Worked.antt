@@ -69,7 +69,7 @@ labels = record {
 abbrev pub land : Generator
 land = record {
   tables = keyed_table 1 1 5 false (plain_column (template_kind (literal_part (codes "c") ∷ cited_part 0 0 ∷ [])) ∷ plain_column born_kind ∷ [])
-      ∷ keyed_table 1 1 1 false (plain_column (reference_kind 0 (Some 0) (1 ∷ []) false) ∷ plain_column (lookup_kind 1 0 2) ∷ plain_column (lookup_kind 1 0 1)
+      ∷ keyed_table 1 1 1 false (plain_column (reference_kind 0 (Some 0) (1 ∷ []) false false) ∷ plain_column (lookup_kind 1 0 2) ∷ plain_column (lookup_kind 1 0 1)
       ∷ nulled (lookup_kind 1 0 0) ∷ []) ∷ [];
   order = in_place;
   draw = no_draw;
@@ -81,7 +81,7 @@ land = record {
 abbrev pub owned : Generator
 owned = record {
   tables = record (keyed_table 1 1 1 false []) { life = Some (record { least = 2; most = 2 }) }
-      ∷ keyed_table 1 1 1 false (plain_column (reference_kind 0 (Some 0) (1 ∷ []) true) ∷ plain_column changed_kind
+      ∷ keyed_table 1 1 1 false (plain_column (reference_kind 0 (Some 0) (1 ∷ []) true false) ∷ plain_column changed_kind
       ∷ plain_column (template_kind (literal_part (codes "of ") ∷ cited_part 1 0 ∷ [])) ∷ []) ∷ [];
   order = in_place;
   draw = no_draw;

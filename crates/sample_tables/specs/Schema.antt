@@ -4,6 +4,7 @@ use Rattle.schema_model.specs.declared.column.Column.{Column}
 use Rattle.schema_model.specs.declared.column.Kind.{Kind}
 use Rattle.schema_model.specs.declared.column.Kind.TheVariants.{Born, Key, Leaf as Drawn, Ref}
 use Rattle.schema_model.specs.declared.column.Leaf.TheVariants.{Chars, Date, Int}
+use Rattle.schema_model.specs.declared.column.Deal.TheVariants.{Turn}
 use Rattle.schema_model.specs.declared.column.OnDelete.TheVariants.{Cascade}
 use Rattle.schema_model.specs.declared.column.Window.TheVariants.{Units}
 use Rattle.schema_model.specs.declared.table.Delimiter.TheVariants.{Tab}
@@ -26,7 +27,7 @@ key = plain (codes "id") (Key (pos 1000000000) true)
 
 -- a reference to the rows of a table that are born at the same unit
 abbrev pub reference : List ℕ → List ℕ → Column
-reference name table = plain name (Ref table (Units (pos 0)) (pos 1 ∷ []) Cascade)
+reference name table = plain name (Ref table (Units (pos 0)) (pos 1 ∷ []) Cascade Turn)
 
 -- customers live 2 to 11 units and change at each, a score of theirs anew
 abbrev pub score : Column

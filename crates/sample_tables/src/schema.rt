@@ -5,7 +5,7 @@ ghost use Rattle.sample_tables.specs.Schema.{at_each_unit, customer, key, order_
 
 use out_of_memory::Memory;
 use schema_model::{
-    Column, Columns, Delimiter, Kind, Leaf, Life, Longs, OnDelete, Phase, Phases, Schema, Table,
+    Column, Columns, Deal, Delimiter, Kind, Leaf, Life, Longs, OnDelete, Phase, Phases, Schema, Table,
     Tables, Text, Window,
 };
 use std::alloc::Global;
@@ -158,6 +158,7 @@ fn reference(alloc: Global, name: &str, table: &str) -> Result<Column, Memory>
         window: Window::Units(0),
         spread,
         on_delete: OnDelete::Cascade,
+        deal: Deal::Turn,
     };
     plain(alloc, name, kind)
 }

@@ -157,7 +157,7 @@ kind_in_limits project lists tables columns place within (kind.Template of) supp
     template_from_test project.dictionaries tables columns place within of parts
 kind_in_limits project lists tables columns place within (kind.Case on branches) supplied numbers dates picks skews lengths parts case spread =
     case_from_test project.dictionaries tables columns place within on branches case (leaves_in_limits project lists branches supplied numbers dates picks skews lengths)
-kind_in_limits project lists tables columns place within (kind.Ref table window weights on_delete) supplied numbers dates picks skews lengths parts case spread = spread_from_test weights spread
+kind_in_limits project lists tables columns place within (kind.Ref table window weights on_delete deal) supplied numbers dates picks skews lengths parts case spread = spread_from_test weights spread
 kind_in_limits project lists tables columns place within (kind.List file) supplied numbers dates picks skews lengths parts case spread = words_supplied project lists file supplied
 kind_in_limits project lists tables columns place within _ supplied numbers dates picks skews lengths parts case spread = tt
 
@@ -196,7 +196,7 @@ can_change-layout dictionaries tables columns _ = refl
 is_moving_kind-layout : (dictionaries : List Dictionary) (tables : List Table) (columns : List Column) (kind : Kind) → is_moving_layout (kind_layout dictionaries tables columns kind) ≡ is_moving_kind kind
 is_moving_kind-layout dictionaries tables columns kind.Changed = refl
 is_moving_kind-layout dictionaries tables columns (kind.ChangedDate start step) = refl
-is_moving_kind-layout dictionaries tables columns (kind.Ref table window spread on_delete) = refl
+is_moving_kind-layout dictionaries tables columns (kind.Ref table window spread on_delete deal) = refl
 is_moving_kind-layout dictionaries tables columns _ = refl
 
 -- a column that changes is of a kind that may
@@ -261,7 +261,7 @@ key_never_null _ null is_key h = cc
 -- nor is a reference
 pub reference_never_null : (dictionaries : List Dictionary) (tables : List Table) (columns : List Column) (place : ℕ) (kind : Kind) (null : ℤ) (reference : Reference) →
     reference_of place (kind_layout dictionaries tables columns kind) ≡ Some reference → is_null_share kind null ≡ true → count null ≡ 0
-reference_never_null dictionaries tables columns place (kind.Ref table window spread on_delete) null reference is h = never_null null h
+reference_never_null dictionaries tables columns place (kind.Ref table window spread on_delete deal) null reference is h = never_null null h
 reference_never_null dictionaries tables columns place _ null reference is h = absurd (cc)
 
 share_from_test : (null : ℤ) → is_between 0 999 null ≡ true → count null ≤ 999
@@ -269,7 +269,7 @@ share_from_test null h = limit_from_test null 999 ((and_parts (int_le (pos 0) nu
 
 pub null_limit : (kind : Kind) (null : ℤ) → is_null_share kind null ≡ true → count null ≤ 999
 null_limit (kind.Key base scramble) null h = omega (arith, never_null null h)
-null_limit (kind.Ref table window spread on_delete) null h = omega (arith, never_null null h)
+null_limit (kind.Ref table window spread on_delete deal) null h = omega (arith, never_null null h)
 null_limit kind.Born null h = share_from_test null h
 null_limit kind.Changed null h = share_from_test null h
 null_limit (kind.Leaf leaf) null h = share_from_test null h

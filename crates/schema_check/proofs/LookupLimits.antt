@@ -30,7 +30,7 @@ not-false false h = refl
 -- a kind by which something is looked up is a reference, with whose parent the row is deleted, to a table with the column
 reference_from_test : (dictionaries : List Dictionary) (tables : List Table) (columns : List Column) (kind : Kind) (name : List ℕ) → is_looked_up tables kind name ≡ true →
     IsCascadeTo (place_of_parent tables kind) (kind_layout dictionaries tables columns kind) × (has_still_column (columns_of tables (place_of_parent tables kind)) name ≡ true)
-reference_from_test dictionaries tables columns (kind.Ref table window spread Cascade) name h = (refl, h)
+reference_from_test dictionaries tables columns (kind.Ref table window spread Cascade deal) name h = (refl, h)
 reference_from_test dictionaries tables columns _ name h = absurd (cc)
 
 pub lookup_in_limits : (dictionaries : List Dictionary) (tables : List Table) (columns : List Column) (place : ℕ) → place ≤ length columns → (kind : Kind) → is_lookup tables columns place kind ≡ true →

@@ -99,7 +99,7 @@ births_at project place h = ap (λ (table : TableLayout). table.births) (sym (ta
 
 -- a reference whose column passes the tests of the rules is within its limits
 pub reference_from_tests : (project : Project) (place column earlier : ℕ) (columns : List Column) (kind : Kind) → place < length project.schema.tables → length project.schema.tables ≤ 64 → count project.schema.units ≤ 10000 → is_target project.schema.tables place earlier kind ≡ true → is_window project kind ≡ true → has_parents project.schema place kind ≡ true → is_spread kind ≡ true → (reference : Reference) → reference_of column (kind_layout project.dictionaries project.schema.tables columns kind) ≡ Some reference → IsReferenceInLimits (count project.schema.units) (layout_of project).tables place reference
-reference_from_tests project place column earlier columns (kind.Ref table of weights on_delete) within few units target life parents spread reference is =
+reference_from_tests project place column earlier columns (kind.Ref table of weights on_delete deal) within few units target life parents spread reference is =
     let parent = place_of_table project.schema.tables table in
     let before : parent < place = ltb-true parent place ((and_parts (nat_lt parent place) (nat_lt earlier 8) target).0) in
     let in_tables : parent < length project.schema.tables = omega arith in

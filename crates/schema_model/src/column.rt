@@ -58,6 +58,7 @@ pub enum Kind {
         window: Window,
         spread: Longs,
         on_delete: OnDelete,
+        deal: Deal,
     },
     /// A field of another row. The reference column named `via` selects the row, and `column` names the row's column.
     Lookup {
@@ -102,6 +103,7 @@ impl Drop for Kind {
                 window: _,
                 spread,
                 on_delete: _,
+                deal: _,
             } => {
                 drop(table);
                 drop(spread);
@@ -209,4 +211,13 @@ pub enum OnDelete {
     Cascade,
     /// The row stays, and the reference becomes null.
     Null,
+}
+
+/// The order in which a cohort's rows choose among the candidates for their parents.
+#[derive(Clone, Copy, Debug, PartialEq, Eq)]
+pub enum Deal {
+    /// In turn: from the oldest candidate on.
+    Turn,
+    /// In an order of the candidates that is drawn for each cohort.
+    Drawn,
 }

@@ -9,7 +9,7 @@ mod sequence;
 mod table;
 mod text;
 
-pub use column::{Column, Kind, Leaf, OnDelete, Part, Window};
+pub use column::{Column, Deal, Kind, Leaf, OnDelete, Part, Window};
 pub use sequence::{Columns, Leaves, Longs, Parts, Phases, Sequence, Tables, Texts};
 pub use table::{Delimiter, Life, Phase, Schema, Table};
 pub use text::Text;

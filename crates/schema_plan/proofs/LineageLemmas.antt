@@ -98,8 +98,8 @@ earlier_lineages tables place h =
 -- ---- which references are null
 
 null_cost_of-capped : (given : List Lineage) (kind : KindLayout) → null_cost_of (map capped_lineage given) kind ≡ capped (null_cost_of given kind)
-null_cost_of-capped given (reference_kind parent window spread true) = ap (λ (lineage : Lineage). lineage.death_cost) (lineage_at-capped given parent)
-null_cost_of-capped given (reference_kind parent window spread false) = refl
+null_cost_of-capped given (reference_kind parent window spread true drawn) = ap (λ (lineage : Lineage). lineage.death_cost) (lineage_at-capped given parent)
+null_cost_of-capped given (reference_kind parent window spread false drawn) = refl
 null_cost_of-capped given key_kind = refl
 null_cost_of-capped given born_kind = refl
 null_cost_of-capped given changed_kind = refl
@@ -118,8 +118,8 @@ null_cost_of_part-capped given columns (cited_part column width) =
 null_cost_of_field-capped : (given : List Lineage) (columns : List ColumnLayout) (kind : KindLayout) → capped (null_cost_of_field (map capped_lineage given) columns kind) ≡ capped (null_cost_of_field given columns kind)
 null_cost_of_field-capped given columns (template_kind parts) =
     capped_sum-same (null_cost_of_part (map capped_lineage given) columns) (null_cost_of_part given columns) parts (null_cost_of_part-capped given columns)
-null_cost_of_field-capped given columns (reference_kind parent window spread nulls) =
-    let of : KindLayout = reference_kind parent window spread nulls in
+null_cost_of_field-capped given columns (reference_kind parent window spread nulls drawn) =
+    let of : KindLayout = reference_kind parent window spread nulls drawn in
     ap capped (null_cost_of-capped given of) ∙ capped-capped (null_cost_of given of)
 null_cost_of_field-capped given columns key_kind = refl
 null_cost_of_field-capped given columns born_kind = refl

@@ -32,7 +32,7 @@ leaves_in_limits dictionaries tables columns layouts place (kind.Case on branche
 leaves_in_limits dictionaries tables columns layouts place _ h = λ i d none. absurd (omega arith)
 
 spread_in_limits : (dictionaries : List Dictionary) (tables : List Table) (columns : List Column) (layouts : List ColumnLayout) (place : ℕ) (kind : Kind) → IsKindInLimits layouts place (kind_layout dictionaries tables columns kind) → IsSpreadOf kind
-spread_in_limits dictionaries tables columns layouts place (kind.Ref table window spread on_delete) h = h
+spread_in_limits dictionaries tables columns layouts place (kind.Ref table window spread on_delete deal) h = h
 spread_in_limits dictionaries tables columns layouts place _ h = tt
 
 list_in_limits : (dictionaries : List Dictionary) (tables : List Table) (columns : List Column) (layouts : List ColumnLayout) (place : ℕ) (kind : Kind) → IsKindInLimits layouts place (kind_layout dictionaries tables columns kind) → IsListOf dictionaries kind

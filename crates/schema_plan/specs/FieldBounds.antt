@@ -1,12 +1,12 @@
 -- What a field and a line take at most: bytes as they are written, and permutations.
-use Rattle.std.specs.Prelude.{ℕ, ◌+◌, ◌*◌, ◌-◌, max, min, List, sum_by, length, map, encode_utf8}
+use Rattle.std.specs.Prelude.{ℕ, ◌+◌, ◌*◌, ◌-◌, false, max, min, List, sum_by, length, map, encode_utf8}
 use Rattle.std.specs.List.{fold}
 use Rattle.std.specs.Str.{chars}
 use Rattle.dictionaries.specs.WordList.{WordList}
 use Rattle.row_text.specs.Fields.{escaped_text}
 use Rattle.schema_plan.specs.declared.field_bounds.FieldBounds.{FieldBounds}
 use Rattle.schema_plan.specs.Layout.{LeafLayout, int_leaf, fixed_leaf, date_leaf, pick_leaf, skew_leaf, dict_leaf, words_leaf, chars_leaf, uuid_leaf, PartLayout, literal_part, cited_part, KindLayout, key_kind, born_kind, changed_kind, leaf_kind, template_kind, case_kind, reference_kind, lookup_kind, ColumnLayout, TableLayout, table_at, column_at, list_kind, unit_date_kind}
-use Rattle.schema_plan.specs.Lineage.{one_if}
+use Rattle.schema_plan.specs.Lineage.{choice_cost, one_if}
 
 -- the greatest of a number for each item, 0 where there is no item
 abbrev pub greatest_by : {A : Type 0} → (A → ℕ) → List A → ℕ
@@ -45,7 +45,7 @@ bounds size permutations = record { size = max 2 size; permutations = permutatio
 abbrev pub of_cited : FieldBounds
 of_cited = bounds 0 0
 
--- what a field takes that needs no other column. A reference takes its permutation and its parent's key
+-- what a field takes that needs no other column. A reference takes what finds its parent, and the parent's key
 abbrev pub bounds_alone : ℕ → List TableLayout → TableLayout → KindLayout → FieldBounds
 bounds_alone delimiter tables table key_kind = bounds 20 (one_if table.key.scramble)
 bounds_alone delimiter tables table born_kind = bounds 5 0
@@ -53,8 +53,8 @@ bounds_alone delimiter tables table changed_kind = bounds 5 0
 bounds_alone delimiter tables table (leaf_kind leaf) = bounds (leaf_size delimiter leaf) 0
 bounds_alone delimiter tables table (template_kind parts) = of_cited
 bounds_alone delimiter tables table (case_kind on branches) = bounds (greatest_by (leaf_size delimiter) branches) 0
-bounds_alone delimiter tables table (reference_kind parent window spread nulls) =
-    bounds 20 (1 + one_if (table_at tables parent).key.scramble)
+bounds_alone delimiter tables table (reference_kind parent window spread nulls drawn) =
+    bounds 20 (choice_cost drawn + one_if (table_at tables parent).key.scramble)
 bounds_alone delimiter tables table (lookup_kind via parent column) = of_cited
 bounds_alone delimiter tables table (list_kind words) = bounds (entry_size delimiter words) 0
 bounds_alone delimiter tables table (unit_date_kind changed start step) = bounds 10 0
@@ -86,14 +86,19 @@ abbrev pub bounds_at : ℕ → List TableLayout → TableLayout → ℕ → Fiel
 bounds_at delimiter tables table column =
     bounds_in_table delimiter tables table (column_at table.columns column).kind
 
--- one more permutation
-abbrev pub and_one : FieldBounds → FieldBounds
-and_one of = record of { permutations = 1 + of.permutations }
+-- so many permutations more
+abbrev pub with_permutations : ℕ → FieldBounds → FieldBounds
+with_permutations more of = record of { permutations = more + of.permutations }
 
--- what a field takes: a lookup takes the permutation of its reference, and what the parent's field takes
+-- how many permutations choose the parent by the reference of a kind; any other kind counts as one in turn
+abbrev pub choice_cost_of : KindLayout → ℕ
+choice_cost_of (reference_kind parent window spread nulls drawn) = choice_cost drawn
+choice_cost_of _ = choice_cost false
+
+-- what a field takes: a lookup takes what chooses its parent, and what the parent's field takes
 abbrev pub bounds_of : ℕ → List TableLayout → TableLayout → KindLayout → FieldBounds
 bounds_of delimiter tables table (lookup_kind via parent column) =
-    and_one (bounds_at delimiter tables (table_at tables parent) column)
+    with_permutations (choice_cost_of (column_at table.columns via).kind) (bounds_at delimiter tables (table_at tables parent) column)
 bounds_of delimiter tables table kind = bounds_in_table delimiter tables table kind
 
 -- what the fields of a table's rows take, column by column

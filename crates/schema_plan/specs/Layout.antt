@@ -9,6 +9,8 @@ use Rattle.schema_model.specs.declared.table.Table.{Table}
 use Rattle.schema_model.specs.declared.table.Life.{Life}
 use Rattle.schema_model.specs.declared.table.Phase.{Phase}
 use Rattle.schema_model.specs.declared.column.Column.{Column}
+use Rattle.schema_model.specs.declared.column.Deal.{Deal}
+use Rattle.schema_model.specs.declared.column.Deal.TheVariants.{Turn, Drawn}
 use Rattle.schema_model.specs.declared.column.Kind.{Kind}
 use Rattle.schema_model.specs.declared.column.Kind.TheVariants as kind
 use Rattle.schema_model.specs.declared.column.Leaf.{Leaf}
@@ -49,8 +51,9 @@ pub data PartLayout : Type 0 where
   cited_part : ℕ → ℕ → PartLayout
 
 -- what a column holds. A case has the place of its pick column; a reference the place of its parent's table, the units by which
--- a parent may be older (None: any), its spread, and whether it becomes null where the parent is deleted; a lookup the places of its
--- reference column, of that one's parent and of the parent's column; a list the words that its rows take in turn;
+-- a parent may be older (None: any), its spread, whether it becomes null where the parent is deleted, and whether the parents are dealt in
+-- a drawn order; a lookup the places of its reference column, of that one's parent and of the parent's column; a list the words that its
+-- rows take in turn;
 -- a date of units whether it goes by the unit of the row's last change, not by that of its birth, the day of unit 0, and the days from one
 -- unit to the next
 pub data KindLayout : Type 0 where
@@ -60,7 +63,7 @@ pub data KindLayout : Type 0 where
   leaf_kind : LeafLayout → KindLayout
   template_kind : List PartLayout → KindLayout
   case_kind : ℕ → List LeafLayout → KindLayout
-  reference_kind : ℕ → Option ℕ → List ℕ → Bool → KindLayout
+  reference_kind : ℕ → Option ℕ → List ℕ → Bool → Bool → KindLayout
   lookup_kind : ℕ → ℕ → ℕ → KindLayout
   list_kind : WordList → KindLayout
   unit_date_kind : Bool → ℤ → ℕ → KindLayout
@@ -126,7 +129,7 @@ columns_of tables place = slice_index_or (map (λ table. table.columns) tables) 
 
 -- the place of the table that a kind names as its parent; the place past the last one where it names none
 abbrev pub place_of_parent : List Table → Kind → ℕ
-place_of_parent tables (kind.Ref table window spread on_delete) = place_of_table tables table
+place_of_parent tables (kind.Ref table window spread on_delete deal) = place_of_table tables table
 place_of_parent tables _ = length tables
 
 -- the kinds of some columns
@@ -165,6 +168,11 @@ abbrev pub becomes_null : OnDelete → Bool
 becomes_null Cascade = false
 becomes_null Null = true
 
+-- whether a reference deals the parents in a drawn order; else in turn
+abbrev pub is_drawn_deal : Deal → Bool
+is_drawn_deal Turn = false
+is_drawn_deal Drawn = true
+
 abbrev pub kind_layout : List Dictionary → List Table → List Column → Kind → KindLayout
 kind_layout dictionaries tables columns (kind.Key base scramble) = key_kind
 kind_layout dictionaries tables columns kind.Born = born_kind
@@ -173,8 +181,8 @@ kind_layout dictionaries tables columns (kind.Leaf drawn) = leaf_kind (leaf_layo
 kind_layout dictionaries tables columns (kind.Template parts) = template_kind (map (part_layout columns) parts)
 kind_layout dictionaries tables columns (kind.Case on branches) =
     case_kind (place_of_column columns on) (map (leaf_layout dictionaries) branches)
-kind_layout dictionaries tables columns (kind.Ref table window spread on_delete) =
-    reference_kind (place_of_table tables table) (window_layout window) (map count spread) (becomes_null on_delete)
+kind_layout dictionaries tables columns (kind.Ref table window spread on_delete deal) =
+    reference_kind (place_of_table tables table) (window_layout window) (map count spread) (becomes_null on_delete) (is_drawn_deal deal)
 kind_layout dictionaries tables columns (kind.Lookup via column) =
     lookup_kind (place_of_column columns via) (parent_via tables columns via)
     (place_of_column (columns_of tables (parent_via tables columns via)) column)

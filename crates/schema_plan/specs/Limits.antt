@@ -76,7 +76,7 @@ is_cited _ = true
 
 -- what is made ready of a kind: what it draws is within its limits, and so is its spread, and so are the words of a list
 abbrev pub IsSpreadOf : Kind → Type 0
-IsSpreadOf (kind.Ref table window spread on_delete) = IsSpread (map count spread)
+IsSpreadOf (kind.Ref table window spread on_delete deal) = IsSpread (map count spread)
 IsSpreadOf _ = ⊤
 
 abbrev pub IsListOf : List Dictionary → Kind → Type 0
@@ -116,7 +116,7 @@ is_lookup_kind _ = false
 
 -- a reference to the table at a place, with whose row its own is deleted
 abbrev pub IsCascadeTo : ℕ → KindLayout → Type 0
-IsCascadeTo place (reference_kind parent window spread false) = parent ≡ place
+IsCascadeTo place (reference_kind parent window spread false drawn) = parent ≡ place
 IsCascadeTo place _ = ⊥
 
 -- the column at a place within its limits, by its kind
@@ -124,7 +124,7 @@ abbrev pub IsKindInLimits : List ColumnLayout → ℕ → KindLayout → Type 0
 IsKindInLimits columns place (leaf_kind leaf) = IsLeafInLimits leaf
 IsKindInLimits columns place (template_kind parts) = AreParts columns place parts
 IsKindInLimits columns place (case_kind on branches) = IsCase columns place on branches
-IsKindInLimits columns place (reference_kind parent window spread nulls) = IsSpread spread
+IsKindInLimits columns place (reference_kind parent window spread nulls drawn) = IsSpread spread
 IsKindInLimits columns place (list_kind words) = IsWordList words
 IsKindInLimits columns place _ = ⊤
 
@@ -144,7 +144,7 @@ is_whole_kind key_kind = true
 is_whole_kind born_kind = true
 is_whole_kind changed_kind = true
 is_whole_kind (leaf_kind leaf) = is_whole_leaf leaf
-is_whole_kind (reference_kind parent window spread nulls) = true
+is_whole_kind (reference_kind parent window spread nulls drawn) = true
 is_whole_kind _ = false
 
 -- a part of a template that fills nothing, or a whole number up to at most 64 bytes
@@ -173,7 +173,7 @@ can_change _ = false
 abbrev pub is_moving_kind : KindLayout → Bool
 is_moving_kind changed_kind = true
 is_moving_kind (unit_date_kind changed start step) = changed
-is_moving_kind (reference_kind parent window spread nulls) = nulls
+is_moving_kind (reference_kind parent window spread nulls drawn) = nulls
 is_moving_kind _ = false
 
 -- whether a column moves: it is drawn anew where a row changes, or is of such a kind

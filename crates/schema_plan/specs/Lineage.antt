@@ -12,6 +12,10 @@ use Rattle.schema_plan.specs.Layout.{PartLayout, literal_part, cited_part, KindL
 abbrev pub one_if : Bool → ℕ
 one_if test = if test then 1 else 0
 
+-- how many permutations choose a row's parent by a reference: the one that places the row, and in a drawn deal that of the candidates
+abbrev pub choice_cost : Bool → ℕ
+choice_cost drawn = 1 + one_if drawn
+
 -- the lesser of two lives; None is a life without a bound
 abbrev pub lesser_life : Option ℕ → Option ℕ → Option ℕ
 lesser_life None other = other
@@ -37,27 +41,27 @@ own_lineage life = record {
 }
 
 -- with a parent, who may be older by some units: it lives at least so much less than the parent's rows do for sure, and its
--- death costs the permutation that places the child, and the parent's death
-abbrev pub with_parent : Lineage → Lineage → Option ℕ → Lineage
-with_parent own parent window = record own {
+-- death costs what chooses the parent, and the parent's death
+abbrev pub with_parent : Lineage → Lineage → Option ℕ → Bool → Lineage
+with_parent own parent window drawn = record own {
   sure_life = lesser_life own.sure_life (option_map (λ life. life - unwrap_or window 0) parent.sure_life);
   longest_life = lesser_life own.longest_life parent.longest_life;
-  death_cost = own.death_cost + (1 + parent.death_cost);
+  death_cost = own.death_cost + (choice_cost drawn + parent.death_cost);
 }
 
--- with a parent whom it outlives: that the row has lost it costs the permutation that places the child, and the parent's death
-abbrev pub with_loss : Lineage → Lineage → Lineage
-with_loss own parent = record own { loss_cost = own.loss_cost + (1 + parent.death_cost) }
+-- with a parent whom it outlives: that the row has lost it costs what chooses the parent, and the parent's death
+abbrev pub with_loss : Lineage → Lineage → Bool → Lineage
+with_loss own parent drawn = record own { loss_cost = own.loss_cost + (choice_cost drawn + parent.death_cost) }
 
 -- with what a column adds: a reference has a parent, with whom the row is deleted or whom it outlives, and no other kind has
 abbrev pub with_kind : List Lineage → Lineage → KindLayout → Lineage
-with_kind earlier own (reference_kind parent window spread false) = with_parent own (lineage_at earlier parent) window
-with_kind earlier own (reference_kind parent window spread true) = with_loss own (lineage_at earlier parent)
+with_kind earlier own (reference_kind parent window spread false drawn) = with_parent own (lineage_at earlier parent) window drawn
+with_kind earlier own (reference_kind parent window spread true drawn) = with_loss own (lineage_at earlier parent) drawn
 with_kind earlier own _ = own
 
 -- how many permutations tell at most whether a reference is null, by its kind: those of the parent's death, if the row outlives that
 abbrev pub null_cost_of : List Lineage → KindLayout → ℕ
-null_cost_of earlier (reference_kind parent window spread true) = (lineage_at earlier parent).death_cost
+null_cost_of earlier (reference_kind parent window spread true drawn) = (lineage_at earlier parent).death_cost
 null_cost_of earlier _ = 0
 
 -- the same for what a part of a template cites
@@ -94,12 +98,12 @@ abbrev pub longest_life : List TableLayout → ℕ → Option ℕ
 longest_life tables place = (lineage_at (lineages tables) place).longest_life
 
 -- how many permutations the death of a row takes at most: that of its own life, and for each reference with whose parent it is
--- deleted its own and those of the parent's death
+-- deleted those that choose the parent and those of the parent's death
 abbrev pub death_cost : List TableLayout → ℕ → ℕ
 death_cost tables place = (lineage_at (lineages tables) place).death_cost
 
--- how many permutations it takes at most when a row lost which parents: for each reference that becomes null its own and those of
--- the parent's death
+-- how many permutations it takes at most when a row lost which parents: for each reference that becomes null those that choose the
+-- parent and those of its death
 abbrev pub loss_cost : List TableLayout → ℕ → ℕ
 loss_cost tables place = (lineage_at (lineages tables) place).loss_cost
 

@@ -35,9 +35,9 @@ ready_part delimiter (literal_part bytes) = part.Literal (escaped_text delimiter
 ready_part delimiter (cited_part column width) = part.Cited column width
 
 -- a reference: the weights of its spread with their number and their sum
-abbrev pub ready_reference : ℕ → Option ℕ → List ℕ → Bool → ReadyReference
-ready_reference parent window spread nulls =
-    record { parent = parent; window = window; spread = spread; groups = length spread; total = sum spread; nulls = nulls }
+abbrev pub ready_reference : ℕ → Option ℕ → List ℕ → Bool → Bool → ReadyReference
+ready_reference parent window spread nulls drawn =
+    record { parent = parent; window = window; spread = spread; groups = length spread; total = sum spread; nulls = nulls; drawn = drawn }
 
 -- what a column holds of this kind
 abbrev pub ready_kind : ℕ → KindLayout → ReadyKind
@@ -47,7 +47,7 @@ ready_kind delimiter changed_kind = kind.Changed
 ready_kind delimiter (leaf_kind drawn) = kind.Drawn (ready_leaf delimiter drawn)
 ready_kind delimiter (template_kind parts) = kind.Template (map (ready_part delimiter) parts)
 ready_kind delimiter (case_kind on branches) = kind.Case on (map (ready_leaf delimiter) branches)
-ready_kind delimiter (reference_kind parent window spread nulls) = kind.Reference (ready_reference parent window spread nulls)
+ready_kind delimiter (reference_kind parent window spread nulls drawn) = kind.Reference (ready_reference parent window spread nulls drawn)
 ready_kind delimiter (lookup_kind via parent column) = kind.Lookup (record { via = via; parent = parent; column = column })
 ready_kind delimiter (list_kind words) = kind.List (record { words = written_words delimiter words; count = length words.entries })
 ready_kind delimiter (unit_date_kind changed start step) = kind.UnitDate (record { changed = changed; start = start; step = step })

@@ -6,18 +6,20 @@ use Rattle.schema_plan.specs.Layout.{KindLayout, reference_kind, ColumnLayout, T
 use Rattle.schema_plan.specs.Lineage.{sure_life}
 
 -- a reference: the place of its column, that of its parent's table, by how many units a parent may be older (None: by any), the
--- weights of its spread, and whether it becomes null where the parent is deleted; else its row is deleted with the parent
+-- weights of its spread, whether it becomes null where the parent is deleted, else its row is deleted with the parent, and whether the
+-- candidates are dealt in a drawn order
 pub record Reference : Type 0 where
   pub column : ℕ
   pub parent : ℕ
   pub window : Option ℕ
   pub spread : List ℕ
   pub nulls : Bool
+  pub drawn : Bool
 
 -- the reference of the column at a place; None where the column is of another kind
 abbrev pub reference_of : ℕ → KindLayout → Option Reference
-reference_of column (reference_kind parent window spread nulls) =
-    Some (record { column = column; parent = parent; window = window; spread = spread; nulls = nulls })
+reference_of column (reference_kind parent window spread nulls drawn) =
+    Some (record { column = column; parent = parent; window = window; spread = spread; nulls = nulls; drawn = drawn })
 reference_of column _ = None
 
 -- that of the column at a place of a table

@@ -227,7 +227,7 @@ is_redrawn_at columns place = slice_index_or (map (λ (column : Column). column.
 abbrev pub is_moving_kind : Kind → Bool
 is_moving_kind kind.Changed = true
 is_moving_kind (kind.ChangedDate start step) = true
-is_moving_kind (kind.Ref table window spread on_delete) = becomes_null on_delete
+is_moving_kind (kind.Ref table window spread on_delete deal) = becomes_null on_delete
 is_moving_kind _ = false
 
 -- whether the column at a place moves: it is drawn anew where a row changes, or is of such a kind
@@ -264,7 +264,7 @@ is_change kind changes = not changes || may_be_redrawn kind
 -- how many of a thousand fields of a kind are null: at most 999, and of keys and references none
 abbrev pub is_null_share : Kind → ℤ → Bool
 is_null_share (kind.Key base scramble) null = int_eq null (pos 0)
-is_null_share (kind.Ref table window spread on_delete) null = int_eq null (pos 0)
+is_null_share (kind.Ref table window spread on_delete deal) null = int_eq null (pos 0)
 is_null_share _ null = is_between 0 999 null
 
 -- ---- what rules ask of dates of units
@@ -295,7 +295,7 @@ is_whole_kind (kind.Key base scramble) = true
 is_whole_kind kind.Born = true
 is_whole_kind kind.Changed = true
 is_whole_kind (kind.Leaf leaf) = is_whole_leaf leaf
-is_whole_kind (kind.Ref table window spread on_delete) = true
+is_whole_kind (kind.Ref table window spread on_delete deal) = true
 is_whole_kind _ = false
 
 -- a part pads a whole number to 1 to 64 bytes, or nothing
@@ -312,7 +312,7 @@ are_paddings columns _ = true
 -- ---- what rules ask of references
 
 abbrev pub is_reference : Kind → Bool
-is_reference (kind.Ref table window spread on_delete) = true
+is_reference (kind.Ref table window spread on_delete deal) = true
 is_reference _ = false
 
 -- how many of the columns before a place are references
@@ -321,7 +321,7 @@ references_before columns place = count_by (λ (column : Column). is_reference c
 
 -- a reference of the table at a place names an earlier table, and is one of at most 8
 abbrev pub is_target : List Table → ℕ → ℕ → Kind → Bool
-is_target tables place earlier (kind.Ref table window spread on_delete) = nat_lt (place_of_table tables table) place && nat_lt earlier 8
+is_target tables place earlier (kind.Ref table window spread on_delete deal) = nat_lt (place_of_table tables table) place && nat_lt earlier 8
 is_target tables place earlier _ = true
 
 -- a window in which each row is alive at its end, by how long rows live for sure
@@ -332,7 +332,7 @@ is_within_life (Some life) (window.Units units) = int_le (pos 0) units && nat_lt
 
 -- a reference has such a window. Of a table past the first 64, where an earlier rule is broken, nothing is asked
 abbrev pub is_window : Project → Kind → Bool
-is_window project (kind.Ref table window spread on_delete) =
+is_window project (kind.Ref table window spread on_delete deal) =
     nat_le 64 (place_of_table project.schema.tables table)
     || is_within_life (sure_life (layout_of project).tables (place_of_table project.schema.tables table)) window
 is_window project _ = true
@@ -348,7 +348,7 @@ has_parent_rows units child parent window = list_all (has_parent_row child paren
 
 -- a reference of the table at a place has parents at each unit. Past 10,000 units, where an earlier rule is broken, nothing is asked
 abbrev pub has_parents : Schema → ℕ → Kind → Bool
-has_parents schema place (kind.Ref table window spread on_delete) =
+has_parents schema place (kind.Ref table window spread on_delete deal) =
     nat_lt 10000 (count schema.units)
     || has_parent_rows (count schema.units) (births_of (schema_table schema place))
     (births_of (schema_table schema (place_of_table schema.tables table))) (window_layout window)
@@ -356,7 +356,7 @@ has_parents schema place _ = true
 
 -- a spread has 1 to 64 weights, each from 1 to 1,000
 abbrev pub is_spread : Kind → Bool
-is_spread (kind.Ref table window spread on_delete) =
+is_spread (kind.Ref table window spread on_delete deal) =
     nat_le 1 (length spread) && nat_le (length spread) 64 && list_all (is_between 1 1000) spread
 is_spread _ = true
 
@@ -374,7 +374,7 @@ has_still_column columns name =
 
 -- a kind is a reference, with whose parent the row is deleted, to a table with such a column
 abbrev pub is_looked_up : List Table → Kind → List ℕ → Bool
-is_looked_up tables (kind.Ref table window spread Cascade) name = has_still_column (columns_of tables (place_of_table tables table)) name
+is_looked_up tables (kind.Ref table window spread Cascade deal) name = has_still_column (columns_of tables (place_of_table tables table)) name
 is_looked_up tables _ name = false
 
 -- a lookup names an earlier column that is so

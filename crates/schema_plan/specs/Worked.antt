@@ -7,6 +7,7 @@ use Rattle.schema_model.specs.declared.column.Column.{Column}
 use Rattle.schema_model.specs.declared.column.Kind.{Kind}
 use Rattle.schema_model.specs.declared.column.Kind.TheVariants.{Key, Born, Changed, Leaf as Drawn, Template, Ref, Lookup}
 use Rattle.schema_model.specs.declared.column.Leaf.TheVariants.{Pick, Dict, Words, Chars}
+use Rattle.schema_model.specs.declared.column.Deal.TheVariants.{Turn}
 use Rattle.schema_model.specs.declared.column.OnDelete.TheVariants.{Cascade, Null}
 use Rattle.schema_model.specs.declared.column.Part.TheVariants.{Literal, Cited}
 use Rattle.schema_plan.specs.declared.field_bounds.FieldBounds.{FieldBounds}
@@ -29,7 +30,7 @@ key = plain (codes "id") (Key (pos 1) false)
 
 -- a reference to the rows of a table that were born in a window of units
 abbrev pub reference : List ℕ → ℕ → Column
-reference table units = plain table (Ref table (Units (pos units)) (pos 1 ∷ []) Cascade)
+reference table units = plain table (Ref table (Units (pos units)) (pos 1 ∷ []) Cascade Turn)
 
 -- customers live three units and change every two
 abbrev pub customer : Table
@@ -76,7 +77,7 @@ remark = record {
   life = None;
   update = None;
   columns =
-      key ∷ plain (codes "customer") (Ref (codes "customer") (Units (pos 2)) (pos 1 ∷ []) Null)
+      key ∷ plain (codes "customer") (Ref (codes "customer") (Units (pos 2)) (pos 1 ∷ []) Null Turn)
       ∷ plain (codes "label") (Template (Literal (codes "of ") ∷ Cited (codes "customer") ∷ []))
       ∷ [];
 }

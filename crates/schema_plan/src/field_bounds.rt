@@ -4,16 +4,20 @@ ghost use Rattle.std.specs.Prelude.{◌≡◌, ◌+◌, List, encode_utf8, map};
 ghost use Rattle.std.specs.Str.{chars};
 ghost use Rattle.schema_plan.specs.Capped.{capped, capped_bounds};
 ghost use Rattle.schema_plan.specs.Dictionaries.{Dictionary};
-ghost use Rattle.schema_plan.specs.Layout.{column_at, columns_of, kind_layout, leaf_layout, part_layout, place_of_column, table_at, table_layout, table_layouts};
-ghost use Rattle.schema_plan.specs.FieldBounds.{at_least, bounds, bounds_alone, bounds_at, bounds_in_table, bounds_of, bounds_of_part, bounds_of_parts, greatest_by, joined_size, leaf_size, written_size};
-ghost use Rattle.schema_plan.specs.Lineage.{one_if};
+ghost use Rattle.schema_plan.specs.Layout.{column_at, column_layout, columns_of, is_drawn_deal, kind_layout, leaf_layout, part_layout, place_of_column, table_at, table_layout, table_layouts};
+ghost use Rattle.schema_plan.specs.FieldBounds.{at_least, bounds, bounds_alone, bounds_at, bounds_in_table, bounds_of, bounds_of_part, bounds_of_parts, choice_cost_of, greatest_by, joined_size, leaf_size, written_size};
+ghost use Rattle.schema_plan.specs.Lineage.{choice_cost, one_if};
+ghost use Rattle.schema_model.specs.declared.column.Column.{Column};
+ghost use Rattle.schema_model.specs.declared.table.Table.{Table};
 
 use crate::counts::count;
+use crate::layout::is_drawn_deal;
+use crate::lineage::choice_cost;
 use crate::places::{keys_of, parent_via, place_of_column, place_of_table};
 use crate::rules::MAX_WIDTH;
 use crate::word_lists::Dictionaries;
 use row_text::field_size;
-use schema_model::{Kind, Leaf, Part, Table, Text};
+use schema_model::{Column, Deal, Kind, Leaf, Part, Table, Text};
 
 /// The greatest length of a key number, in bytes.
 const KEY_SIZE: u64 = 20;
@@ -133,13 +137,16 @@ fn greatest_leaf(delimiter: u8, dictionaries: &Dictionaries, leaves: &[Leaf]) ->
     most
 }
 
-/// Returns the bounds of a reference: a permutation for the parent, and one more if the parent's keys are scrambled.
-fn bounds_of_reference(tables: &[Table], parent: usize) -> FieldBounds
+/// Returns the bounds of a reference: what chooses the parent, and one more permutation if the parent's keys are scrambled.
+fn bounds_of_reference(tables: &[Table], parent: usize, deal: Deal) -> FieldBounds
     ensures { (dictionaries : List Dictionary) →
-        result ≡ bounds 20 (1 + one_if (table_at (table_layouts dictionaries tables.now) parent).key.scramble) }
+        result ≡ bounds 20 (choice_cost (is_drawn_deal deal) + one_if (table_at (table_layouts dictionaries tables.now) parent).key.scramble) }
 {
     let scramble = parent < tables.len() && keys_of(tables[parent].columns.as_slice()).scramble;
-    bounds(KEY_SIZE, 1 + u64::from(scramble))
+    bounds(
+        KEY_SIZE,
+        choice_cost(is_drawn_deal(deal)) + u64::from(scramble),
+    )
 }
 
 /// Returns the bounds of a field that needs no other column. A template or a lookup gives those of a null field.
@@ -164,7 +171,9 @@ fn bounds_alone(
             greatest_leaf(delimiter, dictionaries, branches.as_slice()),
             0,
         ),
-        Kind::Ref { table, .. } => bounds_of_reference(tables, place_of_table(tables, table)),
+        Kind::Ref { table, deal, .. } => {
+            bounds_of_reference(tables, place_of_table(tables, table), *deal)
+        }
         Kind::Template { .. } | Kind::Lookup { .. } => bounds(0, 0),
         Kind::List { file } => bounds(dictionaries.entry_size(delimiter, file.as_str()), 0),
         Kind::BornDate { .. } | Kind::ChangedDate { .. } => bounds(DATE_SIZE, 0),
@@ -308,7 +317,31 @@ fn bounds_of_named(
     }
 }
 
-/// Returns the bounds of a field. A lookup takes a permutation for its reference, and what its parent's field takes.
+/// Returns how many permutations choose the parent by the reference of this kind. Any other kind counts as one in turn.
+fn choice_cost_of(kind: &Kind) -> u64
+    ensures { (dictionaries : List Dictionary) (tables : List Table) (columns : List Column) →
+        result ≡ choice_cost_of (kind_layout dictionaries tables columns kind.now) }
+{
+    match kind {
+        Kind::Ref { deal, .. } => choice_cost(is_drawn_deal(*deal)),
+        _ => choice_cost(false),
+    }
+}
+
+/// Returns how many permutations choose the parent by the reference in the named column.
+fn choice_cost_via(columns: &[Column], via: &Text) -> u64
+    ensures { (dictionaries : List Dictionary) (tables : List Table) →
+        result ≡ choice_cost_of (column_at (map (column_layout dictionaries tables columns.now) columns.now) (place_of_column columns.now via.now)).kind }
+{
+    let column = place_of_column(columns, via);
+    if column < columns.len() {
+        choice_cost_of(&columns[column].kind)
+    } else {
+        choice_cost(false)
+    }
+}
+
+/// Returns the bounds of a field. A lookup takes what chooses its parent, and what the parent's field takes.
 pub(crate) fn bounds_of(
     delimiter: u8,
     dictionaries: &Dictionaries,
@@ -321,11 +354,14 @@ pub(crate) fn bounds_of(
 {
     match kind {
         Kind::Lookup { via, column } => {
-            let parent = parent_via(tables, table.columns.as_slice(), via);
+            let columns = table.columns.as_slice();
+            let parent = parent_via(tables, columns, via);
             let taken = bounds_of_named(delimiter, dictionaries, tables, parent, column);
             FieldBounds {
                 size: taken.size,
-                permutations: taken.permutations.saturating_add(1),
+                permutations: taken
+                    .permutations
+                    .saturating_add(choice_cost_via(columns, via)),
             }
         }
         _ => bounds_in_table(delimiter, dictionaries, tables, table, kind),

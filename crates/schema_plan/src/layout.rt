@@ -1,9 +1,9 @@
 //! The keys, lives and references of a table in a layout.
 
 ghost use Rattle.std.specs.Prelude.{◌≡◌};
-ghost use Rattle.schema_plan.specs.Layout.{becomes_null};
+ghost use Rattle.schema_plan.specs.Layout.{becomes_null, is_drawn_deal};
 
-use schema_model::OnDelete;
+use schema_model::{Deal, OnDelete};
 
 /// The keys of a table.
 #[derive(Clone, Copy, Debug, PartialEq, Eq)]
@@ -30,5 +30,15 @@ pub fn becomes_null(on_delete: OnDelete) -> bool
     match on_delete {
         OnDelete::Cascade => false,
         OnDelete::Null => true,
+    }
+}
+
+/// Whether a reference deals the parents in a drawn order. Otherwise it deals them in turn.
+pub(crate) fn is_drawn_deal(deal: Deal) -> bool
+    ensures { result ≡ is_drawn_deal deal }
+{
+    match deal {
+        Deal::Turn => false,
+        Deal::Drawn => true,
     }
 }

@@ -4,14 +4,14 @@ ghost use Rattle.std.specs.Prelude.{◌≡◌, List, length, map};
 ghost use Rattle.schema_plan.specs.Capped.{capped_lineage};
 ghost use Rattle.schema_plan.specs.Dictionaries.{Dictionary};
 ghost use Rattle.schema_plan.specs.Layout.{kind_layout, span_of, table_layout, table_layouts, window_layout};
-ghost use Rattle.schema_plan.specs.Lineage.{lesser_life, lineage_at, lineage_of, own_lineage, with_kind, with_loss, with_parent};
+ghost use Rattle.schema_plan.specs.Lineage.{choice_cost, lesser_life, lineage_at, lineage_of, own_lineage, with_kind, with_loss, with_parent};
 ghost use Rattle.std.specs.Option.{option_map};
 ghost use Rattle.schema_model.specs.declared.column.Column.{Column};
 ghost use Rattle.schema_plan.specs.declared.lineage.Lineage.{Lineage};
 
 use crate::counts::count;
 use crate::facts::TableFacts;
-use crate::layout::Span;
+use crate::layout::{Span, is_drawn_deal};
 use crate::null_costs::null_cost_of_line;
 use crate::places::place_of_table;
 use schema_model::{Kind, Life, OnDelete, Table, Window};
@@ -94,12 +94,14 @@ fn with_kind(tables: &[Table], earlier: &[TableFacts], own: Lineage, kind: &Kind
             table,
             window,
             on_delete,
+            deal,
             ..
         } => {
             let parent = lineage_at(earlier, place_of_table(tables, table));
+            let drawn = is_drawn_deal(*deal);
             match on_delete {
-                OnDelete::Cascade => with_parent(own, parent, *window),
-                OnDelete::Null => with_loss(own, parent),
+                OnDelete::Cascade => with_parent(own, parent, *window, drawn),
+                OnDelete::Null => with_loss(own, parent, drawn),
             }
         }
         _ => own,
@@ -117,9 +119,17 @@ pub fn lineage_at(earlier: &[TableFacts], place: usize) -> Lineage
     }
 }
 
+/// Returns how many permutations choose a row's parent by a reference: the one that places the row, and in a drawn deal that of the
+/// candidates.
+pub(crate) fn choice_cost(drawn: bool) -> u64
+    ensures { result ≡ choice_cost drawn }
+{
+    1 + u64::from(drawn)
+}
+
 /// Returns a lineage with one more parent, with whom the row is deleted.
-fn with_parent(own: Lineage, parent: Lineage, window: Window) -> Lineage
-    ensures { result ≡ capped_lineage (with_parent own parent (window_layout window)) }
+fn with_parent(own: Lineage, parent: Lineage, window: Window, drawn: bool) -> Lineage
+    ensures { result ≡ capped_lineage (with_parent own parent (window_layout window) drawn) }
 {
     let older = match window {
         Window::Units(units) => count(units),
@@ -131,16 +141,16 @@ fn with_parent(own: Lineage, parent: Lineage, window: Window) -> Lineage
         longest_life: lesser_life(own.longest_life, parent.longest_life),
         death_cost: own
             .death_cost
-            .saturating_add(parent.death_cost.saturating_add(1)),
+            .saturating_add(parent.death_cost.saturating_add(choice_cost(drawn))),
         ..own
     }
 }
 
 /// Returns a lineage with one more parent, whom the row outlives.
-fn with_loss(own: Lineage, parent: Lineage) -> Lineage
-    ensures { result ≡ capped_lineage (with_loss own parent) }
+fn with_loss(own: Lineage, parent: Lineage, drawn: bool) -> Lineage
+    ensures { result ≡ capped_lineage (with_loss own parent drawn) }
 {
-    let asked = parent.death_cost.saturating_add(1);
+    let asked = parent.death_cost.saturating_add(choice_cost(drawn));
     Lineage {
         loss_cost: own.loss_cost.saturating_add(asked),
         ..own

@@ -88,6 +88,8 @@ pub struct ReadyReference {
     pub total: FixedDivisor,
     /// Whether the reference becomes null when the parent is deleted. Otherwise its row is deleted too.
     pub nulls: bool,
+    /// Whether the candidates are dealt in a drawn order. Otherwise they are dealt in turn.
+    pub drawn: bool,
 }
 
 impl Drop for ReadyReference {
@@ -99,6 +101,7 @@ impl Drop for ReadyReference {
             groups: _,
             total: _,
             nulls: _,
+            drawn: _,
         } = self;
         drop(spread);
     }

@@ -4,14 +4,14 @@ ghost use Rattle.std.specs.Prelude.{◌≡◌, ◌≤◌, ℕ, List, All, IfOk, 
 ghost use Rattle.std.specs.List.{range_with_len};
 ghost use Rattle.schema_plan.specs.Counts.{count};
 ghost use Rattle.schema_plan.specs.Dictionaries.{Dictionary, project_of};
-ghost use Rattle.schema_plan.specs.Layout.{becomes_null, column_layout, kind_layout, layout_of, leaf_layout, window_layout};
+ghost use Rattle.schema_plan.specs.Layout.{becomes_null, column_layout, is_drawn_deal, kind_layout, layout_of, leaf_layout, window_layout};
 ghost use Rattle.schema_plan.specs.Limits.{CanBeReady, IsInLimits, IsLeafInLimits};
 ghost use Rattle.schema_plan.specs.Ready.{ready_column, ready_columns, ready_kind, ready_leaf, ready_reference};
 ghost use Rattle.schema_plan.specs.References.{IsSpread};
 
 use crate::counts::count;
 use crate::facts::delimiter_byte;
-use crate::layout::becomes_null;
+use crate::layout::{becomes_null, is_drawn_deal};
 use crate::places::{columns_of, parent_via, place_of_column, place_of_table};
 use crate::ready::{
     ReadyColumn, ReadyKind, ReadyLeaf, ReadyList, ReadyLookup, ReadyReference, ReadyUnitDate,
@@ -22,7 +22,7 @@ use crate::ready_words::{Lexicon, ReadyWords};
 use crate::word_lists::Dictionaries;
 use fixed_divisors::FixedDivisor;
 use out_of_memory::Memory;
-use schema_model::{Column, Kind, Leaf, OnDelete, Schema, Sequence, Table, Text, Window};
+use schema_model::{Column, Deal, Kind, Leaf, OnDelete, Schema, Sequence, Table, Text, Window};
 use std::alloc::Global;
 use weight_tables::Weights;
 
@@ -116,9 +116,17 @@ fn ready_kind(
             window,
             spread,
             on_delete,
+            deal,
         } => {
             let parent = place_of_table(tables, table) as u32;
-            let reference = ready_reference(alloc, parent, *window, spread.as_slice(), *on_delete)?;
+            let reference = ready_reference(
+                alloc,
+                parent,
+                *window,
+                spread.as_slice(),
+                *on_delete,
+                *deal,
+            )?;
             Ok(ReadyKind::Reference(reference))
         }
         Kind::Lookup { via, column } => {
@@ -163,9 +171,10 @@ fn ready_reference(
     window: Window,
     spread: &[i64],
     on_delete: OnDelete,
+    deal: Deal,
 ) -> Result<ReadyReference, Memory>
     requires { IsSpread (map count spread.now) }
-    ensures { IfOk result (λ ready. ready ≡ ready_reference parent (window_layout window) (map count spread.now) (becomes_null on_delete)) }
+    ensures { IfOk result (λ ready. ready ≡ ready_reference parent (window_layout window) (map count spread.now) (becomes_null on_delete) (is_drawn_deal deal)) }
 {
     let weights = Weights::new(alloc, &counts(alloc, spread)?)?;
     let total = FixedDivisor::new(weights.total());
@@ -176,6 +185,7 @@ fn ready_reference(
         groups: spread.len() as u64,
         total,
         nulls: becomes_null(on_delete),
+        drawn: is_drawn_deal(deal),
     })
 }
 

@@ -11,17 +11,18 @@ use Rattle.schema_model.specs.declared.column.Kind.{Kind}
 use Rattle.schema_model.specs.declared.column.Kind.TheVariants as kind
 use Rattle.schema_model.specs.declared.column.Leaf.{Leaf}
 use Rattle.schema_model.specs.declared.column.Leaf.TheVariants as leaf
+use Rattle.schema_model.specs.declared.column.Deal.TheVariants.{Turn}
 use Rattle.schema_model.specs.declared.column.OnDelete.TheVariants.{Cascade}
 use Rattle.schema_model.specs.declared.column.Window.TheVariants.{All}
 use Rattle.schema_read.specs.declared.fault.Place.{Place}
 use Rattle.schema_read.specs.declared.fault.Wrong.{Wrong}
-use Rattle.schema_read.specs.declared.fault.Expected.TheVariants.{Whole, TextValue, Flag, DelimiterName, TableList, TwoWholes, KindName as NameOfKind, LeafName as NameOfLeaf, DateText, TextList, Wholes, PartList, WindowValue, InsertValue, DeleteName}
+use Rattle.schema_read.specs.declared.fault.Expected.TheVariants.{Whole, TextValue, Flag, DelimiterName, TableList, TwoWholes, KindName as NameOfKind, LeafName as NameOfLeaf, DateText, TextList, Wholes, PartList, WindowValue, InsertValue, DeleteName, DealName}
 use Rattle.schema_read.specs.declared.schema_key.SchemaKey.TheVariants as key
 use Rattle.schema_read.specs.declared.kind_name.KindName.{KindName}
 use Rattle.schema_read.specs.declared.kind_name.KindName.TheVariants.{Key, Born, Changed, Leaf as LeafOf, Template, Case, Ref, Lookup, List as Listed, BornDate, ChangedDate}
 use Rattle.schema_read.specs.declared.kind_name.LeafName.{LeafName}
 use Rattle.schema_read.specs.declared.kind_name.LeafName.TheVariants.{Int, Fixed, Date, Pick, Skew, Dict, Words, Chars, Uuid}
-use Rattle.schema_read.specs.Types.{as_delimiter, as_life, as_phases, one_phase, as_kind, as_leaf, as_day, as_list_of, as_part, as_window, as_deletion}
+use Rattle.schema_read.specs.Types.{as_delimiter, as_life, as_phases, one_phase, as_kind, as_leaf, as_day, as_list_of, as_part, as_window, as_deletion, as_deal}
 use Rattle.schema_read.specs.Values.{value_under, value_or, whole, whole_or, text, text_list, flag_or, tables}
 use Rattle.schema_read.specs.declared.wanted.Wanted.{Wanted}
 use Rattle.schema_read.specs.declared.wanted.Wanted.TheVariants.{Required, Optional}
@@ -82,7 +83,7 @@ kind_keys Changed = []
 kind_keys (LeafOf l) = leaf_keys l
 kind_keys Template = Required key.Parts PartList ∷ []
 kind_keys Case = Required key.On TextValue ∷ Required key.Branches TableList ∷ []
-kind_keys Ref = Required key.Table TextValue ∷ Required key.Window WindowValue ∷ Optional key.Spread Wholes ∷ Optional key.OnDelete DeleteName ∷ []
+kind_keys Ref = Required key.Table TextValue ∷ Required key.Window WindowValue ∷ Optional key.Spread Wholes ∷ Optional key.OnDelete DeleteName ∷ Optional key.Deal DealName ∷ []
 kind_keys Lookup = Required key.Via TextValue ∷ Required key.Column TextValue ∷ []
 kind_keys Listed = Required key.File TextValue ∷ []
 kind_keys BornDate = unit_date_keys
@@ -151,7 +152,7 @@ kind_value Changed ms = kind.Changed
 kind_value (LeafOf l) ms = kind.Leaf (leaf_given l ms)
 kind_value Template ms = kind.Template (value_or (as_list_of as_part) [] key.Parts ms)
 kind_value Case ms = kind.Case (text key.On ms) (map branch (tables key.Branches ms))
-kind_value Ref ms = kind.Ref (text key.Table ms) (value_or as_window All key.Window ms) (value_or (as_list_of as_integer) (pos 1 ∷ []) key.Spread ms) (value_or as_deletion Cascade key.OnDelete ms)
+kind_value Ref ms = kind.Ref (text key.Table ms) (value_or as_window All key.Window ms) (value_or (as_list_of as_integer) (pos 1 ∷ []) key.Spread ms) (value_or as_deletion Cascade key.OnDelete ms) (value_or as_deal Turn key.Deal ms)
 kind_value Lookup ms = kind.Lookup (text key.Via ms) (text key.Column ms)
 kind_value Listed ms = kind.List (text key.File ms)
 kind_value BornDate ms = kind.BornDate (value_or as_day (pos 0) key.Start ms) (whole_or (pos 1) key.Step ms)

@@ -7,6 +7,8 @@ use Rattle.schema_model.specs.declared.table.Delimiter.{Delimiter}
 use Rattle.schema_model.specs.declared.table.Delimiter.TheVariants.{Tab, Bar}
 use Rattle.schema_model.specs.declared.table.Life.{Life}
 use Rattle.schema_model.specs.declared.table.Phase.{Phase}
+use Rattle.schema_model.specs.declared.column.Deal.{Deal}
+use Rattle.schema_model.specs.declared.column.Deal.TheVariants.{Turn, Drawn}
 use Rattle.schema_model.specs.declared.column.OnDelete.{OnDelete}
 use Rattle.schema_model.specs.declared.column.OnDelete.TheVariants.{Cascade, Null}
 use Rattle.schema_model.specs.declared.column.Part.{Part}
@@ -100,6 +102,12 @@ deletion_named name = if same_bytes name (codes "cascade") then Some Cascade els
 abbrev pub as_deletion : Data → Option OnDelete
 as_deletion d = option_and_then deletion_named (as_str d)
 
+abbrev pub deal_named : List ℕ → Option Deal
+deal_named name = if same_bytes name (codes "turn") then Some Turn else (if same_bytes name (codes "drawn") then Some Drawn else None)
+
+abbrev pub as_deal : Data → Option Deal
+as_deal d = option_and_then deal_named (as_str d)
+
 -- whether a value is of a type
 abbrev pub fits : Expected → Data → Bool
 fits type.Whole d = is_some (as_integer d)
@@ -117,4 +125,5 @@ fits type.PartList d = is_some (as_list_of as_part d)
 fits type.WindowValue d = is_some (as_window d)
 fits type.InsertValue d = is_some (as_phases d)
 fits type.DeleteName d = is_some (as_deletion d)
+fits type.DealName d = is_some (as_deal d)
 fits type.NoSuchKey d = false

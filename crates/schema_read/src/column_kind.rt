@@ -11,11 +11,11 @@ use crate::leaf_kind::read_leaf;
 use crate::lists::{Element, list_at, list_if_any};
 use crate::schema_key::SchemaKey;
 use crate::typed_member::{
-    day_if_any, deletion_if_any, flag_if_any, leaf_kind_at, text_at, whole_at, whole_if_any,
-    window_if_any,
+    day_if_any, deal_if_any, deletion_if_any, flag_if_any, leaf_kind_at, text_at, whole_at,
+    whole_if_any, window_if_any,
 };
 use out_of_memory::Memory;
-use schema_model::{Kind, Leaf, Leaves, Longs, OnDelete, Window};
+use schema_model::{Deal, Kind, Leaf, Leaves, Longs, OnDelete, Window};
 use std::alloc::Global;
 use toml::{Table, Value};
 
@@ -59,6 +59,7 @@ fn read_reference(alloc: Global, members: &Table) -> Result<Kind, Memory>
         window: window_if_any(members, SchemaKey::Window).unwrap_or(Window::All),
         spread,
         on_delete: deletion_if_any(members, SchemaKey::OnDelete).unwrap_or(OnDelete::Cascade),
+        deal: deal_if_any(members, SchemaKey::Deal).unwrap_or(Deal::Turn),
     })
 }
 

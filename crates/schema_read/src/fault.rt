@@ -56,6 +56,8 @@ pub enum Expected {
     InsertValue,
     /// The text `cascade` or `null`.
     DeleteName,
+    /// The text `turn` or `drawn`.
+    DealName,
     /// Nothing: the key has no place here.
     NoSuchKey,
 }

@@ -8,7 +8,7 @@ ghost use Rattle.schema_read.specs.Types.{as_list_of, as_part, as_phase, fits, p
 
 use crate::fault::Expected;
 use crate::types::{
-    array_elements, cited_name, day_of, deletion_of, delimiter_of, kind_of, leaf_kind_of,
+    array_elements, cited_name, day_of, deal_of, deletion_of, delimiter_of, kind_of, leaf_kind_of,
     life_of_value, padded_column, phase_of_value, table_elements, window_of,
 };
 use toml::{Table, Value};
@@ -119,6 +119,7 @@ pub fn fits(expected: Expected, value: &Value) -> bool
         Expected::WindowValue => window_of(value).is_some(),
         Expected::InsertValue => value.is_integer() || is_phase_list(value),
         Expected::DeleteName => deletion_of(value).is_some(),
+        Expected::DealName => deal_of(value).is_some(),
         Expected::NoSuchKey => false,
     }
 }

@@ -74,6 +74,8 @@ pub enum SchemaKey {
     Start,
     /// `width`
     Width,
+    /// `deal`
+    Deal,
     /// A key that has no place where it stands.
     Other,
 }
@@ -118,6 +120,7 @@ impl SchemaKey {
             SchemaKey::Via => "via",
             SchemaKey::Start => "start",
             SchemaKey::Width => "width",
+            SchemaKey::Deal => "deal",
             SchemaKey::Other => "",
         }
     }

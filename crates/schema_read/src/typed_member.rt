@@ -5,18 +5,18 @@ ghost use Rattle.toml.specs.Data.{as_bool, as_integer};
 ghost use Rattle.toml.specs.View.{table_view};
 ghost use Rattle.schema_read.specs.Document.{members_of_values};
 ghost use Rattle.schema_read.specs.Shape.{kind_of, leaf_of};
-ghost use Rattle.schema_read.specs.Types.{as_delimiter, as_life, as_day, as_window, as_deletion};
+ghost use Rattle.schema_read.specs.Types.{as_deal, as_delimiter, as_life, as_day, as_window, as_deletion};
 ghost use Rattle.schema_read.specs.Values.{value_under, whole, text, tables};
 
 use crate::kind_name::{KindName, LeafName};
 use crate::members::member;
 use crate::schema_key::SchemaKey;
 use crate::types::{
-    day_of, deletion_of, delimiter_of, kind_of, leaf_kind_of, life_of_value, table_elements,
-    window_of,
+    day_of, deal_of, deletion_of, delimiter_of, kind_of, leaf_kind_of, life_of_value,
+    table_elements, window_of,
 };
 use out_of_memory::Memory;
-use schema_model::{Delimiter, Life, OnDelete, Text, Window};
+use schema_model::{Deal, Delimiter, Life, OnDelete, Text, Window};
 use std::alloc::Global;
 use toml::{Table, Value};
 
@@ -74,6 +74,13 @@ pub fn deletion_if_any(table: &Table, key: SchemaKey) -> Option<OnDelete>
     ensures { result ≡ value_under as_deletion key (table_view table.now) }
 {
     deletion_of(member(table, key)?)
+}
+
+/// Returns the order in which parents are dealt, from the name under a key.
+pub fn deal_if_any(table: &Table, key: SchemaKey) -> Option<Deal>
+    ensures { result ≡ value_under as_deal key (table_view table.now) }
+{
+    deal_of(member(table, key)?)
 }
 
 /// Returns the kind of a column, or `born` if none is named.

@@ -6,14 +6,14 @@ ghost use Rattle.std.specs.Option.{option_copied};
 ghost use Rattle.toml.specs.Data.{Data, as_array, as_integer, as_str, as_table};
 ghost use Rattle.toml.specs.View.{view, table_view};
 ghost use Rattle.schema_read.specs.Document.{elements, members_of_values};
-ghost use Rattle.schema_read.specs.Types.{as_list_of, delimiter_named, as_delimiter, pair_of, as_pair, as_life, as_phase, as_kind, as_leaf, as_day, cited, padded, window_named, as_window, deletion_named, as_deletion};
+ghost use Rattle.schema_read.specs.Types.{as_list_of, delimiter_named, as_delimiter, pair_of, as_pair, as_life, as_phase, as_kind, as_leaf, as_day, cited, padded, window_named, as_window, deletion_named, as_deletion, deal_named, as_deal};
 
 use crate::date::day_of_text;
 use crate::kind_name::{KindName, LeafName, kind_of_name, leaf_of_name};
 use crate::members::{has_only, member};
 use crate::schema_key::SchemaKey;
 use crate::wanted::{PADDED_KEYS, PART_KEYS};
-use schema_model::{Delimiter, Life, OnDelete, Phase, Window};
+use schema_model::{Deal, Delimiter, Life, OnDelete, Phase, Window};
 use toml::{Table, Value};
 
 fn delimiter_of_name(name: &str) -> Option<Delimiter>
@@ -104,6 +104,26 @@ pub fn deletion_of(value: &Value) -> Option<OnDelete>
 {
     match value.as_str() {
         Some(name) => deletion_of_name(name),
+        None => None,
+    }
+}
+
+fn deal_of_name(name: &str) -> Option<Deal>
+    ensures { result ≡ deal_named name.now }
+{
+    match name {
+        "turn" => Some(Deal::Turn),
+        "drawn" => Some(Deal::Drawn),
+        _ => None,
+    }
+}
+
+/// Returns the order in which parents are dealt, from the text `turn` or `drawn`, or None for any other value.
+pub fn deal_of(value: &Value) -> Option<Deal>
+    ensures { result ≡ as_deal (view value.now) }
+{
+    match value.as_str() {
+        Some(name) => deal_of_name(name),
         None => None,
     }
 }

@@ -154,11 +154,12 @@ const CASE_KEYS: [Wanted; 2] = [
     Wanted::Required(SchemaKey::Branches, Expected::TableList),
 ];
 
-const REFERENCE_KEYS: [Wanted; 4] = [
+const REFERENCE_KEYS: [Wanted; 5] = [
     Wanted::Required(SchemaKey::Table, Expected::TextValue),
     Wanted::Required(SchemaKey::Window, Expected::WindowValue),
     Wanted::Optional(SchemaKey::Spread, Expected::Wholes),
     Wanted::Optional(SchemaKey::OnDelete, Expected::DeleteName),
+    Wanted::Optional(SchemaKey::Deal, Expected::DealName),
 ];
 
 const LOOKUP_KEYS: [Wanted; 2] = [

@@ -133,8 +133,8 @@ cascades-ready delimiter start (column ∷ others) =
         count_by is_cascade (map (ready_column delimiter) others) ≡ length (filter is_cascading (references_in (start + 1) others)) →
         (if is_cascade (ready_column delimiter (record { kind = held; changes = changes; null = null })) then 1 else 0) + count_by is_cascade (map (ready_column delimiter) others)
         ≡ length (filter is_cascading (references_in start (record { kind = held; changes = changes; null = null } ∷ others)))
-    cascade-ready delimiter start (reference_kind parent window spread true) changes null others rest = zero-add _ ∙ rest
-    cascade-ready delimiter start (reference_kind parent window spread false) changes null others rest = ap (λ (n : ℕ). 1 + n) rest ∙ omega arith
+    cascade-ready delimiter start (reference_kind parent window spread true drawn) changes null others rest = zero-add _ ∙ rest
+    cascade-ready delimiter start (reference_kind parent window spread false drawn) changes null others rest = ap (λ (n : ℕ). 1 + n) rest ∙ omega arith
     cascade-ready delimiter start _ changes null others rest = zero-add _ ∙ rest
 
 pub count-cascades : (plan : Project) (table : ℕ) → count_by is_cascade (ready_columns (layout_of plan) table) ≡ length (cascades_of (table_of plan table))
