@@ -126,7 +126,7 @@ module _ (plan : Project) (limits : IsInLimits plan) (place : ℕ) (below : plac
       let table : TableLayout = table_of plan place in
       let earlier : List Known = take place (known_tables generator) in
       ap (λ (death : Option ℕ). is_after death unit) (death_by-first_ordinal (known_of generator place) unit unit index (omega arith) inside)
-      ∙ is_after-lesser_from _ _ unit (own_death-born (generator.order (length earlier) life_column unit index) table.life (sound place is_place).life)
+      ∙ is_after-lesser_from _ _ unit (own_death-born (generator.order.place (length earlier) life_column unit index) table.life (sound place is_place).life)
       (parents-alive_now (last_unit plan) generator.order earlier (sure_life generator.tables) table.births unit index within inside (cascades_of table)
       (cascades-of (last_unit plan) generator sound place is_place))
 

@@ -8,6 +8,9 @@ use Rattle.std.proofs.lemmas.List.{append-nil, append_assoc}
 use Rattle.std.proofs.lemmas.List.Elements.{All-filter, filter-append}
 use Rattle.std.proofs.lemmas.List.FromFn.{get_or-range_with_len, length-range_with_len}
 use Rattle.std.proofs.lemmas.Nat.{div-add-mod', div-mul-add, mod-mul-add, mod_below, mul-le}
+use Rattle.id_permutation.specs.Order.{Arrangement, number_at, place_in}
+use Rattle.id_permutation.specs.Walk.{AreInversesBelow}
+use Rattle.id_permutation.proofs.OrderLaws.{AreInversesBelow-number_at}
 use Rattle.weight_tables.specs.Weights.{selected, weight_before}
 use Rattle.weight_tables.proofs.PrefixSumLemmas.{prefix_sum-le-sum, prefix_sum-split, weight_before-all}
 use Rattle.weight_tables.proofs.SelectionLemmas.{Selects-place, Selects-selected}
@@ -290,16 +293,25 @@ block-within spread size number block is = elim (cases_lt (block_start spread nu
 
 -- ---- the places of a parent
 
-pub places_of_parent-candidate : (spread : List ℕ) (first count size parent candidate : ℕ) → first + candidate ≡ parent → places_choosing spread size count candidate ≡ places_of_parent spread first count size parent
-places_of_parent-candidate spread first count size parent candidate is =
-    filter-range_same (λ place. choice spread count place == candidate) (λ place. first + choice spread count place == parent) 0 size (λ place low high.
-    tests-same (choice spread count place) candidate (first + choice spread count place) parent (λ same. ap (λ n. first + n) same ∙ is) (λ same. omega (arith, same, is)))
+-- one that is a candidate is chosen at the places of the number with which it is dealt
+pub places_of_parent-candidate : (spread : List ℕ) (deal : Arrangement) (first size parent candidate : ℕ) → candidate < deal.size → first + candidate ≡ parent →
+    places_choosing spread size deal.size (number_at deal candidate) ≡ places_of_parent spread deal first size parent
+places_of_parent-candidate spread deal first size parent candidate below is =
+    let inverse : AreInversesBelow deal.size (place_in deal) (number_at deal) = AreInversesBelow-number_at deal in
+    filter-range_same (λ place. choice spread deal.size place == number_at deal candidate) (λ place. first + place_in deal (choice spread deal.size place) == parent) 0 size (λ place low high.
+    let chosen : ℕ = choice spread deal.size place in
+    let inside : chosen < deal.size = mod_below (place / sum spread * length spread + selected spread (place % sum spread)) deal.size (omega (arith, below)) in
+    tests-same chosen (number_at deal candidate) (first + place_in deal chosen) parent (λ same. ap (λ n. first + place_in deal n) same ∙ ap (λ n. first + n) (inverse.redone candidate below) ∙ is)
+    (λ same. let back : place_in deal chosen ≡ candidate = omega (arith, same, is) in sym (inverse.undone chosen inside) ∙ ap (number_at deal) back))
 
 -- a row that is no candidate has none
-pub places_of_parent-none : (spread : List ℕ) (first count size parent : ℕ) → 0 < count → ((candidate : ℕ) → candidate < count → first + candidate ≡ parent → ⊥) → [] ≡ places_of_parent spread first count size parent
-places_of_parent-none spread first count size parent some none =
-    sym (filter-range_none (λ place. first + choice spread count place == parent) 0 size (λ place low high.
-    differs (first + choice spread count place) parent (none (choice spread count place) (mod_below (place / sum spread * length spread + selected spread (place % sum spread)) count some))))
+pub places_of_parent-none : (spread : List ℕ) (deal : Arrangement) (first size parent : ℕ) → 0 < deal.size → ((candidate : ℕ) → candidate < deal.size → first + candidate ≡ parent → ⊥) →
+    [] ≡ places_of_parent spread deal first size parent
+places_of_parent-none spread deal first size parent some none =
+    sym (filter-range_none (λ place. first + place_in deal (choice spread deal.size place) == parent) 0 size (λ place low high.
+    let chosen : ℕ = choice spread deal.size place in
+    let inside : chosen < deal.size = mod_below (place / sum spread * length spread + selected spread (place % sum spread)) deal.size some in
+    differs (first + place_in deal chosen) parent (none (place_in deal chosen) ((AreInversesBelow-number_at deal).within chosen inside))))
 
 -- what passes a test of the numbers below a size is below it
 pub All-filter_below : (p : ℕ → Bool) (a n size : ℕ) → a + n ≤ size → All (λ place. place < size) (filter p (range_with_len a n))

@@ -215,7 +215,7 @@ due_in-birth cohort index at =
     let table : TableLayout = table_of cohort.plan cohort.table in
     sym (
     ap (λ (unit : ℕ). due_by generator.order cohort.table table cohort.born index unit) at
-    ∙ change-born table.update cohort.born (generator.order cohort.table update_column cohort.born index))
+    ∙ change-born table.update cohort.born (generator.order.place cohort.table update_column cohort.born index))
 
 -- the last change is the last of the last due unit and of the losses
 pub change_in-losses : (cohort : CohortAt) (index : ℕ) → IsInLimits cohort.plan → cohort.table < length cohort.plan.schema.tables → cohort.unit ≤ last_unit cohort.plan → cohort.born ≤ cohort.unit →
@@ -258,7 +258,7 @@ change_in-from cohort index within below =
       arith,
       change_unit-index generator cohort.table cohort.born cohort.unit index within below,
       last_change-from cohort.unit (due_in cohort index) losses,
-      due-from table.update cohort.unit cohort.born (λ period. generator.order cohort.table update_column cohort.born index),
+      due-from table.update cohort.unit cohort.born (λ period. generator.order.place cohort.table update_column cohort.born index),
     )
 
 pub change_in-le : (cohort : CohortAt) (index : ℕ) → cohort.born ≤ cohort.unit → index < size_of cohort → change_in cohort index ≤ cohort.unit
@@ -280,7 +280,7 @@ change_in-recent cohort index within below some =
     let generator : Generator = generator_of cohort.plan in
     let table : TableLayout = table_of cohort.plan cohort.table in
     let losses : List (Option ℕ) = map (loss_by generator.order (take cohort.table (known_tables generator)) cohort.born index) (references_of table) in
-    span-reaches table.update (has_nullings table) cohort.unit cohort.born (change_in cohort index) (λ period. generator.order cohort.table update_column cohort.born index) some
+    span-reaches table.update (has_nullings table) cohort.unit cohort.born (change_in cohort index) (λ period. generator.order.place cohort.table update_column cohort.born index) some
     (change_in-from cohort index within below)
     (omega (
       arith,

@@ -16,7 +16,7 @@ use Rattle.schema_plan.specs.declared.ready.ReadyKind.TheVariants as kind
 use Rattle.schema_plan.specs.Dictionaries.{Project}
 use Rattle.schema_plan.specs.Layout.{KindLayout, reference_kind, ColumnLayout, TableLayout, column_at, layout_of, no_column, no_table, table_at}
 use Rattle.schema_plan.specs.Limits.{IsInLimits}
-use Rattle.schema_plan.specs.Lineage.{death_cost, endless, lesser_life, loss_cost, lineage_at, lineages, one_if, own_lineage, sure_life, with_kind}
+use Rattle.schema_plan.specs.Lineage.{choice_cost, death_cost, endless, lesser_life, loss_cost, lineage_at, lineages, one_if, own_lineage, sure_life, with_kind}
 use Rattle.schema_plan.specs.TableFacts.{change_cost}
 use Rattle.schema_plan.specs.Ready.{ready_column, ready_columns, ready_kind}
 use Rattle.schema_plan.specs.References.{IsReferenceInLimits, Reference, cascades_of, count_in_window, first_in_window, reference_at, references_of}
@@ -25,10 +25,10 @@ use Rattle.life_intervals.specs.declared.window.CandidateWindow.{CandidateWindow
 use Rattle.life_intervals.specs.Changes.{due_by, has_nullings, last_change, later_change}
 use Rattle.life_intervals.specs.CohortKeys.{CohortOf}
 use Rattle.life_intervals.specs.CohortOrders.{do_lives_differ, do_updates_differ, parent_order}
-use Rattle.life_intervals.specs.CohortParents.{IsReferenceOf, asked_for_change, asked_for_death, cascades_cost, held_in, is_nulling, loss_in, losses_in, parent_cost, parent_death_in, parent_in, parents_death_in, reference_by, window_by}
+use Rattle.life_intervals.specs.CohortParents.{IsReferenceOf, asked_for_change, asked_for_death, cascades_cost, deal_by, held_in, is_nulling, loss_in, losses_in, parent_cost, parent_death_in, parent_in, parents_death_in, reference_by, window_by}
 use Rattle.life_intervals.specs.Generator.{Generator, generator_of, last_unit, table_of}
 use Rattle.life_intervals.specs.Intervals.{Known, change_unit, death, first_death, held_parent, held_until, known_tables, own_death, parent_of}
-use Rattle.life_intervals.specs.References.{choice}
+use Rattle.life_intervals.specs.References.{choice, dealt}
 use Rattle.life_intervals.proofs.AcceptedLemmas.{AreSound-accepted, length-tables}
 use Rattle.life_intervals.proofs.CascadeLemmas.{is_cascading}
 use Rattle.cohort_sizes.proofs.CohortLemmas.{birth-le, born_count-le, cohort-within, index_at-below}
@@ -104,10 +104,10 @@ has_nullings-ready plan table = nullings-ready (layout_of plan).delimiter 0 (tab
 
 -- ---- parents
 
--- a parent is the candidate that the place of its child chooses
+-- a parent is the candidate that the place of its child chooses, as they are dealt
 pub parent_in-choice : (plan : Project) → IsInLimits plan → (table column unit index : ℕ) (ready : ReadyReference) → table < length plan.schema.tables → IsReferenceOf plan table column ready →
     unit ≤ last_unit plan → index < cohort_size (table_of plan table).births unit →
-    (window_by plan ready unit).first + choice ready.spread (window_by plan ready unit).count (place_in (parent_order plan table column unit) index)
+    (window_by plan ready unit).first + place_in (deal_by plan table column ready unit) (choice ready.spread (window_by plan ready unit).count (place_in (parent_order plan table column unit) index))
     ≡ parent_in (record { plan = plan; table = table; unit = unit }) index (reference_by column ready)
 parent_in-choice plan limits table column unit index ready below of within inside =
     let generator : Generator = generator_of plan in
@@ -117,10 +117,12 @@ parent_in-choice plan limits table column unit index ready below of within insid
     let in_tables : table < length generator.tables = omega (arith, below, length-tables plan) in
     let some : first_in_window births ready.window unit < born_count births unit = is.some_parent unit within (omega (arith, inside)) in
     let many : max 1 (count_in_window births ready.window unit) ≡ count_in_window births ready.window unit = omega (arith, some) in
-    let placed : place_in (parent_order plan table column unit) index ≡ generator.order table column unit index =
+    let placed : place_in (parent_order plan table column unit) index ≡ generator.order.place table column unit index =
     place_by-if true (cohort_size (table_of plan table).births unit) (reference_order_seed (layout_of plan).seed table column unit) index inside in
-    let chosen : ℕ → Births → ℕ = λ place born. first_in_window born ready.window unit + choice ready.spread (count_in_window born ready.window unit) (generator.order place column unit index) in
-    ap₂ (λ (count place : ℕ). first_in_window births ready.window unit + choice ready.spread count place) many placed
+    let reference : Reference = reference_by column ready in
+    let chosen : ℕ → Births → ℕ = λ place born.
+    first_in_window born ready.window unit + dealt reference (generator.order.deal place column unit) (count_in_window born ready.window unit) (generator.order.place place column unit index) in
+    ap₂ (λ (count place : ℕ). first_in_window births ready.window unit + dealt reference (generator.order.deal table column unit) count place) many placed
     ∙ ap (λ (place : ℕ). chosen place births) (sym (length-known_before generator table in_tables))
     ∙ ap (λ (known : Known). chosen (length earlier) known.table.births) (sym (known_at-before generator table ready.parent in_tables is.earlier))
 
@@ -269,7 +271,7 @@ first_before-some cohort index column ready of cascades =
     ∙ first_death-more d (passing_before is_cascading cohort column) (reference_by column ready)
 
 pub cost_before-some : (cohort : CohortOf) (column : ℕ) (ready : ReadyReference) → IsReferenceOf cohort.plan cohort.table column ready → ready.nulls ≡ false →
-    cost_before cohort (column + 1) ≡ cost_before cohort column + (1 + death_cost (layout_of cohort.plan).tables ready.parent)
+    cost_before cohort (column + 1) ≡ cost_before cohort column + (choice_cost ready.drawn + death_cost (layout_of cohort.plan).tables ready.parent)
 cost_before-some cohort column ready of cascades =
     ap (sum_by (cost_of_reference cohort)) (passing_before-some is_cascading cohort column ready of (ap not cascades))
     ∙ sum_by_push (cost_of_reference cohort) (passing_before is_cascading cohort column) (reference_by column ready)
@@ -311,7 +313,7 @@ change_before-other cohort index change unit column ready of cascades =
     ∙ ap (λ (lost : Bool). later_change unit (change_before cohort index change unit column) (if lost then dies else None)) cascades
 
 pub loss_before-nulls : (cohort : CohortOf) (column : ℕ) (ready : ReadyReference) → IsReferenceOf cohort.plan cohort.table column ready → ready.nulls ≡ true →
-    loss_before cohort (column + 1) ≡ loss_before cohort column + (1 + death_cost (layout_of cohort.plan).tables ready.parent)
+    loss_before cohort (column + 1) ≡ loss_before cohort column + (choice_cost ready.drawn + death_cost (layout_of cohort.plan).tables ready.parent)
 loss_before-nulls cohort column ready of nulls =
     ap (sum_by (cost_of_reference cohort)) (passing_before-some (λ (reference : Reference). reference.nulls) cohort column ready of nulls)
     ∙ sum_by_push (cost_of_reference cohort) (passing_before (λ (reference : Reference). reference.nulls) cohort column) (reference_by column ready)
@@ -334,7 +336,7 @@ references_before-all plan table column all = ap (references_in 0) (take_all col
 -- what those of a table's references that a test lets through add to the cost of a death or of a loss
 abbrev cost_in : List Lineage → (Reference → Bool) → ℕ → List ColumnLayout → ℕ
 cost_in earlier test place columns =
-    sum_by (λ (reference : Reference). 1 + (lineage_at earlier reference.parent).death_cost) (filter test (references_in place columns))
+    sum_by (λ (reference : Reference). choice_cost reference.drawn + (lineage_at earlier reference.parent).death_cost) (filter test (references_in place columns))
 
 abbrev nulls_of : Reference → Bool
 nulls_of reference = reference.nulls
@@ -351,7 +353,7 @@ kind-cost earlier (reference_kind parent window spread false drawn) changes null
       death = omega (
         arith,
         rest.death,
-        sum_by-cons (λ (reference : Reference). 1 + (lineage_at earlier reference.parent).death_cost)
+        sum_by-cons (λ (reference : Reference). choice_cost reference.drawn + (lineage_at earlier reference.parent).death_cost)
             (record { column = place; parent = parent; window = window; spread = spread; nulls = false; drawn = drawn }) (filter is_cascading (references_in (place + 1) others)),
       );
       loss = rest.loss;
@@ -363,7 +365,7 @@ kind-cost earlier (reference_kind parent window spread true drawn) changes null 
       loss = omega (
         arith,
         rest.loss,
-        sum_by-cons (λ (reference : Reference). 1 + (lineage_at earlier reference.parent).death_cost)
+        sum_by-cons (λ (reference : Reference). choice_cost reference.drawn + (lineage_at earlier reference.parent).death_cost)
             (record { column = place; parent = parent; window = window; spread = spread; nulls = true; drawn = drawn }) (filter nulls_of (references_in (place + 1) others)),
       );
     }
@@ -392,14 +394,14 @@ differ_cost (Some life) = one_if-le (do_lives_differ (Some life))
 
 -- those of the tables before are those of all
 sum-before : (tables : List TableLayout) (place : ℕ) (references : List Reference) → All (λ (reference : Reference). reference.parent < place) references →
-    sum_by (λ (reference : Reference). 1 + (lineage_at (take place (lineages tables)) reference.parent).death_cost) references
-    ≡ sum_by (λ (reference : Reference). 1 + death_cost tables reference.parent) references
+    sum_by (λ (reference : Reference). choice_cost reference.drawn + (lineage_at (take place (lineages tables)) reference.parent).death_cost) references
+    ≡ sum_by (λ (reference : Reference). choice_cost reference.drawn + death_cost tables reference.parent) references
 sum-before tables place [] earlier = refl
 sum-before tables place (reference ∷ others) earlier =
     omega (
       arith,
-      sum_by-cons (λ (r : Reference). 1 + (lineage_at (take place (lineages tables)) r.parent).death_cost) reference others,
-      sum_by-cons (λ (r : Reference). 1 + death_cost tables r.parent) reference others,
+      sum_by-cons (λ (r : Reference). choice_cost r.drawn + (lineage_at (take place (lineages tables)) r.parent).death_cost) reference others,
+      sum_by-cons (λ (r : Reference). choice_cost r.drawn + death_cost tables r.parent) reference others,
       ap (λ (lineage : Lineage). lineage.death_cost) (get_or-take place (lineages tables) reference.parent endless (earlier 0 reference (omega arith))),
       sum-before tables place others (λ k d below. earlier (suc k) d (omega (arith, below))),
     )

@@ -24,7 +24,7 @@ IsBijectionBelow-if n true f is = is
 pub IsBijectionBelow-place_in_cohort : (generator : Generator) (place : ℕ) → OrdersCohorts generator place → (unit : ℕ) → 0 < cohort_size (table_at generator.tables place).births unit →
     IsBijectionBelow (cohort_size (table_at generator.tables place).births unit) (place_in_cohort generator place unit)
 IsBijectionBelow-place_in_cohort generator place orders unit some =
-    IsBijectionBelow-if _ (table_at generator.tables place).key.scramble (generator.order place seeds.key_column unit) (orders seeds.key_column unit some)
+    IsBijectionBelow-if _ (table_at generator.tables place).key.scramble (generator.order.place place seeds.key_column unit) (orders seeds.key_column unit some)
 
 -- the key of the row with an index in a cohort
 pub key_of-first_ordinal : (generator : Generator) (place last unit index : ℕ) → unit ≤ last → index < cohort_size (table_at generator.tables place).births unit →

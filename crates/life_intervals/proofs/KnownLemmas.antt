@@ -69,7 +69,7 @@ module _ (units : ℕ) (generator : Generator) (sound : AreSound units generator
       let earlier : List Known = take place (known_tables generator) in
       let parts = sure_life-parts generator.tables place age below past in
       is_after-lesser_from _ _ (unit + age)
-      (own_death-sure unit (generator.order (length earlier) life_column unit index) age table.life parts.0)
+      (own_death-sure unit (generator.order.place (length earlier) life_column unit index) age table.life parts.0)
       (parents-alive units generator.order earlier (sure_life generator.tables) table.births unit index within inside age (cascades_of table)
       (AllByRecursion-filter (Refers units earlier (sure_life generator.tables) table.births) is_cascading (references_of table) (refers-by place below are_sure)) (past_parents place age below parts.1))
 

@@ -5,6 +5,7 @@ pub mod DeathLemmas
 pub mod CascadeLemmas
 pub mod ChangeLemmas
 pub mod RowLemmas
+pub mod DealLemmas
 pub mod ParentLemmas
 pub mod SureLifeLemmas
 pub mod KnownLemmas

@@ -128,7 +128,7 @@ due_by-none order place table born index unit none = ap (λ (update : Option ℕ
 
 -- where they are, the last due unit is by the row's birth and the place of its index
 pub due_by-some : (order : Order) (place : ℕ) (table : TableLayout) (born index unit placed period : ℕ) → table.update ≡ Some period →
-    placed % period ≡ order place update_column born index % period → last_due born (born + (1 + placed % period)) period unit ≡ due_by order place table born index unit
+    placed % period ≡ order.place place update_column born index % period → last_due born (born + (1 + placed % period)) period unit ≡ due_by order place table born index unit
 due_by-some order place table born index unit placed period some placed_is =
     ap (λ (rest : ℕ). last_due born (born + (1 + rest)) period unit) placed_is
     ∙ sym (ap (λ (update : Option ℕ). option_map_or (λ period. last_due born (first_due order place born index period) period unit) update born) some)

@@ -137,7 +137,7 @@ module _ (units : ℕ) (generator : Generator) (sound : AreSound units generator
       is_after-lesser_life own (first_death (map parents (cascades_of table))) (unit + age)
       ∙ ends-columns (take place (lineages generator.tables)) age (unit + age) parents table.columns 0 (own_lineage table.life) (is_after own (unit + age))
       (subst (λ (lineage : Lineage). is_after lineage.longest_life age ≡ false) (lineage_at-lineages generator.tables place below) over)
-      (own_death-over unit (generator.order (length earlier) life_column unit index) age table.life (sound place below).life)
+      (own_death-over unit (generator.order.place (length earlier) life_column unit index) age table.life (sound place below).life)
       (each-ends place below ends unit index age within inside (references_of table) (refers-of units generator sound place below))
 
   EndsBy-below : (bound place : ℕ) → place < bound → place < length generator.tables → EndsBy units (known_of generator place) (longest_life generator.tables place)

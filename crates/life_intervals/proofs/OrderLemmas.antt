@@ -53,11 +53,11 @@ life_by-places (Some life) permuted index = elim (cases_lt life.least life.most)
 
 -- a life by a cohort's order is that of the row
 pub life_by-life_order : (project : Project) (table unit index : ℕ) → index < cohort_size (table_of project table).births unit →
-    life_by (table_of project table).life (place_in (life_order project table unit) index) ≡ life_by (table_of project table).life ((generator_of project).order table life_column unit index)
+    life_by (table_of project table).life (place_in (life_order project table unit) index) ≡ life_by (table_of project table).life ((generator_of project).order.place table life_column unit index)
 life_by-life_order project table unit index below =
     let life : Option Span = (table_of project table).life in
     ap (life_by life) (place_by-if (do_lives_differ life) (cohort_size (table_of project table).births unit) (life_order_seed (layout_of project).seed table unit) index below)
-    ∙ life_by-places life ((generator_of project).order table life_column unit index) index
+    ∙ life_by-places life ((generator_of project).order.place table life_column unit index) index
 
 -- it costs a step where lives differ
 pub order_steps-life_order : (project : Project) (table unit : ℕ) → 0 < cohort_size (table_of project table).births unit →
@@ -79,9 +79,9 @@ update-places period permuted index some = elim (cases_lt 1 period) [
 -- a place by a cohort's order is that of the row, as far as the period tells
 pub place_in-update_order : (project : Project) (table unit index period : ℕ) → index < cohort_size (table_of project table).births unit →
     (table_of project table).update ≡ Some period → 1 ≤ period →
-    place_in (update_order project table unit) index % period ≡ (generator_of project).order table update_column unit index % period
+    place_in (update_order project table unit) index % period ≡ (generator_of project).order.place table update_column unit index % period
 place_in-update_order project table unit index period below is some =
-    let permuted : ℕ = (generator_of project).order table update_column unit index in
+    let permuted : ℕ = (generator_of project).order.place table update_column unit index in
     ap (λ (p : ℕ). p % period) (place_by-if (do_updates_differ (table_of project table).update) (cohort_size (table_of project table).births unit) (update_order_seed (layout_of project).seed table unit) index below)
     ∙ ap (λ (update : Option ℕ). (if do_updates_differ update then permuted else index) % period) is
     ∙ update-places period permuted index some

@@ -11,12 +11,13 @@ use Rattle.cohort_sizes.specs.Births.{Births, LiesIn, birth, born_count, cohort_
 use Rattle.life_intervals.specs.Generator.{Order}
 use Rattle.life_intervals.specs.Intervals.{Known, death_by, first_death, held_until, is_after, is_at, known_at, nothing_known, parent_by, parent_death_by, row_by}
 use Rattle.schema_plan.specs.References.{Reference, count_in_window, first_in_window, window_start}
-use Rattle.life_intervals.specs.References.{choice}
+use Rattle.life_intervals.specs.References.{dealt}
 use Rattle.life_intervals.specs.Rows.{Row, State, candidates, is_in_window, parent_choice}
 use Rattle.life_intervals.specs.Simulation.{holds_row, is_gone, is_lost}
 use Rattle.schema_plan.specs.References.{IsWithinLife}
 use Rattle.life_intervals.proofs.CascadeLemmas.{is_after-cascades}
 use Rattle.cohort_sizes.proofs.CohortLemmas.{LiesIn-birth, birth-before, birth-from, birth-later, born_count-le}
+use Rattle.life_intervals.proofs.DealLemmas.{dealt-below}
 use Rattle.life_intervals.proofs.DeathLemmas.{is_after-lesser_from, is_after-suc, is_at-later, is_at-now, is_at-passed}
 use Rattle.life_intervals.proofs.Ranges.{range_with_len-add}
 use Rattle.life_intervals.proofs.RowLemmas.{Finds, aged_row, aged_rows, held_each, live_row, live_rows}
@@ -179,10 +180,10 @@ not-not : (x : Bool) → not (not x) ≡ x
 not-not true = refl
 not-not false = refl
 
-find_one : (state : State) (column place : ℕ) (window : Option ℕ) (spread : List ℕ) (nulls : Bool) (death : Option ℕ) (parent last : ℕ) → holds_row (get_or state place []) parent ≡ is_after death (suc last) →
+find_one : (state : State) (column place : ℕ) (window : Option ℕ) (spread : List ℕ) (nulls drawn : Bool) (death : Option ℕ) (parent last : ℕ) → holds_row (get_or state place []) parent ≡ is_after death (suc last) →
     FindsOne state (record { column = column; parent = place; window = window; spread = spread; nulls = nulls; drawn = drawn }) death parent last
-find_one state column place window spread false death parent last holds = record { held = not-not _ ∙ holds; lost = refl; left = refl }
-find_one state column place window spread true death parent last holds = elim (cases_Bool (is_after death last)) [
+find_one state column place window spread false drawn death parent last holds = record { held = not-not _ ∙ holds; lost = refl; left = refl }
+find_one state column place window spread true drawn death parent last holds = elim (cases_Bool (is_after death last)) [
   | inr passed ↦ record { held = refl; lost = rw passed (sym (is_at-passed death last passed)); left = rw (passed, is_after-suc death last passed) refl }
   | inl alive ↦ elim (cases_Bool (is_after death (suc last))) [
     | inl on ↦
@@ -209,8 +210,8 @@ module _ (units : ℕ) (order : Order) (earlier : List Known) (sure : ℕ → Op
   parent_by-lies reference refers =
       let parent : Births = (known_at earlier reference.parent).table.births in
       let some = refers.some_parent unit in_units (omega (arith, below)) in
-      let chosen : choice reference.spread (count_in_window parent reference.window unit) (order (length earlier) reference.column unit index) < count_in_window parent reference.window unit =
-      mod_below _ (count_in_window parent reference.window unit) (omega (arith, some)) in
+      let chosen : dealt reference (order.deal (length earlier) reference.column unit) (count_in_window parent reference.window unit) (order.place (length earlier) reference.column unit index) < count_in_window parent reference.window unit =
+      dealt-below reference _ (count_in_window parent reference.window unit) _ (omega (arith, some)) in
       (omega arith, omega (arith, chosen, some))
 
   -- they live on for what is left of their sure lives
@@ -260,7 +261,7 @@ module _ (units : ℕ) (order : Order) (earlier : List Known) (sure : ℕ → Op
       let death : Option ℕ = parent_death_by order earlier unit index reference in
       let ordinal : ℕ = parent_by order earlier unit index reference in
       let here : FindsOne state reference death ordinal last =
-      find_one state reference.column reference.parent reference.window reference.spread reference.nulls death ordinal last (holds_row-parent last within reference refers.0) in
+      find_one state reference.column reference.parent reference.window reference.spread reference.nulls reference.drawn death ordinal last (holds_row-parent last within reference refers.0) in
       let rest = Finds-aged last within others refers.1 in
       record {
         held = ap₂ (λ x y. x && y) here.held rest.held ∙ sym (is_after-cascades (parent_death_by order earlier unit index) reference others (suc last));
@@ -279,28 +280,29 @@ module _ (units : ℕ) (order : Order) (earlier : List Known) (sure : ℕ → Op
 
   -- the simulation chooses them
   parent_choice-live : (reference : Reference) → Refers units earlier sure births reference →
-      parent_choice reference unit (live_rows order (known_at earlier reference.parent) unit) (order (length earlier) reference.column unit index)
+      parent_choice reference (order.deal (length earlier) reference.column unit) unit (live_rows order (known_at earlier reference.parent) unit) (order.place (length earlier) reference.column unit index)
       ≡ parent_by order earlier unit index reference
   parent_choice-live reference refers =
       let parent : Births = (known_at earlier reference.parent).table.births in
-      let place : ℕ = order (length earlier) reference.column unit index in
+      let seed : ℕ = order.deal (length earlier) reference.column unit in
+      let place : ℕ = order.place (length earlier) reference.column unit index in
       let from : ℕ = first_in_window parent reference.window unit in
       let count : ℕ = count_in_window parent reference.window unit in
       let some : from < born_count parent unit = refers.some_parent unit in_units (omega (arith, below)) in
-      ap (λ (found : List ℕ). get_or found (choice reference.spread (length found) place) 0)
+      ap (λ (found : List ℕ). get_or found (dealt reference seed (length found) place) 0)
       (candidates-window units order (known_at earlier reference.parent) (sure reference.parent) refers.is_sure reference unit in_units refers.within_life (omega (arith, some)))
-      ∙ ap (λ (n : ℕ). get_or (range_with_len from count) (choice reference.spread n place) 0) (length-range_with_len from count)
-      ∙ get_or-range_with_len from count (choice reference.spread count place) 0 (mod_below _ count (omega (arith, some)))
+      ∙ ap (λ (n : ℕ). get_or (range_with_len from count) (dealt reference seed n place) 0) (length-range_with_len from count)
+      ∙ get_or-range_with_len from count (dealt reference seed count place) 0 (dealt-below reference seed count place (omega (arith, some)))
 
   pub parent_choice-all : (last : ℕ) → last ≡ length earlier → (references : List Reference) → AllByRecursion (Refers units earlier sure births) references →
-      map (λ (reference : Reference). Some (parent_choice reference unit (get_or (map (λ known. live_rows order known unit) earlier) reference.parent []) (order last reference.column unit index))) references
+      map (λ (reference : Reference). Some (parent_choice reference (order.deal last reference.column unit) unit (get_or (map (λ known. live_rows order known unit) earlier) reference.parent []) (order.place last reference.column unit index))) references
       ≡ held_each order earlier unit index unit references
   parent_choice-all last is [] refers = refl
   parent_choice-all last is (reference ∷ others) refers =
       ap₂ (λ x xs. x ∷ xs)
       (ap Some
-      (ap (λ (place : ℕ). parent_choice reference unit (get_or (map (λ known. live_rows order known unit) earlier) reference.parent []) (order place reference.column unit index)) is
-      ∙ ap (λ rows. parent_choice reference unit rows (order (length earlier) reference.column unit index))
+      (ap (λ (place : ℕ). parent_choice reference (order.deal place reference.column unit) unit (get_or (map (λ known. live_rows order known unit) earlier) reference.parent []) (order.place place reference.column unit index)) is
+      ∙ ap (λ rows. parent_choice reference (order.deal (length earlier) reference.column unit) unit rows (order.place (length earlier) reference.column unit index))
       (get_or-map (λ known. live_rows order known unit) earlier reference.parent nothing_known [] refers.0.is_earlier)
       ∙ parent_choice-live reference refers.0)
       ∙ sym (held-unlost reference.nulls (parent_death_by order earlier unit index reference) (parent_by order earlier unit index reference) unit (each-alive_now reference refers.0)))

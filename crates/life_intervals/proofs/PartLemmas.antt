@@ -1,6 +1,6 @@
 -- Rows that are born at one unit, by their ordinals and their places.
 use Rattle.std.proofs.Common.{◌≡◌, ◌<◌, ◌≤◌, ℕ, ◌+◌, ◌-◌, ◌%◌, ◌^◌, true, false, ◌⊎◌, length, Some, None, option_map, refl, ap, arith, subst, sym, ◌∙◌}
-use Rattle.id_permutation.specs.Order.{order_steps}
+use Rattle.id_permutation.specs.Order.{order_steps, place_in}
 use Rattle.id_permutation.proofs.OrderLaws.{IsBijectionBelow-place_in}
 use Rattle.cohort_sizes.specs.Births.{Births, LiesIn, born_count, cohort_size, first_ordinal}
 use Rattle.cohort_sizes.proofs.CohortLemmas.{cohort-within}
@@ -15,7 +15,7 @@ use Rattle.life_intervals.specs.declared.orders.Purpose.TheVariants.{Keys, Lives
 use Rattle.life_intervals.specs.Changes.{change_span, has_nullings, last_change, last_due}
 use Rattle.life_intervals.specs.CohortLives.{survival_at}
 use Rattle.life_intervals.specs.CohortOrders.{due_for, is_drawn, order_for, order_seed, place_for}
-use Rattle.life_intervals.specs.CohortParents.{IsReferenceOf, losses_in, reference_by, window_by}
+use Rattle.life_intervals.specs.CohortParents.{IsReferenceOf, deal_by, losses_in, reference_by, window_by}
 use Rattle.life_intervals.specs.Found.{IsFound, cohort_of_row}
 use Rattle.life_intervals.specs.Generator.{generator_of, last_unit, table_of}
 use Rattle.life_intervals.specs.Intervals.{change_unit, is_live, own_death, parent_of}
@@ -114,7 +114,7 @@ module _ (plan : Project) (table born : ℕ) (within : born ≤ last_unit plan) 
 
     -- its parent is by its place in the order of the reference
     pub place_for-parent : (column : ℕ) (ready : ReadyReference) → IsReferenceOf plan table column ready →
-        (window_by plan ready born).first + choice ready.spread (window_by plan ready born).count (place_for plan table (Parents column) born j)
+        (window_by plan ready born).first + place_in (deal_by plan table column ready born) (choice ready.spread (window_by plan ready born).count (place_for plan table (Parents column) born j))
         ≡ parent_of (generator_of plan) table (last_unit plan) j (reference_by column ready)
     place_for-parent column ready of =
         parent_in-choice plan limits table column born (j - first_ordinal births born) ready below of within found-lies.index

@@ -213,7 +213,7 @@ row_by-first_ordinal order known last unit index within below =
 -- a row as it is born is the row of its ordinal, where it has the same parents and they are alive
 pub new_row-live_row : (order : Order) (earlier : List Known) (table : TableLayout) (unit index : ℕ) (state : State) → length state ≡ length earlier → index < cohort_size table.births unit →
     IfSome table.life IsSpan →
-    map (λ (reference : Reference). Some (parent_choice reference unit (get_or state reference.parent []) (order (length state) reference.column unit index))) (references_of table)
+    map (λ (reference : Reference). Some (parent_choice reference (order.deal (length state) reference.column unit) unit (get_or state reference.parent []) (order.place (length state) reference.column unit index))) (references_of table)
     ≡ held_each order earlier unit index unit (references_of table) →
     is_after (parents_death order earlier table unit index) unit ≡ true →
     Some (new_row order unit state table index) ≡ live_row order (known_by order earlier table) unit (first_ordinal table.births unit + index)
@@ -222,14 +222,14 @@ new_row-live_row order earlier table unit index state places below life chosen a
     let ordinal : ℕ = first_ordinal table.births unit + index in
     let here : unit ≤ unit = omega arith in
     let lives_on : is_after (known.death unit index) unit ≡ true =
-    is_after-lesser_from _ _ unit (own_death-born unit (order (length earlier) life_column unit index) table.life life) alive in
+    is_after-lesser_from _ _ unit (own_death-born unit (order.place (length earlier) life_column unit index) table.life life) alive in
     let row : new_row order unit state table index ≡ row_from order known unit ordinal unit index =
     same_row ordinal unit unit unit _ _ _ _ _ _ _ refl
     (sym (
-    ap (λ (due : ℕ). last_change unit due (known.losses unit index)) (change-born table.update unit (order (length earlier) update_column unit index))
+    ap (λ (due : ℕ). last_change unit due (known.losses unit index)) (change-born table.update unit (order.place (length earlier) update_column unit index))
     ∙ last_change-now unit (known.losses unit index)))
-    (ap (λ (place : ℕ). life_by table.life (order place life_column unit index)) places ∙ left-born unit (life_by table.life (order (length earlier) life_column unit index)))
-    (ap (λ (place : ℕ). first_age_by table.update (order place update_column unit index)) places ∙ sym (wait-born table.update unit (order (length earlier) update_column unit index)))
+    (ap (λ (place : ℕ). life_by table.life (order.place place life_column unit index)) places ∙ left-born unit (life_by table.life (order.place (length earlier) life_column unit index)))
+    (ap (λ (place : ℕ). first_age_by table.update (order.place place update_column unit index)) places ∙ sym (wait-born table.update unit (order.place (length earlier) update_column unit index)))
     (chosen ∙ sym (parents_held-references order earlier unit index unit (references_of table))) in
     ap₂ (λ (alive : Bool) (row : Row). if alive then Some row else None) (sym lives_on) row
     ∙ sym (ap₂ (λ (death : Option ℕ) (row : Row). if is_after death unit then Some row else None)

@@ -1,6 +1,7 @@
 -- The places at which a spread chooses one of some candidates, block by block.
 use Rattle.std.specs.Prelude.{ℕ, ◌+◌, ◌-◌, ◌*◌, ◌/◌, ◌%◌, ◌==◌, List, [], filter, if◌then◌else◌, length, min, nat_lt, slice_index, sum, Option, Some, None}
 use Rattle.std.specs.List.{range_with_len}
+use Rattle.id_permutation.specs.Order.{Arrangement, place_in}
 use Rattle.weight_tables.specs.Weights.{weight_before}
 use Rattle.life_intervals.specs.declared.children.Block.{Block}
 use Rattle.life_intervals.specs.References.{choice}
@@ -32,7 +33,7 @@ abbrev pub places_choosing : List ℕ → ℕ → ℕ → ℕ → List ℕ
 places_choosing spread size count candidate =
     filter (λ place. choice spread count place == candidate) (range_with_len 0 size)
 
--- those at which it chooses the row with an ordinal, of so many rows from a first one on
-abbrev pub places_of_parent : List ℕ → ℕ → ℕ → ℕ → ℕ → List ℕ
-places_of_parent spread first count size parent =
-    filter (λ place. first + choice spread count place == parent) (range_with_len 0 size)
+-- those at which the row with an ordinal is chosen, where the rows from a first one on are dealt
+abbrev pub places_of_parent : List ℕ → Arrangement → ℕ → ℕ → ℕ → List ℕ
+places_of_parent spread deal first size parent =
+    filter (λ place. first + place_in deal (choice spread deal.size place) == parent) (range_with_len 0 size)

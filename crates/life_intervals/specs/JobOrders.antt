@@ -6,16 +6,17 @@ use Rattle.schema_plan.specs.Dictionaries.{Project}
 use Rattle.life_intervals.specs.declared.kept.ParentOrders.{ParentOrders}
 use Rattle.life_intervals.specs.declared.kept.TableOrders.{TableOrders}
 use Rattle.life_intervals.specs.CohortOrders.{key_order, life_order, parent_order, update_order}
-use Rattle.life_intervals.specs.CohortParents.{IsReferenceOf, window_by}
+use Rattle.life_intervals.specs.CohortParents.{IsReferenceOf, deal_by, window_by}
 
 -- what is kept unit by unit, from 0 on, is what there is of each
 abbrev pub IsKeptByUnit : {X : Type 0} → (ℕ → X) → List X → Type 0
 IsKeptByUnit of_unit kept = kept ≡ map of_unit (range_with_len 0 (length kept))
 
--- what is kept for the column at a place are the orders by its reference, and the windows of this
+-- what is kept for the column at a place are the orders by its reference, the windows of this, and the orders in which it deals
 pub record AreParentOrders (plan : Project) (table column : ℕ) (kept : ParentOrders) : Type 0 where
   pub orders : IsKeptByUnit (parent_order plan table column) kept.orders.orders
   pub windows : (reference : ReadyReference) → IsReferenceOf plan table column reference → IsKeptByUnit (window_by plan reference) kept.windows.items
+  pub deals : (reference : ReadyReference) → IsReferenceOf plan table column reference → IsKeptByUnit (deal_by plan table column reference) kept.deals.orders
 
 -- what is kept for each column
 abbrev pub AreAllParentOrders : Project → ℕ → List ParentOrders → Type 0
@@ -35,7 +36,7 @@ AreOrdersOf plan job = (table : ℕ) (d : TableOrders) → table < length job �
 
 -- how many entries the tables of kept orders have together: of those in which parents are chosen, of a table's, and of a job's
 abbrev pub entries_of_parent : ParentOrders → ℕ
-entries_of_parent kept = kept.orders.entries
+entries_of_parent kept = kept.orders.entries + kept.deals.entries
 
 abbrev pub entries_of_table : TableOrders → ℕ
 entries_of_table kept =

@@ -2,7 +2,7 @@
 
 ghost use Rattle.std.specs.Prelude.{◌≡◌, ◌+◌, ◌<◌, ◌≤◌, ◌^◌, IfOk, IfSome, length};
 ghost use Rattle.life_intervals.specs.CohortOrders.{order_for};
-ghost use Rattle.life_intervals.specs.CohortParents.{IsReferenceOf, window_by};
+ghost use Rattle.life_intervals.specs.CohortParents.{IsReferenceOf, deal_by, window_by};
 ghost use Rattle.life_intervals.specs.Generator.{last_unit};
 ghost use Rattle.life_intervals.specs.JobOrders.{AreOrdersOf, entries_of};
 ghost use Rattle.schema_plan.specs.declared.ready.ReadyReference.{ReadyReference};
@@ -129,6 +129,17 @@ impl JobOrders {
     {
         match self.tables.get(table as usize) {
             Some(kept) => kept.window(column, unit),
+            None => None,
+        }
+    }
+
+    /// Returns the order in which the candidates of these rows are dealt by the reference in the column at a place, if it is kept.
+    #[inline]
+    pub(crate) fn deal(&self, table: u32, column: u32, unit: u64) -> Option<Order<'_>>
+        ensures { IfSome result (λ deal. (plan : Project) (reference : ReadyReference) → AreOrdersOf plan self.now → IsReferenceOf plan table column reference → deal ≡ deal_by plan table column reference unit) }
+    {
+        match self.tables.get(table as usize) {
+            Some(kept) => kept.deal(column, unit),
             None => None,
         }
     }

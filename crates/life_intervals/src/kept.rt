@@ -2,13 +2,14 @@
 
 ghost use Rattle.std.specs.Prelude.{◌≡◌, ◌+◌, ◌<◌, ◌≤◌, ◌++◌, ◌∷◌, [], IfOk, IfSome, OnOk, length, sum_by};
 ghost use Rattle.life_intervals.specs.CohortOrders.{order_for};
-ghost use Rattle.life_intervals.specs.CohortParents.{IsReferenceOf, window_by};
+ghost use Rattle.life_intervals.specs.CohortParents.{IsReferenceOf, deal_by, window_by};
 ghost use Rattle.life_intervals.specs.Generator.{last_unit};
 ghost use Rattle.life_intervals.specs.JobOrders.{AreAllParentOrders, AreParentOrders, AreTableOrders, IsKeptByUnit, entries_of_parent, entries_of_table};
 ghost use Rattle.schema_plan.specs.Dictionaries.{Project};
 
 use crate::asked::{Asked, are_places_asked, rows_to_one_change, table_entries};
-use crate::orders::{Purpose, is_drawn, wanted};
+use crate::births::cohort;
+use crate::orders::{Purpose, is_drawn, wanted, wanted_deal};
 use crate::wanted::Wanted;
 use crate::window::CandidateWindow;
 use id_permutation::{KeptOrders, Order};
@@ -29,17 +30,24 @@ pub(crate) struct Room {
     pub(crate) changes: bool,
 }
 
-/// The orders in which a table's cohorts choose parents by a reference, unit by unit from 0, and the cohorts' windows.
+/// The orders in which a table's cohorts choose parents by a reference, unit by unit from 0, the cohorts' windows, and the orders in
+/// which their candidates are dealt, if these are drawn.
 pub(crate) struct ParentOrders {
     pub(crate) orders: KeptOrders,
     pub(crate) windows: Vec<CandidateWindow>,
+    pub(crate) deals: KeptOrders,
 }
 
 impl Drop for ParentOrders {
     fn drop(self) {
-        let ParentOrders { orders, windows } = self;
+        let ParentOrders {
+            orders,
+            windows,
+            deals,
+        } = self;
         drop(orders);
         drop(windows);
+        drop(deals);
     }
 }
 
@@ -164,7 +172,8 @@ fn windows_of(
 ) -> Result<Vec<CandidateWindow>, Memory>
     requires parent { reference.now.parent < length plan.now.schema.tables }
     requires unit { count ≤ last_unit plan.now + 1 }
-    ensures { IfOk result (λ windows. IsKeptByUnit (window_by plan.now reference.now) windows.items) }
+    ensures windows { IfOk result (λ windows. IsKeptByUnit (window_by plan.now reference.now) windows.items) }
+    ensures count { IfOk result (λ windows. length windows.items ≡ count) }
 {
     let _limits = plan.schema(); // there are at most 10,000 units
     let mut windows = Vec::new(alloc);
@@ -174,15 +183,114 @@ fn windows_of(
     Ok(windows)
 }
 
+/// Returns how many entries the tables of the order of a cohort's candidates can have. Returns 0 if too few rows of the cohort are asked
+/// for at unit `last`, since making two entries takes about the time that the tables save at a row.
+fn deal_entries(
+    plan: &Plan,
+    table: u32,
+    column: u32,
+    unit: u64,
+    last: u64,
+    candidates: u64,
+    room: &Room,
+) -> u64
+    requires table { table < length plan.now.schema.tables }
+    requires unit { unit ≤ last_unit plan.now }
+    ensures { result ≤ room.now.entries }
+{
+    let few = room.changes && unit < last;
+    let rows = cohort(plan, table, unit).size;
+    if !few
+        && table_entries(candidates) / 2 <= rows
+        && are_places_asked(plan, table, Purpose::Parents(column), unit, last)
+    {
+        room.entries
+    } else {
+        0
+    }
+}
+
+/// Keeps the order in which the candidates of the rows of a table that are born at a unit are dealt, by the reference in the column at a
+/// place.
+fn push_deal(
+    plan: &Plan,
+    table: u32,
+    column: u32,
+    reference: &ReadyReference,
+    unit: u64,
+    last: u64,
+    window: &CandidateWindow,
+    kept: &mut KeptOrders,
+    room: &mut Room,
+) -> Result<(), Memory>
+    requires table { table < length plan.now.schema.tables }
+    requires reference { IsReferenceOf plan.now table column reference.now }
+    requires unit { unit ≤ last_unit plan.now }
+    requires window { window.now ≡ window_by plan.now reference.now unit }
+    ensures deal { IfOk result (λ _. kept.new.orders ≡ kept.old.orders ++ deal_by plan.now table column reference.now unit ∷ []) }
+    ensures entries { IfOk result (λ _. kept.new.entries + room.new.entries ≡ kept.old.entries + room.old.entries) }
+{
+    let _limits = plan.schema(); // a table has at most 2^40 rows
+    let _columns = plan.columns(table); // and at most 64 columns
+    let Wanted { size, seed } = wanted_deal(plan, table, column, reference, unit, window);
+    let given = deal_entries(plan, table, column, unit, last, size, room);
+    let before = kept.entries();
+    kept.push(size, seed, given)?;
+    room.entries -= kept.entries() - before;
+    Ok(())
+}
+
+/// Returns the orders in which a reference deals the candidates of its table's cohorts, one for each window. The windows are those of
+/// the units from 0 on. Returns none unless they are drawn and have room.
+fn kept_deals(
+    alloc: Global,
+    plan: &Plan,
+    table: u32,
+    column: u32,
+    reference: &ReadyReference,
+    windows: &[CandidateWindow],
+    last: u64,
+    room: &mut Room,
+) -> Result<KeptOrders, Memory>
+    requires table { table < length plan.now.schema.tables }
+    requires reference { IsReferenceOf plan.now table column reference.now }
+    requires windows { IsKeptByUnit (window_by plan.now reference.now) windows.now }
+    requires unit { length windows.now ≤ last_unit plan.now + 1 }
+    ensures kept { IfOk result (λ kept. IsKeptByUnit (deal_by plan.now table column reference.now) kept.orders) }
+    ensures entries { IfOk result (λ kept. kept.entries + room.new.entries ≡ room.old.entries) }
+{
+    let mut kept = KeptOrders::new(alloc);
+    let count = windows.len() as u64;
+    if !reference.drawn || count > room.orders {
+        return Ok(kept);
+    }
+    room.orders -= count;
+    for unit in 0..count {
+        push_deal(
+            plan,
+            table,
+            column,
+            reference,
+            unit,
+            last,
+            &windows[unit as usize],
+            &mut kept,
+            room,
+        )?;
+    }
+    Ok(kept)
+}
+
 impl ParentOrders {
     /// Returns no orders.
     fn none(alloc: Global) -> ParentOrders
         ensures kept { (plan : Project) (table column : _) → AreParentOrders plan table column result }
-        ensures entries { result.orders.entries ≡ 0 }
+        ensures entries { entries_of_parent result ≡ 0 }
     {
         ParentOrders {
             orders: KeptOrders::new(alloc),
             windows: Vec::new(alloc),
+            deals: KeptOrders::new(alloc),
         }
     }
 
@@ -200,13 +308,27 @@ impl ParentOrders {
         requires reference { IsReferenceOf plan.now table column reference.now }
         requires unit { last ≤ last_unit plan.now }
         ensures kept { IfOk result (λ kept. AreParentOrders plan.now table column kept) }
-        ensures entries { IfOk result (λ kept. kept.orders.entries + room.new.entries ≡ room.old.entries) }
+        ensures entries { IfOk result (λ kept. entries_of_parent kept + room.new.entries ≡ room.old.entries) }
     {
         let _limits = plan.schema(); // the parent's table is an earlier one
         let purpose = Purpose::Parents(column);
         let orders = kept_orders(alloc, plan, table, purpose, true, last, room)?;
         let windows = windows_of(alloc, plan, reference, orders.len() as u64)?;
-        Ok(ParentOrders { orders, windows })
+        let deals = kept_deals(
+            alloc,
+            plan,
+            table,
+            column,
+            reference,
+            windows.as_slice(),
+            last,
+            room,
+        )?;
+        Ok(ParentOrders {
+            orders,
+            windows,
+            deals,
+        })
     }
 }
 
@@ -320,6 +442,19 @@ impl TableOrders {
         let parents = self.parents.get(column as usize)?;
         if unit < parents.windows.len() as u64 {
             Some(parents.windows[unit as usize])
+        } else {
+            None
+        }
+    }
+
+    /// Returns the order in which the candidates of a unit's cohort are dealt by the reference in the column at a place, if it is kept.
+    #[inline]
+    pub(crate) fn deal(&self, column: u32, unit: u64) -> Option<Order<'_>>
+        ensures { IfSome result (λ deal. (plan : Project) (table : _) (reference : ReadyReference) → AreTableOrders plan table self.now → IsReferenceOf plan table column reference → deal ≡ deal_by plan table column reference unit) }
+    {
+        let parents = self.parents.get(column as usize)?;
+        if unit < parents.deals.len() as u64 {
+            Some(parents.deals.get(unit as usize))
         } else {
             None
         }

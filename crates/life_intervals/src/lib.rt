@@ -30,7 +30,7 @@ mod wanted;
 mod window;
 
 pub use births::{birth, born, cohort};
-pub use children::{Block, child_block};
+pub use children::{Block, child_block, deal_number, number_block};
 pub use cohort_sizes::Cohort;
 pub use found::{FoundRow, find, row_of_cohort};
 pub use job_orders::JobOrders;

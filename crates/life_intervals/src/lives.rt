@@ -144,7 +144,7 @@ impl<'a> Rows<'a> {
 
     /// Returns the unit at which a found row last changed by unit `t`, or its birth if it hasn't changed. The row must be born by
     /// `t`. A row changes when it is due and when it loses a parent. Its death doesn't count. Takes at most one step if rows of a
-    /// cohort can be due at different units. For each nulling reference it takes at most one step and the cost of the parent's
+    /// cohort can be due at different units. For each nulling reference it takes at most what chooses the parent and the cost of the parent's
     /// death.
     #[inline]
     pub fn found_change<L: Ledger>(
@@ -194,7 +194,7 @@ impl<'a> Rows<'a> {
 
     /// Returns the unit at which the row of ordinal `j` last changed by unit `t`, or its birth if it hasn't changed. The row must
     /// be born by `t`. A row changes when it is due and when it loses a parent. Its death doesn't count. Takes one step if rows of
-    /// a cohort can be due at different units. For each nulling reference it takes at most one step and the cost of the parent's
+    /// a cohort can be due at different units. For each nulling reference it takes at most what chooses the parent and the cost of the parent's
     /// death.
     pub fn last_change<L: Ledger>(&self, table: u32, j: u64, t: u64, steps: &mut Steps<L>) -> u64
         requires table { table < length self.now.schema.tables }
@@ -222,7 +222,7 @@ pub fn own_death<L: Ledger>(plan: &Plan, table: u32, j: u64, steps: &mut Steps<L
 
 /// Returns the unit at which the row of ordinal `j` last changed by unit `t`, or its birth if it hasn't changed. The row must be
 /// born by `t`. A row changes when it is due and when it loses a parent. Its death doesn't count. Takes one step if rows of a
-/// cohort can be due at different units. For each nulling reference it takes at most one step and the cost of the parent's death.
+/// cohort can be due at different units. For each nulling reference it takes at most what chooses the parent and the cost of the parent's death.
 pub fn last_change<L: Ledger>(plan: &Plan, table: u32, j: u64, t: u64, steps: &mut Steps<L>) -> u64
     requires table { table < length plan.now.schema.tables }
     requires unit { t ≤ last_unit plan.now }

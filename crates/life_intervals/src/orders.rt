@@ -1,13 +1,17 @@
 //! The orders of cohorts: of keys, lives, updates and chosen parents.
 
-ghost use Rattle.std.specs.Prelude.{◌≡◌, ◌<◌, ◌≤◌, length};
+ghost use Rattle.std.specs.Prelude.{◌≡◌, ◌<◌, ◌≤◌, ◌^◌, length};
 ghost use Rattle.life_intervals.specs.CohortOrders.{do_lives_differ, do_updates_differ, is_drawn, order_for, order_seed};
+ghost use Rattle.life_intervals.specs.CohortParents.{IsReferenceOf, deal_by, window_by};
 ghost use Rattle.life_intervals.specs.Generator.{last_unit, table_of};
 
 use crate::births::cohort;
 use crate::wanted::Wanted;
-use philox_seeds::{key_order_seed, life_order_seed, reference_order_seed, update_order_seed};
-use schema_plan::{Plan, Span};
+use crate::window::CandidateWindow;
+use philox_seeds::{
+    deal_seed, key_order_seed, life_order_seed, reference_order_seed, update_order_seed,
+};
+use schema_plan::{Plan, ReadyReference, Span};
 
 /// What a row's place in an order of its cohort decides.
 #[derive(Clone, Copy)]
@@ -80,6 +84,32 @@ pub(crate) fn wanted(plan: &Plan, table: u32, purpose: Purpose, unit: u64) -> Wa
         size,
         seed: if is_drawn(plan, table, purpose) && size > 0 {
             Some(order_seed(plan, table, purpose, unit))
+        } else {
+            None
+        },
+    }
+}
+
+/// Returns the order in which the candidates of the rows of a table that are born at a unit are dealt, by the reference in the column at
+/// a place. It has a seed if the reference is drawn.
+pub(crate) fn wanted_deal(
+    plan: &Plan,
+    table: u32,
+    column: u32,
+    reference: &ReadyReference,
+    unit: u64,
+    window: &CandidateWindow,
+) -> Wanted
+    requires reference { IsReferenceOf plan.now table column reference.now }
+    requires column { column < 64 }
+    requires window { window.now ≡ window_by plan.now reference.now unit }
+    requires few { window.now.count ≤ 2 ^ 40 }
+    ensures { result ≡ deal_by plan.now table column reference.now unit }
+{
+    Wanted {
+        size: window.count.number(),
+        seed: if reference.drawn {
+            Some(deal_seed(plan.seed(), table, column, unit))
         } else {
             None
         },

@@ -4,7 +4,7 @@ ghost use Rattle.std.specs.Prelude.{◌≡◌, ℕ, ◌+◌, ◌<◌, ◌≤◌,
 ghost use Rattle.std.specs.List.{list_any};
 ghost use Rattle.cohort_sizes.specs.Births.{born_count};
 ghost use Rattle.schema_plan.specs.Layout.{layout_of};
-ghost use Rattle.schema_plan.specs.Lineage.{death_cost, lesser_life, loss_cost, sure_life};
+ghost use Rattle.schema_plan.specs.Lineage.{choice_cost, death_cost, lesser_life, loss_cost, sure_life};
 ghost use Rattle.schema_plan.specs.Ready.{ready_columns};
 ghost use Rattle.schema_plan.specs.References.{Reference, reference_at};
 ghost use Rattle.life_intervals.specs.Changes.{has_nullings, last_change, later_change};
@@ -22,7 +22,8 @@ use std::sync::ledger::Ledger;
 use step_count::Steps;
 
 impl<'a> Rows<'a> {
-    /// Returns the ordinal of the parent that a found row is born with, by the reference in the column at a place. Takes one step.
+    /// Returns the ordinal of the parent that a found row is born with, by the reference in the column at a place. Takes one step, and one
+    /// more if the reference is drawn.
     #[inline]
     pub fn found_parent<L: Ledger>(
         &self,
@@ -37,17 +38,20 @@ impl<'a> Rows<'a> {
         requires reference { IsReferenceOf self.now table column reference.now }
         ensures parent { result ≡ parent_in (cohort_of_row self.now table row) row.index (reference_by column reference.now) }
         ensures born { result < born_count (table_of self.now reference.now.parent).births row.born }
-        ensures one_step { steps.new ≡ steps.old + 1 }
+        ensures steps { steps.new ≡ steps.old + choice_cost reference.now.drawn }
     {
         let _limits = self.plan().schema(); // the reference is within its limits
+        let _columns = self.plan().columns(table); // and there are at most 64 columns
         let order = self.order(table, Purpose::Parents(column), row.born);
         let window = self.window(table, column, reference, row.born);
-        window.parent(reference, order.place(row.index, steps))
+        let deal = self.deal(table, column, reference, row.born, &window);
+        let place = order.place(row.index, steps);
+        window.parent(reference, &deal, place, steps)
     }
 
     /// Returns the ordinal of the parent that a found row still has at unit `t`, by the reference in the column at a place. Returns
-    /// None if the reference has become null. Takes one step, and for a nulling reference at most the cost of the parent's death
-    /// more.
+    /// None if the reference has become null. Takes one step, one more if the reference is drawn, and for a nulling reference at most
+    /// the cost of the parent's death more.
     #[inline]
     pub fn found_held_parent<L: Ledger>(
         &self,
@@ -78,7 +82,7 @@ impl<'a> Rows<'a> {
     }
 
     /// Returns the last of `change` and of the units up to `t` at which a found row loses a parent. For each nulling reference it
-    /// takes at most one step and the cost of the parent's death.
+    /// takes at most what chooses the parent and the cost of the parent's death.
     pub(crate) fn last_loss<L: Ledger>(
         &self,
         table: u32,
@@ -107,7 +111,7 @@ impl<'a> Rows<'a> {
     }
 
     /// Returns the unit at which a found row's parent dies, by the reference in the column at a place. Returns None if the parent
-    /// never dies. Takes one step and at most the cost of the death. Takes none if no row of the parent's table ever dies.
+    /// never dies. Takes what chooses the parent and at most the cost of the death. Takes none if no row of the parent's table ever dies.
     #[cycle(deaths)]
     fn parent_death<L: Ledger>(
         &self,
@@ -133,7 +137,7 @@ impl<'a> Rows<'a> {
     }
 
     /// Returns the unit of the first death among a found row's parents by cascading references. Returns None if no such parent ever
-    /// dies. For each of these references it takes at most one step and the cost of the parent's death.
+    /// dies. For each of these references it takes at most what chooses the parent and the cost of the parent's death.
     #[cycle(deaths)]
     fn first_death<L: Ledger>(&self, table: u32, row: FoundRow, steps: &mut Steps<L>) -> Option<u64>
         requires table { table < length self.now.schema.tables }
@@ -156,8 +160,8 @@ impl<'a> Rows<'a> {
     }
 
     /// Returns the unit at which a found row dies, by its own life or with the first parent by a cascading reference. Returns None
-    /// if it never dies. Takes one step if lives of the table differ. For each cascading reference it takes at most one step and
-    /// the cost of the parent's death.
+    /// if it never dies. Takes one step if lives of the table differ. For each cascading reference it takes at most what chooses the
+    /// parent and the cost of the parent's death.
     #[cycle(deaths)]
     pub fn found_death<L: Ledger>(
         &self,
@@ -211,7 +215,7 @@ impl<'a> Rows<'a> {
     }
 
     /// Returns the ordinal of the parent that the row of ordinal `j` is born with, by the reference in the column at a place. Takes
-    /// one step.
+    /// one step, and one more if the reference is drawn.
     pub fn parent<L: Ledger>(&self, table: u32, j: u64, column: u32, steps: &mut Steps<L>) -> u64
         requires table { table < length self.now.schema.tables }
         requires row { j < rows_in_all self.now table }
@@ -220,7 +224,8 @@ impl<'a> Rows<'a> {
             result ≡ parent_of (generator_of self.now) table (last_unit self.now) j reference }
         ensures within { (reference : Reference) → reference_at (table_of self.now table) column ≡ Some reference →
             result < rows_in_all self.now reference.parent }
-        ensures one_step { steps.new ≡ steps.old + 1 }
+        ensures steps { (reference : Reference) → reference_at (table_of self.now table) column ≡ Some reference →
+            steps.new ≡ steps.old + choice_cost reference.drawn }
     {
         let ReadyKind::Reference(reference) = &self.plan().columns(table)[column as usize].kind
         else {
@@ -231,8 +236,8 @@ impl<'a> Rows<'a> {
     }
 
     /// Returns the ordinal of the parent that the row of ordinal `j` still has at unit `t`, by the reference in the column at a
-    /// place. The row must be born by `t`. Returns None if the reference has become null. Takes one step, and for a nulling
-    /// reference at most the cost of the parent's death more.
+    /// place. The row must be born by `t`. Returns None if the reference has become null. Takes one step, one more if the reference is
+    /// drawn, and for a nulling reference at most the cost of the parent's death more.
     pub fn held_parent<L: Ledger>(
         &self,
         table: u32,
@@ -343,7 +348,8 @@ fn is_nulling(column: &ReadyColumn) -> bool
 }
 
 /// Returns the ordinal of the parent that the row of ordinal `j` is born with, by the reference in the column at a place. If the
-/// reference is cascading, the parent is held at each unit at which the row is held. Takes one step.
+/// reference is cascading, the parent is held at each unit at which the row is held. Takes one step, and one more if the reference is
+/// drawn.
 pub fn parent<L: Ledger>(plan: &Plan, table: u32, j: u64, column: u32, steps: &mut Steps<L>) -> u64
     requires table { table < length plan.now.schema.tables }
     requires row { j < rows_in_all plan.now table }
@@ -355,15 +361,16 @@ pub fn parent<L: Ledger>(plan: &Plan, table: u32, j: u64, column: u32, steps: &m
     ensures held { (reference : Reference) → reference_at (table_of plan.now table) column ≡ Some reference → reference.nulls ≡ false →
         (t : ℕ) → t ≤ last_unit plan.now → holds_row (rows_at (generator_of plan.now) table t) j ≡ true →
         holds_row (rows_at (generator_of plan.now) reference.parent t) result ≡ true }
-    ensures one_step { steps.new ≡ steps.old + 1 }
+    ensures steps { (reference : Reference) → reference_at (table_of plan.now table) column ≡ Some reference →
+        steps.new ≡ steps.old + choice_cost reference.drawn }
 {
     let _sound = plan.schema(); // so it is there as long as the row is
     Rows::of(plan).parent(table, j, column, steps)
 }
 
 /// Returns the ordinal of the parent that the row of ordinal `j` still has at unit `t`, by the reference in the column at a place.
-/// The row must be born by `t`. Returns None if the reference has become null. Takes one step, and for a nulling reference at most
-/// the cost of the parent's death more.
+/// The row must be born by `t`. Returns None if the reference has become null. Takes one step, one more if the reference is drawn, and
+/// for a nulling reference at most the cost of the parent's death more.
 pub fn held_parent<L: Ledger>(
     plan: &Plan,
     table: u32,

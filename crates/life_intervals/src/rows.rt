@@ -1,13 +1,13 @@
 //! The rows of a plan.
 
-ghost use Rattle.std.specs.Prelude.{◌≡◌, ◌<◌, ◌≤◌, length};
+ghost use Rattle.std.specs.Prelude.{◌≡◌, ◌<◌, ◌≤◌, ◌^◌, length};
 ghost use Rattle.life_intervals.specs.CohortOrders.{order_for};
-ghost use Rattle.life_intervals.specs.CohortParents.{IsReferenceOf, window_by};
+ghost use Rattle.life_intervals.specs.CohortParents.{IsReferenceOf, deal_by, window_by};
 ghost use Rattle.life_intervals.specs.Generator.{last_unit};
 ghost use Rattle.life_intervals.specs.JobOrders.{AreOrdersOf};
 
 use crate::job_orders::JobOrders;
-use crate::orders::{Purpose, wanted};
+use crate::orders::{Purpose, wanted, wanted_deal};
 use crate::window::CandidateWindow;
 use id_permutation::Order;
 use schema_plan::{Plan, ReadyReference};
@@ -107,5 +107,29 @@ impl<'a> Rows<'a> {
             }
         }
         CandidateWindow::of_cohort(self.plan, reference, unit)
+    }
+
+    /// Returns the order in which these candidates are dealt.
+    #[inline]
+    pub(crate) fn deal(
+        &self,
+        table: u32,
+        column: u32,
+        reference: &ReadyReference,
+        unit: u64,
+        window: &CandidateWindow,
+    ) -> Order<'a>
+        requires reference { IsReferenceOf self.now table column reference.now }
+        requires column { column < 64 }
+        requires window { window.now ≡ window_by self.now reference.now unit }
+        requires few { window.now.count ≤ 2 ^ 40 }
+        ensures { result ≡ deal_by self.now table column reference.now unit }
+    {
+        if let Some(kept) = self.kept {
+            if let Some(deal) = kept.deal(table, column, unit) {
+                return deal;
+            }
+        }
+        wanted_deal(self.plan, table, column, reference, unit, window).by_rounds()
     }
 }

@@ -78,7 +78,7 @@ fn put_earlier(first: u64, lengths: &FixedDivisor, places: &[u64], ends: &mut [u
 impl<'a> Rows<'a> {
     /// Replaces each end with the death of its row, if that is earlier. An end is at most `t` + 1, and rows are born by `t`. So an
     /// end up to `t` is a death, and any other says that none has come. Each row takes at most one step if lives of the table
-    /// differ. For each cascading reference it takes at most one step and the cost of the parent's death. If all rows are sure to
+    /// differ. For each cascading reference it takes at most what chooses the parent and the cost of the parent's death. If all rows are sure to
     /// be alive, none takes a step.
     #[cycle(ends)]
     pub(crate) fn put_ends<L: Ledger>(

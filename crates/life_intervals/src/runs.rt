@@ -4,7 +4,7 @@
 ghost use Rattle.std.specs.Prelude.{◌≡◌, ◌+◌, ◌-◌, ◌*◌, ◌%◌, ◌<◌, ◌≤◌, ◌^◌, ◌⊎◌, ℕ, All, Some, false, get_or, length, map, nat_lt};
 ghost use Rattle.cohort_sizes.specs.Births.{LiesIn, born_count};
 ghost use Rattle.schema_plan.specs.Layout.{layout_of};
-ghost use Rattle.schema_plan.specs.Lineage.{loss_cost, one_if};
+ghost use Rattle.schema_plan.specs.Lineage.{choice_cost, loss_cost, one_if};
 ghost use Rattle.life_intervals.specs.Changes.{change_span, last_due, later_change};
 ghost use Rattle.life_intervals.specs.CohortOrders.{do_lives_differ, do_updates_differ, due_for, is_drawn, place_for};
 ghost use Rattle.life_intervals.specs.CohortParents.{IsReferenceOf, asked_for_change, asked_for_death, parent_cost, reference_by};
@@ -279,7 +279,7 @@ impl<'a> Rows<'a> {
         requires same_length { length parents.old ≡ length ordinals.now }
         ensures parents { parents.new ≡ map (λ j. parent_of (generator_of self.now) table (last_unit self.now) j (reference_by column reference.now)) ordinals.now }
         ensures born { All (λ parent. parent < born_count (table_of self.now reference.now.parent).births born) parents.new }
-        ensures steps { steps.new ≡ steps.old + length ordinals.now }
+        ensures steps { steps.new ≡ steps.old + length ordinals.now * choice_cost reference.now.drawn }
     {
         self.put_places(
             table,
@@ -290,12 +290,14 @@ impl<'a> Rows<'a> {
             steps,
         );
         let _limits = self.plan().schema(); // the reference is within its limits
-        self.window(table, column, reference, born)
-            .put_parents(reference, parents);
+        let _columns = self.plan().columns(table); // and there are at most 64 columns
+        let window = self.window(table, column, reference, born);
+        let deal = self.deal(table, column, reference, born, &window);
+        window.put_parents(reference, &deal, parents, steps);
     }
 
     /// Puts the ordinals of the parents that rows are born with, by the reference in the column at a place. Each row takes one
-    /// step.
+    /// step, and one more if the reference is drawn.
     pub fn put_parents<L: Ledger>(
         &self,
         table: u32,
@@ -313,7 +315,7 @@ impl<'a> Rows<'a> {
         ensures parents { (i : ℕ) → i < length ordinals.now → get_or parents.new i 0 ≡ parent_of (generator_of self.now) table (last_unit self.now) (get_or ordinals.now i 0) (reference_by column reference.now) }
         ensures born { (i : ℕ) → i < length ordinals.now → get_or parents.new i 0 < born_count (table_of self.now reference.now.parent).births (get_or births.now i 0) }
         ensures same_length { length parents.new ≡ length ordinals.now }
-        ensures steps { steps.new ≡ steps.old + length ordinals.now }
+        ensures steps { steps.new ≡ steps.old + length ordinals.now * choice_cost reference.now.drawn }
     {
         let _sound = self.plan().schema(); // so each row has a parent
         let mut from = 0;
@@ -487,7 +489,7 @@ impl<'a> Rows<'a> {
 
     /// Puts the units of the rows' last changes up to unit `t`, or their births if they haven't changed. The rows must be born by
     /// `t`. A row changes when it is due and when it loses a parent. Deaths don't count. Each row takes at most one step, and none
-    /// if all rows of a cohort are due at the same units, or never. For each nulling reference it takes at most one step and the
+    /// if all rows of a cohort are due at the same units, or never. For each nulling reference it takes at most what chooses the parent and the
     /// cost of the parent's death.
     pub fn put_changes<L: Ledger>(
         &self,
@@ -649,7 +651,7 @@ impl<'a> Rows<'a> {
     }
 
     /// Puts which rows are alive at unit `t`, by which they must be born. Each row takes at most one step if lives of the table
-    /// differ. For each cascading reference it takes at most one step and the cost of the parent's death. Up to 256 adjacent rows
+    /// differ. For each cascading reference it takes at most what chooses the parent and the cost of the parent's death. Up to 256 adjacent rows
     /// take no step if all are sure to be alive or none is alive.
     pub fn put_lives<L: Ledger>(
         &self,

@@ -1,6 +1,7 @@
 //! The candidates among which a cohort's rows choose their parents by a reference.
 
-ghost use Rattle.std.specs.Prelude.{◌≡◌, ◌+◌, ◌-◌, ◌<◌, ◌≤◌, ◌^◌, All, length, map, max, sum};
+ghost use Rattle.std.specs.Prelude.{◌≡◌, ◌+◌, ◌-◌, ◌*◌, ◌<◌, ◌≤◌, ◌^◌, All, length, map, max, sum};
+ghost use Rattle.id_permutation.specs.Order.{order_steps, place_in};
 ghost use Rattle.cohort_sizes.specs.Births.{born_count};
 ghost use Rattle.schema_plan.specs.References.{IsSpread, first_in_window};
 ghost use Rattle.life_intervals.specs.CohortParents.{window_by};
@@ -8,8 +9,12 @@ ghost use Rattle.life_intervals.specs.Generator.{last_unit, table_of};
 ghost use Rattle.life_intervals.specs.References.{choice};
 
 use crate::births::{born, cohort};
+use crate::runs::add_start;
 use fixed_divisors::FixedDivisor;
+use id_permutation::Order;
 use schema_plan::{Plan, ReadyReference};
+use std::sync::ledger::Ledger;
+use step_count::Steps;
 
 /// The rows that are born in the window of a reference.
 #[derive(Clone, Copy)]
@@ -72,33 +77,62 @@ impl CandidateWindow {
         }
     }
 
-    /// Returns the ordinal of the parent that a place in the cohort chooses.
+    /// Returns the ordinal of the parent that a place in the cohort chooses, as its candidates are dealt.
     #[inline(always)]
-    pub(crate) fn parent(&self, reference: &ReadyReference, place: u64) -> u64
+    pub(crate) fn parent<L: Ledger>(
+        &self,
+        reference: &ReadyReference,
+        deal: &Order<'_>,
+        place: u64,
+        steps: &mut Steps<L>,
+    ) -> u64
         requires place { place < 2 ^ 40 }
         requires first { self.now.first ≤ 2 ^ 40 }
         requires count { self.now.count ≤ 2 ^ 40 }
+        requires deal { deal.now.size ≡ self.now.count }
         requires groups { reference.now.groups ≡ length reference.now.spread }
         requires total { reference.now.total ≡ sum reference.now.spread }
         requires spread { IsSpread reference.now.spread }
-        ensures { result ≡ self.now.first + choice reference.now.spread self.now.count place }
+        ensures parent { result ≡ self.now.first + place_in deal.now (choice reference.now.spread self.now.count place) }
+        ensures steps { steps.new ≡ steps.old + order_steps deal.now }
     {
-        self.first + chosen(reference, &self.count, place)
+        self.first + deal.place(chosen(reference, &self.count, place), steps)
     }
 
-    /// Replaces places in the cohort with the ordinals of the parents that they choose.
-    pub(crate) fn put_parents(&self, reference: &ReadyReference, places: &mut [u64])
+    /// Replaces places in the cohort with the numbers, in turn, of the candidates that they choose.
+    fn put_numbers(&self, reference: &ReadyReference, places: &mut [u64])
+        requires places { All (λ place. place < 2 ^ 40) places.old }
+        requires groups { reference.now.groups ≡ length reference.now.spread }
+        requires total { reference.now.total ≡ sum reference.now.spread }
+        requires spread { IsSpread reference.now.spread }
+        ensures { places.new ≡ map (λ place. choice reference.now.spread self.now.count place) places.old }
+    {
+        let count = self.count; // a copy, so that no write to the places can change it
+        for i in 0..places.len() {
+            places[i] = chosen(reference, &count, places[i]);
+        }
+    }
+
+    /// Replaces places in the cohort with the ordinals of the parents that they choose, as their candidates are dealt.
+    pub(crate) fn put_parents<L: Ledger>(
+        &self,
+        reference: &ReadyReference,
+        deal: &Order<'_>,
+        places: &mut [u64],
+        steps: &mut Steps<L>,
+    )
         requires places { All (λ place. place < 2 ^ 40) places.old }
         requires first { self.now.first ≤ 2 ^ 40 }
         requires count { self.now.count ≤ 2 ^ 40 }
+        requires deal { deal.now.size ≡ self.now.count }
         requires groups { reference.now.groups ≡ length reference.now.spread }
         requires total { reference.now.total ≡ sum reference.now.spread }
         requires spread { IsSpread reference.now.spread }
-        ensures { places.new ≡ map (λ place. self.now.first + choice reference.now.spread self.now.count place) places.old }
+        ensures parents { places.new ≡ map (λ place. self.now.first + place_in deal.now (choice reference.now.spread self.now.count place)) places.old }
+        ensures steps { steps.new ≡ steps.old + length places.old * order_steps deal.now }
     {
-        let window = *self; // a copy, so that no write to the places can change it
-        for i in 0..places.len() {
-            places[i] = window.parent(reference, places[i]);
-        }
+        self.put_numbers(reference, places);
+        deal.places(places, steps);
+        add_start(places, self.first);
     }
 }

@@ -81,7 +81,7 @@ module _ (plan : Project) (limits : IsInLimits plan) (place : ℕ) (below : plac
       let earlier : List Known = take place (known_tables generator) in
       let index : ℕ = index_at births last ordinal in
       is_after-lesser_from _ _ birth_unit
-      (own_death-past_birth birth_unit (generator.order (length earlier) life_column birth_unit index) (table_at generator.tables place).life (sound place within_tables).life)
+      (own_death-past_birth birth_unit (generator.order.place (length earlier) life_column birth_unit index) (table_at generator.tables place).life (sound place within_tables).life)
       (parents-alive_now last generator.order earlier (sure_life generator.tables) births birth_unit index (birth-le births last ordinal born) (index_at-below births last ordinal born)
       (cascades_of (table_at generator.tables place)) (cascades-of last generator sound place within_tables))
 

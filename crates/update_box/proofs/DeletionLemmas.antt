@@ -101,7 +101,7 @@ module _ (plan : Project) (limits : IsInLimits plan) (table t : ℕ) (below : ta
       ∙ sym (death-is ordinal born)
     where
       own-none : (ordinal : ℕ) → (table_of plan table).life ≡ None → own_death (generator_of plan) table t ordinal ≡ None
-      own-none ordinal none = ap (λ (life : Option Span). option_map (λ l. birth births t ordinal + l) (life_by life ((generator_of plan).order table life_column (birth births t ordinal) (index_at births t ordinal)))) none
+      own-none ordinal none = ap (λ (life : Option Span). option_map (λ l. birth births t ordinal + l) (life_by life ((generator_of plan).order.place table life_column (birth births t ordinal) (index_at births t ordinal)))) none
 
   -- so the rows that are looked at and die are all that the unit deletes, and those that are looked at are where no more than one thing may end a row
   pub dying-filter : (found kept : List ℕ) → AreLookedAt plan table t (ends_at plan table t) (cascades_of (table_of plan table)) found kept → IsStrictlyIncreasing kept →

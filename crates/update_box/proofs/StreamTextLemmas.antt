@@ -98,7 +98,7 @@ newborn-alive plan limits place below unit within index inside =
     let earlier : List Known = take place (known_tables generator) in
     let sound = AreSound-accepted plan limits in
     ap (λ (death : Option ℕ). is_after death unit) (death_by-first_ordinal (known_of generator place) unit unit index (omega arith) inside)
-    ∙ is_after-lesser_from _ _ unit (own_death-born unit (generator.order (length earlier) life_column unit index) table.life (sound place (place-below plan place below)).life)
+    ∙ is_after-lesser_from _ _ unit (own_death-born unit (generator.order.place (length earlier) life_column unit index) table.life (sound place (place-below plan place below)).life)
     (parents-alive_now (last_unit plan) generator.order earlier (sure_life generator.tables) table.births unit index within inside (cascades_of table)
     (cascades-of (last_unit plan) generator sound place (place-below plan place below)))
 
