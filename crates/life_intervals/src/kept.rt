@@ -234,9 +234,9 @@ fn push_deal(
     let _columns = plan.columns(table); // and at most 64 columns
     let Wanted { size, seed } = wanted_deal(plan, table, column, reference, unit, window);
     let given = deal_entries(plan, table, column, unit, last, size, room);
-    let before = kept.entries();
+    let held = kept.entries();
     kept.push(size, seed, given)?;
-    room.entries -= kept.entries() - before;
+    room.entries -= kept.entries() - held;
     Ok(())
 }
 

@@ -16,7 +16,7 @@ pub returns-then-parent-window-clause-places : goal.returns-then-parent-window-c
 returns-then-parent-window-clause-places c =
     sym (append-nil c.args.places.now.items)
     ∙ ap (λ (xs : List ℕ). c.args.places.now.items ++ xs)
-    (places_of_parent-none c.args.reference.now.spread c.args.window.now.first c.args.window.now.count c.args.size c.args.parent (omega (arith, c.number-count.ensures.some, c.number-count.ensures.number)) (no_candidate c))
+    (places_of_parent-none c.args.reference.now.spread c.args.deal.now c.args.window.now.first c.args.size c.args.parent (omega (arith, c.requires.some, c.requires.deal)) (λ candidate below. no_candidate c candidate (omega (arith, below, c.requires.deal))))
 
 pub returns-then-parent-window-clause-before : goal.returns-then-parent-window-clause-before
 returns-then-parent-window-clause-before c = GoesOn-same c.args.places.now.items c.args.places.now.items refl

@@ -35,21 +35,21 @@ pub put_rows_from-requires-clause-below : goal.put_rows_from-requires-clause-bel
 put_rows_from-requires-clause-below g c =
     let plan : Project = c.args.self.now in
     let window : CandidateWindow = c.window-window.result in
-    let places : List ℕ → List ℕ = flat_map (places_of_parent c.args.reference.now.spread window.first window.count c.cohort-size.result.size) in
+    let places : List ℕ → List ℕ = flat_map (places_of_parent c.args.reference.now.spread c.deal-deal.result window.first c.cohort-size.result.size) in
     let size_is : c.cohort-size.result.size ≡ cohort_size (table_of plan c.args.table).births c.args.unit =
     c.cohort-size.ensures.size ∙ ap (λ (p : Project). cohort_size (table_of p c.args.table).births c.args.unit) c.plan-2.ensures in
     subst (All (λ place. place < cohort_size (table_of plan c.args.table).births c.args.unit))
     (sym (
     drop-behind c.args.children.now.items c.loop-parent.children.items (places (take c.loop-parent.parent-index c.args.parents.now)) c.len-from.result
     (omega (arith, c.len-from.ensures, c.args.children.now.ok.0)) c.loop-parent.invariant))
-    (All-places c.args.reference.now.spread window.first window.count c.cohort-size.result.size (cohort_size (table_of plan c.args.table).births c.args.unit) (omega (arith, size_is))
+    (All-places c.args.reference.now.spread c.deal-deal.result window.first c.cohort-size.result.size (cohort_size (table_of plan c.args.table).births c.args.unit) (omega (arith, size_is))
     (take c.loop-parent.parent-index c.args.parents.now))
 
 pub returns-clause-children : goal.returns-clause-children
 returns-clause-children g c =
     let plan : Project = c.args.self.now in
     let window : CandidateWindow = c.window-window.result in
-    let places : List ℕ → List ℕ = flat_map (places_of_parent c.args.reference.now.spread window.first window.count c.cohort-size.result.size) in
+    let places : List ℕ → List ℕ = flat_map (places_of_parent c.args.reference.now.spread c.deal-deal.result window.first c.cohort-size.result.size) in
     let size_is : c.cohort-size.result.size ≡ cohort_size (table_of plan c.args.table).births c.args.unit =
     c.cohort-size.ensures.size ∙ ap (λ (p : Project). cohort_size (table_of p c.args.table).births c.args.unit) c.plan-2.ensures in
     AreAppended-places (child_at plan c.args.table c.args.column c.args.unit)
@@ -58,13 +58,13 @@ returns-clause-children g c =
     (omega (arith, c.len-from.ensures, c.args.children.now.ok.0))
     (c.loop-parent.invariant ∙ ap (λ (parents : List ℕ). c.args.children.now.items ++ places parents) (take_all c.loop-parent.parent-index c.args.parents.now c.loop-parent-test.false))
     c.put_rows_from.ensures.rows
-    (children-ready plan (subst IsInLimits c.plan.ensures c.schema-limits.ensures.limits) c.args.table c.requires.table c.args.unit c.requires.unit c.args.column c.args.reference.now c.requires.reference window c.window-window.ensures c.cohort-size.result.size size_is c.args.parents.now)
+    (children-ready plan (subst IsInLimits c.plan.ensures c.schema-limits.ensures.limits) c.args.table c.requires.table c.args.unit c.requires.unit c.args.column c.args.reference.now c.requires.reference c.deal-deal.result c.deal-deal.ensures window c.window-window.ensures c.cohort-size.result.size size_is c.args.parents.now)
 
 pub returns-clause-steps : goal.returns-clause-steps
 returns-clause-steps g c =
     let plan : Project = c.args.self.now in
     let window : CandidateWindow = c.window-window.result in
-    let places : List ℕ → List ℕ = flat_map (places_of_parent c.args.reference.now.spread window.first window.count c.cohort-size.result.size) in
+    let places : List ℕ → List ℕ = flat_map (places_of_parent c.args.reference.now.spread c.deal-deal.result window.first c.cohort-size.result.size) in
     let size_is : c.cohort-size.result.size ≡ cohort_size (table_of plan c.args.table).births c.args.unit =
     c.cohort-size.ensures.size ∙ ap (λ (p : Project). cohort_size (table_of p c.args.table).births c.args.unit) c.plan-2.ensures in
     let took = steps-places (child_at plan c.args.table c.args.column c.args.unit)
@@ -72,7 +72,7 @@ returns-clause-steps g c =
     (places c.args.parents.now) c.len-from.result 1 c.put_rows_from.new.steps c.args.steps.now
     (omega (arith, c.len-from.ensures, c.args.children.now.ok.0))
     (c.loop-parent.invariant ∙ ap (λ (parents : List ℕ). c.args.children.now.items ++ places parents) (take_all c.loop-parent.parent-index c.args.parents.now c.loop-parent-test.false))
-    (children-ready plan (subst IsInLimits c.plan.ensures c.schema-limits.ensures.limits) c.args.table c.requires.table c.args.unit c.requires.unit c.args.column c.args.reference.now c.requires.reference window c.window-window.ensures c.cohort-size.result.size size_is c.args.parents.now)
+    (children-ready plan (subst IsInLimits c.plan.ensures c.schema-limits.ensures.limits) c.args.table c.requires.table c.args.unit c.requires.unit c.args.column c.args.reference.now c.requires.reference c.deal-deal.result c.deal-deal.ensures window c.window-window.ensures c.cohort-size.result.size size_is c.args.parents.now)
     c.put_rows_from.ensures.steps in
     omega (arith, took)
 

@@ -7,4 +7,4 @@ use Rattle.life_intervals.proofs.rows.Rows.push_children.Given as goal
 abbrev pub invariant-loop-parent : goal.invariant-loop-parent
 invariant-loop-parent g l =
     l.children.items
-    ≡ l.fn.children.items ++ flat_map (places_of_parent l.reference.spread l.window.first l.window.count l.size) (take l.parent-index l.parents)
+    ≡ l.fn.children.items ++ flat_map (places_of_parent l.reference.spread l.deal l.window.first l.size) (take l.parent-index l.parents)
