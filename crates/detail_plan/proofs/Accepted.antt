@@ -1,11 +1,11 @@
 -- A detail table whose rules hold is within their limits, and one that breaks none keeps each.
-use Rattle.std.proofs.Common.{◌≡◌, ◌∙◌, ℕ, ℤ, suc, pos, negsuc, ◌-◌, ◌^◌, ◌-ℤ◌, ◌≤ℤ◌, ◌≤◌, ◌&&◌, All, Bool, true, false, List, [], ◌∷◌, length, get_or, nat_le, int_le, not, is_some, None, refl, ap, sym, subst, arith}
+use Rattle.std.proofs.Common.{◌≡◌, ◌∙◌, ℕ, ℤ, suc, pos, negsuc, ◌-◌, ◌^◌, ◌-ℤ◌, ◌≤ℤ◌, ◌≤◌, ◌&&◌, All, Bool, true, false, List, [], ◌∷◌, length, get_or, nat_le, int_le, not, is_some, None, refl, ap, sym, arith}
 use Rattle.std.specs.List.{list_all}
 use Rattle.std.proofs.lemmas.Bool.{and_parts, le-leb, leb-true}
 use Rattle.std.proofs.lemmas.Int.{ints}
 use Rattle.schema_plan.specs.Counts.{count}
 use Rattle.schema_plan.specs.Dictionaries.{Project}
-use Rattle.schema_plan.specs.Limits.{IsCount, IsRange}
+use Rattle.schema_plan.specs.Limits.{IsRange}
 use Rattle.schema_plan.specs.Names.{is_name}
 use Rattle.schema_plan.specs.Planned.{table_named}
 use Rattle.schema_plan.specs.Rules.{is_range}
@@ -14,7 +14,7 @@ use Rattle.detail_plan.specs.declared.detail.Detail.{Detail}
 use Rattle.detail_plan.specs.declared.detail.DetailColumn.{DetailColumn}
 use Rattle.detail_plan.specs.declared.detail.DetailKind.{DetailKind}
 use Rattle.detail_plan.specs.declared.detail.DetailKind.TheVariants.{Int, Pick}
-use Rattle.detail_plan.specs.Limits.{AreEntries, IsColumnInLimits, IsInLimits, IsKindInLimits}
+use Rattle.detail_plan.specs.Limits.{IsColumnInLimits, IsInLimits, IsKindInLimits}
 use Rattle.detail_plan.specs.Rules.{are_new_names, first_broken, first_false, has_columns, has_line_counts, has_new_name, has_parent, has_short_lines, is_kind, reach_of}
 
 first_is_true : (n : ℕ) (b : Bool) (bs : List Bool) → first_false n (b ∷ bs) ≡ None → (b ≡ true) × (first_false (suc n) bs ≡ None)

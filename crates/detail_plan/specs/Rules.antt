@@ -1,6 +1,6 @@
 -- The rules of a detail table over a schema, E1 to E5, and the first that is broken.
-use Rattle.std.specs.Prelude.{◌≡◌, ℕ, zero, suc, ℤ, pos, ◌+◌, ◌*◌, ◌-ℤ◌, List, [], ◌∷◌, Bool, true, false, not, ◌&&◌, Option, Some, None, int_le, is_some, length, map, max, nat_le, sum_by}
-use Rattle.std.specs.List.{list_all, list_any, range_with_len}
+use Rattle.std.specs.Prelude.{◌≡◌, ℕ, suc, pos, ◌+◌, ◌*◌, List, [], ◌∷◌, Bool, true, false, not, ◌&&◌, Option, Some, None, int_le, is_some, length, map, max, nat_le, sum_by}
+use Rattle.std.specs.List.{list_all, range_with_len}
 use Rattle.schema_plan.specs.Counts.{count}
 use Rattle.schema_plan.specs.Dictionaries.{Project}
 use Rattle.schema_plan.specs.FieldBounds.{greatest_by, written_size}

@@ -5,8 +5,8 @@ ghost use Rattle.sample_tables.specs.Schema.{at_each_unit, customer, key, order_
 
 use out_of_memory::Memory;
 use schema_model::{
-    Column, Columns, Deal, Delimiter, Kind, Leaf, Life, Longs, OnDelete, Phase, Phases, Schema, Table,
-    Tables, Text, Window,
+    Column, Columns, Deal, Delimiter, Kind, Leaf, Life, Longs, OnDelete, Phase, Phases, Schema,
+    Table, Tables, Text, Window,
 };
 use std::alloc::Global;
 

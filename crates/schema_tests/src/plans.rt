@@ -144,6 +144,42 @@ fn facts_of_each_kind(rt: HostRuntime) {
     assert!(rt; facts[0] == CITY && facts[1] == ALL);
 }
 
+/// Customers who live three units, and orders whose customers are drawn. Lines with an order and a customer, both drawn: a line goes with
+/// its order and outlives its customer.
+const DRAWN: &str = "seed=7
+units=5
+table=[
+    {name='customer',rows=1,insert=1,life=[3,3],update=2,column=[
+        {name='id',kind='key',base=1},
+        {name='born',kind='born'},
+        {name='changed',kind='changed'},
+    ]},
+    {name='orders',rows=1,insert=1,life=[9,9],column=[
+        {name='id',kind='key',base=1},
+        {name='customer',kind='ref',table='customer',window=2,deal='drawn'},
+    ]},
+    {name='lines',rows=1,insert=1,column=[
+        {name='id',kind='key',base=1},
+        {name='order',kind='ref',table='orders',window=0,deal='drawn'},
+        {name='seller',kind='ref',table='customer',window=2,on_delete='null',deal='drawn'},
+        {name='buyer',kind='lookup',via='order',column='customer'},
+    ]},
+]";
+
+// Two permutations choose a parent that is drawn. The death of a customer asks 1, that of an order 1 + 2 + 1, and that of a line 2 + 4. A
+// line's change asks for its seller 2 + 1. Its fields ask 2, 2 + 1 and 2 + 2.
+const BOUNDS_OF_DRAWN: [Bounds; 3] = [
+    (0, 3, 33, Some(3), Some(3)),
+    (1, 7, 42, Some(1), Some(3)),
+    (2, 19, 84, Some(1), Some(3)),
+];
+
+#[test]
+fn costs_of_drawn_references(rt: HostRuntime) {
+    let plan = plan_of(&rt, rt.alloc(), DRAWN, Dictionaries::new(rt.alloc()));
+    assert_bounds(&rt, &plan, &BOUNDS_OF_DRAWN);
+}
+
 /// A chain of tables: how many references each table has to the one before it, the place of the table with scrambled keys, what each
 /// table says beside, and what is told.
 type Chain = (&'static [usize], usize, &'static str, Told);

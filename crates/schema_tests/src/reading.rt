@@ -27,7 +27,7 @@ column = [
     {name="c", kind="uuid", changes=true, null=7},
     {name="c", kind="template", parts=["r", {column="id"}, {column="id", width=9}]},
     {name="c", kind="case", on="x", branches=[{kind="dict", file="f"}, {kind="date", lo="1970-01-01", hi="2000-03-01"}, {kind="uuid"}]},
-    {name="c", kind="ref", table="p", window=9, spread=[1, 2], on_delete="null"},
+    {name="c", kind="ref", table="p", window=9, spread=[1, 2], on_delete="null", deal="drawn"},
     {name="c", kind="lookup", via="p", column="city"},
     {name="c", kind="list", file="names.txt"},
     {name="c", kind="born_date", start="0001-01-01", step=7},
@@ -50,7 +50,7 @@ column = [
 name = "phases"
 rows = 20
 insert = [[1, 20], [6, 50], [6, -1], [0, 0]]
-column = [{name="c", kind="ref", table="p", window=1, on_delete="cascade"}]
+column = [{name="c", kind="ref", table="p", window=1, on_delete="cascade", deal="turn"}]
 [[table]]
 name = "no phase"
 rows = 1
@@ -76,7 +76,7 @@ const SCHEMA: &str = concat!(
     r#"Column { name: Text { text: "c" }, kind: Leaf(Uuid), changes: true, null: 7 }, "#,
     r#"Column { name: Text { text: "c" }, kind: Template { parts: Sequence { items: [Literal(Text { text: "r" }), Cited(Text { text: "id" }), Padded { column: Text { text: "id" }, width: 9 }] } }, changes: false, null: 0 }, "#,
     r#"Column { name: Text { text: "c" }, kind: Case { on: Text { text: "x" }, branches: Sequence { items: [Dict { file: Text { text: "f" } }, Date { lo: 0, hi: 11017 }, Uuid] } }, changes: false, null: 0 }, "#,
-    r#"Column { name: Text { text: "c" }, kind: Ref { table: Text { text: "p" }, window: Units(9), spread: Sequence { items: [1, 2] }, on_delete: Null }, changes: false, null: 0 }, "#,
+    r#"Column { name: Text { text: "c" }, kind: Ref { table: Text { text: "p" }, window: Units(9), spread: Sequence { items: [1, 2] }, on_delete: Null, deal: Drawn }, changes: false, null: 0 }, "#,
     r#"Column { name: Text { text: "c" }, kind: Lookup { via: Text { text: "p" }, column: Text { text: "city" } }, changes: false, null: 0 }, "#,
     r#"Column { name: Text { text: "c" }, kind: List { file: Text { text: "names.txt" } }, changes: false, null: 0 }, "#,
     r#"Column { name: Text { text: "c" }, kind: BornDate { start: -719162, step: 7 }, changes: false, null: 0 }, "#,
@@ -87,7 +87,7 @@ const SCHEMA: &str = concat!(
     r#"Column { name: Text { text: "c" }, kind: Key { base: 1, scramble: false }, changes: false, null: 0 }, "#,
     r#"Column { name: Text { text: "c" }, kind: Leaf(Int { lo: 1, hi: 9, step: 1 }), changes: false, null: 0 }, "#,
     r#"Column { name: Text { text: "c" }, kind: Leaf(Pick { entries: Sequence { items: [Text { text: "a" }, Text { text: "b" }] }, weights: Sequence { items: [1, 1] } }), changes: false, null: 0 }, "#,
-    r#"Column { name: Text { text: "c" }, kind: Ref { table: Text { text: "p" }, window: All, spread: Sequence { items: [1] }, on_delete: Cascade }, changes: false, null: 0 }, "#,
+    r#"Column { name: Text { text: "c" }, kind: Ref { table: Text { text: "p" }, window: All, spread: Sequence { items: [1] }, on_delete: Cascade, deal: Turn }, changes: false, null: 0 }, "#,
     r#"Column { name: Text { text: "c" }, kind: Template { parts: Sequence { items: [] } }, changes: false, null: 0 }, "#,
     r#"Column { name: Text { text: "c" }, kind: BornDate { start: 0, step: 1 }, changes: false, null: 0 }, "#,
     r#"Column { name: Text { text: "c" }, kind: ChangedDate { start: 2932896, step: 1 }, changes: false, null: 0 }"#,
@@ -95,7 +95,7 @@ const SCHEMA: &str = concat!(
     r#"Table { name: Text { text: "phases" }, rows: 20, "#,
     "insert: Sequence { items: [Phase { from: 1, rate: 20 }, Phase { from: 6, rate: 50 }, Phase { from: 6, rate: -1 }, Phase { from: 0, rate: 0 }] }, ",
     "life: None, update: None, columns: Sequence { items: [",
-    r#"Column { name: Text { text: "c" }, kind: Ref { table: Text { text: "p" }, window: Units(1), spread: Sequence { items: [1] }, on_delete: Cascade }, changes: false, null: 0 }"#,
+    r#"Column { name: Text { text: "c" }, kind: Ref { table: Text { text: "p" }, window: Units(1), spread: Sequence { items: [1] }, on_delete: Cascade, deal: Turn }, changes: false, null: 0 }"#,
     "] } }, ",
     r#"Table { name: Text { text: "no phase" }, rows: 1, insert: Sequence { items: [] }, life: None, update: None, columns: Sequence { items: [] } }"#,
     "] } }",

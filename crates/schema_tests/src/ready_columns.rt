@@ -13,7 +13,7 @@ use weight_tables::Weights;
 
 /// A table with two numbers, a date, a pick, a skew and a UUID. Characters that are sometimes null, and a case: a number for the first entry of a
 /// pick and a date for the second. Customers who live 3 units and change every 2. Orders that live at most 9 units, each of a customer who
-/// is at most 2 units older. Lines, each as old as its order. Parents who live for ever, and children of any of them, who show when their
+/// is at most 2 units older. Lines, each as old as its order, which is drawn. Parents who live for ever, and children of any of them, who show when their
 /// parents were born. An entry of a word list, and up to three of them.
 const KEPT: &str = r#"seed=1
 units=4
@@ -47,7 +47,7 @@ table=[
     ]},
     {name='lines',rows=9,insert=2,column=[
         {name='id',kind='key',base=1},
-        {name='ref',kind='ref',table='orders',window=0,spread=[3,3]},
+        {name='ref',kind='ref',table='orders',window=0,spread=[3,3],deal='drawn'},
     ]},
     {name='parents',rows=1,insert=0,column=[
         {name='id',kind='key',base=1},
@@ -213,17 +213,20 @@ fn assert_composed(rt: &impl Abort, columns: &[ReadyColumn]) {
     }
 }
 
-/// Asserts a reference to the table at a place, in a window, with two weights of 3.
-fn assert_made(rt: &impl Abort, made: &ReadyReference, parent: u32, window: Option<u64>) {
-    assert!(rt; made.parent == parent && made.window == window && made.groups == 2);
+/// The place of the parents' table, the window, and whether the parents are drawn.
+type Referring = (u32, Option<u64>, bool);
+
+/// Asserts a reference with two weights of 3.
+fn assert_made(rt: &impl Abort, made: &ReadyReference, wanted: Referring) {
+    assert!(rt; (made.parent, made.window, made.drawn) == wanted && made.groups == 2);
     assert_weights(rt, &made.spread, &made.total, 2, 3, 6);
 }
 
 /// Asserts a table of a key and a reference with two weights of 3.
-fn assert_referring(rt: &impl Abort, columns: &[ReadyColumn], parent: u32, window: Option<u64>) {
+fn assert_referring(rt: &impl Abort, columns: &[ReadyColumn], wanted: Referring) {
     match columns {
         [_, reference] => match &reference.kind {
-            ReadyKind::Reference(made) => assert_made(rt, made, parent, window),
+            ReadyKind::Reference(made) => assert_made(rt, made, wanted),
             _ => panic!(rt; "no reference"),
         },
         _ => panic!(rt; "referring"),
@@ -241,7 +244,7 @@ fn assert_looking_up(rt: &impl Abort, columns: &[ReadyColumn]) {
     match columns {
         [_, reference, lookup] => match (&reference.kind, &lookup.kind) {
             (ReadyKind::Reference(made), ReadyKind::Lookup(found)) => {
-                assert_made(rt, made, 5, None);
+                assert_made(rt, made, (5, None, false));
                 assert!(rt; *found == wanted);
             }
             _ => panic!(rt; "no lookup"),
@@ -280,19 +283,19 @@ fn assert_columns(rt: &impl Abort, plan: &Plan) {
     assert!(rt; plan.tables() == 8);
     assert_drawn(rt, plan.columns(0));
     assert_composed(rt, plan.columns(1));
-    assert_referring(rt, plan.columns(3), 2, Some(2));
-    assert_referring(rt, plan.columns(4), 3, Some(0));
+    assert_referring(rt, plan.columns(3), (2, Some(2), false));
+    assert_referring(rt, plan.columns(4), (3, Some(0), true));
     assert_looking_up(rt, plan.columns(6));
     assert_drawing(rt, plan.columns(7));
 }
 
-// An order lives at least 3 - 2 units, and no row lives longer than its customer. A row takes 1 permutation, and each reference 1. The
-// death of a customer takes 1 and a change 1, the death of an order 1 + 1 + 1, and that of a line 1 + 3. A line has at most 20 bytes for
+// An order lives at least 3 - 2 units, and no row lives longer than its customer. A row takes 1 permutation, an order's reference 1 and a
+// line's, which is drawn, 2. The death of a customer takes 1 and a change 1, the death of an order 1 + 1 + 1, and that of a line 2 + 3. A line has at most 20 bytes for
 // a key, 20 for a reference and 4 for an entry. Up to three words take three entries and two spaces. Each field has a byte after it.
 const BOUNDS: [Bounds; 4] = [
     (2, 3, 21, Some(3), Some(3)),
     (3, 5, 42, Some(1), Some(3)),
-    (4, 6, 42, Some(1), Some(3)),
+    (4, 8, 42, Some(1), Some(3)),
     (7, 1, 20 + 4 + 14 + 3, None, None),
 ];
 

@@ -33,7 +33,7 @@ const TABLE_FAULTS: [&str; 10] = [
 ];
 
 // The keys of the first column of the first table, with one wrong key.
-const COLUMN_FAULTS: [&str; 90] = [
+const COLUMN_FAULTS: [&str; 92] = [
     "Name TextValue: name=1,kind='born',changes=true,null=1",
     "Name TextValue: kind='born',changes=true,null=1",
     "Kind KindName: name='c',kind='nope',changes=true,null=1",
@@ -116,14 +116,16 @@ const COLUMN_FAULTS: [&str; 90] = [
     "Window WindowValue: name='c',kind='ref',table='a',window='two',spread=[1]",
     "Window WindowValue: name='c',kind='ref',table='a',spread=[1]",
     "Spread Wholes: name='c',kind='ref',table='a',window='all',spread=[1,true]",
-    "OnDelete DeleteName: name='c',kind='ref',table='a',window='all',spread=[1],on_delete=1",
-    "Other NoSuchKey: name='c',kind='ref',table='a',window='all',spread=[1],on_delete='null',zz=1",
+    "OnDelete DeleteName: name='c',kind='ref',table='a',window='all',spread=[1],on_delete=1,deal=1",
+    "Deal DealName: name='c',kind='ref',table='a',window='all',spread=[1],on_delete='null',deal='x'",
+    "Other NoSuchKey: name='c',kind='ref',table='a',window='all',spread=[1],on_delete='null',deal='drawn',zz=1",
     "Via TextValue: name='c',kind='lookup',via=1,column='a'",
     "Via TextValue: name='c',kind='lookup',column='a'",
     "Column TextValue: name='c',kind='lookup',via='a',column=1",
     "Column TextValue: name='c',kind='lookup',via='a'",
     "Other NoSuchKey: name='c',kind='lookup',via='a',column='a',zz=1",
     "Other NoSuchKey: name='c',kind='lookup',via='a',column='a',on_delete='null'",
+    "Other NoSuchKey: name='c',kind='lookup',via='a',column='a',deal='turn'",
 ];
 
 // The keys of the first branch of a case, with one wrong key.
@@ -216,7 +218,7 @@ const NO_DATES: [&str; 12] = [
     "Lo DateText: 2023-01-01",
 ];
 
-// Values that are no number of births and no list of pairs, no name of a deletion, no window, and no list of parts.
+// Values that are no number of births and no list of pairs, no name of a deletion, no name of a deal, no window, and no list of parts.
 const NO_INSERTS: [&str; 8] = [
     "Insert InsertValue: true",
     "Insert InsertValue: '20'",
@@ -233,6 +235,14 @@ const NO_DELETIONS: [&str; 4] = [
     "OnDelete DeleteName: 'NULL'",
     "OnDelete DeleteName: ''",
     "OnDelete DeleteName: ['cascade']",
+];
+
+const NO_DEALS: [&str; 5] = [
+    "Deal DealName: true",
+    "Deal DealName: 'Drawn'",
+    "Deal DealName: 'turns'",
+    "Deal DealName: ''",
+    "Deal DealName: ['turn']",
 ];
 
 const NO_WINDOWS: [&str; 4] = [
@@ -309,6 +319,9 @@ const INSERT_FRONT: &str = "seed=1\nunits=1\ntable=[{name='t',rows=1,column=[],i
 const DELETION_FRONT: &str =
     "seed=1\nunits=1\ntable=[{name='t',rows=1,column=[{name='c',kind='ref',table='p',window=1,on_delete=";
 
+const DEAL_FRONT: &str =
+    "seed=1\nunits=1\ntable=[{name='t',rows=1,column=[{name='c',kind='ref',table='p',window=1,deal=";
+
 const WINDOW_FRONT: &str =
     "seed=1\nunits=1\ntable=[{name='t',rows=1,column=[{name='c',kind='ref',table='p',window=";
 
@@ -355,6 +368,7 @@ fn the_first_wrong_key_is_told(rt: HostRuntime) {
     try_rows(&rt, alloc, (1, 1, 0), DATE_FRONT, &NO_DATES, "}]}]");
     try_rows(&rt, alloc, (1, 0, 0), INSERT_FRONT, &NO_INSERTS, "}]");
     try_rows(&rt, alloc, (1, 1, 0), DELETION_FRONT, &NO_DELETIONS, "}]}]");
+    try_rows(&rt, alloc, (1, 1, 0), DEAL_FRONT, &NO_DEALS, "}]}]");
     try_rows(&rt, alloc, (1, 1, 0), WINDOW_FRONT, &NO_WINDOWS, "}]}]");
     try_rows(&rt, alloc, (1, 1, 0), PARTS_FRONT, &NO_PARTS, "}]}]");
     try_documents(&rt, alloc, &NO_DOCUMENTS);
