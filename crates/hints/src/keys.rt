@@ -41,7 +41,7 @@ fn own_keys(kind: &str) -> &'static str {
         "chars" => "alphabet, lo, hi",
         "template" => "parts",
         "case" => "on, branches",
-        "ref" => "table, window, spread, on_delete",
+        "ref" => "table, window, spread, on_delete, deal",
         "lookup" => "via, column",
         _ => "",
     }
@@ -254,6 +254,7 @@ fn sample_of(expected: Expected) -> &'static str {
         Expected::WindowValue => "a whole number, such as 3, or \"all\"",
         Expected::InsertValue => "a whole number, such as 10, or phases, such as [[1, 10], [5, 0]]",
         Expected::DeleteName => "\"cascade\" or \"null\"",
+        Expected::DealName => "\"turn\" or \"drawn\"",
         Expected::NoSuchKey => "no such key",
     }
 }

@@ -222,7 +222,7 @@ module _ (plan : Project) (limits : IsInLimits plan) (table unit ordinal : ℕ) 
 
 -- what the death of the parent by a reference costs
 abbrev pub cost_of_reference : CohortOf → Reference → ℕ
-cost_of_reference cohort reference = 1 + death_cost (layout_of cohort.plan).tables reference.parent
+cost_of_reference cohort reference = choice_cost reference.drawn + death_cost (layout_of cohort.plan).tables reference.parent
 
 -- of the references before a column, those that a test lets through
 abbrev passing_before : (Reference → Bool) → CohortOf → ℕ → List Reference

@@ -279,9 +279,9 @@ module _ (plan : Project) (table born : ℕ) (within : born ≤ last_unit plan) 
 pub steps-more : (n b c d s a e : ℕ) → a ≤ s + n * b → e ≤ a + n * c → d ≡ b + c → e ≤ s + n * d
 steps-more n b c d s a e first second sum = omega (arith, first, second, ap (λ m. n * m) sum, mul-add n b c)
 
-pub steps-parents : (n m asked cost s a e : ℕ) → m ≡ n → a ≡ s + n → e ≤ a + m * asked → asked ≤ cost → e ≤ s + n * (1 + cost)
-steps-parents n m asked cost s a e same first second few =
-    omega (arith, first, second, ap (λ k. k * asked) same, mul-le-mul_left n few, mul-add n 1 cost)
+pub steps-parents : (n m choice asked cost s a e : ℕ) → m ≡ n → a ≡ s + n * choice → e ≤ a + m * asked → asked ≤ cost → e ≤ s + n * (choice + cost)
+steps-parents n m choice asked cost s a e same first second few =
+    omega (arith, first, second, ap (λ k. k * asked) same, mul-le-mul_left n few, mul-add n choice cost)
 
 -- parents that are known, under other names
 pub AreKnownOf-same : (plan : Project) (table unit : ℕ) (ordinals : List ℕ) (by known_by : Option ℕ) (parents known births known_births : List ℕ) → by ≡ known_by → parents ≡ known → births ≡ known_births →

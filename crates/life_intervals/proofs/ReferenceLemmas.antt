@@ -30,7 +30,7 @@ pub record IsReady (column : ℕ) (held : KindLayout) (ready : ReadyReference) :
 
 pub reference_from_ready : (delimiter column : ℕ) (held : KindLayout) (ready : ReadyReference) → ready_kind delimiter held ≡ kind.Reference ready → IsReady column held ready
 reference_from_ready delimiter column (reference_kind parent window spread nulls drawn) ready is =
-    let same : ready_reference parent window spread nulls ≡ ready = cc in
+    let same : ready_reference parent window spread nulls drawn ≡ ready = cc in
     record {
       is = ap (λ (r : ReadyReference). Some (reference_by column r)) same;
       groups = subst (λ (r : ReadyReference). r.groups ≡ length r.spread) same refl;

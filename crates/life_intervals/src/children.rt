@@ -133,9 +133,33 @@ pub fn child_block(
     ensures { (reference : Reference) → reference_at (table_of plan.now table) column ≡ Some reference →
         result ≡ child_block plan.now table reference parent unit turn }
 {
-    let mut steps = Steps::<Brand>::new(Blank::new(1)); // nobody asks for them
-    let number = deal_number(plan, table, column, parent, unit, &mut steps);
+    let number = uncounted_number::<Brand>(plan, table, column, parent, unit, Blank::new(1));
     number_block(plan, table, column, number, unit, turn)
+}
+
+/// Returns the number of the row `parent` as the candidates are dealt, and leaves its steps uncounted.
+fn uncounted_number<B: Ledger>(
+    plan: &Plan,
+    table: u32,
+    column: u32,
+    parent: u64,
+    unit: u64,
+    blank: Blank,
+) -> u64
+    requires name { blank.name ≡ B.name }
+    requires parts { blank.parts ≡ B.parts }
+    requires some { 0 < blank.parts }
+    requires table { table < length plan.now.schema.tables }
+    requires unit { unit ≤ last_unit plan.now }
+    requires reference { is_some (reference_at (table_of plan.now table) column) ≡ true }
+    requires parent { (reference : Reference) → reference_at (table_of plan.now table) column ≡ Some reference → IsCandidate plan.now reference unit parent }
+    ensures number { (reference : Reference) → reference_at (table_of plan.now table) column ≡ Some reference →
+        result ≡ deal_number plan.now table reference unit parent }
+    ensures below { (reference : Reference) → reference_at (table_of plan.now table) column ≡ Some reference →
+        result < candidate_count plan.now reference unit }
+{
+    let mut steps = Steps::<B>::new(blank);
+    deal_number(plan, table, column, parent, unit, &mut steps)
 }
 
 /// Appends the places of a block to a list.
@@ -204,7 +228,8 @@ fn push_places_of<L: Ledger>(
         return Ok(());
     }
     let number = deal.unplace(parent - window.first, steps);
-    push_choosing(reference, size, count, number, places)
+    push_choosing(reference, size, count, number, places)?;
+    Ok(())
 }
 
 impl<'a> Rows<'a> {

@@ -230,13 +230,12 @@ fn push_deal(
     ensures deal { IfOk result (λ _. kept.new.orders ≡ kept.old.orders ++ deal_by plan.now table column reference.now unit ∷ []) }
     ensures entries { IfOk result (λ _. kept.new.entries + room.new.entries ≡ kept.old.entries + room.old.entries) }
 {
-    let _limits = plan.schema(); // a table has at most 2^40 rows
-    let _columns = plan.columns(table); // and at most 64 columns
+    let _columns = plan.columns(table); // there are at most 64
     let Wanted { size, seed } = wanted_deal(plan, table, column, reference, unit, window);
     let given = deal_entries(plan, table, column, unit, last, size, room);
-    let before = kept.entries();
+    let held = kept.entries();
     kept.push(size, seed, given)?;
-    room.entries -= kept.entries() - before;
+    room.entries -= kept.entries() - held;
     Ok(())
 }
 

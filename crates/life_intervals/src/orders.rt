@@ -1,6 +1,8 @@
 //! The orders of cohorts: of keys, lives, updates and chosen parents.
 
-ghost use Rattle.std.specs.Prelude.{◌≡◌, ◌<◌, ◌≤◌, ◌^◌, length};
+ghost use Rattle.std.specs.Prelude.{◌≡◌, ◌<◌, ◌≤◌, if◌then◌else◌, length, Some, None};
+ghost use Rattle.philox_seeds.specs.SeedTree.{deal_seed};
+ghost use Rattle.schema_plan.specs.Layout.{layout_of};
 ghost use Rattle.life_intervals.specs.CohortOrders.{do_lives_differ, do_updates_differ, is_drawn, order_for, order_seed};
 ghost use Rattle.life_intervals.specs.CohortParents.{IsReferenceOf, deal_by, window_by};
 ghost use Rattle.life_intervals.specs.Generator.{last_unit, table_of};
@@ -100,18 +102,34 @@ pub(crate) fn wanted_deal(
     unit: u64,
     window: &CandidateWindow,
 ) -> Wanted
+    requires table { table < length plan.now.schema.tables }
     requires reference { IsReferenceOf plan.now table column reference.now }
     requires column { column < 64 }
+    requires unit { unit ≤ last_unit plan.now }
     requires window { window.now ≡ window_by plan.now reference.now unit }
-    requires few { window.now.count ≤ 2 ^ 40 }
     ensures { result ≡ deal_by plan.now table column reference.now unit }
 {
+    let _limits = plan.schema(); // a table has at most 2^40 rows
     Wanted {
         size: window.count.number(),
-        seed: if reference.drawn {
-            Some(deal_seed(plan.seed(), table, column, unit))
-        } else {
-            None
-        },
+        seed: seed_of_deal(plan, table, column, reference, unit),
+    }
+}
+
+/// Returns the seed of this order, or None if the reference deals in turn.
+fn seed_of_deal(
+    plan: &Plan,
+    table: u32,
+    column: u32,
+    reference: &ReadyReference,
+    unit: u64,
+) -> Option<u64>
+    requires { column < 64 }
+    ensures { result ≡ (if reference.now.drawn then Some (deal_seed (layout_of plan.now).seed table column unit) else None) }
+{
+    if reference.drawn {
+        Some(deal_seed(plan.seed(), table, column, unit))
+    } else {
+        None
     }
 }

@@ -1,6 +1,6 @@
 //! The rows of a plan.
 
-ghost use Rattle.std.specs.Prelude.{◌≡◌, ◌<◌, ◌≤◌, ◌^◌, length};
+ghost use Rattle.std.specs.Prelude.{◌≡◌, ◌<◌, ◌≤◌, length};
 ghost use Rattle.life_intervals.specs.CohortOrders.{order_for};
 ghost use Rattle.life_intervals.specs.CohortParents.{IsReferenceOf, deal_by, window_by};
 ghost use Rattle.life_intervals.specs.Generator.{last_unit};
@@ -119,10 +119,11 @@ impl<'a> Rows<'a> {
         unit: u64,
         window: &CandidateWindow,
     ) -> Order<'a>
+        requires table { table < length self.now.schema.tables }
         requires reference { IsReferenceOf self.now table column reference.now }
         requires column { column < 64 }
+        requires unit { unit ≤ last_unit self.now }
         requires window { window.now ≡ window_by self.now reference.now unit }
-        requires few { window.now.count ≤ 2 ^ 40 }
         ensures { result ≡ deal_by self.now table column reference.now unit }
     {
         if let Some(kept) = self.kept {

@@ -123,6 +123,7 @@ impl CandidateWindow {
     )
         requires places { All (λ place. place < 2 ^ 40) places.old }
         requires first { self.now.first ≤ 2 ^ 40 }
+        requires some { 1 ≤ self.now.count }
         requires count { self.now.count ≤ 2 ^ 40 }
         requires deal { deal.now.size ≡ self.now.count }
         requires groups { reference.now.groups ≡ length reference.now.spread }

@@ -11,6 +11,6 @@ mod tree;
 pub use batches::{draws, row_seeds, run_row_seeds, run_row_seeds_by_unit};
 pub use block::philox4x32_10;
 pub use tree::{
-    child, column_seed, deal_seed, draw, key_order_seed, keyed_number, life_order_seed, reference_order_seed,
-    row_seed, table_seed, unit_seed, update_order_seed,
+    child, column_seed, deal_seed, draw, key_order_seed, keyed_number, life_order_seed,
+    reference_order_seed, row_seed, table_seed, unit_seed, update_order_seed,
 };

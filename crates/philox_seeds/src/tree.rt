@@ -1,6 +1,6 @@
 //! The tree of seeds. Each seed keys the generator, and a counter names the seed or the draw below it.
 
-ghost use Rattle.std.specs.Prelude.{◌≡◌, ℕ, slice_index};
+ghost use Rattle.std.specs.Prelude.{◌≡◌, ◌<◌, ℕ, slice_index};
 ghost use Rattle.philox_seeds.specs.Philox.{high_word, low_word};
 ghost use Rattle.philox_seeds.specs.SeedTree.{number_of_words, keyed_number, child, table_seed, column_seed, unit_seed, row_seed, draw, permutation_seed, key_order_seed, life_order_seed, update_order_seed, reference_order_seed, deal_seed};
 

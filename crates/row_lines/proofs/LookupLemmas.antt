@@ -7,10 +7,10 @@ use Rattle.cohort_sizes.specs.Births.{Births, birth, born_count, cohort_size}
 use Rattle.schema_plan.specs.declared.ready.ReadyKind.TheVariants as kind
 use Rattle.schema_plan.specs.declared.ready.ReadyLookup.{ReadyLookup}
 use Rattle.schema_plan.specs.declared.ready.ReadyReference.{ReadyReference}
-use Rattle.schema_plan.specs.FieldBounds.{bounds_at, bounds_in_table, bounds_of}
+use Rattle.schema_plan.specs.FieldBounds.{bounds_at, bounds_in_table, bounds_of, choice_cost_of}
 use Rattle.schema_plan.specs.Layout.{KindLayout, TableLayout, born_kind, case_kind, changed_kind, column_at, key_kind, layout_of, leaf_kind, lookup_kind, list_kind, unit_date_kind, reference_kind, table_at, template_kind}
 use Rattle.schema_plan.specs.Limits.{IsCascadeTo, IsInLimits, IsLookup, IsLookupInLimits, IsStillColumn, IsTableInLimits, is_lookup_kind, is_moving_kind}
-use Rattle.schema_plan.specs.Lineage.{lineages}
+use Rattle.schema_plan.specs.Lineage.{choice_cost, lineages}
 use Rattle.schema_plan.specs.Ready.{ready_kind, ready_reference}
 use Rattle.schema_plan.specs.References.{Reference, reference_at}
 use Rattle.draw_values.specs.CohortValues.{ValuesOf, is_null_for}
@@ -83,21 +83,28 @@ no_lookup-ready delimiter _ other = refl
 
 -- a reference is ready as one, to the same table
 pub reference_ready : (delimiter place : ℕ) (held : KindLayout) → IsCascadeTo place held → (ready : ReadyReference) × (ready_kind delimiter held ≡ kind.Reference ready)
-reference_ready delimiter place (reference_kind parent window spread false drawn) is = (ready_reference parent window spread false, refl)
+reference_ready delimiter place (reference_kind parent window spread false drawn) is = (ready_reference parent window spread false drawn, refl)
 reference_ready delimiter place _ is = absurd is
 
 pub reference_to : (delimiter place : ℕ) (held : KindLayout) (ready : ReadyReference) → IsCascadeTo place held → ready_kind delimiter held ≡ kind.Reference ready → ready.parent ≡ place
 reference_to delimiter place (reference_kind parent window spread false drawn) ready is held =
-    let same : ready_reference parent window spread false ≡ ready = cc in
+    let same : ready_reference parent window spread false drawn ≡ ready = cc in
     sym (ap (λ (r : ReadyReference). r.parent) same) ∙ is
 reference_to delimiter place _ ready is held = absurd is
 
 -- that doesn't become null
 pub reference_cascades : (delimiter place : ℕ) (held : KindLayout) (ready : ReadyReference) → IsCascadeTo place held → ready_kind delimiter held ≡ kind.Reference ready → ready.nulls ≡ false
 reference_cascades delimiter place (reference_kind parent window spread false drawn) ready is held =
-    let same : ready_reference parent window spread false ≡ ready = cc in
+    let same : ready_reference parent window spread false drawn ≡ ready = cc in
     sym (ap (λ (r : ReadyReference). r.nulls) same)
 reference_cascades delimiter place _ ready is held = absurd is
+
+-- and what chooses its parent takes what the schema counts for its column
+pub choice_cost-ready : (delimiter : ℕ) (held : KindLayout) (ready : ReadyReference) → ready_kind delimiter held ≡ kind.Reference ready → choice_cost_of held ≡ choice_cost ready.drawn
+choice_cost-ready delimiter (reference_kind parent window spread nulls drawn) ready is =
+    let same : ready_reference parent window spread nulls drawn ≡ ready = cc in
+    ap (λ (r : ReadyReference). choice_cost r.drawn) same
+choice_cost-ready delimiter _ ready is = absurd (cc)
 
 module _ (lines : LinesOf) (limits : IsInLimits lines.plan) (table : lines.table < length lines.plan.schema.tables) (column : ℕ) (lookup : ReadyLookup) (of : IsLookupOf lines column lookup) where
   -- it is that of the layout
@@ -124,8 +131,13 @@ module _ (lines : LinesOf) (limits : IsInLimits lines.plan) (table : lines.table
     room_for_null (layout_of lines.plan).delimiter (layout_of lines.plan).tables (table_of lines.plan lookup.parent) (column_at (table_of lines.plan lookup.parent).columns lookup.column).kind,
   )
 
-  pub asked-lookup : asked_for true lines column ≡ 1 + (bounds_at (layout_of lines.plan).delimiter (layout_of lines.plan).tables (table_of lines.plan lookup.parent) lookup.column).permutations
-  asked-lookup = ap (asked_by true (layout_of lines.plan).delimiter (layout_of lines.plan).tables (layout_for lines)) kind_of_lookup
+  pub asked-lookup : (reference : ReadyReference) → IsReferenceOf lines.plan lines.table lookup.via reference →
+      asked_for true lines column
+      ≡ choice_cost reference.drawn + (bounds_at (layout_of lines.plan).delimiter (layout_of lines.plan).tables (table_of lines.plan lookup.parent) lookup.column).permutations
+  asked-lookup reference refers =
+      let shown : ℕ = (bounds_at (layout_of lines.plan).delimiter (layout_of lines.plan).tables (table_of lines.plan lookup.parent) lookup.column).permutations in
+      ap (asked_by true (layout_of lines.plan).delimiter (layout_of lines.plan).tables (layout_for lines)) kind_of_lookup
+      ∙ ap (λ (chosen : ℕ). chosen + shown) (choice_cost-ready (layout_of lines.plan).delimiter (column_at (layout_for lines).columns lookup.via).kind reference refers.is)
 
 -- ---- what it shows
 

@@ -1,5 +1,5 @@
 -- What it costs to tell which of the references that a line shows are null, as the schema counts it.
-use Rattle.std.proofs.Common.{◌≡◌, ◌<◌, ℕ, suc, true, false, List, [], ◌∷◌, length, sum_by, take, All, refl, ap, ◌∙◌, arith}
+use Rattle.std.proofs.Common.{◌≡◌, ◌<◌, ℕ, suc, Bool, true, false, List, [], ◌∷◌, length, sum_by, take, All, refl, ap, ◌∙◌, arith}
 use std.Path.{fun_ext}
 use Rattle.std.proofs.lemmas.List.{get_or-take, length-map}
 use Rattle.std.proofs.lemmas.List.Elements.{All-head, All-tail}
@@ -31,10 +31,10 @@ module _ (plan : Project) (limits : IsInLimits plan) (place : ℕ) (below : plac
   own = (table_of plan place).columns
 
   -- a parent's table comes before
-  of_kind : (kind : KindLayout) → ((parent : ℕ) (window : _) (spread : List ℕ) → kind ≡ reference_kind parent window spread true drawn → parent < place) →
+  of_kind : (kind : KindLayout) → ((parent : ℕ) (window : _) (spread : List ℕ) (drawn : Bool) → kind ≡ reference_kind parent window spread true drawn → parent < place) →
       null_cost_of (take place all) kind ≡ null_cost_of all kind
   of_kind (reference_kind parent window spread true drawn) earlier =
-      ap (λ (lineage : Lineage). lineage.death_cost) (get_or-take place all parent endless (earlier parent window spread refl))
+      ap (λ (lineage : Lineage). lineage.death_cost) (get_or-take place all parent endless (earlier parent window spread drawn refl))
   of_kind (reference_kind parent window spread false drawn) earlier = refl
   of_kind key_kind earlier = refl
   of_kind born_kind earlier = refl
@@ -49,7 +49,7 @@ module _ (plan : Project) (limits : IsInLimits plan) (place : ℕ) (below : plac
   of_column : (column : ℕ) → null_cost_of (take place all) (column_at own column).kind ≡ null_cost_of all (column_at own column).kind
   of_column column =
       of_kind (column_at own column).kind
-      (λ parent window spread is.
+      (λ parent window spread drawn is.
       let found = ap (reference_of column) is in
       (at_column (IsReferenceInLimits (last_unit plan) (layout_of plan).tables place) (table_of plan place) (limits.references place below) column _
       (reference_at-within (table_of plan place) column _ found) found).earlier)

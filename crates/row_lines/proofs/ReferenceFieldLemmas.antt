@@ -12,7 +12,7 @@ use Rattle.schema_plan.specs.Dictionaries.{Project}
 use Rattle.schema_plan.specs.FieldBounds.{bounds_of}
 use Rattle.schema_plan.specs.Layout.{ColumnLayout, KindLayout, TableLayout, column_at, layout_of, reference_kind, table_at}
 use Rattle.schema_plan.specs.Limits.{IsInLimits, IsTableInLimits}
-use Rattle.schema_plan.specs.Lineage.{death_cost, lineages, null_cost_of, one_if, sure_life}
+use Rattle.schema_plan.specs.Lineage.{choice_cost, death_cost, lineages, null_cost_of, one_if, sure_life}
 use Rattle.schema_plan.specs.References.{Reference, reference_at, reference_of, references_of}
 use Rattle.life_intervals.specs.CohortParents.{IsReferenceOf, held_cost, loss_in, parent_cost, reference_by}
 use Rattle.life_intervals.specs.Generator.{Generator, generator_of, last_unit, table_of}
@@ -156,9 +156,9 @@ reference_here lines column ready of = (ready_is lines.plan lines.table column r
 
 -- what its field takes: the permutations that tell the parent which it still has, and that of the key
 held_cost-null_cost : (tables : List TableLayout) (reference : Reference) (nulls : Bool) → reference.nulls ≡ nulls →
-    held_cost tables reference ≡ null_cost_of (lineages tables) (reference_kind reference.parent reference.window reference.spread nulls reference.drawn) + 1
-held_cost-null_cost tables reference true is = ap (λ (b : Bool). if b then parent_cost tables reference else 1) is ∙ add_comm 1 (death_cost tables reference.parent)
-held_cost-null_cost tables reference false is = ap (λ (b : Bool). if b then parent_cost tables reference else 1) is
+    held_cost tables reference ≡ null_cost_of (lineages tables) (reference_kind reference.parent reference.window reference.spread nulls reference.drawn) + choice_cost reference.drawn
+held_cost-null_cost tables reference true is = ap (λ (b : Bool). if b then parent_cost tables reference else choice_cost reference.drawn) is ∙ add_comm (choice_cost reference.drawn) (death_cost tables reference.parent)
+held_cost-null_cost tables reference false is = ap (λ (b : Bool). if b then parent_cost tables reference else choice_cost reference.drawn) is ∙ sym (zero-add (choice_cost reference.drawn))
 
 pub asked-reference : (known : Bool) (lines : LinesOf) (column : ℕ) (ready : ReadyReference) → IsReferenceOf lines.plan lines.table column ready →
     asked_alone known (layout_of lines.plan).delimiter (layout_of lines.plan).tables (layout_for lines) (column_at (layout_for lines).columns column).kind
@@ -168,10 +168,10 @@ asked-reference known lines column ready of =
     let reference : Reference = reference_by column ready in
     let kind : KindLayout = reference_kind reference.parent reference.window reference.spread reference.nulls reference.drawn in
     ap (asked_alone known (layout_of lines.plan).delimiter tables (layout_for lines)) (kind_is (layout_for lines) column reference (reference_here lines column ready of))
-    ∙ sum (null_cost_of (lineages tables) kind) (held_cost tables reference) (one_if (table_of lines.plan ready.parent).key.scramble) (held_cost-null_cost tables reference reference.nulls refl)
+    ∙ sum (null_cost_of (lineages tables) kind) (held_cost tables reference) (choice_cost reference.drawn) (one_if (table_of lines.plan ready.parent).key.scramble) (held_cost-null_cost tables reference reference.nulls refl)
   where
-    sum : (null held scramble : ℕ) → held ≡ null + 1 → null + (1 + scramble) ≡ held + scramble
-    sum null held scramble is = omega arith
+    sum : (null held choice scramble : ℕ) → held ≡ null + choice → null + (choice + scramble) ≡ held + scramble
+    sum null held choice scramble is = omega arith
 
 pub asked_by-reference : (known : Bool) (lines : LinesOf) (column : ℕ) (ready : ReadyReference) → IsReferenceOf lines.plan lines.table column ready →
     asked_for known lines column ≡ held_cost (layout_of lines.plan).tables (reference_by column ready) + one_if (table_of lines.plan ready.parent).key.scramble

@@ -13,6 +13,7 @@ use Rattle.schema_plan.specs.declared.ready.ReadyReference.{ReadyReference}
 use Rattle.schema_plan.specs.Dictionaries.{Project}
 use Rattle.schema_plan.specs.Layout.{column_at, layout_of, no_table}
 use Rattle.schema_plan.specs.Limits.{IsInLimits, IsStillColumn, IsTableInLimits}
+use Rattle.schema_plan.specs.Lineage.{choice_cost}
 use Rattle.schema_plan.specs.Ready.{ready_columns}
 use Rattle.draw_values.specs.declared.runs.RunRows.{RunRows}
 use Rattle.draw_values.specs.Runs.{RunColumnOf, is_null_in, null_text, run_column, run_row}
@@ -204,8 +205,8 @@ made-lookups lines rows column lookup reference parents own held pieces sound be
         (sym (parents_are i inside ∙ parent_of-by (generator_of lines.plan) lines.table (last_unit lines.plan) lines.unit (ordinal i) (reference_by lookup.via reference) within born))
 
 -- the permutations that they ask
-pub lookup-steps : (lines : RunLinesOf) (column count before steps : ℕ) (lookup : ReadyLookup) → IsInLimits lines.plan → lines.table < length lines.plan.schema.tables → IsLookupOf (column_lines lines) column lookup →
-    steps ≡ before + count → steps ≤ before + count * asked_for lines column
-lookup-steps lines column count before steps lookup sound below of is =
-    let some : 1 ≤ asked_for lines column = omega (arith, asked-lookup (column_lines lines) sound below column lookup of) in
+pub lookup-steps : (lines : RunLinesOf) (column count before steps : ℕ) (lookup : ReadyLookup) (reference : ReadyReference) → IsInLimits lines.plan → lines.table < length lines.plan.schema.tables →
+    IsLookupOf (column_lines lines) column lookup → IsReferenceOf lines.plan lines.table lookup.via reference → steps ≤ before + count * choice_cost reference.drawn → steps ≤ before + count * asked_for lines column
+lookup-steps lines column count before steps lookup reference sound below of refers is =
+    let some : choice_cost reference.drawn ≤ asked_for lines column = omega (arith, asked-lookup (column_lines lines) sound below column lookup of reference refers) in
     omega (arith, is, mul-le-mul_left count some)

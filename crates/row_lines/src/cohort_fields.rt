@@ -6,7 +6,7 @@ ghost use Rattle.schema_plan.specs.declared.ready.ReadyKind.TheVariants.{Templat
 ghost use Rattle.cohort_sizes.specs.Births.{born_count, cohort_size};
 ghost use Rattle.schema_plan.specs.Layout.{column_at, layout_of};
 ghost use Rattle.schema_plan.specs.Limits.{IsTableInLimits, is_lookup_kind};
-ghost use Rattle.schema_plan.specs.Lineage.{one_if};
+ghost use Rattle.schema_plan.specs.Lineage.{choice_cost, one_if};
 ghost use Rattle.schema_plan.specs.Ready.{ready_kind};
 ghost use Rattle.draw_values.specs.Values.{is_own, put_of, written};
 ghost use Rattle.life_intervals.specs.CohortParents.{IsReferenceOf, held_cost, reference_by};
@@ -111,7 +111,7 @@ impl<'a> CohortFields<'a> {
     }
 
     /// Returns the ordinal of the parent that the row with an index is born with, by the reference in the column at a place. Takes
-    /// one step.
+    /// one step, and one more if the reference is drawn.
     #[inline(always)]
     pub(crate) fn parent<L: Ledger>(
         &self,
@@ -125,7 +125,7 @@ impl<'a> CohortFields<'a> {
         ensures parent { result ≡ parent_for self.now index (reference_by column reference.now) }
         ensures born { result < born_count (table_of self.now.plan reference.now.parent).births self.now.born }
         ensures table { reference.now.parent < self.now.table }
-        ensures one_step { steps.new ≡ steps.old + 1 }
+        ensures steps { steps.new ≡ steps.old + choice_cost reference.now.drawn }
     {
         let row = self.found(index);
         self.rows

@@ -1,6 +1,7 @@
 //! The parents of a run's rows, found once for all fields that need them.
 
-ghost use Rattle.std.specs.Prelude.{◌≡◌, ◌≤◌, ◌+◌, None, Some, length};
+ghost use Rattle.std.specs.Prelude.{◌≡◌, ◌≤◌, ◌+◌, ◌*◌, None, Some, length};
+ghost use Rattle.schema_plan.specs.Lineage.{choice_cost};
 ghost use Rattle.life_intervals.specs.CohortParents.{IsReferenceOf};
 ghost use Rattle.row_lines.specs.RunFields.{AreRowsOf};
 ghost use Rattle.row_lines.specs.RunParents.{AreKnown, AreParents, is_by};
@@ -58,7 +59,8 @@ impl<'a> Parents<'a> {
 }
 
 impl<'a> RunLines<'a> {
-    /// Finds the rows' parents by the reference in the column at a place, unless they are known.
+    /// Finds the rows' parents by the reference in the column at a place, unless they are known. Each row takes at most one step, and
+    /// one more if the reference is drawn.
     pub(crate) fn find_parents<L: Ledger>(
         &self,
         column: usize,
@@ -72,7 +74,7 @@ impl<'a> RunLines<'a> {
         requires known { AreKnown self.now rows.ordinals.now parents.old }
         ensures found { AreParents self.now rows.entry.ordinals.now column reference.now parents.new }
         ensures known { AreKnown self.now rows.entry.ordinals.now parents.new }
-        ensures steps { steps.new ≤ steps.old + length rows.entry.ordinals.now }
+        ensures steps { steps.new ≤ steps.old + length rows.entry.ordinals.now * choice_cost reference.now.drawn }
     {
         if !parents.is_by(column) {
             let ordinals = &mut *parents.ordinals;

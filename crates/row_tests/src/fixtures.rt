@@ -1,4 +1,4 @@
-//! What several tests need: plans of schemas, checksums, and the schema of sales.
+//! What several tests need: plans of schemas, checksums, the schema of sales, and schemas whose parents are dealt in turn or drawn.
 
 ghost use Rattle.std.specs.Prelude.{◌≡◌, ◌<◌, is_some, length, true};
 ghost use Rattle.schema_plan.specs.References.{reference_at};
@@ -110,3 +110,70 @@ column = [
     { name = "payer", kind = "lookup", via = "order_id", column = "customer" },
 ]
 "#;
+
+/// Ends a text that ends within the column of a reference. Its parents are dealt in turn.
+pub(crate) const IN_TURN: &str = r#", deal = "turn" }]
+"#;
+
+/// Ends such a text. The reference's parents are dealt in a drawn order.
+pub(crate) const DRAWN: &str = r#", deal = "drawn" }]
+"#;
+
+/// Five parents, and two children at each unit. The text ends within the column of the parent.
+pub(crate) const FIVE_PARENTS: &str = r#"
+seed = 2
+units = 3
+[[table]]
+name = "p"
+rows = 5
+column = [{ name = "id", kind = "key", base = 1 }]
+[[table]]
+name = "c"
+rows = 2
+insert = 2
+column = [
+    { name = "id", kind = "key", base = 1 },
+    { name = "p", kind = "ref", table = "p", window = "all""#;
+
+/// A table of 2^40 rows in all that nothing ends or changes, and a small table that refers to it. The text ends within the column of the
+/// parent.
+pub(crate) const HUGE: &str = r#"
+seed = 1
+units = 1
+[[table]]
+name = "p"
+rows = 1099511627775
+insert = 1
+column = [{ name = "id", kind = "key", base = 1 }]
+[[table]]
+name = "c"
+rows = 1
+insert = 1
+column = [
+    { name = "id", kind = "key", base = 1 },
+    { name = "p", kind = "ref", table = "p", window = "all""#;
+
+/// Customers as in the sales, and an order of one of the last three units' customers at each unit. The text ends within the column of the
+/// customer.
+pub(crate) const ORDERS: &str = r#"
+seed = 7
+units = 5
+[[table]]
+name = "customers"
+rows = 1
+insert = 1
+life = [3, 3]
+update = 2
+column = [
+    { name = "id", kind = "key", base = 1 },
+    { name = "born", kind = "born" },
+    { name = "changed", kind = "changed" },
+]
+[[table]]
+name = "orders"
+rows = 1
+insert = 1
+life = [9, 9]
+column = [
+    { name = "id", kind = "key", base = 1 },
+    { name = "customer", kind = "ref", table = "customers", window = 2"#;

@@ -8,7 +8,7 @@ ghost use Rattle.life_intervals.specs.Generator.{last_unit, table_of};
 ghost use Rattle.life_intervals.specs.JobOrders.{AreOrdersOf};
 ghost use Rattle.life_intervals.specs.Rows.{life_by};
 
-use crate::fixtures::{SALES, has_parents, is_row, with_number};
+use crate::fixtures::{DRAWN, FIVE_PARENTS, IN_TURN, SALES, has_parents, is_row, with_number};
 use crate::told::{Told, assert_all};
 use life_intervals::{
     Cohort, JobOrders, Rows, Survival, birth, born, cohort, death, key, last_change, own_death,
@@ -704,7 +704,8 @@ fn lives_and_changes(rt: HostRuntime) {
 }
 
 // By hand: customers 0 and 1 die at the units 3 and 4. The orders 0 to 2 are of customer 0, and order 3 of customer 1. The first row of the
-// chain dies at unit 2, and the others with it. The parents by a spread are from the Python program.
+// chain dies at unit 2, and the others with it. The parents by a spread, and those that are dealt in turn and drawn, are from the Python
+// program.
 const FAMILIES: &[(&[&str], &[(u32, u64, Told<'static>)])] = &[
     (
         &[SALES],
@@ -755,6 +756,32 @@ const FAMILIES: &[(&[&str], &[(u32, u64, Told<'static>)])] = &[
             (1, 10, Told::Parent(1)),
             (1, 11, Told::Parent(0)),
             (1, 12, Told::Parent(0)),
+        ],
+    ),
+    (
+        &[FIVE_PARENTS, DRAWN],
+        &[
+            (1, 0, Told::Parent(1)),
+            (1, 1, Told::Parent(3)),
+            (1, 2, Told::Parent(1)),
+            (1, 3, Told::Parent(4)),
+            (1, 4, Told::Parent(0)),
+            (1, 5, Told::Parent(4)),
+            (1, 6, Told::Parent(0)),
+            (1, 7, Told::Parent(2)),
+        ],
+    ),
+    (
+        &[FIVE_PARENTS, IN_TURN],
+        &[
+            (1, 0, Told::Parent(0)),
+            (1, 1, Told::Parent(1)),
+            (1, 2, Told::Parent(1)),
+            (1, 3, Told::Parent(0)),
+            (1, 4, Told::Parent(1)),
+            (1, 5, Told::Parent(0)),
+            (1, 6, Told::Parent(1)),
+            (1, 7, Told::Parent(0)),
         ],
     ),
     (

@@ -8,7 +8,7 @@ ghost use Rattle.schema_plan.specs.TableFacts.{max_line};
 ghost use Rattle.life_intervals.specs.Generator.{generator_of, last_unit, table_of};
 ghost use Rattle.life_intervals.specs.Intervals.{is_live};
 
-use crate::fixtures::{SALES, has_parents, is_row, with_text};
+use crate::fixtures::{DRAWN, FIVE_PARENTS, HUGE, ORDERS, SALES, has_parents, is_row, with_text};
 use crate::told::{Told, assert_all};
 use life_intervals::{JobOrders, Rows, born, key, parent};
 use line_pages::{Digits, PageBuf};
@@ -322,6 +322,12 @@ column = [
 ]
 "#;
 
+/// Ends a text that ends within the column of a customer. The customers are dealt in a drawn order, and a lookup shows when theirs was born.
+const DRAWN_AND_SHOWN: &str = r#", deal = "drawn" },
+    { name = "since", kind = "lookup", via = "customer", column = "born" },
+]
+"#;
+
 /// 1,000 rows at unit 0, and 10 at each later unit.
 const THOUSAND: &str = r#"
 seed = 7
@@ -438,7 +444,8 @@ fn lines_and_keys(rt: HostRuntime) {
 }
 
 // By hand: a row that lives for two units is there from its birth on, as long as it lives. The orders 0 to 2 are of customer 0, and order 3
-// of customer 1. Order 0 dies with its customer at unit 3. The keys of scrambled parents are those of `life_intervals`.
+// of customer 1. Order 0 dies with its customer at unit 3. The keys of scrambled parents are those of `life_intervals`. The parents that are
+// drawn are from the Python program. A row that shows what it looks up shows it of such a parent.
 const FAMILIES: &[(&[&str], &[(u32, u64, Told<'static>)])] = &[
     (
         &[ONE, "life = [2, 2]", BIRTHS],
@@ -472,6 +479,37 @@ const FAMILIES: &[(&[&str], &[(u32, u64, Told<'static>)])] = &[
         ],
     ),
     (
+        &[FIVE_PARENTS, DRAWN],
+        &[
+            (1, 0, Told::Line(3, "1\t2\n")),
+            (1, 1, Told::Line(3, "2\t4\n")),
+            (1, 6, Told::Line(3, "7\t1\n")),
+            (1, 7, Told::Line(3, "8\t3\n")),
+        ],
+    ),
+    (
+        &[HUGE, DRAWN],
+        &[
+            (1, 0, Told::Line(1, "1\t565695466259\n")),
+            (1, 1, Told::Line(1, "2\t1087946718330\n")),
+        ],
+    ),
+    (
+        &[ORDERS, DRAWN],
+        &[
+            (1, 3, Told::Line(4, "4\t3\n")),
+            (1, 3, Told::Live(5, false)),
+            (1, 5, Told::Line(5, "6\t4\n")),
+        ],
+    ),
+    (
+        &[ORDERS, DRAWN_AND_SHOWN],
+        &[
+            (1, 3, Told::Line(4, "4\t3\t2\n")),
+            (1, 5, Told::Line(5, "6\t4\t3\n")),
+        ],
+    ),
+    (
         &[SCRAMBLED_PARENTS],
         &[
             (1, 0, Told::Child("1")),
@@ -488,7 +526,7 @@ fn families(rt: HostRuntime) {
 }
 
 // By hand: a row is there for three units from its birth. It changes one unit after its birth, and then every two. A table that has only keys
-// holds each row to its end.
+// holds each row to its end. An order of a drawn customer, who is from the Python program, goes with the customer.
 const REPORTS: &[(&[&str], &[(u32, u64, Told<'static>)])] = &[
     (
         &[CUSTOMERS],
@@ -512,6 +550,17 @@ const REPORTS: &[(&[&str], &[(u32, u64, Told<'static>)])] = &[
             ),
             (0, 0, Told::Report(2, "")),
             (0, 7, Told::Report(2, "")),
+        ],
+    ),
+    (
+        &[ORDERS, DRAWN],
+        &[
+            (
+                1,
+                4,
+                Told::Report(4, "born 3\ngone 5\nstate live\nchanged 3\n4\t3\n"),
+            ),
+            (1, 4, Told::Report(5, "born 3\ngone 5\nstate dead\n")),
         ],
     ),
     (

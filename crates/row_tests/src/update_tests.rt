@@ -4,7 +4,7 @@
 ghost use Rattle.std.specs.Prelude.{◌≡◌, ◌<◌, ◌≤◌, length};
 ghost use Rattle.life_intervals.specs.Generator.{last_unit};
 
-use crate::fixtures::{SALES, is_row, plan_of, with_number};
+use crate::fixtures::{DRAWN, HUGE, IN_TURN, ORDERS, SALES, is_row, plan_of, with_number};
 use crate::told::{Ordinals, Told, assert_all};
 use life_intervals::{Cohort, birth, born, death, last_change};
 use out_of_memory::Memory;
@@ -103,25 +103,6 @@ update = 3
 column = [{ name = "id", kind = "key", base = 1, scramble = true }]
 "#;
 
-/// A table of 2^40 rows in all that nothing ends or changes, and a small table that refers to it.
-const HUGE: &str = r#"
-seed = 1
-units = 1
-[[table]]
-name = "p"
-rows = 1099511627775
-insert = 1
-column = [{ name = "id", kind = "key", base = 1 }]
-[[table]]
-name = "c"
-rows = 1
-insert = 1
-column = [
-    { name = "id", kind = "key", base = 1 },
-    { name = "p", kind = "ref", table = "p", window = "all" },
-]
-"#;
-
 /// Customers and orders as in a small shop. An order goes with its customer. Remarks on orders outlive the orders.
 const SHOP: &str = r#"
 seed = 2024
@@ -154,8 +135,8 @@ column = [
 "#;
 
 // By hand: rows live for two units, or live for four and change at the ages 1 and 3. An order is of the oldest customer of its window, so
-// orders 0 to 2 are of customer 0, who dies at unit 3. Order 3 is of customer 1. A line is of the order of its unit. The numbers of the
-// larger table are from the Python program.
+// orders 0 to 2 are of customer 0, who dies at unit 3. Order 3 is of customer 1. A line is of the order of its unit. From the Python program:
+// drawn customers, of whom customer 2 has the orders 3 and 4 and dies at unit 5, and the numbers of the larger table.
 const TABLES: &[(&[&str], &[(u32, u64, Told<'static>)])] = &[
     (
         &[MORTAL],
@@ -238,7 +219,7 @@ const TABLES: &[(&[&str], &[(u32, u64, Told<'static>)])] = &[
         ],
     ),
     (
-        &[HUGE],
+        &[HUGE, IN_TURN],
         &[
             (
                 0,
@@ -249,6 +230,21 @@ const TABLES: &[(&[&str], &[(u32, u64, Told<'static>)])] = &[
                 1,
                 1,
                 Told::Changes(Ordinals::Are(&[]), Ordinals::Are(&[]), 1, 1),
+            ),
+        ],
+    ),
+    (
+        &[ORDERS, DRAWN],
+        &[
+            (
+                1,
+                4,
+                Told::Changes(Ordinals::Are(&[]), Ordinals::Are(&[]), 4, 1),
+            ),
+            (
+                1,
+                5,
+                Told::Changes(Ordinals::Are(&[3, 4]), Ordinals::Are(&[]), 5, 1),
             ),
         ],
     ),

@@ -81,7 +81,7 @@ pub(crate) fn is_window(candidate: &Candidate<'_>, kind: &Kind) -> bool
 
 /// Whether a window is within the sure life of the named table's rows. It is true past the first 64 tables.
 fn is_window_of(candidate: &Candidate<'_>, parent: &Text, window: Window) -> bool
-    ensures { (spread on_delete : _) → result ≡ is_window candidate.now (Kind.Ref parent.now window spread on_delete deal) }
+    ensures { (spread on_delete deal : _) → result ≡ is_window candidate.now (Kind.Ref parent.now window spread on_delete deal) }
 {
     let parent = place_of_table(candidate.schema().tables.as_slice(), parent);
     if parent >= MAX_ITEMS {

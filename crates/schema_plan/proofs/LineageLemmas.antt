@@ -1,5 +1,5 @@
 -- Lineages as the code keeps them, with costs that stand at the last of 64 bits where they are past it.
-use Rattle.std.proofs.Common.{◌≡◌, ℕ, ℤ, ◌+◌, ◌<◌, true, false, List, [], length, map, take, Option, Some, None, refl, sym, ap, ◌∙◌, arith}
+use Rattle.std.proofs.Common.{◌≡◌, ℕ, ℤ, ◌+◌, ◌<◌, Bool, true, false, List, [], length, map, take, Option, Some, None, refl, sym, ap, ◌∙◌, arith}
 use Rattle.std.proofs.Math.ListN as N
 use Rattle.std.specs.List.{range_with_len, fold}
 use Rattle.std.proofs.lemmas.List.{length-map, length-take-le, get_or-take, get_or-map}
@@ -7,6 +7,7 @@ use Rattle.std.proofs.lemmas.List.FromFn.{fill_by_all}
 use Rattle.std.proofs.lemmas.List.Folds.{fold-map}
 use Rattle.schema_model.specs.declared.table.Table.{Table}
 use Rattle.schema_model.specs.declared.column.Column.{Column}
+use Rattle.schema_model.specs.declared.column.Deal.{Deal}
 use Rattle.schema_model.specs.declared.column.Kind.{Kind}
 use Rattle.schema_model.specs.declared.column.Kind.TheVariants.{Ref}
 use Rattle.schema_model.specs.declared.column.OnDelete.{OnDelete}
@@ -15,8 +16,8 @@ use Rattle.schema_model.specs.declared.column.Window.{Window}
 use Rattle.schema_plan.specs.declared.layout.Span.{Span}
 use Rattle.schema_plan.specs.declared.lineage.Lineage.{Lineage}
 use Rattle.schema_plan.specs.Capped.{capped, capped_lineage}
-use Rattle.schema_plan.specs.Layout.{PartLayout, literal_part, cited_part, KindLayout, key_kind, born_kind, changed_kind, leaf_kind, template_kind, case_kind, reference_kind, lookup_kind, list_kind, unit_date_kind, TableLayout, ColumnLayout, no_table, column_at, table_at, column_layout, kind_layout, place_of_table, table_layout, window_layout}
-use Rattle.schema_plan.specs.Lineage.{endless, lineage_at, lineage_of, lineages, null_cost_of, null_cost_of_field, null_cost_of_line, null_cost_of_part, own_lineage, with_kind, with_loss, with_parent}
+use Rattle.schema_plan.specs.Layout.{PartLayout, literal_part, cited_part, KindLayout, key_kind, born_kind, changed_kind, leaf_kind, template_kind, case_kind, reference_kind, lookup_kind, list_kind, unit_date_kind, TableLayout, ColumnLayout, no_table, column_at, table_at, column_layout, is_drawn_deal, kind_layout, place_of_table, table_layout, window_layout}
+use Rattle.schema_plan.specs.Lineage.{choice_cost, endless, lineage_at, lineage_of, lineages, null_cost_of, null_cost_of_field, null_cost_of_line, null_cost_of_part, own_lineage, with_kind, with_loss, with_parent}
 use Rattle.schema_plan.specs.Dictionaries.{Dictionary}
 use Rattle.schema_plan.proofs.Capping.{capped_sum-same}
 use Rattle.schema_plan.proofs.Lists.{length-in_turn, get_or-in_turn}
@@ -32,23 +33,25 @@ with_costs : (lineage : Lineage) {death death' loss loss' null null' : ℕ} → 
     record lineage { death_cost = death; loss_cost = loss; null_cost = null } ≡ record lineage { death_cost = death'; loss_cost = loss'; null_cost = null' }
 with_costs lineage deaths losses nulls = cc
 
-pub with_parent-capped : (own parent : Lineage) (window : Option ℕ) → capped_lineage (with_parent (capped_lineage own) (capped_lineage parent) window) ≡ capped_lineage (with_parent own parent window)
-with_parent-capped own parent window =
-    let death : capped (capped own.death_cost + (1 + capped parent.death_cost)) ≡ capped (own.death_cost + (1 + parent.death_cost)) = omega arith in
-    with_costs (with_parent own parent window) death (capped-capped own.loss_cost) (capped-capped own.null_cost)
+-- a cost with what a parent adds to it
+with_cost-capped : (own chosen parent : ℕ) → capped (capped own + (chosen + capped parent)) ≡ capped (own + (chosen + parent))
+with_cost-capped own chosen parent = omega arith
 
-pub with_loss-capped : (own parent : Lineage) → capped_lineage (with_loss (capped_lineage own) (capped_lineage parent)) ≡ capped_lineage (with_loss own parent)
-with_loss-capped own parent =
-    let loss : capped (capped own.loss_cost + (1 + capped parent.death_cost)) ≡ capped (own.loss_cost + (1 + parent.death_cost)) = omega arith in
-    with_costs own (capped-capped own.death_cost) loss (capped-capped own.null_cost)
+pub with_parent-capped : (own parent : Lineage) (window : Option ℕ) (drawn : Bool) → capped_lineage (with_parent (capped_lineage own) (capped_lineage parent) window drawn) ≡ capped_lineage (with_parent own parent window drawn)
+with_parent-capped own parent window drawn =
+    with_costs (with_parent own parent window drawn) (with_cost-capped own.death_cost (choice_cost drawn) parent.death_cost) (capped-capped own.loss_cost) (capped-capped own.null_cost)
+
+pub with_loss-capped : (own parent : Lineage) (drawn : Bool) → capped_lineage (with_loss (capped_lineage own) (capped_lineage parent) drawn) ≡ capped_lineage (with_loss own parent drawn)
+with_loss-capped own parent drawn =
+    with_costs own (capped-capped own.death_cost) (with_cost-capped own.loss_cost (choice_cost drawn) parent.death_cost) (capped-capped own.null_cost)
 
 pub own_lineage-capped : (life : Option Span) → own_lineage life ≡ capped_lineage (own_lineage life)
 own_lineage-capped None = refl
 own_lineage-capped (Some life) = refl
 
 -- a kind that is no reference adds nothing
-pub no_parent : (given : List Lineage) (own : Lineage) (dictionaries : List Dictionary) (tables : List Table) (columns : List Column) (kind : Kind) → ((table : List ℕ) (window : Window) (spread : List ℤ) (on_delete : OnDelete) → kind ≡ Ref table window spread on_delete → ⊥) → own ≡ with_kind given own (kind_layout dictionaries tables columns kind)
-no_parent given own dictionaries tables columns (Ref table window spread on_delete) other = absurd (other table window spread on_delete refl)
+pub no_parent : (given : List Lineage) (own : Lineage) (dictionaries : List Dictionary) (tables : List Table) (columns : List Column) (kind : Kind) → ((table : List ℕ) (window : Window) (spread : List ℤ) (on_delete : OnDelete) (deal : Deal) → kind ≡ Ref table window spread on_delete deal → ⊥) → own ≡ with_kind given own (kind_layout dictionaries tables columns kind)
+no_parent given own dictionaries tables columns (Ref table window spread on_delete deal) other = absurd (other table window spread on_delete deal refl)
 no_parent given own dictionaries tables columns _ other = refl
 
 -- the lineage of a parent, as the code finds it
@@ -57,25 +60,27 @@ parent_given given earlier parent place at earlier_is place_is parent_is =
     parent_is ∙ ap (lineage_at earlier) place_is ∙ ap (λ lineages. lineage_at lineages at) earlier_is ∙ lineage_at-capped given at
 
 -- a reference whose rows are deleted with their parents adds its parent
-pub parent_added : (given earlier : List Lineage) (before own parent after : Lineage) (dictionaries : List Dictionary) (tables : List Table) (columns : List Column) (kind : Kind) (table : List ℕ) (window : Window) (spread : List ℤ) (on_delete : OnDelete) (place : ℕ) → kind ≡ Ref table window spread on_delete → on_delete ≡ Cascade → earlier ≡ map capped_lineage given → own ≡ capped_lineage before → place ≡ place_of_table tables table → parent ≡ lineage_at earlier place → after ≡ capped_lineage (with_parent own parent (window_layout window)) → after ≡ capped_lineage (with_kind given before (kind_layout dictionaries tables columns kind))
-parent_added given earlier before own parent after dictionaries tables columns kind table window spread on_delete place kind_is cascades earlier_is own_is place_is parent_is after_is =
+pub parent_added : (given earlier : List Lineage) (before own parent after : Lineage) (dictionaries : List Dictionary) (tables : List Table) (columns : List Column) (kind : Kind) (table : List ℕ) (window : Window) (spread : List ℤ) (on_delete : OnDelete) (deal : Deal) (drawn : Bool) (place : ℕ) → kind ≡ Ref table window spread on_delete deal → drawn ≡ is_drawn_deal deal → on_delete ≡ Cascade → earlier ≡ map capped_lineage given → own ≡ capped_lineage before → place ≡ place_of_table tables table → parent ≡ lineage_at earlier place → after ≡ capped_lineage (with_parent own parent (window_layout window) drawn) → after ≡ capped_lineage (with_kind given before (kind_layout dictionaries tables columns kind))
+parent_added given earlier before own parent after dictionaries tables columns kind table window spread on_delete deal drawn place kind_is drawn_is cascades earlier_is own_is place_is parent_is after_is =
     let older = window_layout window in
     let at = place_of_table tables table in
     after_is
-    ∙ ap (λ lineage. capped_lineage (with_parent lineage parent older)) own_is
-    ∙ ap (λ lineage. capped_lineage (with_parent (capped_lineage before) lineage older)) (parent_given given earlier parent place at earlier_is place_is parent_is)
-    ∙ with_parent-capped before (lineage_at given at) older
-    ∙ ap (λ k. capped_lineage (with_kind given before (kind_layout dictionaries tables columns k))) (sym (kind_is ∙ ap (Ref table window spread) cascades))
+    ∙ ap (λ lineage. capped_lineage (with_parent lineage parent older drawn)) own_is
+    ∙ ap (λ lineage. capped_lineage (with_parent (capped_lineage before) lineage older drawn)) (parent_given given earlier parent place at earlier_is place_is parent_is)
+    ∙ with_parent-capped before (lineage_at given at) older drawn
+    ∙ ap (λ d. capped_lineage (with_parent before (lineage_at given at) older d)) drawn_is
+    ∙ ap (λ k. capped_lineage (with_kind given before (kind_layout dictionaries tables columns k))) (sym (kind_is ∙ ap (λ o. Ref table window spread o deal) cascades))
 
 -- one that becomes null adds its loss
-pub loss_added : (given earlier : List Lineage) (before own parent after : Lineage) (dictionaries : List Dictionary) (tables : List Table) (columns : List Column) (kind : Kind) (table : List ℕ) (window : Window) (spread : List ℤ) (on_delete : OnDelete) (place : ℕ) → kind ≡ Ref table window spread on_delete → on_delete ≡ Null → earlier ≡ map capped_lineage given → own ≡ capped_lineage before → place ≡ place_of_table tables table → parent ≡ lineage_at earlier place → after ≡ capped_lineage (with_loss own parent) → after ≡ capped_lineage (with_kind given before (kind_layout dictionaries tables columns kind))
-loss_added given earlier before own parent after dictionaries tables columns kind table window spread on_delete place kind_is nulls earlier_is own_is place_is parent_is after_is =
+pub loss_added : (given earlier : List Lineage) (before own parent after : Lineage) (dictionaries : List Dictionary) (tables : List Table) (columns : List Column) (kind : Kind) (table : List ℕ) (window : Window) (spread : List ℤ) (on_delete : OnDelete) (deal : Deal) (drawn : Bool) (place : ℕ) → kind ≡ Ref table window spread on_delete deal → drawn ≡ is_drawn_deal deal → on_delete ≡ Null → earlier ≡ map capped_lineage given → own ≡ capped_lineage before → place ≡ place_of_table tables table → parent ≡ lineage_at earlier place → after ≡ capped_lineage (with_loss own parent drawn) → after ≡ capped_lineage (with_kind given before (kind_layout dictionaries tables columns kind))
+loss_added given earlier before own parent after dictionaries tables columns kind table window spread on_delete deal drawn place kind_is drawn_is nulls earlier_is own_is place_is parent_is after_is =
     let at = place_of_table tables table in
     after_is
-    ∙ ap (λ lineage. capped_lineage (with_loss lineage parent)) own_is
-    ∙ ap (λ lineage. capped_lineage (with_loss (capped_lineage before) lineage)) (parent_given given earlier parent place at earlier_is place_is parent_is)
-    ∙ with_loss-capped before (lineage_at given at)
-    ∙ ap (λ k. capped_lineage (with_kind given before (kind_layout dictionaries tables columns k))) (sym (kind_is ∙ ap (Ref table window spread) nulls))
+    ∙ ap (λ lineage. capped_lineage (with_loss lineage parent drawn)) own_is
+    ∙ ap (λ lineage. capped_lineage (with_loss (capped_lineage before) lineage drawn)) (parent_given given earlier parent place at earlier_is place_is parent_is)
+    ∙ with_loss-capped before (lineage_at given at) drawn
+    ∙ ap (λ d. capped_lineage (with_loss before (lineage_at given at) d)) drawn_is
+    ∙ ap (λ k. capped_lineage (with_kind given before (kind_layout dictionaries tables columns k))) (sym (kind_is ∙ ap (λ o. Ref table window spread o deal) nulls))
 
 -- of the table at a place, by those of the tables before it
 pub lineage_at-lineages : (tables : List TableLayout) (place : ℕ) → place < length tables → lineage_at (lineages tables) place ≡ lineage_of (take place (lineages tables)) (table_at tables place)

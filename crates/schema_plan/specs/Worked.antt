@@ -7,7 +7,7 @@ use Rattle.schema_model.specs.declared.column.Column.{Column}
 use Rattle.schema_model.specs.declared.column.Kind.{Kind}
 use Rattle.schema_model.specs.declared.column.Kind.TheVariants.{Key, Born, Changed, Leaf as Drawn, Template, Ref, Lookup}
 use Rattle.schema_model.specs.declared.column.Leaf.TheVariants.{Pick, Dict, Words, Chars}
-use Rattle.schema_model.specs.declared.column.Deal.TheVariants.{Turn}
+use Rattle.schema_model.specs.declared.column.Deal.TheVariants as deal
 use Rattle.schema_model.specs.declared.column.OnDelete.TheVariants.{Cascade, Null}
 use Rattle.schema_model.specs.declared.column.Part.TheVariants.{Literal, Cited}
 use Rattle.schema_plan.specs.declared.field_bounds.FieldBounds.{FieldBounds}
@@ -30,7 +30,7 @@ key = plain (codes "id") (Key (pos 1) false)
 
 -- a reference to the rows of a table that were born in a window of units
 abbrev pub reference : List ℕ → ℕ → Column
-reference table units = plain table (Ref table (Units (pos units)) (pos 1 ∷ []) Cascade Turn)
+reference table units = plain table (Ref table (Units (pos units)) (pos 1 ∷ []) Cascade deal.Turn)
 
 -- customers live three units and change every two
 abbrev pub customer : Table
@@ -77,7 +77,7 @@ remark = record {
   life = None;
   update = None;
   columns =
-      key ∷ plain (codes "customer") (Ref (codes "customer") (Units (pos 2)) (pos 1 ∷ []) Null Turn)
+      key ∷ plain (codes "customer") (Ref (codes "customer") (Units (pos 2)) (pos 1 ∷ []) Null deal.Turn)
       ∷ plain (codes "label") (Template (Literal (codes "of ") ∷ Cited (codes "customer") ∷ []))
       ∷ [];
 }
@@ -136,6 +136,21 @@ people = project_of
     (record { name = codes "m"; words = record { entries = codes "Methuselah" ∷ []; weights = 1 ∷ [] } }
     ∷ record { name = codes "n"; words = record { entries = codes "Bo" ∷ codes "An\tn" ∷ []; weights = 1 ∷ 3 ∷ [] } }
     ∷ [])
+
+-- a kind whose reference, if it is one, deals the candidates in a drawn order
+abbrev pub drawn_kind : Kind → Kind
+drawn_kind (Ref table window spread on_delete _) = Ref table window spread on_delete deal.Drawn
+drawn_kind kind = kind
+
+abbrev pub drawn_column : Column → Column
+drawn_column column = record column { kind = drawn_kind column.kind }
+
+abbrev pub drawn_table : Table → Table
+drawn_table table = record table { columns = map drawn_column table.columns }
+
+-- a project with the same tables, in which all references are drawn
+abbrev pub drawn_project : Project → Project
+drawn_project project = project_of (record project.schema { tables = map drawn_table project.schema.tables }) project.dictionaries
 
 -- the greatest sizes of a table's fields
 abbrev pub sizes_of : Layout → TableLayout → List ℕ

@@ -4,7 +4,7 @@ ghost use Rattle.std.specs.Prelude.{◌≡◌, ◌∷◌, [], Some, None, map};
 ghost use Rattle.schema_plan.specs.Layout.{layout_of};
 ghost use Rattle.schema_plan.specs.Lineage.{longest_life, sure_life};
 ghost use Rattle.schema_plan.specs.TableFacts.{cost, max_line, reach};
-ghost use Rattle.schema_plan.specs.Worked.{people, places, sales, sizes_of, talks};
+ghost use Rattle.schema_plan.specs.Worked.{drawn_project, people, places, sales, sizes_of, talks};
 
 /// Lives worked out by hand. Orders can name a customer who is two units older, and lines an order of their own unit. Rows
 /// of tables without lives and parents have no end, and neither do rows that outlive their parents.
@@ -30,6 +30,16 @@ pub fn worked_costs()
     ensures city { cost (layout_of places) 0 ≡ 2 }
     ensures house { cost (layout_of places) 1 ≡ 9 }
     ensures remark { cost (layout_of talks) 1 ≡ 7 }
+{}
+
+/// Costs worked out by hand where all references are drawn. Each choice of a parent costs one permutation more.
+pub fn worked_drawn_costs()
+    ensures customer { cost (layout_of (drawn_project sales)) 0 ≡ 3 }
+    ensures orders { cost (layout_of (drawn_project sales)) 1 ≡ 7 }
+    ensures lines { cost (layout_of (drawn_project sales)) 2 ≡ 9 }
+    ensures city { cost (layout_of (drawn_project places)) 0 ≡ 2 }
+    ensures house { cost (layout_of (drawn_project places)) 1 ≡ 14 }
+    ensures remark { cost (layout_of (drawn_project talks)) 1 ≡ 10 }
 {}
 
 /// Sizes worked out by hand. A tab and a backslash are written as two bytes each. The words of a text have spaces between.

@@ -10,7 +10,7 @@ pub loop-column-preserved : goal.loop-column-preserved
 loop-column-preserved c =
     let plan = c.args.plan.now in
     let kept : ParentOrders = c.match-ready.kept in
-    let are : AreParentOrders plan c.args.table c.loop-column.column kept × (kept.orders.entries + c.match-ready.room.entries ≡ c.loop-column.room.entries) = elim c.match-ready.branch [
+    let are : AreParentOrders plan c.args.table c.loop-column.column kept × (entries_of_parent kept + c.match-ready.room.entries ≡ c.loop-column.room.entries) = elim c.match-ready.branch [
       | in-Reference+in_ok-kept-in-Reference w ↦ (
         subst (AreParentOrders plan c.args.table c.loop-column.column) (sym w.kept-is) w.in_ok-kept-in-Reference.ensures.kept,
         omega (arith, ap entries_of_parent w.kept-is, ap (λ (room : Room). room.entries) w.room-is, w.in_ok-kept-in-Reference.ensures.entries),

@@ -11,7 +11,7 @@ use Rattle.schema_check.proofs.ReferenceLemmas.{sure_life-first}
 use Rattle.schema_check.proofs.reference_rules.is_window_of.Goals as goal
 
 pub returns : goal.returns
-returns c = λ spread on_delete.
+returns c = λ spread on_delete deal.
     let project = c.args.candidate.now in
     let place = c.place_of_table-parent.result in
     let named : place ≡ place_of_table project.schema.tables c.args.parent.now =

@@ -3,7 +3,7 @@ use Rattle.schema_plan.specs.declared.ready.ReadyReference.{ReadyReference}
 use Rattle.schema_plan.specs.Dictionaries.{Project}
 use Rattle.schema_plan.specs.Layout.{layout_of}
 use Rattle.schema_plan.specs.Limits.{IsInLimits}
-use Rattle.schema_plan.specs.Lineage.{death_cost, one_if, sure_life}
+use Rattle.schema_plan.specs.Lineage.{choice_cost, death_cost, one_if, sure_life}
 use Rattle.schema_plan.specs.Ready.{ready_columns}
 use Rattle.schema_plan.specs.References.{Reference}
 use Rattle.life_intervals.specs.declared.lives.Survival.TheVariants.{Sure}
@@ -43,7 +43,7 @@ put_drawn_ends-loop-column-preserved g t c =
                 (λ i below. death_before-some plan c.args.table at reference is w.if-not-reference.true (get_or ordinals i 0)));
             known = AreKnownOf-same plan c.args.table c.args.t ordinals c.match-ready.by w.put_parents_ends-by.result c.match-ready.parents w.put_parents_ends-by.new.parents c.match-ready.parents_births w.put_parents_ends-by.new.parents_births w.by-is w.parents-is w.parents_births-is
                 w.put_parents_ends-by.ensures.known;
-            steps = steps-more (length ordinals) (own + cost_before of at) (1 + death_cost (layout_of plan).tables reference.parent) (own + cost_before of (at + 1)) c.args.steps.now c.loop-column.steps c.match-ready.steps before.steps
+            steps = steps-more (length ordinals) (own + cost_before of at) (choice_cost reference.drawn + death_cost (layout_of plan).tables reference.parent) (own + cost_before of (at + 1)) c.args.steps.now c.loop-column.steps c.match-ready.steps before.steps
                 (omega (arith, w.steps-is, w.put_parents_ends-by.ensures.steps)) (omega (arith, cost_before-some of at reference is w.if-not-reference.true));
           }
       | put_drawn_ends-in-Reference+else-not-reference w ↦
@@ -171,6 +171,6 @@ put_parents_ends-returns-clause-steps g t c =
     let plan : Project = c.args.self.now in
     let limits : IsInLimits plan = subst IsInLimits c.plan.ensures c.schema-limits.ensures.limits in
     let parent : ℕ = c.args.reference.now.parent in
-    steps-parents (length c.args.ordinals.now) (length c.find_parents.new.parents) (asked_for_death plan parent) (death_cost (layout_of plan).tables parent) c.args.steps.now c.find_parents.new.steps c.put_ends.new.steps
+    steps-parents (length c.args.ordinals.now) (length c.find_parents.new.parents) (choice_cost c.args.reference.now.drawn) (asked_for_death plan parent) (death_cost (layout_of plan).tables parent) c.args.steps.now c.find_parents.new.steps c.put_ends.new.steps
     c.find_parents.ensures.found.same_length c.find_parents.ensures.steps c.put_ends.ensures.steps
     (asked_for_death-cost plan limits parent (parent_below plan limits c.args.table c.args.column c.args.reference.now c.requires.table c.requires.reference))

@@ -5,6 +5,7 @@ use Rattle.schema_plan.specs.Dictionaries.{Project}
 use Rattle.schema_plan.specs.Limits.{IsInLimits}
 use Rattle.life_intervals.specs.declared.window.CandidateWindow.{CandidateWindow}
 use Rattle.life_intervals.specs.CohortOrders.{parent_order}
+use Rattle.life_intervals.specs.CohortParents.{window_by}
 use Rattle.life_intervals.specs.Generator.{table_of}
 use Rattle.life_intervals.specs.References.{choice}
 use Rattle.life_intervals.proofs.CohortParentLemmas.{limits_of, parent_below, parent_in-born, parent_in-choice, window_limited}
@@ -37,10 +38,12 @@ returns-clause-parent g c =
     let plan : Project = c.args.self.now in
     let row = c.args.row in
     let limits : IsInLimits plan = subst IsInLimits c.plan.ensures c.schema-limits.ensures.limits in
-    let placed : c.place.result ≡ place_in (parent_order plan c.args.table c.args.column row.born) row.index =
-    c.place.ensures.exact ∙ ap (λ (order : Arrangement). place_in order row.index) c.order-order.ensures in
-    c.parent.ensures
-    ∙ ap₂ (λ (w : CandidateWindow) (place : ℕ). w.first + choice c.args.reference.now.spread w.count place) c.window-window.ensures placed
+    let placed : c.place-place.result ≡ place_in (parent_order plan c.args.table c.args.column row.born) row.index =
+    c.place-place.ensures.exact ∙ ap (λ (order : Arrangement). place_in order row.index) c.order-order.ensures in
+    let chosen : CandidateWindow → Arrangement → ℕ → ℕ = λ window deal place. window.first + place_in deal (choice c.args.reference.now.spread window.count place) in
+    c.parent.ensures.parent
+    ∙ ap (λ (window : CandidateWindow). chosen window c.deal-deal.result c.place-place.result) c.window-window.ensures
+    ∙ ap₂ (chosen (window_by plan c.args.reference.now row.born)) c.deal-deal.ensures placed
     ∙ parent_in-choice plan limits c.args.table c.args.column row.born row.index c.args.reference.now c.requires.table c.requires.reference c.requires.row.born c.requires.row.index
 
 pub returns-clause-born : goal.returns-clause-born

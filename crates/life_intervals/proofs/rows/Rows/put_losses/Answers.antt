@@ -6,7 +6,7 @@ use Rattle.schema_plan.specs.declared.ready.ReadyReference.{ReadyReference}
 use Rattle.schema_plan.specs.Dictionaries.{Project}
 use Rattle.schema_plan.specs.Layout.{layout_of}
 use Rattle.schema_plan.specs.Limits.{IsInLimits}
-use Rattle.schema_plan.specs.Lineage.{death_cost}
+use Rattle.schema_plan.specs.Lineage.{choice_cost, death_cost}
 use Rattle.schema_plan.specs.Ready.{ready_columns}
 use Rattle.schema_plan.specs.References.{Reference, references_of}
 use Rattle.life_intervals.specs.declared.found.FoundRow.{FoundRow}
@@ -66,7 +66,7 @@ loop-column-preserved g c =
                 ∙ ap₂ (λ (change parent : ℕ). later_change c.args.t change (death (generator_of plan) reference.parent (last_unit plan) parent)) (before.changes i below)
                 (sym (found-parent plan c.args.table row found (last_unit plan) within at reference))
                 ∙ sym (change_before-nulls of (index j) (due j) c.args.t at reference is w.if-reference.true);
-            steps = steps-more (length ordinals) (loss_before of at) (1 + death_cost (layout_of plan).tables reference.parent) (loss_before of (at + 1)) c.args.steps.now c.loop-column.steps c.match-ready.steps before.steps
+            steps = steps-more (length ordinals) (loss_before of at) (choice_cost reference.drawn + death_cost (layout_of plan).tables reference.parent) (loss_before of (at + 1)) c.args.steps.now c.loop-column.steps c.match-ready.steps before.steps
                 (omega (arith, w.steps-is, w.put_losses_by.ensures.steps)) (loss_before-nulls of at reference is w.if-reference.true);
           }
       | in-Reference+else-reference w ↦

@@ -2,11 +2,12 @@ use Rattle.std.proofs.Common.{◌≤◌, ◌<◌, ℕ, get_or, length, arith, su
 use Rattle.cohort_sizes.specs.Births.{born_count}
 use Rattle.schema_plan.specs.Dictionaries.{Project}
 use Rattle.schema_plan.specs.Limits.{IsInLimits}
+use Rattle.schema_plan.specs.Lineage.{choice_cost}
 use Rattle.life_intervals.specs.CohortParents.{reference_by}
 use Rattle.life_intervals.specs.Generator.{generator_of, last_unit, table_of}
 use Rattle.life_intervals.specs.Intervals.{parent_of}
 use Rattle.life_intervals.proofs.PartLemmas.{parent-born}
-use Rattle.life_intervals.proofs.RunLemmas.{length-part, next-part, put-all}
+use Rattle.life_intervals.proofs.RunLemmas.{next-part, put-all, steps-next}
 use Rattle.life_intervals.proofs.rows.Rows.put_parents.Goals as goal
 
 pub loop-from-preserved : goal.loop-from-preserved
@@ -20,7 +21,7 @@ loop-from-preserved g c =
       within = c.end_of_part-until.ensures.within;
       same_length = next.0;
       so_far = next.1;
-      steps = omega (arith, c.put_part_parents.ensures.steps, before.steps, order, length-part c.args.ordinals.now c.loop-from.from c.end_of_part-until.result order within);
+      steps = steps-next c.args.ordinals.now (choice_cost c.args.reference.now.drawn) c.loop-from.from c.end_of_part-until.result c.loop-from.steps c.args.steps.now c.put_part_parents.new.steps order within before.steps c.put_part_parents.ensures.steps;
     }
 
 pub returns-clause-parents : goal.returns-clause-parents

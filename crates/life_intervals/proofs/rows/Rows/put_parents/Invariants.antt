@@ -1,4 +1,5 @@
-use Rattle.std.proofs.Common.{◌≡◌, ◌≤◌, ◌+◌, ◌-◌, length, map, take}
+use Rattle.std.proofs.Common.{◌≡◌, ◌≤◌, ◌+◌, ◌-◌, ◌*◌, length, map, take}
+use Rattle.schema_plan.specs.Lineage.{choice_cost}
 use Rattle.life_intervals.specs.CohortParents.{reference_by}
 use Rattle.life_intervals.specs.Generator.{generator_of, last_unit}
 use Rattle.life_intervals.specs.Intervals.{parent_of}
@@ -10,7 +11,7 @@ invariant-loop-from g l = record {
   within : l.from ≤ length l.births;
   same_length : length l.parents ≡ length l.ordinals;
   so_far : take l.from l.parents ≡ map (λ j. parent_of (generator_of l.self) l.table (last_unit l.self) j (reference_by l.column l.reference)) (take l.from l.ordinals);
-  steps : l.steps ≡ l.fn.steps + l.from;
+  steps : l.steps ≡ l.fn.steps + l.from * choice_cost l.reference.drawn;
 }
 
 abbrev pub decreases-loop-from : goal.decreases-loop-from

@@ -132,9 +132,11 @@ pub returns-clause-steps : goal.returns-clause-steps
 returns-clause-steps g c =
     let lines : LinesOf = c.args.self.now in
     let known = AreLinesOf-view _ c.args.self.now c.self.inside.columns.now c.self.inside.fields c.self.inside.delimiter c.self.view_is c.self.invariant in
+    let found = lookup_refers lines known.sound known.table c.self.inside.columns.now known.columns_are c.args.column c.args.lookup.now c.index-columns-lookup.result c.in-Reference.reference c.requires.lookup c.index-columns-lookup.is
+    (ap (λ (column : ReadyColumn). column.kind) c.index-columns-lookup.is ∙ c.in-Reference.is) in
     omega (
       arith,
-      asked-lookup lines known.sound known.table c.args.column c.args.lookup.now c.requires.lookup,
-      c.parent-parent.ensures.one_step,
+      asked-lookup lines known.sound known.table c.args.column c.args.lookup.now c.requires.lookup c.in-Reference.reference found.0,
+      c.parent-parent.ensures.steps,
       c.put_looked_up.ensures.steps,
     )

@@ -16,7 +16,7 @@ use Rattle.row_lines.specs.Runs.{RunLinesOf}
 use Rattle.row_lines.specs.TableLines.{TableLinesOf, behind_of, table_lines}
 use Rattle.row_lines.proofs.LookupLemmas.{looks_up_still}
 use Rattle.row_lines.proofs.RunFieldLemmas.{run_rows}
-use Rattle.row_lines.proofs.RunLookupLemmas.{length-shown, lookup-parent, lookup_by_reference, lookup_refers, made-lookups, shown-at, shown-lookup, shown-short, shown_column-is}
+use Rattle.row_lines.proofs.RunLookupLemmas.{length-shown, lookup-parent, lookup-steps, lookup_by_reference, lookup_refers, made-lookups, shown-at, shown-lookup, shown-short, shown_column-is}
 use Rattle.row_lines.proofs.RunPieceLemmas.{AreRunLines-view, column_of-is, columns-at, length-columns}
 use Rattle.row_lines.proofs.runs.RunLines.put_lookups.Goals as goal
 use Rattle.row_lines.proofs.runs.RunLines.put_lookups.Goals.{After-columns-columns, After-shown-shown, After-columns-own, In-Some}
@@ -169,3 +169,9 @@ returns-clause-made g c =
     (c.put_shown.ensures.size i (omega (arith, inside, many)))))
     (λ i inside. subst (λ (plan : Project). piece_text_at c.null_out.new.pieces i ≡ (if is_null_in plan run (run_row c.args.rows i) then null_text run else piece_text_at c.put_shown.new.pieces i)) plan_is
     (c.null_out.ensures i (omega (arith, inside, c.put_shown.auto.pieces, c.requires.pieces))))
+
+pub returns-clause-steps : goal.returns-clause-steps
+returns-clause-steps g c =
+    let here = (goal.at.returns-clause-steps g c).In-Some in
+    lookup-steps c.args.self.now c.args.column (length c.args.rows.ordinals.now) c.args.steps.now c.find_parents.new.steps c.args.lookup.now c.in-Reference.reference (known_here g here).sound (known_here g here).table
+    c.requires.lookup (refers g here).0 c.find_parents.ensures.steps

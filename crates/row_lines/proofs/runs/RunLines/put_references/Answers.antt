@@ -2,7 +2,7 @@ use Rattle.std.proofs.Common.{◌≡◌, ◌<◌, ◌≤◌, ◌+◌, ◌*◌, �
 use Rattle.std.proofs.Math.Nat.{mul-le-mul_left}
 use Rattle.schema_plan.specs.Dictionaries.{Project}
 use Rattle.schema_plan.specs.Layout.{TableLayout, layout_of}
-use Rattle.schema_plan.specs.Lineage.{death_cost, one_if}
+use Rattle.schema_plan.specs.Lineage.{choice_cost, death_cost, one_if}
 use Rattle.life_intervals.specs.CohortParents.{asked_for_death, held_cost, parent_cost, reference_by}
 use Rattle.life_intervals.specs.Generator.{generator_of, last_unit, table_of}
 use Rattle.life_intervals.specs.Intervals.{is_live, parent_of}
@@ -108,8 +108,9 @@ returns-clause-steps g c =
     subst (λ (lines : RunLinesOf). c.put_lives.new.steps ≤ c.put_keys.new.steps + count * asked_for_death lines.plan parent) c.self.view_is
     (subst (λ (n : ℕ). c.put_lives.new.steps ≤ c.put_keys.new.steps + n * asked_for_death c.self.inside.rows.now parent) many c.put_lives.ensures.steps) in
     let tables : List TableLayout = (layout_of plan).tables in
-    let cost : held_cost tables (reference_by c.args.column c.args.reference.now) ≡ 1 + death_cost tables parent =
-    ap (λ (nulls : Bool). if nulls then parent_cost tables (reference_by c.args.column c.args.reference.now) else 1) c.if-not-reference.false in
+    let chosen : ℕ = choice_cost c.args.reference.now.drawn in
+    let cost : held_cost tables (reference_by c.args.column c.args.reference.now) ≡ chosen + death_cost tables parent =
+    ap (λ (nulls : Bool). if nulls then parent_cost tables (reference_by c.args.column c.args.reference.now) else chosen) c.if-not-reference.false in
     let death : count * asked_for_death plan parent ≤ count * death_cost tables parent =
     mul-le-mul_left count (asked_for_death-cost plan of.sound parent (parent_below plan of.sound c.args.self.now.table c.args.column c.args.reference.now of.table c.requires.reference)) in
     omega (
