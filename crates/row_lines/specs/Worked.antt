@@ -31,9 +31,9 @@ one = record {
   delimiter = 9;
 }
 
--- the order that gives the two rows of a cohort each other's place
+-- the orders that give the two rows of a cohort each other's place
 abbrev pub swapped : Order
-swapped table purpose unit index = 1 - index
+swapped = record in_place { place = λ table purpose unit index. 1 - index }
 
 -- a table of two rows at each unit but 0, with scrambled keys from 10; and a table of two rows
 -- at unit 0 alone, with keys in place; bars between

@@ -15,7 +15,7 @@ use Rattle.row_lines.specs.CohortLines.{LinesOf, change_for, is_live_for, layout
 use Rattle.row_lines.specs.Lines.{draws_of}
 use Rattle.row_lines.specs.Lookups.{IsLookupOf, text_held}
 use Rattle.row_lines.proofs.CohortLineLemmas.{AreLinesOf-view}
-use Rattle.row_lines.proofs.LookupLemmas.{asked-lookup, null-field, room-lookup, size-lookup, text-lookup, text-null}
+use Rattle.row_lines.proofs.LookupLemmas.{asked-lookup, looks_up_still, null-field, room-lookup, size-lookup, text-lookup, text-null}
 use Rattle.row_lines.proofs.RunLookupLemmas.{lookup_by_reference, lookup_refers}
 use Rattle.row_lines.proofs.cohort_lines.CohortLines.put_lookup.Goals as goal
 
@@ -90,6 +90,12 @@ put_looked_up-requires-clause-born g c =
     let found = lookup_refers lines known.sound known.table c.self.inside.columns.now known.columns_are c.args.column c.args.lookup.now c.index-columns-lookup.result c.in-Reference.reference c.requires.lookup c.index-columns-lookup.is
     (ap (λ (column : ReadyColumn). column.kind) c.index-columns-lookup.is ∙ c.in-Reference.is) in
     parent_born lines c.self.inside.fields c.args.lookup.now c.in-Reference.reference c.parent-parent.result known.born known.fields_are found.1 c.parent-parent.ensures.born
+
+pub put_looked_up-requires-clause-column : goal.put_looked_up-requires-clause-column
+put_looked_up-requires-clause-column g c =
+    let lines : LinesOf = c.args.self.now in
+    let known = AreLinesOf-view _ lines c.self.inside.columns.now c.self.inside.fields c.self.inside.delimiter c.self.view_is c.self.invariant in
+    looks_up_still lines known.sound known.table c.args.column c.args.lookup.now c.requires.lookup
 
 -- what is put is what the parent holds
 text_is : (lines fields : LinesOf) → IsInLimits lines.plan → lines.table < length lines.plan.schema.tables → lines.born ≤ lines.unit → lines.unit ≤ last_unit lines.plan → fields ≡ lines →
