@@ -1,5 +1,5 @@
 -- How many candidates a unit has, and what it costs to find and to tell them.
-use Rattle.std.proofs.Common.{◌≡◌, ℕ, ◌+◌, ◌-◌, ◌*◌, ◌≤◌, not, List, [], ◌∷◌, count_by, length, length-append, sum_by, arith, refl, ap, ap₂, sym, ◌∙◌}
+use Rattle.std.proofs.Common.{◌≡◌, ℕ, ◌+◌, ◌*◌, ◌≤◌, not, List, [], ◌∷◌, count_by, length, length-append, sum_by, arith, refl, ap, ap₂, sym, ◌∙◌}
 use Rattle.std.specs.List.{range_with_len}
 use Rattle.std.proofs.lemmas.List.Filters.{sum_by-filter_both}
 use Rattle.std.proofs.lemmas.List.Sums.{length-filter, sum_by-cons}
@@ -10,7 +10,7 @@ use Rattle.schema_plan.specs.Lineage.{death_cost}
 use Rattle.schema_plan.specs.References.{Reference, references_of}
 use Rattle.schema_plan.specs.TableFacts.{cost, line_cost}
 use Rattle.life_intervals.specs.Generator.{table_of}
-use Rattle.update_box.specs.Candidates.{born_before, candidates, due, ending, ends_at, is_due_at, looked_at_to_delete, looked_at_to_update, loses_at, losing, losing_by, pairs, pairs_to_delete, pairs_to_update, references_on}
+use Rattle.update_box.specs.Candidates.{born_before, candidates, ends_at, is_due_at, looked_at_to_delete, looked_at_to_update, loses_at, losing, losing_by, pairs, pairs_to_delete, pairs_to_update, references_on}
 use Rattle.update_box.proofs.RangeLemmas.{sum_by-range_le, sum_by-range_more}
 
 -- how many rows lose a parent by a reference

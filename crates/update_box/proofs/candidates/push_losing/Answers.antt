@@ -1,10 +1,8 @@
-use Rattle.std.proofs.Common.{◌≡◌, ℕ, Bool, List, [], eqb-true, length, arith, subst, sym, ◌∙◌}
+use Rattle.std.proofs.Common.{◌≡◌, ℕ, Bool, [], eqb-true, length, arith, subst, sym, ◌∙◌}
 use Rattle.std.specs.List.Sorted.{IsNonDecreasing}
 use Rattle.cohort_sizes.specs.Births.{Births, first_ordinal}
-use Rattle.schema_plan.specs.declared.ready.ReadyReference.{ReadyReference}
 use Rattle.schema_plan.specs.Dictionaries.{Project}
 use Rattle.schema_plan.specs.Limits.{IsInLimits}
-use Rattle.schema_plan.specs.References.{Reference}
 use Rattle.life_intervals.specs.CohortParents.{reference_by}
 use Rattle.life_intervals.specs.Generator.{generator_of, table_of}
 use Rattle.life_intervals.specs.Intervals.{death, dying, is_at}
