@@ -74,6 +74,11 @@ found-next test births unit before between after from mid to so_far more steps =
       steps = omega (arith, so_far.steps, steps, ap length next, length-append first (of_cohort test births unit));
     }
 
+-- a higher bound leaves room for as many steps more
+pub found-more_steps : (test : ℕ → Bool) (births : Births) (unit : ℕ) (before after : List ℕ) (from to most taken : ℕ) → IsFoundBefore test births unit before after from to → taken + from ≤ most + to →
+    IsFoundBefore test births unit before after most taken
+found-more_steps test births unit before after from to most taken so_far more = record { rows = so_far.rows; steps = omega (arith, so_far.steps, more) }
+
 -- the steps of a cohort, whose rows may not be found, are within those of all
 pub found-within : (test : ℕ → Bool) (births : Births) (unit last : ℕ) (before between : List ℕ) (from mid to : ℕ) → unit < last → IsFoundBefore test births unit before between from mid →
     to ≤ mid + length (of_cohort test births unit) → to ≤ from + length (filter test (range_with_len 0 (first_ordinal births last)))

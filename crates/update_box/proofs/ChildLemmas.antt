@@ -1,6 +1,6 @@
 -- The rows of a cohort whose parents by a reference are among some rows.
-use Rattle.std.proofs.Common.{◌≡◌, ℕ, zero, suc, ◌+◌, ◌-◌, ◌==◌, ◌<◌, ◌≤◌, Bool, true, false, ◌&&◌, ◌||◌, List, [], ◌∷◌, ◌++◌, length, filter, take, eq-eqb, eqb-true, ne_eqb, inl, inr, arith, refl, ap, ap₂, subst, sym, ◌∙◌}
-use Rattle.std.specs.Prelude.{nat_le, nat_lt}
+use Rattle.std.proofs.Common.{◌≡◌, ℕ, zero, suc, ◌+◌, ◌-◌, ◌==◌, ◌*◌, ◌<◌, ◌≤◌, Bool, true, false, not, ◌&&◌, ◌||◌, List, [], ◌∷◌, ◌++◌, length, filter, sum_by, take, eq-eqb, eqb-true, ne_eqb, inl, inr, arith, refl, ap, ap₂, subst, sym, ◌∙◌}
+use Rattle.std.specs.Prelude.{if◌then◌else◌, nat_le, nat_lt}
 use Rattle.std.specs.List.{flat_map, range_with_len}
 use Rattle.std.specs.List.Sorted.{IsPermutation}
 use Rattle.std.proofs.lemmas.Bool.{cases_eq, le-leb, lt-ltb}
@@ -12,7 +12,7 @@ use Rattle.schema_plan.specs.declared.ready.ReadyReference.{ReadyReference}
 use Rattle.schema_plan.specs.Dictionaries.{Project}
 use Rattle.schema_plan.specs.Layout.{table_at}
 use Rattle.schema_plan.specs.Limits.{IsInLimits}
-use Rattle.schema_plan.specs.Lineage.{sure_life}
+use Rattle.schema_plan.specs.Lineage.{one_if, sure_life}
 use Rattle.schema_plan.specs.References.{Reference, first_in_window, references_of}
 use Rattle.life_intervals.specs.CohortParents.{IsReferenceOf, reference_by}
 use Rattle.life_intervals.specs.Generator.{Generator, generator_of, last_unit, table_of}
@@ -22,15 +22,14 @@ use Rattle.life_intervals.proofs.CohortParentLemmas.{limits_of, ready_is}
 use Rattle.life_intervals.proofs.KnownLemmas.{known_at-before, refers-of}
 use Rattle.life_intervals.proofs.ParentLemmas.{Refers, parent_by-lies}
 use Rattle.life_intervals.proofs.ReferenceLemmas.{at_column}
-use Rattle.update_box.specs.Candidates.{loses_at, losing}
-use Rattle.update_box.specs.Found.{lies_within}
-use Rattle.update_box.specs.Ordinals.{is_one_of}
+use Rattle.update_box.specs.Candidates.{children_near, in_window, loses_at, losing, pairs, pairs_at}
+use Rattle.update_box.specs.Ordinals.{is_one_of, lies_within}
 use Rattle.life_intervals.specs.Children.{children_of_each}
 use Rattle.life_intervals.specs.FoundAt.{AreAppended}
-use Rattle.life_intervals.proofs.AppendLemmas.{AreAppended-none}
-use Rattle.update_box.proofs.BornLemmas.{IsFoundBefore, filter-born_next, filter-cohort_same, found-next, found-within, of_cohort}
+use Rattle.update_box.proofs.BornLemmas.{IsFoundBefore, filter-born_next, filter-cohort_same, found-more_steps, found-next, found-none, found-within, of_cohort}
 use Rattle.update_box.proofs.AppendedLemmas.{AreAppended-same}
 use Rattle.update_box.proofs.OrdinalLemmas.{IsPermutation-filters, RisesWithin, one_of-below, one_of-filter, one_of-range, rises-twice}
+use Rattle.update_box.proofs.RangeLemmas.{sum_by-range_le, sum_by-range_more}
 
 -- ---- of each of some parents, and of any of them
 
@@ -68,6 +67,65 @@ pub parent_of-later : (generator : Generator) (place unit last ordinal : ℕ) (r
 parent_of-later generator place unit last ordinal reference born within =
     let births : Births = (table_at generator.tables place).births in
     ap (λ (b : ℕ). parent_by generator.order (take place (known_tables generator)) b (ordinal - first_ordinal births b) reference) (birth-later births unit last ordinal born within)
+
+-- ---- the children in one cohort
+
+-- an empty cohort has none
+pub children-empty : (plan : Project) (table : ℕ) (reference : Reference) (unit : ℕ) → cohort_size (table_of plan table).births unit ≡ 0 → (parents : List ℕ) → children_of_each plan table reference unit parents ≡ []
+children-empty plan table reference unit none [] = refl
+children-empty plan table reference unit none (parent ∷ others) =
+    let is : ℕ → Bool = λ ordinal. parent_of (generator_of plan) table unit ordinal reference == parent in
+    ap₂ (λ (xs ys : List ℕ). xs ++ ys) (ap (λ (n : ℕ). filter is (range_with_len (first_ordinal (table_of plan table).births unit) n)) none) (children-empty plan table reference unit none others)
+
+-- where there are rows, the steps that those of some parents take that are born in its window are their pairs
+pairs-asked : (plan : Project) (table : ℕ) (reference : Reference) (unit : ℕ) (parents : List ℕ) → (cohort_size (table_of plan table).births unit ≡ 0 → ⊥) →
+    length (in_window plan reference unit parents) * one_if reference.drawn ≡ pairs_at plan table reference unit parents
+pairs-asked plan table reference unit parents some =
+    asked (length (in_window plan reference unit parents)) reference.drawn
+    ∙ ap (λ (empty : Bool). if reference.drawn && not empty then length (in_window plan reference unit parents) else 0) (sym (ne_eqb (cohort_size (table_of plan table).births unit) 0 some))
+  where
+    asked : (n : ℕ) (drawn : Bool) → n * one_if drawn ≡ (if drawn && true then n else 0)
+    asked n true = omega arith
+    asked n false = omega arith
+
+pub children_near-steps : (plan : Project) (table : ℕ) (reference : Reference) (unit : ℕ) (parents near : List ℕ) → near ≡ in_window plan reference unit parents → (cohort_size (table_of plan table).births unit ≡ 0 → ⊥) →
+    (from to : ℕ) → to ≤ from + length near * one_if reference.drawn + length (children_of_each plan table reference unit near) →
+    to ≤ from + pairs_at plan table reference unit parents + length (children_near plan table reference unit parents)
+children_near-steps plan table reference unit parents near is some from to steps =
+    let P : List ℕ → Type 0 = λ ps. to ≤ from + length ps * one_if reference.drawn + length (children_of_each plan table reference unit ps) in
+    omega (arith, subst P is steps, pairs-asked plan table reference unit parents some)
+
+-- ---- the pairs of the cohorts before a unit
+
+abbrev pub pairs_before : Project → ℕ → ℕ → Reference → ℕ → ℕ
+pairs_before plan table t reference unit =
+    sum_by (λ born. pairs_at plan table reference born (dying (generator_of plan) reference.parent t)) (range_with_len 0 unit)
+
+pairs_before-next : (plan : Project) (table t : ℕ) (reference : Reference) (unit : ℕ) →
+    pairs_before plan table t reference (unit + 1) ≡ pairs_before plan table t reference unit + pairs_at plan table reference unit (dying (generator_of plan) reference.parent t)
+pairs_before-next plan table t reference unit = sum_by-range_more (λ born. pairs_at plan table reference born (dying (generator_of plan) reference.parent t)) unit
+
+pairs_before-le : (plan : Project) (table t : ℕ) (reference : Reference) (unit : ℕ) → unit ≤ t → pairs_before plan table t reference unit ≤ pairs plan table t reference
+pairs_before-le plan table t reference unit within = sum_by-range_le (λ born. pairs_at plan table reference born (dying (generator_of plan) reference.parent t)) unit t within
+
+-- of the rows that are born before a unit those that lose a parent by a reference stand behind a list, and no more steps have been taken
+-- than they and the pairs are
+abbrev pub AreChildrenBefore : Project → ℕ → ℕ → Reference → ℕ → List ℕ → List ℕ → ℕ → ℕ → Type 0
+AreChildrenBefore plan table t reference unit before after from to =
+    IsFoundBefore (loses_at plan table t reference) (table_of plan table).births unit before after (from + pairs_before plan table t reference unit) to
+
+pub children-none : (plan : Project) (table t : ℕ) (reference : Reference) (before : List ℕ) (from : ℕ) → AreChildrenBefore plan table t reference 0 before before from from
+children-none plan table t reference before from =
+    let loses : ℕ → Bool = loses_at plan table t reference in
+    let births : Births = (table_of plan table).births in
+    found-more_steps loses births 0 before before from from (from + pairs_before plan table t reference 0) from (found-none loses births before from) (omega arith)
+
+-- where the last cohort is passed all are found
+pub children-all : (plan : Project) (table t : ℕ) (reference : Reference) (unit : ℕ) → unit ≡ t → (before after : List ℕ) (from to : ℕ) → AreChildrenBefore plan table t reference unit before after from to →
+    AreAppended (losing plan table t reference) before after × (to ≤ from + length (losing plan table t reference) + pairs plan table t reference)
+children-all plan table t reference unit is before after from to so_far =
+    let found : AreChildrenBefore plan table t reference t before after from to = subst (λ (u : ℕ). AreChildrenBefore plan table t reference u before after from to) is so_far in
+    (found.rows, omega (arith, found.steps))
 
 -- the parents of a cohort's rows by a reference are born in its window
 module _ (plan : Project) (limits : IsInLimits plan) (table column : ℕ) (ready : ReadyReference) (below : table < length plan.schema.tables) (of : IsReferenceOf plan table column ready) where
@@ -164,28 +222,32 @@ module _ (plan : Project) (limits : IsInLimits plan) (table column : ℕ) (ready
   abbrev loses : ℕ → ℕ → Bool
   loses t = loses_at plan table t reference
 
-  pub children-next : (unit t : ℕ) → unit < t → t ≤ last_unit plan → (near : List ℕ) →
-      near ≡ filter (lies_within (first_in_window elder ready.window unit) (born_count elder unit)) (dying generator ready.parent t) →
-      (before between after : List ℕ) (from mid to : ℕ) → IsFoundBefore (loses t) births unit before between from mid →
-      AreAppended (children_of_each plan table reference unit near) between after → to ≤ mid + length (children_of_each plan table reference unit near) →
-      IsFoundBefore (loses t) births (unit + 1) before after from to
-  children-next unit t early within near is before between after from mid to so_far found steps =
-      let same : IsPermutation (of_cohort (loses t) births unit) (children_of_each plan table reference unit near) = losing-children unit t early within near is in
-      found-next (loses t) births unit before between after from mid to so_far
-      (AreAppended-same (children_of_each plan table reference unit near) (of_cohort (loses t) births unit) between after same found)
-      (omega (arith, steps, length_permutation (of_cohort (loses t) births unit) (children_of_each plan table reference unit near) same))
+  -- with the steps that the cohort of a unit may take for its pairs
+  paired : (unit t : ℕ) (parents : List ℕ) → parents ≡ dying generator ready.parent t → (before between : List ℕ) (from mid : ℕ) → AreChildrenBefore plan table t reference unit before between from mid →
+      IsFoundBefore (loses t) births unit before between (from + pairs_before plan table t reference (unit + 1)) (mid + pairs_at plan table reference unit parents)
+  paired unit t parents are before between from mid so_far =
+      found-more_steps (loses t) births unit before between (from + pairs_before plan table t reference unit) mid (from + pairs_before plan table t reference (unit + 1)) (mid + pairs_at plan table reference unit parents) so_far
+      (omega (arith, pairs_before-next plan table t reference unit, ap (pairs_at plan table reference unit) are))
 
-  pub children-within : (unit t : ℕ) → unit < t → t ≤ last_unit plan → (near : List ℕ) →
-      near ≡ filter (lies_within (first_in_window elder ready.window unit) (born_count elder unit)) (dying generator ready.parent t) →
-      (before between : List ℕ) (from mid to : ℕ) → IsFoundBefore (loses t) births unit before between from mid →
-      to ≤ mid + length (children_of_each plan table reference unit near) → to ≤ from + length (losing plan table t reference)
-  children-within unit t early within near is before between from mid to so_far steps =
-      found-within (loses t) births unit t before between from mid to early so_far
-      (omega (arith, steps, length_permutation (of_cohort (loses t) births unit) (children_of_each plan table reference unit near) (losing-children unit t early within near is)))
+  pub children-next : (unit t : ℕ) → unit < t → t ≤ last_unit plan → (parents : List ℕ) → parents ≡ dying generator ready.parent t → (before between after : List ℕ) (from mid to : ℕ) →
+      AreChildrenBefore plan table t reference unit before between from mid → AreAppended (children_near plan table reference unit parents) between after →
+      to ≤ mid + pairs_at plan table reference unit parents + length (children_near plan table reference unit parents) → AreChildrenBefore plan table t reference (unit + 1) before after from to
+  children-next unit t early within parents are before between after from mid to so_far found steps =
+      let same : IsPermutation (of_cohort (loses t) births unit) (children_near plan table reference unit parents) = losing-children unit t early within (in_window plan reference unit parents) (ap (in_window plan reference unit) are) in
+      found-next (loses t) births unit before between after (from + pairs_before plan table t reference (unit + 1)) (mid + pairs_at plan table reference unit parents) to
+      (paired unit t parents are before between from mid so_far) (AreAppended-same (children_near plan table reference unit parents) (of_cohort (loses t) births unit) between after same found)
+      (omega (arith, steps, length_permutation (of_cohort (loses t) births unit) (children_near plan table reference unit parents) same))
 
-  pub children-none : (unit t : ℕ) → unit < t → t ≤ last_unit plan → (near : List ℕ) →
-      near ≡ filter (lies_within (first_in_window elder ready.window unit) (born_count elder unit)) (dying generator ready.parent t) → near ≡ [] →
-      (before after : List ℕ) (from to : ℕ) → IsFoundBefore (loses t) births unit before after from to → IsFoundBefore (loses t) births (unit + 1) before after from to
-  children-none unit t early within near is none before after from to so_far =
-      found-next (loses t) births unit before after after from to to so_far
-      (AreAppended-none (of_cohort (loses t) births unit) after (sym (losing-nobody unit t early within near is none))) (omega arith)
+  -- the steps of a cohort, whose rows may not be found, are within those of all
+  pub children-within : (unit t : ℕ) → unit < t → t ≤ last_unit plan → (parents : List ℕ) → parents ≡ dying generator ready.parent t → (before between : List ℕ) (from mid to : ℕ) →
+      AreChildrenBefore plan table t reference unit before between from mid → to ≤ mid + pairs_at plan table reference unit parents + length (children_near plan table reference unit parents) →
+      to ≤ from + length (losing plan table t reference) + pairs plan table t reference
+  children-within unit t early within parents are before between from mid to so_far steps =
+      let same : IsPermutation (of_cohort (loses t) births unit) (children_near plan table reference unit parents) = losing-children unit t early within (in_window plan reference unit parents) (ap (in_window plan reference unit) are) in
+      omega (
+        arith,
+        found-within (loses t) births unit t before between (from + pairs_before plan table t reference (unit + 1)) (mid + pairs_at plan table reference unit parents) to early
+            (paired unit t parents are before between from mid so_far)
+            (omega (arith, steps, length_permutation (of_cohort (loses t) births unit) (children_near plan table reference unit parents) same)),
+        pairs_before-le plan table t reference (unit + 1) (omega (arith, early)),
+      )

@@ -13,8 +13,7 @@ use Rattle.std.proofs.lemmas.List.Sorted.{IsPermutation-cons, IsPermutation-midd
 use Rattle.std.proofs.lemmas.Map.Views.{any-filter_same}
 use Rattle.std.proofs.lemmas.List.Kept.{IsStrictlyIncreasing-filter}
 use Rattle.std.proofs.lemmas.Map.Keys.{non_decreasing_from_sorted, sorted_from_strictly_increasing}
-use Rattle.update_box.specs.Found.{lies_within}
-use Rattle.update_box.specs.Ordinals.{is_one_of}
+use Rattle.update_box.specs.Ordinals.{is_one_of, lies_within}
 
 -- a test that doesn't pass
 pub not-true : (test : Bool) → not test ≡ true → test ≡ false

@@ -1,11 +1,11 @@
--- What passes a test, of a range of numbers that grows, and of one that is read twice, and what comes of it.
-use Rattle.std.proofs.Common.{◌≡◌, ℕ, zero, suc, ◌+◌, ◌-◌, ◌<◌, ◌≤◌, Bool, true, false, ◌&&◌, List, [], ◌∷◌, ◌++◌, count_by, filter, flat_map, map, Option, Some, None, inl, inr, zero-add, refl, ap, ap₂, arith, sym, ◌∙◌}
+-- What passes a test, of a range of numbers that grows, and of one that is read twice, and what comes of it; and sums over ranges.
+use Rattle.std.proofs.Common.{◌≡◌, ℕ, zero, suc, ◌+◌, ◌-◌, ◌<◌, ◌≤◌, Bool, true, false, ◌&&◌, List, [], ◌∷◌, ◌++◌, count_by, filter, flat_map, map, sum_by, Option, Some, None, inl, inr, zero-add, refl, ap, ap₂, arith, sym, ◌∙◌}
 use Rattle.std.specs.Prelude.{if◌then◌else◌}
 use Rattle.std.specs.List.{range_with_len}
 use Rattle.std.proofs.lemmas.Bool.{cases_Bool, cases_lt}
 use Rattle.std.proofs.lemmas.List.{append-nil}
 use Rattle.std.proofs.lemmas.List.Elements.{filter-append}
-use Rattle.std.proofs.lemmas.List.Sums.{sum_by-cons}
+use Rattle.std.proofs.lemmas.List.Sums.{sum_by-append, sum_by-cons, sum_by_push}
 use Rattle.life_intervals.proofs.FilterMaps.{filter-filter_map, filter_map-range_none, filter_map-range_same}
 use Rattle.life_intervals.proofs.Ranges.{range_with_len-add}
 
@@ -121,3 +121,20 @@ count_by-filter_one p q a (suc n) one from below kept passes others = elim (case
       ∙ sum_by-cons (counted q) a rest
       ∙ ap₂ (λ (b : Bool) (k : ℕ). (if b then 1 else 0) + k) (ap q same ∙ passes) none
 ]
+
+-- a sum over one number more
+pub sum_by-range_more : (f : ℕ → ℕ) (n : ℕ) → sum_by f (range_with_len 0 (n + 1)) ≡ sum_by f (range_with_len 0 n) + f n
+sum_by-range_more f n =
+    let last : 0 + n ≡ n = omega arith in
+    ap (sum_by f) (range_with_len-add 0 n 1) ∙ sum_by_push f (range_with_len 0 n) (0 + n) ∙ ap (λ (j : ℕ). sum_by f (range_with_len 0 n) + f j) last
+
+-- a sum over fewer numbers is no greater
+pub sum_by-range_le : (f : ℕ → ℕ) (m n : ℕ) → m ≤ n → sum_by f (range_with_len 0 m) ≤ sum_by f (range_with_len 0 n)
+sum_by-range_le f m n within =
+    let whole : n ≡ m + (n - m) = omega (arith, within) in
+    omega (
+      arith,
+      ap (λ (k : ℕ). sum_by f (range_with_len 0 k)) whole,
+      ap (sum_by f) (range_with_len-add 0 m (n - m)),
+      sum_by-append f (range_with_len 0 m) (range_with_len (0 + m) (n - m)),
+    )

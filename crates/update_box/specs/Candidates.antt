@@ -1,8 +1,8 @@
 -- The rows that a unit may delete or update, as they are looked for.
-use Rattle.std.specs.Prelude.{ℕ, ◌+◌, ◌*◌, ◌==◌, Bool, false, not, ◌&&◌, List, count_by, filter, is_some, length, sum_by}
+use Rattle.std.specs.Prelude.{ℕ, ◌+◌, ◌*◌, ◌==◌, Bool, false, not, ◌&&◌, if◌then◌else◌, List, count_by, filter, is_some, length, sum_by}
 use Rattle.std.specs.List.{flat_map, range_with_len}
 use Rattle.std.specs.Option.{option_map}
-use Rattle.cohort_sizes.specs.Births.{birth, first_ordinal}
+use Rattle.cohort_sizes.specs.Births.{birth, born_count, cohort_size, first_ordinal}
 use Rattle.schema_model.specs.declared.column.OnDelete.{OnDelete}
 use Rattle.schema_model.specs.declared.column.OnDelete.TheVariants.{Cascade, Null}
 use Rattle.schema_plan.specs.Dictionaries.{Project}
@@ -12,11 +12,13 @@ use Rattle.schema_plan.specs.declared.ready.ReadyColumn.{ReadyColumn}
 use Rattle.schema_plan.specs.declared.ready.ReadyKind.{ReadyKind}
 use Rattle.schema_plan.specs.declared.ready.ReadyKind.TheVariants as kind
 use Rattle.schema_plan.specs.declared.ready.ReadyReference.{ReadyReference}
-use Rattle.schema_plan.specs.References.{Reference, cascades_of, references_of}
+use Rattle.schema_plan.specs.References.{Reference, cascades_of, first_in_window, references_of}
 use Rattle.schema_plan.specs.TableFacts.{cost}
+use Rattle.life_intervals.specs.Children.{children_of_each}
 use Rattle.life_intervals.specs.Generator.{generator_of, table_of}
-use Rattle.life_intervals.specs.Intervals.{death, is_after, is_at, is_live, own_death, parent_of}
+use Rattle.life_intervals.specs.Intervals.{death, dying, is_after, is_at, is_live, own_death, parent_of}
 use Rattle.life_intervals.specs.FoundAt.{due_unit}
+use Rattle.update_box.specs.Ordinals.{lies_within}
 
 -- the ordinals of the rows of the table at a place that are born before a unit
 abbrev pub born_before : Project → ℕ → ℕ → List ℕ
@@ -90,6 +92,36 @@ losing plan place unit reference = filter (loses_at plan place unit reference) (
 abbrev pub losing_by : Project → ℕ → ℕ → List Reference → List ℕ
 losing_by plan place unit references = flat_map (losing plan place unit) references
 
+-- ---- the parents that are looked at
+
+-- those of some rows of a reference's parent table that are born in the window of a unit's cohort
+abbrev pub in_window : Project → Reference → ℕ → List ℕ → List ℕ
+in_window plan reference born parents =
+    filter (lies_within (first_in_window (table_of plan reference.parent).births reference.window born) (born_count (table_of plan reference.parent).births born)) parents
+
+-- the children of these in the cohort
+abbrev pub children_near : Project → ℕ → Reference → ℕ → List ℕ → List ℕ
+children_near plan place reference born parents = children_of_each plan place reference born (in_window plan reference born parents)
+
+-- whether a reference of the table at a place deals the candidates of a unit's cohort in a drawn order; to an empty cohort none is dealt
+abbrev pub is_dealt : Project → ℕ → Reference → ℕ → Bool
+is_dealt plan place reference born = reference.drawn && not (cohort_size (table_of plan place).births born == 0)
+
+-- how many pairs a unit makes with some rows of the parent table: one with each that is a candidate of its cohort and dealt so
+abbrev pub pairs_at : Project → ℕ → Reference → ℕ → List ℕ → ℕ
+pairs_at plan place reference born parents =
+    if is_dealt plan place reference born then length (in_window plan reference born parents) else 0
+
+-- how many there are of a row that dies at a unit and an earlier unit, by a reference, and by some
+abbrev pub pairs : Project → ℕ → ℕ → Reference → ℕ
+pairs plan place unit reference =
+    sum_by (λ born. pairs_at plan place reference born (dying (generator_of plan) reference.parent unit)) (range_with_len 0 unit)
+
+abbrev pub pairs_by : Project → ℕ → ℕ → List Reference → ℕ
+pairs_by plan place unit references = sum_by (pairs plan place unit) references
+
+-- ---- how many are looked at
+
 -- how many rows are looked at for what a unit deletes in the table at a place, and for what it updates, each as often as it is found
 abbrev pub looked_at_to_delete : Project → ℕ → ℕ → ℕ
 looked_at_to_delete plan place unit =
@@ -99,13 +131,22 @@ abbrev pub looked_at_to_update : Project → ℕ → ℕ → ℕ
 looked_at_to_update plan place unit =
     length (due plan place unit) + length (losing_by plan place unit (references_on Null (table_of plan place)))
 
--- the candidates of a unit: the rows whose own lives end at it, for each reference those whose parents die at it, and those that are due at
--- it. A row counts once for each of these
+-- and how many pairs there are
+abbrev pub pairs_to_delete : Project → ℕ → ℕ → ℕ
+pairs_to_delete plan place unit = pairs_by plan place unit (references_on Cascade (table_of plan place))
+
+abbrev pub pairs_to_update : Project → ℕ → ℕ → ℕ
+pairs_to_update plan place unit = pairs_by plan place unit (references_on Null (table_of plan place))
+
+-- the candidates of a unit: the rows whose own lives end at it, for each reference those whose parents die at it, those that are due at
+-- it, and for each drawn reference the pairs of a parent that dies at it and an earlier unit whose cohort isn't empty, in whose window the
+-- parent is born. A row counts once for each of the first three, and each pair once
 abbrev pub candidates : Project → ℕ → ℕ → ℕ
 candidates plan place unit =
     count_by (ends_at plan place unit) (born_before plan place unit)
     + sum_by (λ reference. count_by (loses_at plan place unit reference) (born_before plan place unit)) (references_of (table_of plan place))
     + count_by (is_due_at plan place unit) (born_before plan place unit)
+    + pairs_by plan place unit (references_of (table_of plan place))
 
 -- how many permutations it takes at most to tell what a unit changes: for each candidate of each table as many as a row of it costs
 abbrev pub cost_of_unit : Project → ℕ → ℕ

@@ -1,5 +1,5 @@
 -- What is found of the tables before one, and of which tables it is needed.
-use Rattle.std.specs.Prelude.{◌≡◌, ◌<◌, ℕ, Bool, true, false, ◌&&◌, ◌==◌, ◌⊎◌, if◌then◌else◌, All, List, length, nat_le, nat_lt, Option, slice_index_or}
+use Rattle.std.specs.Prelude.{◌≡◌, ◌<◌, ℕ, Bool, true, false, ◌==◌, ◌⊎◌, if◌then◌else◌, All, List, length, Option, slice_index_or}
 use Rattle.std.specs.List.{list_any}
 use Rattle.schema_plan.specs.Dictionaries.{Project}
 use Rattle.schema_plan.specs.References.{references_of}
@@ -10,10 +10,6 @@ use Rattle.update_box.specs.declared.units.Sought.{Sought}
 use Rattle.update_box.specs.declared.units.Sought.TheVariants.{Changes, Deletions, Nothing}
 use Rattle.update_box.specs.TableLists.{is_chosen, no_lists}
 use Rattle.update_box.specs.UnitLists.{TableLists, table_lists}
-
--- an ordinal lies from a first one up to another
-abbrev pub lies_within : ℕ → ℕ → ℕ → Bool
-lies_within first end ordinal = nat_le first ordinal && nat_lt ordinal end
 
 -- among the rows that are kept table by table stand those that a unit deletes in the table at a place
 pub record HasDying (plan : Project) (unit : ℕ) (kept : List TableRows) (place : ℕ) : Type 0 where

@@ -7,9 +7,9 @@ ghost use Rattle.schema_plan.specs.References.{first_in_window, references_of};
 ghost use Rattle.life_intervals.specs.CohortParents.{IsReferenceOf, reference_by};
 ghost use Rattle.life_intervals.specs.Generator.{generator_of, last_unit, table_of};
 ghost use Rattle.life_intervals.specs.Intervals.{dying};
-ghost use Rattle.update_box.specs.Candidates.{is_on_ready, losing, losing_by, references_on};
-ghost use Rattle.update_box.specs.Found.{HasDying, lies_within};
-ghost use Rattle.update_box.specs.Ordinals.{is_one_of};
+ghost use Rattle.update_box.specs.Candidates.{children_near, is_on_ready, losing, losing_by, pairs, pairs_at, pairs_by, references_on};
+ghost use Rattle.update_box.specs.Found.{HasDying};
+ghost use Rattle.update_box.specs.Ordinals.{is_one_of, lies_within};
 ghost use Rattle.life_intervals.specs.FoundAt.{AreAppended};
 
 use crate::table_rows::TableRows;
@@ -62,8 +62,41 @@ fn near<'a>(plan: &Plan, reference: &ReadyReference, unit: u64, parents: &'a [u6
     within(parents, first, born(plan, reference.parent, unit))
 }
 
+/// Appends to a list the children that some rows have by a reference, in the cohort born at `unit`. `parents` holds ordinals that don't fall,
+/// and only those that are born in the window are asked. Takes at most one step for each child, and one for each of those parents if the
+/// reference is drawn. If the cohort is empty it takes none.
+fn push_children_near<L: Ledger>(
+    rows: &Rows<'_>,
+    table: u32,
+    column: u32,
+    reference: &ReadyReference,
+    unit: u64,
+    parents: &[u64],
+    list: &mut Vec<u64>,
+    steps: &mut Steps<L>,
+) -> Result<(), Memory>
+    requires table { table < length rows.now.schema.tables }
+    requires reference { IsReferenceOf rows.now table column reference.now }
+    requires unit { unit ≤ last_unit rows.now }
+    requires order { IsNonDecreasing parents.now }
+    ensures rows { OnOk result (AreAppended (children_near rows.now table (reference_by column reference.now) unit parents.now) list.old.items list.new.items) }
+    ensures steps { steps.new ≤ steps.old + pairs_at rows.now table (reference_by column reference.now) unit parents.now + length (children_near rows.now table (reference_by column reference.now) unit parents.now) }
+{
+    let plan = rows.plan();
+    let _limits = plan.schema(); // the parent's table is an earlier one
+    if cohort(plan, table, unit).size == 0 {
+        return Ok(());
+    }
+    let near = near(plan, reference, unit, parents);
+    if near.is_empty() {
+        return Ok(());
+    }
+    rows.push_children(table, column, reference, unit, near, list, steps)
+}
+
 /// Appends to a list the rows of a table whose parent by a reference dies at unit `t`. The rows are born before `t`. `column` is the place of
-/// the reference's column, and `parents` holds the parent rows that die at `t`. Takes at most one step for each row.
+/// the reference's column, and `parents` holds the parent rows that die at `t`. Takes at most one step for each row. If the reference is drawn,
+/// it takes one more for each of `parents` at each earlier unit whose cohort isn't empty and in whose window that parent is born.
 fn push_losing<L: Ledger>(
     rows: &Rows<'_>,
     table: u32,
@@ -79,18 +112,14 @@ fn push_losing<L: Ledger>(
     requires parents { parents.now ≡ dying (generator_of rows.now) reference.now.parent t }
     requires unit { t ≤ last_unit rows.now }
     ensures rows { OnOk result (AreAppended (losing rows.now table t (reference_by column reference.now)) list.old.items list.new.items) }
-    ensures steps { steps.new ≤ steps.old + length (losing rows.now table t (reference_by column reference.now)) }
+    ensures steps { steps.new ≤ steps.old + length (losing rows.now table t (reference_by column reference.now)) + pairs rows.now table t (reference_by column reference.now) }
 {
-    let plan = rows.plan();
-    let _limits = plan.schema(); // the parent's table is an earlier one
+    let _limits = rows.plan().schema(); // a row's parent is born in the window
     if parents.is_empty() {
         return Ok(());
     }
     for unit in 0..t {
-        let near = near(plan, reference, unit, parents);
-        if !near.is_empty() {
-            rows.push_children(table, column, reference, unit, near, list, steps)?;
-        }
+        push_children_near(rows, table, column, reference, unit, parents, list, steps)?;
     }
     Ok(())
 }
@@ -106,7 +135,8 @@ fn is_on(on_delete: OnDelete, reference: &ReadyReference) -> bool
 }
 
 /// Appends to a list the rows of a table that lose a parent at unit `t`, for each reference of the kind `on_delete`. The rows are born before
-/// `t`. `before` holds the deleted rows of the earlier tables. Takes at most one step for each row.
+/// `t`. `before` holds the deleted rows of the earlier tables. Takes at most one step for each row, and for each drawn reference one for each
+/// pair of a parent that dies and an earlier unit whose cohort isn't empty and in whose window it is born.
 pub(crate) fn push_losing_by<L: Ledger>(
     rows: &Rows<'_>,
     table: u32,
@@ -120,7 +150,7 @@ pub(crate) fn push_losing_by<L: Ledger>(
     requires unit { t ≤ last_unit rows.now }
     requires parents { All (λ reference. HasDying rows.now t before.now reference.parent) (references_of (table_of rows.now table)) }
     ensures rows { OnOk result (AreAppended (losing_by rows.now table t (references_on on_delete (table_of rows.now table))) list.old.items list.new.items) }
-    ensures steps { steps.new ≤ steps.old + length (losing_by rows.now table t (references_on on_delete (table_of rows.now table))) }
+    ensures steps { steps.new ≤ steps.old + length (losing_by rows.now table t (references_on on_delete (table_of rows.now table))) + pairs_by rows.now table t (references_on on_delete (table_of rows.now table)) }
 {
     for (column, ready) in rows.plan().columns(table).iter().enumerate() {
         if let ReadyKind::Reference(reference) = &ready.kind {

@@ -6,7 +6,7 @@ ghost use Rattle.schema_plan.specs.Lineage.{death_cost};
 ghost use Rattle.schema_plan.specs.References.{references_of};
 ghost use Rattle.life_intervals.specs.Generator.{generator_of, last_unit, table_of};
 ghost use Rattle.life_intervals.specs.Intervals.{dying};
-ghost use Rattle.update_box.specs.Candidates.{ending, endings, is_cascade, looked_at_to_delete};
+ghost use Rattle.update_box.specs.Candidates.{ending, endings, is_cascade, looked_at_to_delete, pairs_to_delete};
 ghost use Rattle.update_box.specs.Found.{HasDying};
 ghost use Rattle.life_intervals.specs.FoundAt.{AreAppended};
 
@@ -89,7 +89,7 @@ pub(crate) fn deletions<L: Ledger>(
     requires unit { t ≤ last_unit rows.now }
     requires parents { All (λ reference. HasDying rows.now t before.now reference.parent) (references_of (table_of rows.now table)) }
     ensures rows { IfOk result (λ list. list.items ≡ dying (generator_of rows.now) table t) }
-    ensures steps { steps.new ≤ steps.old + looked_at_to_delete rows.now table t * (1 + death_cost (layout_of rows.now).tables table) }
+    ensures steps { steps.new ≤ steps.old + looked_at_to_delete rows.now table t * (1 + death_cost (layout_of rows.now).tables table) + pairs_to_delete rows.now table t }
 {
     let _sound = rows.plan().schema(); // so a row dies with its parents
     let mut list = Vec::new(alloc);

@@ -6,7 +6,7 @@ ghost use Rattle.schema_plan.specs.Lineage.{death_cost, sure_life};
 ghost use Rattle.schema_plan.specs.References.{references_of};
 ghost use Rattle.life_intervals.specs.Generator.{generator_of, last_unit, table_of};
 ghost use Rattle.life_intervals.specs.Intervals.{changing};
-ghost use Rattle.update_box.specs.Candidates.{due, is_young, looked_at_to_update};
+ghost use Rattle.update_box.specs.Candidates.{due, is_young, looked_at_to_update, pairs_to_update};
 ghost use Rattle.update_box.specs.Found.{HasDying};
 ghost use Rattle.life_intervals.specs.FoundAt.{AreAppended};
 
@@ -78,7 +78,7 @@ pub(crate) fn updates<L: Ledger>(
     requires unit { t ≤ last_unit rows.now }
     requires parents { All (λ reference. HasDying rows.now t before.now reference.parent) (references_of (table_of rows.now table)) }
     ensures rows { IfOk result (λ list. list.items ≡ changing (generator_of rows.now) table t) }
-    ensures steps { steps.new ≤ steps.old + looked_at_to_update rows.now table t * (1 + death_cost (layout_of rows.now).tables table) }
+    ensures steps { steps.new ≤ steps.old + looked_at_to_update rows.now table t * (1 + death_cost (layout_of rows.now).tables table) + pairs_to_update rows.now table t }
 {
     let _sound = rows.plan().schema(); // so a row changes where it is due or loses a parent
     let mut list = Vec::new(alloc);
