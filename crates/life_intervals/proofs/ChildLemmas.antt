@@ -1,11 +1,10 @@
 -- The rows of a cohort that have a row as their parent, by their places.
-use Rattle.std.proofs.Common.{◌≡◌, ℕ, true, ◌+◌, ◌-◌, ◌*◌, ◌^◌, ◌<◌, ◌≤◌, max, min, List, [], ◌∷◌, length, map, take, inl, inr, Option, Some, None, get_or, is_some, refl, ap, ap₂, arith, subst, sym, ◌∙◌}
+use Rattle.std.proofs.Common.{◌≡◌, ℕ, true, ◌+◌, ◌-◌, ◌*◌, ◌^◌, ◌<◌, ◌≤◌, max, min, List, [], ◌∷◌, length, map, take, inl, inr, Option, Some, None, get_or, is_some, refl, ap, arith, subst, sym, ◌∙◌}
 use Rattle.std.specs.Prelude.{◌==◌, All, IfSome}
 use Rattle.std.specs.List.{flat_map, range_with_len}
 use Rattle.std.specs.List.Sorted.{IsPermutation}
 use Rattle.std.proofs.lemmas.Bool.{cases_lt, true≢false}
 use Rattle.std.proofs.lemmas.List.Elements.{All-append}
-use Rattle.std.proofs.lemmas.Nat.{mod_below}
 use Rattle.philox_seeds.specs.SeedTree.{deal_seed, reference_order_seed}
 use Rattle.id_permutation.specs.Order.{Arrangement, number_at, place_in}
 use Rattle.id_permutation.proofs.OrderLaws.{AreInversesBelow-number_at}

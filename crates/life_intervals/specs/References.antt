@@ -1,5 +1,5 @@
 -- Which of some candidates a place chooses as a parent.
-use Rattle.std.specs.Prelude.{ℕ, ◌+◌, ◌*◌, ◌/◌, ◌%◌, Bool, if◌then◌else◌, List, length, Option, Some, None, sum}
+use Rattle.std.specs.Prelude.{ℕ, ◌+◌, ◌*◌, ◌/◌, ◌%◌, Bool, if◌then◌else◌, List, length, Some, None, sum}
 use Rattle.id_permutation.specs.Order.{Arrangement, place_in}
 use Rattle.weight_tables.specs.Weights.{selected}
 use Rattle.schema_plan.specs.References.{Reference}

@@ -1,4 +1,4 @@
-use Rattle.std.proofs.Common.{length, arith, ◌∙◌}
+use Rattle.std.proofs.Common.{arith, ◌∙◌}
 use Rattle.life_intervals.specs.CohortParents.{deal_by, window_by}
 use Rattle.life_intervals.proofs.KeptLemmas.{IsKeptByUnit-all, kept-at, kept-more}
 use Rattle.life_intervals.proofs.kept.kept_deals.Goals as goal

@@ -17,7 +17,7 @@ use Rattle.life_intervals.specs.Blocks.{places_of_parent}
 use Rattle.life_intervals.specs.Children.{child_at, children_of_each}
 use Rattle.life_intervals.specs.CohortParents.{deal_by, reference_by, window_by}
 use Rattle.life_intervals.specs.Generator.{table_of}
-use Rattle.life_intervals.proofs.AppendLemmas.{AreAppended-places, GoesOn-appended, GoesOn-more, drop-behind, steps-places}
+use Rattle.life_intervals.proofs.AppendLemmas.{AreAppended-places, drop-behind, steps-places}
 use Rattle.life_intervals.proofs.ChildLemmas.{All-places, children-ready, window-count}
 use Rattle.life_intervals.proofs.CohortParentLemmas.{limits_of, parent_below}
 use Rattle.life_intervals.proofs.DealLemmas.{order_steps-deal_of}
