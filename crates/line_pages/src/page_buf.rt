@@ -1,6 +1,6 @@
 //! A buffer with a fixed room.
 
-ghost use Rattle.std.specs.Prelude.{◌≡◌, ◌≤◌, ◌+◌, ◌-◌, [], ◌++◌, length, IfOk};
+ghost use Rattle.std.specs.Prelude.{◌≡◌, ◌≤◌, ◌+◌, ◌-◌, [], ◌++◌, length, take, IfOk};
 ghost use Rattle.line_pages.specs.Pieces.{piece_text};
 
 use crate::Piece;
@@ -69,6 +69,14 @@ impl PageBuf {
         ensures { result.now ≡ self.now.text }
     {
         &self.bytes[..self.len]
+    }
+
+    /// Keeps the first `len` bytes.
+    pub fn cut(&mut self, len: usize)
+        requires { len ≤ length self.old.text }
+        ensures { self.new ≡ record self.old { text = take len self.old.text } }
+    {
+        self.len = len;
     }
 
     /// Empties the buffer.

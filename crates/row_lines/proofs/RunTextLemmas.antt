@@ -5,6 +5,7 @@ use Rattle.std.proofs.Math.Nat.{mul-le-mul_right}
 use Rattle.std.proofs.Math.Seq.{take-add}
 use Rattle.std.proofs.lemmas.List.{take_more}
 use Rattle.std.proofs.lemmas.List.Concat.{flat_map-append}
+use Rattle.std.proofs.lemmas.List.Elements.{filter-append}
 use Rattle.line_pages.specs.Pages.{Page}
 use Rattle.cohort_sizes.specs.Births.{Births, born_count, cohort_size, first_ordinal}
 use Rattle.schema_plan.specs.Layout.{layout_of}
@@ -18,7 +19,7 @@ use Rattle.life_intervals.proofs.CohortAt.{CohortAt}
 use Rattle.life_intervals.proofs.CohortAtLemmas.{is_live_in-over}
 use Rattle.life_intervals.proofs.Ranges.{range_with_len-add}
 use Rattle.row_lines.specs.Lines.{cohort_text, first_lines, line, line_of, table_text}
-use Rattle.row_lines.specs.Runs.{RunLinesOf, layout_for, line_for, listed_text, run_text, text_at, text_behind}
+use Rattle.row_lines.specs.Runs.{RunLinesOf, layout_for, line_for, listed_text, living_from, run_text, text_at, text_behind}
 use Rattle.row_lines.proofs.LineLemmas.{cohort_text-over, table_text-living}
 use Rattle.row_lines.proofs.ListLemmas.{flat_map-filter_append}
 use Rattle.row_lines.proofs.RunListLemmas.{joined_fields}
@@ -30,6 +31,11 @@ born_for lines = born_count (layout_for lines).births lines.unit
 -- no row, and so many more
 pub run_text-none : (lines : RunLinesOf) (first : ℕ) → run_text lines first 0 ≡ []
 run_text-none lines first = refl
+
+pub living_from-more : (lines : RunLinesOf) (first count more : ℕ) → living_from lines first (count + more) ≡ living_from lines first count ++ living_from lines (first + count) more
+living_from-more lines first count more =
+    let live : ℕ → Bool = is_live (generator_of lines.plan) lines.table lines.unit in
+    ap (filter live) (range_with_len-add first count more) ∙ filter-append live (range_with_len first count) (range_with_len (first + count) more)
 
 pub run_text-more : (lines : RunLinesOf) (first count more : ℕ) → run_text lines first (count + more) ≡ run_text lines first count ++ run_text lines (first + count) more
 run_text-more lines first count more =

@@ -38,6 +38,10 @@ size_for lines column =
     (bounds_of (layout_of lines.plan).delimiter (layout_of lines.plan).tables (layout_for lines)
     (column_at (layout_for lines).columns column).kind).size
 
+-- no field of the row of an ordinal is longer than it may be
+pub record HasSizes (lines : RunLinesOf) (ordinal : ℕ) : Type 0 where
+  pub each : (column : ℕ) → column < length (layout_for lines).columns → length (text_at lines ordinal column) ≤ size_for lines column
+
 -- how many permutations it asks at most, where the row's key is known
 abbrev pub asked_for : RunLinesOf → ℕ → ℕ
 asked_for lines column =

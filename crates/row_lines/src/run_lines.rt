@@ -1,6 +1,6 @@
 //! The lines of a run's rows, put together from pieces and from fields that give none.
 
-ghost use Rattle.std.specs.Prelude.{◌≡◌, ◌<◌, ◌≤◌, ℕ, ◌+◌, ◌*◌, ◌++◌, false, get_or, length, sum_by, true};
+ghost use Rattle.std.specs.Prelude.{◌≡◌, ◌<◌, ◌≤◌, ℕ, ◌+◌, ◌*◌, ◌++◌, All, false, get_or, length, sum_by, true};
 ghost use Rattle.std.specs.List.{range_with_len};
 ghost use Rattle.line_pages.specs.Pieces.{piece_text};
 ghost use Rattle.schema_plan.specs.Layout.{layout_of};
@@ -10,7 +10,7 @@ ghost use Rattle.schema_plan.specs.TableFacts.{max_line};
 ghost use Rattle.row_lines.specs.Runs.{AreKeys, layout_for, line_for, listed_text, text_at, text_behind};
 ghost use Rattle.life_intervals.specs.Generator.{generator_of, last_unit};
 ghost use Rattle.life_intervals.specs.Keys.{key_of};
-ghost use Rattle.row_lines.specs.RunFields.{AreItemized, AreMade, AreRowsOf, asked_for, asked_long, size_for};
+ghost use Rattle.row_lines.specs.RunFields.{AreItemized, AreMade, AreRowsOf, HasSizes, asked_for, asked_long, size_for};
 ghost use Rattle.row_lines.specs.TableLines.{column_of, is_short_at};
 
 use crate::cohort_lines::CohortLines;
@@ -41,6 +41,7 @@ impl<'a> RunLines<'a> {
         requires room { length page.old.text + length rows.ordinals.now * max_line (layout_of self.now.plan) self.now.table ≤ page.old.room }
         ensures text { page.new ≡ record page.old { text = page.old.text ++ listed_text self.now rows.entry.ordinals.now } }
         ensures size { length (listed_text self.now rows.entry.ordinals.now) ≤ length rows.entry.ordinals.now * max_line (layout_of self.now.plan) self.now.table }
+        ensures fields { All (HasSizes self.now) rows.entry.ordinals.now }
         ensures steps { steps.new ≤ steps.old + length rows.entry.ordinals.now * sum_by (asked_long self.now) (range_with_len 0 (length (layout_for self.now).columns)) }
     {
         let count = rows.ordinals.len();
@@ -91,6 +92,7 @@ impl<'a> RunLines<'a> {
         requires room { length page.old.text + max_line (layout_of self.now.plan) self.now.table ≤ page.old.room }
         ensures text { page.new ≡ record page.old { text = page.old.text ++ line_for self.now (get_or rows.entry.ordinals.now row 0) } }
         ensures size { length (line_for self.now (get_or rows.entry.ordinals.now row 0)) ≤ max_line (layout_of self.now.plan) self.now.table }
+        ensures fields { HasSizes self.now (get_or rows.entry.ordinals.now row 0) }
         ensures steps { steps.new ≤ steps.old + sum_by (asked_long self.now) (range_with_len 0 (length (layout_for self.now).columns)) }
     {
         let count = rows.ordinals.len();

@@ -1,7 +1,7 @@
 //! The lines of a table's rows at a unit, run by run. A run makes the fields of up to 256 rows, column by column, as pieces. Then
 //! it puts the lines together from the pieces.
 
-ghost use Rattle.std.specs.Prelude.{◌≡◌, ◌<◌, ◌≤◌, ℕ, ◌+◌, ◌*◌, ◌++◌, [], get_or, length, take, true};
+ghost use Rattle.std.specs.Prelude.{◌≡◌, ◌<◌, ◌≤◌, ℕ, ◌+◌, ◌*◌, ◌++◌, [], All, get_or, length, take, true};
 ghost use Rattle.cohort_sizes.specs.Births.{born_count};
 ghost use Rattle.schema_plan.specs.Layout.{layout_of};
 ghost use Rattle.schema_plan.specs.TableFacts.{cost, line_cost, max_line};
@@ -9,6 +9,7 @@ ghost use Rattle.life_intervals.specs.CohortLives.{survival_at};
 ghost use Rattle.life_intervals.specs.CohortParents.{asked_for_death};
 ghost use Rattle.life_intervals.specs.Generator.{generator_of, last_unit, table_of};
 ghost use Rattle.life_intervals.specs.Intervals.{is_live};
+ghost use Rattle.row_lines.specs.RunFields.{HasSizes};
 ghost use Rattle.row_lines.specs.RunParents.{AreKnown};
 ghost use Rattle.row_lines.specs.Runs.{AreLiving, listed_text, living_from, run_text};
 ghost use Rattle.row_lines.specs.TableLines.{AreTableLines};
@@ -137,6 +138,7 @@ impl<'a> RunLines<'a> {
         requires room { length page.old.text + count * max_line (layout_of self.now.plan) self.now.table ≤ page.old.room }
         ensures text { page.new ≡ record page.old { text = page.old.text ++ run_text self.now first count } }
         ensures size { length (run_text self.now first count) ≤ count * max_line (layout_of self.now.plan) self.now.table }
+        ensures fields { All (HasSizes self.now) (living_from self.now first count) }
         ensures steps { steps.new ≤ steps.old + count * cost (layout_of self.now.plan) self.now.table }
     {
         let _limits = self.rows.plan().table(self.table); // it has at most 2^40 rows
@@ -163,6 +165,7 @@ impl<'a> RunLines<'a> {
         requires room { length page.old.text + length ordinals.now * max_line (layout_of self.now.plan) self.now.table ≤ page.old.room }
         ensures text { page.new ≡ record page.old { text = page.old.text ++ listed_text self.now ordinals.now } }
         ensures size { length (listed_text self.now ordinals.now) ≤ length ordinals.now * max_line (layout_of self.now.plan) self.now.table }
+        ensures fields { All (HasSizes self.now) ordinals.now }
         ensures steps { steps.new ≤ steps.old + length ordinals.now * line_cost (layout_of self.now.plan) self.now.table }
     {
         let most = self.rows_at_once();
@@ -189,6 +192,7 @@ impl<'a> RunLines<'a> {
         requires room { length page.old.text + length listed.now * max_line (layout_of self.now.plan) self.now.table ≤ page.old.room }
         ensures text { page.new ≡ record page.old { text = page.old.text ++ listed_text self.now listed.now } }
         ensures size { length (listed_text self.now listed.now) ≤ length listed.now * max_line (layout_of self.now.plan) self.now.table }
+        ensures fields { All (HasSizes self.now) listed.now }
         ensures steps { steps.new ≤ steps.old + length listed.now * line_cost (layout_of self.now.plan) self.now.table }
     {
         let all = &mut work.rows.births[..];
@@ -231,6 +235,7 @@ impl<'a> RunLines<'a> {
         requires room { length page.old.text + count * max_line (layout_of self.now.plan) self.now.table ≤ page.old.room }
         ensures text { page.new ≡ record page.old { text = page.old.text ++ run_text self.now first count } }
         ensures size { length (run_text self.now first count) ≤ count * max_line (layout_of self.now.plan) self.now.table }
+        ensures fields { All (HasSizes self.now) (living_from self.now first count) }
         ensures steps { steps.new ≤ steps.old + count * cost (layout_of self.now.plan) self.now.table }
     {
         let _limits = self.rows.plan().schema(); // the cost of a row has its death in
@@ -339,6 +344,7 @@ impl<'a> RunLines<'a> {
         requires room { length page.old.text + length ordinals.now * max_line (layout_of self.now.plan) self.now.table ≤ page.old.room }
         ensures text { page.new ≡ record page.old { text = page.old.text ++ listed_text self.now ordinals.now } }
         ensures size { length (listed_text self.now ordinals.now) ≤ length ordinals.now * max_line (layout_of self.now.plan) self.now.table }
+        ensures fields { All (HasSizes self.now) ordinals.now }
         ensures steps { steps.new ≤ steps.old + length ordinals.now * line_cost (layout_of self.now.plan) self.now.table }
     {
         let count = ordinals.len();

@@ -8,3 +8,4 @@ pub mod SpreadLemmas
 pub mod ReadyLemmas
 pub mod PlannedLemmas
 pub mod WordListLemmas
+pub mod FieldSizeLemmas

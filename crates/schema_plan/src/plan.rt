@@ -5,7 +5,8 @@ ghost use Rattle.std.specs.List.{position};
 ghost use Rattle.std.specs.Option.{option_copied};
 ghost use Rattle.schema_plan.specs.Capped.{first_facts};
 ghost use Rattle.schema_plan.specs.Dictionaries.{dictionary_named, project_of};
-ghost use Rattle.schema_plan.specs.Layout.{layout_of, table_at, table_layout};
+ghost use Rattle.schema_plan.specs.FieldBounds.{bounds_of};
+ghost use Rattle.schema_plan.specs.Layout.{column_at, layout_of, table_at, table_layout};
 ghost use Rattle.schema_plan.specs.Limits.{IsInLimits, IsLife, IsTableInLimits, IsUpdatePeriod};
 ghost use Rattle.schema_plan.specs.Lineage.{longest_life, sure_life};
 ghost use Rattle.schema_plan.specs.Names.{same_text};
@@ -17,6 +18,7 @@ ghost use Rattle.schema_plan.specs.TableFacts.{cost, facts_at, max_line, reach};
 use crate::births::cohorts_of_tables;
 use crate::counts::count;
 use crate::facts::{TableFacts, delimiter_byte, greatest_line};
+use crate::field_bounds::bounds_of;
 use crate::layout::{Keys, Span};
 use crate::lineage::span_of;
 use crate::ready::ReadyColumn;
@@ -246,6 +248,21 @@ impl Plan {
         ensures within_reach { result ≤ reach (layout_of self.now) }
     {
         self.facts_of(table).max_line
+    }
+
+    /// Returns the greatest length of the field in a column of a table, as it is written, in bytes. A null field has 2.
+    pub fn field_size(&self, table: u32, column: usize) -> u64
+        requires table { table < length self.now.schema.tables }
+        requires column { column < length (table_at (layout_of self.now).tables table).columns }
+        ensures size { result ≡ (bounds_of (layout_of self.now).delimiter (layout_of self.now).tables (table_at (layout_of self.now).tables table)
+            (column_at (table_at (layout_of self.now).tables table).columns column).kind).size }
+        ensures within_line { result < max_line (layout_of self.now) table }
+    {
+        let tables = self.schema.tables.as_slice();
+        let table = &tables[table as usize];
+        let columns = table.columns.as_slice();
+        let kind = &columns[column].kind;
+        bounds_of(self.delimiter(), &self.dictionaries, tables, table, kind).size
     }
 
     /// Returns the greatest length of a line of any table, in bytes.

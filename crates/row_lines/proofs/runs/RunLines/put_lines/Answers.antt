@@ -1,10 +1,12 @@
-use Rattle.std.proofs.Common.{◌≡◌, ◌<◌, ◌+◌, ◌*◌, ◌++◌, ℕ, List, length, get_or, sum_by, take, refl, ap, arith, sym, ◌∙◌}
+use Rattle.std.proofs.Common.{◌≡◌, ◌<◌, ◌+◌, ◌*◌, ◌++◌, ℕ, List, length, get_or, sum_by, take, refl, ap, arith, subst, sym, ◌∙◌}
+use Rattle.std.specs.Prelude.{All}
 use Rattle.std.specs.List.{range_with_len}
 use Rattle.std.proofs.lemmas.List.{take_all}
+use Rattle.std.proofs.lemmas.List.Elements.{All-from_get_or, All-more}
 use Rattle.schema_plan.specs.Layout.{layout_of}
 use Rattle.schema_plan.specs.TableFacts.{max_line}
 use Rattle.row_lines.specs.CohortLines.{LinesOf}
-use Rattle.row_lines.specs.RunFields.{AreMade, asked_long}
+use Rattle.row_lines.specs.RunFields.{AreMade, HasSizes, asked_long}
 use Rattle.row_lines.specs.Runs.{RunLinesOf, layout_for, line_for, listed_text}
 use Rattle.row_lines.specs.TableLines.{TableLinesOf, table_lines}
 use Rattle.row_lines.proofs.RowOfRunLemmas.{of_unit}
@@ -46,6 +48,7 @@ returns-then-are_all g c =
     record {
       text = c.put_rows.ensures ∙ ap (λ (text : List ℕ). record { text = c.args.page.now.text ++ text; room = c.args.page.now.room }) is;
       size = made-size lines c.args.rows.ordinals.now c.args.pieces.now known.limits.some_column (all_made g here);
+      fields = All-from_get_or (HasSizes lines) c.args.rows.ordinals.now 0 (λ i below. record { each = λ column within. (all_made g here column within).size i below });
       steps = omega arith;
     }
 
@@ -70,6 +73,7 @@ loop-row-preserved g c =
           c.loop-row.invariant.text c.put_mixed_line.ensures.text more;
       size = sizes-more (listed_text lines (take row ordinals)) line (listed_text lines (take (row + 1) ordinals)) row 1 (max_line (layout_of lines.plan) lines.table) more c.loop-row.invariant.size
           (omega (arith, c.put_mixed_line.ensures.size));
+      fields = All-more (HasSizes lines) ordinals row 0 (omega arith) c.loop-row.invariant.fields c.put_mixed_line.ensures.fields;
       steps = omega (arith, c.loop-row.invariant.steps, c.put_mixed_line.ensures.steps);
     }
 
@@ -87,5 +91,6 @@ returns g c =
         c.loop-row.invariant.size,
         ap (λ (n : ℕ). n * max_line (layout_of lines.plan) lines.table) many,
       );
+      fields = subst (All (HasSizes lines)) all c.loop-row.invariant.fields;
       steps = omega (arith, c.loop-row.invariant.steps, ap (λ (n : ℕ). n * sum_by (asked_long lines) (range_with_len 0 (length (layout_for lines).columns))) many);
     }

@@ -1,8 +1,13 @@
-use Rattle.std.proofs.Common.{◌≡◌, ◌≤◌, ◌+◌, ◌-◌, ◌*◌, ℕ, List, length, take, drop, ap, arith, ◌∙◌}
+use Rattle.std.proofs.Common.{◌≡◌, ◌≤◌, ◌+◌, ◌-◌, ◌*◌, ℕ, List, length, take, drop, ap, arith, subst, sym, ◌∙◌}
+use Rattle.std.specs.Prelude.{All}
+use Rattle.std.proofs.lemmas.List.Elements.{All-append}
+use Rattle.std.proofs.lemmas.List.{take_all}
+use Rattle.std.proofs.Math.Seq.{take-add}
 use Rattle.schema_plan.specs.Layout.{layout_of}
 use Rattle.schema_plan.specs.TableFacts.{line_cost, max_line}
 use Rattle.life_intervals.specs.Generator.{generator_of}
 use Rattle.life_intervals.specs.Intervals.{is_live}
+use Rattle.row_lines.specs.RunFields.{HasSizes}
 use Rattle.row_lines.specs.Runs.{RunLinesOf, listed_text}
 use Rattle.row_lines.proofs.ListLemmas.{get_or-part, part_length}
 use Rattle.row_lines.proofs.RunTextLemmas.{appended-more, listed_text-part, room-more, sizes-more}
@@ -47,6 +52,8 @@ loop-done-preserved g c =
       within = within;
       text = appended-more c.args.page.now c.loop-done.page c.put_few.new.page (listed_text lines (take done ordinals)) _ _ c.loop-done.invariant.text c.put_few.ensures.text more;
       size = sizes-more (listed_text lines (take done ordinals)) _ _ done some most more c.loop-done.invariant.size (omega (arith, c.put_few.ensures.size, ap (λ (n : ℕ). n * most) many));
+      fields = subst (All (HasSizes lines)) (sym (take-add done (done + some - done) ordinals) ∙ ap (λ (n : ℕ). take n ordinals) end)
+          (All-append (HasSizes lines) (take done ordinals) _ c.loop-done.invariant.fields c.put_few.ensures.fields);
       steps = omega (
         arith,
         c.loop-done.invariant.steps,
@@ -54,3 +61,8 @@ loop-done-preserved g c =
         ap (λ (n : ℕ). n * line_cost (layout_of lines.plan) lines.table) many,
       );
     }
+
+pub returns-clause-fields : goal.returns-clause-fields
+returns-clause-fields g c =
+    let all : take c.loop-done.done c.args.ordinals.now ≡ c.args.ordinals.now = take_all c.loop-done.done c.args.ordinals.now (omega arith) in
+    subst (All (HasSizes c.args.self.now)) all c.loop-done.invariant.fields

@@ -45,3 +45,8 @@ returns-clause-size g c =
     let lines : RunLinesOf = c.args.self.now in
     let all : c.loop-column.column ≡ length (layout_for lines).columns = omega (arith, c.column_count-column-end.ensures.many) in
     mixed-size lines (get_or c.args.rows.ordinals.now c.args.row 0) c.loop-column.column all (omega (arith, c.column_count-column-end.ensures.many, c.column_count-column-end.ensures.some)) c.loop-column.invariant.sizes
+
+pub returns-clause-fields : goal.returns-clause-fields
+returns-clause-fields g c = record {
+  each = λ column below. c.loop-column.invariant.sizes column (omega (arith, below, c.column_count-column-end.ensures.many));
+}
