@@ -7,12 +7,14 @@ use Rattle.std.proofs.Math.Path.{fun_ext}
 use Rattle.std.proofs.lemmas.Bool.{and_from, and_parts, cases_Bool, cases_eq, cases_lt, false≢true, true≢false}
 use Rattle.std.proofs.lemmas.Option.{none-some}
 use Rattle.std.proofs.lemmas.List.{append-nil, get_or_past, reverse-append}
+use Rattle.std.proofs.lemmas.List.Elements.{All-filter, filter_passes}
 use Rattle.std.proofs.lemmas.List.FromFn.{get_or-range_with_len, length-range_with_len}
 use Rattle.cohort_sizes.specs.Births.{Births, birth, born_count, cohort_size, first_ordinal}
 use Rattle.cohort_sizes.proofs.CohortLemmas.{birth-before, birth-le, born_count-le, born_count-next, first_ordinal-none}
 use Rattle.schema_plan.specs.Dictionaries.{Project}
 use Rattle.schema_plan.specs.Layout.{TableLayout, no_table, table_at}
 use Rattle.schema_plan.specs.Limits.{IsInLimits}
+use Rattle.schema_plan.proofs.Lists.{map-map}
 use Rattle.life_intervals.specs.Generator.{Generator, generator_of, last_unit, rows_in_all, table_of}
 use Rattle.life_intervals.specs.Intervals.{change_unit, changing, death, dying, is_after, is_at, is_live, living, newborn, row_at}
 use Rattle.life_intervals.specs.Keys.{key_of}
@@ -26,10 +28,10 @@ use Rattle.life_intervals.proofs.SimulationLemmas.{rows_at-rows_of}
 use Rattle.row_lines.specs.Reports.{row_with_key}
 use Rattle.row_keeper.specs.Kept.{KeptRow, KeptRows, NoneDangles, Statement, after_statements, drop_row, no_rows, put_row, with_row}
 use Rattle.keeper_play.specs.Played.{put_at}
-use Rattle.keeper_play.specs.Statements.{deletions, insertions, kept_row, places, refs_of, row_key, rows_after, rows_of_unit, statements_to, unit_statements, updates}
+use Rattle.keeper_play.specs.Statements.{deletions, held_statements, insertions, kept_row, places, put_of, refs_of, row_key, rows_after, rows_of_unit, statements_to, unit_statements, updates}
 use Rattle.row_keeper.specs.declared.keeper.RefTo.{RefTo}
 use Rattle.keeper_play.proofs.RefLemmas.{row_key-at}
-use Rattle.keeper_play.proofs.UnitLemmas.{changing-alive, changing-born, changing-early, deletions-at, dying-at, dying-born, insertions-at, map-each, newborn-alive, unit_statements-first, unit_statements-parts, updates-at}
+use Rattle.keeper_play.proofs.UnitLemmas.{changing-alive, changing-born, changing-early, deletions-at, dying-at, dying-born, insertions-at, map-each, newborn-alive, range-below, unit_statements-first, unit_statements-parts, updates-at}
 use Rattle.keeper_play.proofs.OrdinalLemmas.{AreThere, IsThere, by_keys, find-only, key-only, row_with_key-at, row_with_key-has}
 use Rattle.keeper_play.proofs.RunLemmas.{CanPut, IsOff, NoneLeads, Plays, plays-both, plays-drops, plays-none, plays-puts, with_rows, without_rows}
 use Rattle.keeper_play.proofs.HeldLemmas.{LeadsTo, kept-next, refs-lead}
@@ -229,7 +231,7 @@ module _ (plan : Project) (limits : IsInLimits plan) where
   alive-at_unit unit table j born alive = rw (lt-ltb j (born_count (births table) unit) born, alive) refl
 
   -- what lives at the next unit lives at this one
-  alive-before : (unit table j : ℕ) → j < born_count (births table) unit → is_live (generator_of plan) table (suc unit) j ≡ true → is_live (generator_of plan) table unit j ≡ true
+  pub alive-before : (unit table j : ℕ) → j < born_count (births table) unit → is_live (generator_of plan) table (suc unit) j ≡ true → is_live (generator_of plan) table unit j ≡ true
   alive-before unit table j born alive =
       is_after-before (death generator table unit j) unit (suc unit) (omega arith)
       (ap (λ (d : Option ℕ). is_after d (suc unit)) (sym (death-later generator table unit (suc unit) j born (omega arith))) ∙ alive)
@@ -578,6 +580,86 @@ module _ (plan : Project) (limits : IsInLimits plan) where
   as_schema : (n : ℕ) → n ≡ tables → places (generator_of plan) ≡ range_with_len 0 n
   as_schema n all = ap (range_with_len 0) (length-tables plan ∙ sym all)
 
+  -- ---- the rows of a unit, put at once
+
+  module _ (unit : ℕ) (within : unit ≤ last_unit plan) where
+    held-born : (table : ℕ) → All (λ j. j < born_count (births table) unit) (living (generator_of plan) table unit)
+    held-born table =
+        All-filter (is_live generator table unit) (λ j. j < born_count (births table) unit) (range_with_len 0 (born_count (births table) unit)) (range-below (born_count (births table) unit))
+
+    held-at : (table : ℕ) →
+        map (put_of (generator_of plan) unit table) (rows_at (generator_of plan) table unit) ≡ map (put_at plan unit table) (living (generator_of plan) table unit)
+    held-at table =
+        ap (map (put_of generator unit table)) (rows_at-rows_of (last_unit plan) generator table unit (AreSound-accepted plan limits) within)
+        ∙ map-map (put_of generator unit table) (row_at generator table unit) (living generator table unit)
+
+    can-hold : (table : ℕ) → table < tables → (rows : KeptRows) → Stands rows table (at_unit unit) nothing →
+        All (CanPut plan table (kept_at unit table) rows) (living (generator_of plan) table unit)
+    can-hold table below rows stands i d among =
+        let j : ℕ = get_or (living generator table unit) i d in
+        let born : j < born_count (births table) unit = held-born table i d among in
+        let alive : is_live generator table unit j ≡ true = filter_passes (is_live generator table unit) (range_with_len 0 (born_count (births table) unit)) i d among in
+        let at_birth : birth (births table) unit j ≤ unit = birth-le (births table) unit j born in
+        record {
+          born = born_in_all unit table j within born;
+          refs = λ k e within_refs.
+              let ref : RefTo = get_or (kept_at unit table j).refs k e in
+              let to : LeadsTo plan limits table unit (birth (births table) unit j) ref = refs-lead plan limits table below unit within j born alive k e within_refs in
+              is_there rows table unit (birth (births table) unit j) ref (omega (arith, at_birth, within)) to
+              (subst IsSome (sym (stands.before ref.table to.ordinal to.earlier))
+              (alive-at_unit unit ref.table to.ordinal
+              (omega (arith, to.by_birth, born_count-le (births ref.table) (birth (births table) unit j) unit at_birth)) to.alive));
+        }
+
+    held-here : (table : ℕ) (rows : KeptRows) → ((j : ℕ) → rows table j ≡ None) → (j : ℕ) →
+        with_rows plan table (kept_at unit table) (living (generator_of plan) table unit) rows table j ≡ at_unit unit table j
+    held-here table rows none j =
+        with_rows-at plan table (kept_at unit table) (living generator table unit) rows j
+        ∙ ap₂ (λ (test : Bool) (other : Option KeptRow). if test then Some (kept_at unit table j) else other)
+        (among-front (is_live generator table unit) (born_count (births table) unit) j) (none j)
+
+    abbrev held : ℕ → List Statement
+    held table = map (put_of (generator_of plan) unit table) (rows_at (generator_of plan) table unit)
+
+    held-play : (k from : ℕ) → from + k ≡ tables → (rows : KeptRows) → AreThere plan rows → Stands rows from (at_unit unit) nothing →
+        Comes (flat_map held (range_with_len from k)) rows tables (at_unit unit) nothing
+    held-play zero from all rows there stands = record {
+      now = rows;
+      plays = plays-none plan rows there;
+      stands = subst (λ (n : ℕ). Stands rows n (at_unit unit) nothing) (omega (arith, all)) stands;
+    }
+    held-play (suc k) from all rows there stands =
+        let below : from < tables = omega (arith, all) in
+        let is : List ℕ = living generator from unit in
+        let next : KeptRows = with_rows plan from (kept_at unit from) is rows in
+        let here : Plays plan (held from) rows next =
+        subst (λ (statements : List Statement). Plays plan statements rows next) (sym (held-at from ∙ put-keyed unit from within is (held-born from)))
+        (plays-puts plan from (kept_at unit from) is rows there (can-hold from below rows stands)) in
+        let after : Stands next (suc from) (at_unit unit) nothing =
+        next-below rows next from (at_unit unit) nothing stands (λ t j other. with_rows-other plan from (kept_at unit from) is rows t j other)
+        (held-here from rows (λ j. stands.behind from j (omega arith))) in
+        let behind : from + 1 ≡ suc from = omega arith in
+        let rest = held-play k (suc from) (omega (arith, all)) next here.there after in
+        record {
+          now = rest.now;
+          plays = plays-both plan (held from) (flat_map held (range_with_len (from + 1) k)) rows next rest.now here
+              (subst (λ (n : ℕ). Plays plan (flat_map held (range_with_len n k)) next rest.now) (sym behind) rest.plays);
+          stands = rest.stands;
+        }
+
+    held-plays : Plays plan (held_statements (generator_of plan) unit) nothing (at_unit unit)
+    unfolding held_statements
+    held-plays =
+        let start : Stands nothing 0 (at_unit unit) nothing = record { before = λ t j below. absurd (omega (arith, below)); behind = λ t j from. refl } in
+        let comes = held-play tables 0 (omega arith) nothing nothing-there start in
+        let all : comes.now ≡ at_unit unit =
+        fun_ext (λ (t : ℕ). fun_ext (λ (j : ℕ). elim (cases_lt t tables) [
+          | inl below ↦ comes.stands.before t j below
+          | inr past ↦ comes.stands.behind t j past ∙ sym (past-at_unit unit t j past)
+        ])) in
+        subst (λ (statements : List Statement). Plays plan statements nothing (at_unit unit)) (ap (flat_map held) (sym (as_schema tables refl)))
+        (subst (Plays plan (flat_map held (range_with_len 0 tables)) nothing) all comes.plays)
+
   first-plays : Plays plan (unit_statements (generator_of plan) 0) nothing (at_unit 0)
   first-plays =
       let start : Stands nothing 0 (at_unit 0) (older 0) = record {
@@ -635,6 +717,10 @@ module _ (plan : Project) (limits : IsInLimits plan) where
   pub no-reference-dangles : (unit count : ℕ) → unit ≤ last_unit plan → NoneDangles (rows_after (generator_of plan) unit count)
   no-reference-dangles unit count within =
       subst (λ (rows : KeptRows). NoneDangles (after_statements (take count (statements_to generator unit)) rows)) begins ((units-play unit within).safe count)
+
+  pub no-reference-of_rows_dangles : (unit count : ℕ) → unit ≤ last_unit plan → NoneDangles (after_statements (take count (held_statements (generator_of plan) unit)) no_rows)
+  no-reference-of_rows_dangles unit count within =
+      subst (λ (rows : KeptRows). NoneDangles (after_statements (take count (held_statements generator unit)) rows)) begins ((held-plays unit within).safe count)
 
   -- the rows of a unit by their ordinals, found by their keys, are those of the simulation
   module _ (unit : ℕ) (within : unit ≤ last_unit plan) (table k : ℕ) where
@@ -699,3 +785,18 @@ module _ (plan : Project) (limits : IsInLimits plan) where
       ap (after_statements (statements_to generator unit)) (sym begins)
       ∙ (units-play unit within).ends
       ∙ fun_ext (λ (t : ℕ). fun_ext (λ (k : ℕ). rows-found unit within t k))
+
+  pub held-give : (unit : ℕ) → unit ≤ last_unit plan → after_statements (held_statements (generator_of plan) unit) no_rows ≡ rows_of_unit (generator_of plan) unit
+  held-give unit within =
+      ap (after_statements (held_statements generator unit)) (sym begins)
+      ∙ (held-plays unit within).ends
+      ∙ fun_ext (λ (t : ℕ). fun_ext (λ (k : ℕ). rows-found unit within t k))
+
+  -- a row that a table holds at a unit is found by its key
+  pub held-found : (unit table j : ℕ) → unit ≤ last_unit plan → j < born_count (table_of plan table).births unit → is_live (generator_of plan) table unit j ≡ true →
+      rows_of_unit (generator_of plan) unit table (key_of (generator_of plan) table (last_unit plan) j)
+      ≡ Some (kept_row (generator_of plan) unit table (row_at (generator_of plan) table unit j))
+  held-found unit table j within is_born alive =
+      sym (rows-found unit within table (key_of generator table (last_unit plan) j))
+      ∙ ap (option_and_then (at_unit unit table)) (row_with_key-at plan table j (born_in_all unit table j within is_born))
+      ∙ rw (lt-ltb j (born_count (births table) unit) is_born, alive) refl

@@ -57,7 +57,7 @@ flat_map-nothing : {X Y : Type 0} (xs : List X) → flat_map {X = X} {A = Y} (λ
 flat_map-nothing [] = refl
 flat_map-nothing (x ∷ xs) = flat_map-nothing xs
 
-range-below : (n : ℕ) → All (λ j. j < n) (range_with_len 0 n)
+pub range-below : (n : ℕ) → All (λ j. j < n) (range_with_len 0 n)
 range-below n i d within =
     let below : i < n = omega (arith, within, length-range_with_len 0 n) in omega (arith, get_or-range_with_len 0 n i d below, below)
 

@@ -71,6 +71,10 @@ unit_statements generator (suc unit) =
     ++ flat_map (deletions generator (suc unit)) (reverse (places generator))
     ++ flat_map (insertions generator (suc unit)) (places generator)
 
+-- those that put the rows of a unit into a store without rows, table by table
+unfoldable pub held_statements : Generator → ℕ → List Statement
+held_statements generator unit = flat_map (λ place. map (put_of generator unit place) (rows_at generator place unit)) (places generator)
+
 -- those of the units up to one
 abbrev pub statements_to : Generator → ℕ → List Statement
 statements_to generator unit = flat_map (unit_statements generator) (range_with_len 0 (unit + 1))

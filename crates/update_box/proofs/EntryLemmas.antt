@@ -39,7 +39,7 @@ use Rattle.update_box.proofs.StreamTextLemmas.{newborn-alive}
 
 -- ---- of a range, what lies in another
 
-abbrev in_range : ℕ → ℕ → ℕ → Bool
+abbrev pub in_range : ℕ → ℕ → ℕ → Bool
 in_range first end j = nat_le first j && nat_lt j end
 
 in_range-before : (first end j : ℕ) → j < first → in_range first end j ≡ false
@@ -79,7 +79,7 @@ and-comm false true = refl
 and-comm false false = refl
 
 -- of the living, those in a range
-living-within : (live : ℕ → Bool) (born first end : ℕ) → first ≤ end → end ≤ born →
+pub living-within : (live : ℕ → Bool) (born first end : ℕ) → first ≤ end → end ≤ born →
     filter (in_range first end) (filter live (range_with_len 0 born)) ≡ filter live (range_with_len first (end - first))
 living-within live born first end ordered within =
     filter-filter live (in_range first end) (range_with_len 0 born)
@@ -87,7 +87,7 @@ living-within live born first end ordered within =
     ∙ sym (filter-filter (in_range first end) live (range_with_len 0 born))
     ∙ ap (filter live) (range-within born first end ordered within)
 
-filter-rows : (generator : Generator) (place unit : ℕ) (p : ℕ → Bool) (xs : List ℕ) →
+pub filter-rows : (generator : Generator) (place unit : ℕ) (p : ℕ → Bool) (xs : List ℕ) →
     filter (λ (row : Row). p row.ordinal) (map (row_at generator place unit) xs) ≡ map (row_at generator place unit) (filter p xs)
 filter-rows generator place unit p [] = refl
 filter-rows generator place unit p (x ∷ xs) = elim (cases_Bool (p x)) [
@@ -97,10 +97,10 @@ filter-rows generator place unit p (x ∷ xs) = elim (cases_Bool (p x)) [
 
 -- ---- parts of a list
 
-abbrev part : {A : Type 0} → List A → ℕ → ℕ → List A
+abbrev pub part : {A : Type 0} → List A → ℕ → ℕ → List A
 part xs first end = take (end - first) (drop first xs)
 
-part-map : {A B : Type 0} (f : A → B) (xs : List A) (first end : ℕ) → part (map f xs) first end ≡ map f (part xs first end)
+pub part-map : {A B : Type 0} (f : A → B) (xs : List A) (first end : ℕ) → part (map f xs) first end ≡ map f (part xs first end)
 part-map f xs first end = ap (take (end - first)) (drop-map f first xs) ∙ take-map f (end - first) (drop first xs)
 
 drop-none : {A : Type 0} (n : ℕ) → drop n (let none : List A = [] in none) ≡ []
@@ -121,7 +121,7 @@ part-join xs a b c first second =
     ∙ sym (take-add (b - a) (c - b) (drop a xs))
     ∙ ap (λ (n : ℕ). take n (drop a xs)) whole
 
-part-joined : {A : Type 0} (f : A → List ℕ) (xs : List A) (a b c : ℕ) → a ≤ b → b ≤ c →
+pub part-joined : {A : Type 0} (f : A → List ℕ) (xs : List A) (a b c : ℕ) → a ≤ b → b ≤ c →
     flat_map f (part xs a b) ++ flat_map f (part xs b c) ≡ flat_map f (part xs a c)
 part-joined f xs a b c first second = sym (flat_map-append f (part xs a b) (part xs b c)) ∙ ap (flat_map f) (part-join xs a b c first second)
 
@@ -129,10 +129,10 @@ take-all : {A : Type 0} (xs : List A) → take (length xs) xs ≡ xs
 take-all [] = refl
 take-all (x ∷ xs) = ap (λ (ys : List _). x ∷ ys) (take-all xs)
 
-part-whole : {A : Type 0} (xs : List A) (n : ℕ) → n ≡ length xs → part xs 0 n ≡ xs
+pub part-whole : {A : Type 0} (xs : List A) (n : ℕ) → n ≡ length xs → part xs 0 n ≡ xs
 part-whole xs n all = let size : n - 0 ≡ length xs = omega (arith, all) in ap (λ (k : ℕ). take k xs) size ∙ take-all xs
 
-part-range : (a size first end : ℕ) → first ≤ end → end ≤ size → part (range_with_len a size) first end ≡ range_with_len (a + first) (end - first)
+pub part-range : (a size first end : ℕ) → first ≤ end → end ≤ size → part (range_with_len a size) first end ≡ range_with_len (a + first) (end - first)
 part-range a size zero end ordered within =
     let start : a ≡ a + 0 = omega arith in
     front a size (end - 0) (omega (arith, within)) ∙ ap (λ (b : ℕ). range_with_len b (end - 0)) start
