@@ -1,0 +1,15 @@
+pub mod ReadingLemmas
+pub mod FramedLemmas
+pub mod BareLemmas
+pub mod ReachLemmas
+pub mod ToldLemmas
+pub mod NameLemmas
+pub mod FrameLemmas
+pub mod SizeLemmas
+pub mod RowLemmas
+pub mod PackageLemmas
+pub mod PutLemmas
+pub mod ShareLemmas
+pub mod LiteralLemmas
+pub mod ScriptLemmas
+pub mod EffectLemmas

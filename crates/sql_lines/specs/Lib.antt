@@ -1,0 +1,12 @@
+pub mod Literals
+pub mod Bare
+pub mod Statements
+pub mod Reach
+pub mod Packages
+pub mod Script
+pub mod Reading
+pub mod Frames
+pub mod Verbs
+pub mod Told
+pub mod Kept
+pub mod Effects
